@@ -65,7 +65,7 @@ class Definition:
 
     @property
     def is_law(self):
-        return bool(re.search(r"(Laws|Examples)$|\.laws\.", self.module.name))
+        return ".specs.laws." in self.module.name
 
     def path(self):
         """Returns how a target names it."""

@@ -3,7 +3,6 @@ pub mod Sessions
 pub mod Editors
 pub mod Stored
 pub mod Codes
-pub mod Numbers
 pub mod Objects
 pub mod Batches
 pub mod Edits
@@ -13,3 +12,4 @@ pub mod Clients
 pub mod Taking
 pub mod Logs
 pub mod Messages
+pub mod laws

@@ -11,7 +11,7 @@ use Rattle.lsp_replay.specs.declared.outcome.Outcome.{Outcome}
 use Rattle.lsp_replay.specs.RunOutput.{RunOutput}
 use Rattle.lsp_replay.specs.Engine.{state_of}
 use Rattle.lsp_replay.specs.Commands.{as_converted, as_log, converted, report, verdicts}
-use Rattle.lsp_replay.specs.Laws.{IsConverted, IsCanonicalLog, IsSquashed, Wrote}
+use Rattle.lsp_replay.specs.laws.Written.{IsConverted, IsCanonicalLog, IsSquashed, Wrote}
 use Rattle.lsp_replay.specs.Squashed.{normalised}
 use Rattle.lsp_replay.specs.AllRecords.{RanOver}
 use Rattle.laspidru.specs.declared.codes.TheConstants.{BAD_FRAME, BAD_LOG, BODY_TOO_LONG, CUT, EMPTY, OK, OTHER_KIND, OUT_OF_MEMORY, TOO_MANY_TURNS}

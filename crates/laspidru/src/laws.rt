@@ -1,6 +1,6 @@
 //! Laws that no call states.
 
-ghost use Rattle.laspidru.specs.Numbers.{HaveKinds, HaveNumbers, Rise, codes, kinds};
+ghost use Rattle.laspidru.specs.laws.Numbers.{HaveKinds, HaveNumbers, Rise, codes, kinds};
 
 /// Does nothing: its contract states the numbers that C sees.
 ///

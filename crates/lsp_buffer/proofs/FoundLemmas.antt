@@ -13,7 +13,7 @@ use Rattle.lsp_text.specs.TextLines.{line_ends, line_at, line_start, splits_crlf
 use Rattle.lsp_text.specs.LineStarts.{IsPlace}
 use Rattle.lsp_text.specs.Starts.{IsLineOf}
 use Rattle.lsp_text.specs.Units.{units_in, units_between}
-use Rattle.lsp_text.specs.UnitLaws.{utf8_bounds, utf16_bounds, utf32_bounds}
+use Rattle.lsp_text.specs.laws.Units.{utf8_bounds, utf16_bounds, utf32_bounds}
 use Rattle.lsp_text.specs.Positions.{exact_position, denoted}
 use Rattle.lsp_text.proofs.LineLemmas.{line_step}
 use Rattle.lsp_text.proofs.PlaceLemmas.{place_one}

@@ -2,7 +2,7 @@
 use Rattle.std.proofs.Common.{ℕ, suc, ◌≡◌, ◌+◌, List, [], ◌∷◌, ◌++◌, length, Result, Ok, Err, refl, ap, ◌∙◌, subst, arith}
 use Rattle.lsp_edit.specs.Items.{Item}
 use Rattle.lsp_edit.specs.Batch.{Edit, Fault, after_change, after_changes, continue_with}
-use Rattle.lsp_edit.specs.Laws.{RangesStay}
+use Rattle.lsp_edit.specs.laws.Batches.{RangesStay}
 
 module _ (units : ℕ → ℕ) (old : List ℕ) where
   -- a batch after another goes on from what that left

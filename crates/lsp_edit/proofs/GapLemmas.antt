@@ -6,7 +6,7 @@ use Rattle.lsp_text.proofs.LineLemmas.{splits_none_past}
 use Rattle.lsp_edit.specs.Items.{Item, Old, New}
 use Rattle.lsp_edit.specs.Canonical.{kept, gap_texts, put_first, Gap, gaps_between, gaps, is_changed}
 use Rattle.lsp_edit.specs.Keeps.{Keeps}
-use Rattle.lsp_edit.specs.Laws.{AllHaveExactEnds}
+use Rattle.lsp_edit.specs.laws.Batches.{AllHaveExactEnds}
 
 abbrev pub gap : ℕ → ℕ → List ℕ → Gap
 gap low high text = record { low = low; high = high; text = text }

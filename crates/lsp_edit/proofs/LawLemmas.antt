@@ -5,7 +5,7 @@ use Rattle.std.proofs.lemmas.Str.{len_utf8_bounds}
 use Rattle.lsp_text.specs.declared.encoding.Encoding.{Encoding}
 use Rattle.lsp_text.specs.declared.encoding.Encoding.TheVariants.{Utf8, Utf16, Utf32}
 use Rattle.lsp_text.specs.Units.{units_in}
-use Rattle.lsp_edit.specs.Laws.{CanonicalLaw}
+use Rattle.lsp_edit.specs.laws.Batches.{CanonicalLaw}
 use Rattle.lsp_edit.specs.Parts.{Part, OldPart, NewPart, AreParts, NoneEmpty}
 use Rattle.lsp_edit.proofs.KeepsLemmas.{meaning_keeps}
 use Rattle.lsp_edit.proofs.PairLemmas.{pairs_kept}

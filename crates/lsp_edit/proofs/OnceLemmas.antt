@@ -9,7 +9,7 @@ use Rattle.lsp_edit.specs.Batch.{Edit, Fault, after_change, continue_with, meani
 use Rattle.lsp_edit.specs.Canonical.{gaps}
 use Rattle.lsp_edit.specs.Edited.{ArePieces, edit_of}
 use Rattle.lsp_edit.specs.Indexed.{alone, bytes_left, text_within}
-use Rattle.lsp_edit.specs.Laws.{AllHaveExactEnds}
+use Rattle.lsp_edit.specs.laws.Batches.{AllHaveExactEnds}
 use Rattle.lsp_edit.specs.declared.delta.Delta.{Delta}
 use Rattle.lsp_edit.specs.declared.delta.Delta.TheVariants.{Put, Left}
 use Rattle.lsp_edit.specs.Once.{IsOn, IsPut, meant_by, put_items}

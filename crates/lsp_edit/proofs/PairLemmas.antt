@@ -3,7 +3,7 @@ use Rattle.std.proofs.Common.{ℕ, suc, ◌≡◌, true, false, List, [], ◌∷
 use Rattle.lsp_text.specs.TextLines.{splits_crlf}
 use Rattle.lsp_edit.specs.Items.{Item, Old, New}
 use Rattle.lsp_edit.specs.Keeps.{Keeps}
-use Rattle.lsp_edit.specs.Laws.{KeepsPairs}
+use Rattle.lsp_edit.specs.laws.Batches.{KeepsPairs}
 use Rattle.lsp_edit.proofs.KeepsLemmas.{after, rest_keeps}
 
 module _ (old : List ℕ) where

@@ -21,7 +21,7 @@ use Rattle.lsp_edit.specs.Canonical.{gaps, is_changed, change_of}
 use Rattle.lsp_edit.specs.Edited.{Edited, both_counts, edit_of, edited_bytes, edited_text}
 use Rattle.lsp_edit.specs.Faults.{places_at, ends_of}
 use Rattle.lsp_edit.specs.Keeps.{Keeps}
-use Rattle.lsp_edit.specs.Laws.{HasExactEnds, AllHaveExactEnds}
+use Rattle.lsp_edit.specs.laws.Batches.{HasExactEnds, AllHaveExactEnds}
 use Rattle.lsp_edit.specs.Plain.{ArePlain, item_of, items_in_order}
 use Rattle.lsp_edit.specs.inside.Plain.{gap_at, change_at}
 use Rattle.lsp_edit.proofs.AppliedLemmas.{AreEnds, ends_told}

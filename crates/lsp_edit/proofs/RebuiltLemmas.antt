@@ -11,7 +11,7 @@ use Rattle.lsp_edit.specs.Items.{Item, Old, New, plain, character_of, text_of}
 use Rattle.lsp_edit.specs.Batch.{Edit, replaced, after_change}
 use Rattle.lsp_edit.specs.Canonical.{Gap, is_changed, change_of, canonical}
 use Rattle.lsp_edit.specs.Keeps.{Keeps}
-use Rattle.lsp_edit.specs.Laws.{HasExactEnds, AllHaveExactEnds}
+use Rattle.lsp_edit.specs.laws.Batches.{HasExactEnds, AllHaveExactEnds}
 use Rattle.lsp_edit.proofs.GapLemmas.{gap, gaps_from, gaps_are, ends_exact}
 use Rattle.lsp_edit.proofs.BatchLemmas.{Makes, makes_nothing, makes_joined}
 

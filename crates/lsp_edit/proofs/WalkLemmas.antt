@@ -16,7 +16,7 @@ use Rattle.lsp_edit.specs.Items.{Item, Old, New}
 use Rattle.lsp_edit.specs.Batch.{Edit}
 use Rattle.lsp_edit.specs.Canonical.{Gap, gaps, is_changed, change_of}
 use Rattle.lsp_edit.specs.inside.Gaps.{gap_between, gap_change}
-use Rattle.lsp_edit.specs.Laws.{HasExactEnds, AllHaveExactEnds}
+use Rattle.lsp_edit.specs.laws.Batches.{HasExactEnds, AllHaveExactEnds}
 use Rattle.lsp_edit.specs.Parts.{Part, OldPart, NewPart, index_of, part_of, parts_of, items_in, items_of, IsPartOf, AreParts}
 use Rattle.lsp_edit.specs.declared.pieces.span.Span.{Span}
 use Rattle.lsp_edit.proofs.GapLemmas.{gap, gaps_from, gaps_are}

@@ -5,7 +5,6 @@ pub mod Compose
 pub mod Keeps
 pub mod Parts
 pub mod Spans
-pub mod Laws
 pub mod Faults
 pub mod Edited
 pub mod Indexed
@@ -13,6 +12,6 @@ pub mod TextEdits
 pub mod Joined
 pub mod Once
 pub mod Deltas
-pub mod Examples
 pub mod Plain
 pub mod inside
+pub mod laws

@@ -1,7 +1,7 @@
 //! Laws that follow from the definitions alone, for proofs over batches.
 
-ghost use Rattle.lsp_edit.specs.Examples.{HoldsOnExamples};
-ghost use Rattle.lsp_edit.specs.Laws.{CanonicalLaw, ThenLaw, AssociativeLaw};
+ghost use Rattle.lsp_edit.specs.laws.Examples.{HoldsOnExamples};
+ghost use Rattle.lsp_edit.specs.laws.Batches.{CanonicalLaw, ThenLaw, AssociativeLaw};
 
 /// Promises what is true of every batch of changes that has a meaning (LSP 3.17,
 /// DidChangeTextDocumentParams). The call itself does nothing.

@@ -14,7 +14,7 @@ ghost use Rattle.lsp_edit.specs.Faults.{IsFaultOfChange, ends_of, places_at};
 ghost use Rattle.lsp_edit.specs.inside.Faults.{IsPlaces};
 ghost use Rattle.lsp_edit.specs.Batch.{Edit, after_change, meaning};
 ghost use Rattle.lsp_edit.specs.Canonical.{canonical};
-ghost use Rattle.lsp_edit.specs.Laws.{IsCanonical, KeepsPairs, RangesStay};
+ghost use Rattle.lsp_edit.specs.laws.Batches.{IsCanonical, KeepsPairs, RangesStay};
 
 pub(crate) mod canonical;
 pub(crate) mod current;

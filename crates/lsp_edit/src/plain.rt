@@ -14,7 +14,7 @@ ghost use Rattle.lsp_edit.specs.Compose.{then_items as spec_then_items, item_thr
 ghost use Rattle.lsp_edit.specs.Edited.{Applied, Means, both_counts, edit_of, edited_bytes, edited_text};
 ghost use Rattle.lsp_edit.specs.Faults.{IsFaultOfChanges, IsFaultOfChange};
 ghost use Rattle.lsp_edit.specs.Keeps.{Keeps};
-ghost use Rattle.lsp_edit.specs.Laws.{HasExactEnds, IsCanonical, KeepsPairs, RangesStay};
+ghost use Rattle.lsp_edit.specs.laws.Batches.{HasExactEnds, IsCanonical, KeepsPairs, RangesStay};
 ghost use Rattle.lsp_edit.specs.Plain.{item_of, items_in_order};
 ghost use Rattle.lsp_edit.specs.inside.Plain.{change_at, gap_at};
 

@@ -6,7 +6,7 @@ use Rattle.std.proofs.lemmas.List.{length-append, length-take-le}
 use Rattle.lsp_frame.specs.Header.{Line, IsLine, AreLines, IsNameByte, IsValueByte, line_bytes, lines_bytes, header_of, BeginsHeader}
 use Rattle.lsp_frame.specs.Verdict.{judge}
 use Rattle.lsp_frame.specs.Frame.{IsFrameOf, HasNoFrame}
-use Rattle.lsp_frame.specs.Laws.{BeginsFrame, DecisionLaw, AllFrames, AllFramesLaw}
+use Rattle.lsp_frame.specs.laws.Frames.{BeginsFrame, DecisionLaw, AllFrames, AllFramesLaw}
 use Rattle.lsp_frame.specs.inside.Stage.{IsPartOfLine, is_over}
 use Rattle.lsp_frame.specs.inside.Progress.{StopsHeader}
 use Rattle.lsp_frame.specs.declared.fault.HeaderFault.{HeaderFault}

@@ -8,7 +8,7 @@ use Rattle.lsp_frame.specs.Frame.{IsFrameOf, HasNoFrame}
 use Rattle.lsp_frame.specs.Faults.{IsBadHeaderAt, IsHeaderTooLongAt, IsJudgedAt, IsDecidedAt, IsDecided, header_fault_at, place_after}
 use Rattle.lsp_frame.specs.Stream.{Framing, IsFrame, IsPart, AreFrames, IsSound, IsRead, IsStreamFault, IsFeedFault, released}
 use Rattle.lsp_frame.specs.inside.Stream.{IsHolding, HasTaken, IsFaulty}
-use Rattle.lsp_frame.specs.Laws.{SameFrame}
+use Rattle.lsp_frame.specs.laws.Frames.{SameFrame}
 use Rattle.lsp_frame.specs.declared.fault.HeaderFault.{HeaderFault}
 use Rattle.lsp_frame.specs.declared.fault.HeaderFault.TheVariants as header
 use Rattle.lsp_frame.specs.declared.fault.FrameFault.{FrameFault}

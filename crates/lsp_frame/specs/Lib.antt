@@ -6,5 +6,5 @@ pub mod Frame
 pub mod Encode
 pub mod Faults
 pub mod Stream
-pub mod Laws
 pub mod inside
+pub mod laws

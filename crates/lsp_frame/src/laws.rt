@@ -1,6 +1,6 @@
 //! Laws that follow from the definitions alone, for proofs over frames.
 
-ghost use Rattle.lsp_frame.specs.Laws.{OneFrameLaw, FrontLaw, BoundLaw, DecisionLaw, AllFramesLaw, FramesLaw, ReadingLaw, FaultLaw, StayingLaw, HopelessLaw, WrittenLaw, InjectiveLaw};
+ghost use Rattle.lsp_frame.specs.laws.Frames.{OneFrameLaw, FrontLaw, BoundLaw, DecisionLaw, AllFramesLaw, FramesLaw, ReadingLaw, FaultLaw, StayingLaw, HopelessLaw, WrittenLaw, InjectiveLaw};
 
 /// Promises what is true of every frame and stream, whatever the limit on bodies is (LSP 3.17, Base
 /// Protocol). The call itself does nothing.

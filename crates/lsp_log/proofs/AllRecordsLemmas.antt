@@ -5,14 +5,14 @@ use Rattle.std.specs.List.{starts_with}
 use Rattle.std.proofs.lemmas.Bool.{cases_Bool, cases_eq}
 use Rattle.std.proofs.lemmas.List.{length-append}
 use Rattle.lsp_frame.specs.Frame.{IsFrameOf, HasNoFrame}
-use Rattle.lsp_frame.specs.Laws.{DecisionLaw}
+use Rattle.lsp_frame.specs.laws.Frames.{DecisionLaw}
 use Rattle.lsp_frame.specs.Faults.{place_after}
 use Rattle.lsp_log.specs.declared.record.Version.{Version}
 use Rattle.lsp_log.specs.declared.record.Version.TheVariants.{One, Two}
 use Rattle.lsp_log.specs.declared.record.Side.{Side}
 use Rattle.lsp_log.specs.declared.record.Side.TheVariants.{Client, Server}
 use Rattle.lsp_log.specs.Log.{LogRules, Record, AreRecords, IsVersion, together, record_bytes, mark_of, line_of, is_line_due, version_line}
-use Rattle.lsp_log.specs.Laws.{AllRecords, AllRecordsLaw}
+use Rattle.lsp_log.specs.laws.Logs.{AllRecords, AllRecordsLaw}
 use Rattle.lsp_log.proofs.OpeningLemmas.{starts_front, starts_known}
 use Rattle.lsp_log.proofs.SplitLemmas.{frame_len}
 use Rattle.lsp_log.proofs.UniqueLemmas.{IsEnd, same_version}

@@ -10,7 +10,7 @@ use Rattle.lsp_log.specs.declared.record.Side.TheVariants.{Client, Server}
 use Rattle.lsp_log.specs.declared.splitter.Splitter.{Splitter}
 use Rattle.lsp_log.specs.Log.{LogRules, Record, HasNoRecord, mark_of}
 use Rattle.lsp_log.specs.Splitting.{IsReady, IsAfter, log_at, buffered_of, mark_part}
-use Rattle.lsp_log.specs.Laws.{BufferedLaw, RestLaw}
+use Rattle.lsp_log.specs.laws.Logs.{BufferedLaw, RestLaw}
 use Rattle.lsp_log.proofs.SplitLemmas.{given_reads, some_side, some_or, frame_len}
 
 -- Two marks of one version have one length.

@@ -2,13 +2,13 @@
 use Rattle.std.proofs.Common.{◌≡◌, ◌≢◌, ℕ, ◌+◌, Bool, false, List, [], ◌∷◌, ◌++◌, length, refl, sym, ap, ◌∙◌, subst, arith, append_assoc, append-nil}
 use Rattle.std.proofs.lemmas.List.{append_cancel_left}
 use Rattle.lsp_frame.specs.Frame.{IsFrameOf}
-use Rattle.lsp_frame.specs.Laws.{FrontLaw, SameFrame}
+use Rattle.lsp_frame.specs.laws.Frames.{FrontLaw, SameFrame}
 use Rattle.lsp_log.specs.declared.record.Version.{Version}
 use Rattle.lsp_log.specs.declared.record.Version.TheVariants.{One, Two}
 use Rattle.lsp_log.specs.declared.record.Side.{Side}
 use Rattle.lsp_log.specs.declared.record.Side.TheVariants.{Client, Server}
 use Rattle.lsp_log.specs.Log.{Record, IsRecord, AreRecords, HasNoRecord, together, record_bytes, mark_of, line_of, is_line_due}
-use Rattle.lsp_log.specs.Laws.{UniqueLaw, FirstLaw, VersionLaw}
+use Rattle.lsp_log.specs.laws.Logs.{UniqueLaw, FirstLaw, VersionLaw}
 
 pub same_version : VersionLaw
 same_version versions One One input is also = refl

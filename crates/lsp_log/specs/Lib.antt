@@ -1,4 +1,4 @@
 pub mod Log
 pub mod Opening
 pub mod Splitting
-pub mod Laws
+pub mod laws

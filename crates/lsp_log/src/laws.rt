@@ -1,6 +1,6 @@
 //! Laws over the definitions alone, which no single call has in its contract.
 
-ghost use Rattle.lsp_log.specs.Laws.{AllRecordsLaw, UniqueLaw, VersionLaw, FirstLaw, BufferedLaw, RestLaw};
+ghost use Rattle.lsp_log.specs.laws.Logs.{AllRecordsLaw, UniqueLaw, VersionLaw, FirstLaw, BufferedLaw, RestLaw};
 
 use lsp_frame::frame_laws;
 

@@ -22,7 +22,7 @@ use Rattle.lsp_message.specs.Params.{DocumentItem, EditData, ChangeData, CloseDa
 use Rattle.lsp_message.specs.Outgoing as spec
 use Rattle.lsp_message.specs.Written as values
 use Rattle.lsp_message.specs.Outgoing.{OutgoingData}
-use Rattle.lsp_message.specs.Sent.{IsProper, IsProperId, IsProperDocument, IsProperChange, IsProperEdit, IsProperRange, IsProperPosition}
+use Rattle.lsp_message.specs.laws.Sent.{IsProper, IsProperId, IsProperDocument, IsProperChange, IsProperEdit, IsProperRange, IsProperPosition}
 use Rattle.lsp_message.proofs.BodyLemmas.{body_is}
 use Rattle.lsp_message.proofs.Sound.{Sound, SoundItems, sound_null, sound_boolean, sound_string, sound_unsigned, sound_integer, sound_array, sound_object, sound_item, sound_no_items, read-compact_text}
 

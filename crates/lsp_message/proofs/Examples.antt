@@ -8,7 +8,7 @@ use Rattle.json.specs.Lex.{punctuate, lex}
 use Rattle.json.specs.Text.{content}
 use Rattle.json.specs.Word.{word, after_number}
 use Rattle.serde_json.specs.Read.{number_of}
-use Rattle.lsp_message.specs.Examples.{HoldsOnExamples}
+use Rattle.lsp_message.specs.laws.Examples.{HoldsOnExamples}
 
 pub holds_on_examples : HoldsOnExamples
 unfolding is_utf8 chars encode value punctuate lex content word after_number number_of scan_numeral

@@ -8,7 +8,7 @@ use Rattle.serde_json.specs.Data.{Data, null, boolean, number, string, array, ob
 use Rattle.serde_json.specs.Find.{as_str, as_i64}
 use Rattle.lsp_message.specs.Values.{text_in, is_null, is_missing}
 use Rattle.lsp_message.specs.Message.{IdData, whole, text, given, failed, request, response, not_a_message, message, id_in, id_found, call_of, outcome_of, answer_of, message_with, message_by, is_version_two, message_of, message_of_members}
-use Rattle.lsp_message.specs.MessageLaws.{NamesRequest, RefusedRows, MessageRows, IsIdOf, IdLaw, IsTwo, version_of, method_of, id_of, params_of, error_of, result_of}
+use Rattle.lsp_message.specs.laws.Messages.{NamesRequest, RefusedRows, MessageRows, IsIdOf, IdLaw, IsTwo, version_of, method_of, id_of, params_of, error_of, result_of}
 
 -- ---- the version
 

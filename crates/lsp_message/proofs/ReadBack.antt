@@ -25,7 +25,7 @@ use Rattle.lsp_message.specs.Params.{DocumentItem, EditData, ChangeData, open_of
 use Rattle.lsp_message.specs.Outgoing as spec
 use Rattle.lsp_message.specs.Written as values
 use Rattle.lsp_message.specs.Outgoing.{OutgoingData}
-use Rattle.lsp_message.specs.Sent.{sent, IsReadBack, IsProper, IsProperId, IsProperDocument, IsProperChange, IsProperEdit, IsProperRange, IsProperPosition}
+use Rattle.lsp_message.specs.laws.Sent.{sent, IsReadBack, IsProper, IsProperId, IsProperDocument, IsProperChange, IsProperEdit, IsProperRange, IsProperPosition}
 use Rattle.lsp_message.proofs.Readings.{reading_of_value}
 use Rattle.lsp_message.proofs.Bodies.{read-body_of, utf8-body_of}
 

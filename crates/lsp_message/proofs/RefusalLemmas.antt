@@ -5,7 +5,7 @@ use Rattle.std.specs.Option.{option_map_or}
 use Rattle.serde_json.specs.Data.{Data}
 use Rattle.lsp_message.specs.Values.{text_in, is_null}
 use Rattle.lsp_message.specs.Message.{IdData, given, failed, request, notification, response, Reading, not_a_message, message, id_in, id_found, call_of, outcome_of, answer_of, message_with, message_by, is_version_two}
-use Rattle.lsp_message.specs.MessageLaws.{NotificationLaw, RefusalLaw, NamedLaw, version_of, method_of, id_of, params_of, error_of, result_of}
+use Rattle.lsp_message.specs.laws.Messages.{NotificationLaw, RefusalLaw, NamedLaw, version_of, method_of, id_of, params_of, error_of, result_of}
 
 -- ---- no notification
 

@@ -4,8 +4,6 @@ pub mod Params
 pub mod Agreement
 pub mod Outgoing
 pub mod Written
-pub mod Sent
 pub mod Seen
-pub mod MessageLaws
-pub mod Examples
 pub mod inside
+pub mod laws

@@ -1,7 +1,7 @@
 //! Laws of the definitions alone, which no call of this crate states.
 
-ghost use Rattle.lsp_message.specs.Examples.{HoldsOnExamples};
-ghost use Rattle.lsp_message.specs.MessageLaws.{RefusedRows, MessageRows, IdLaw, NotificationLaw, RefusalLaw, NamedLaw};
+ghost use Rattle.lsp_message.specs.laws.Examples.{HoldsOnExamples};
+ghost use Rattle.lsp_message.specs.laws.Messages.{RefusedRows, MessageRows, IdLaw, NotificationLaw, RefusalLaw, NamedLaw};
 
 /// Does nothing: its contract states what holds of every body (LSP 3.17, Base Protocol, Abstract
 /// Message).

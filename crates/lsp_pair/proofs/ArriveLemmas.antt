@@ -8,11 +8,11 @@ use Rattle.lsp_message.specs.declared.agreement.SyncKind.{SyncKind}
 use Rattle.lsp_message.specs.Message.{whole, reading}
 use Rattle.lsp_message.specs.Outgoing as outgoing
 use Rattle.lsp_message.specs.Outgoing.{OutgoingData, body_of}
-use Rattle.lsp_message.specs.Sent.{IsProper}
+use Rattle.lsp_message.specs.laws.Sent.{IsProper}
 use Rattle.lsp_message.proofs.ReadBack.{reading-body_of, is_read_back}
 use Rattle.lsp_message.specs.Params.{DocumentItem}
 use Rattle.lsp_store.specs.Table.{Command, table_after}
-use Rattle.lsp_store.specs.Laws.{AllWithin}
+use Rattle.lsp_store.specs.laws.Tables.{AllWithin}
 use Rattle.lsp_server.specs.declared.phase.Phase.{Phase}
 use Rattle.lsp_server.specs.declared.phase.Phase.TheVariants.{New, Running, Down, Ended}
 use Rattle.lsp_server.specs.Answer as answer

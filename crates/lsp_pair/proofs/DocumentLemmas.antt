@@ -5,7 +5,7 @@ use Rattle.std.proofs.lemmas.List.{append_assoc, append-nil, length-append, take
 use Rattle.lsp_message.specs.declared.agreement.SyncKind.{SyncKind}
 use Rattle.lsp_message.specs.Outgoing.{OutgoingData}
 use Rattle.lsp_message.specs.Message.{message}
-use Rattle.lsp_message.specs.Sent.{sent}
+use Rattle.lsp_message.specs.laws.Sent.{sent}
 use Rattle.lsp_message.specs.Params.{DocumentItem}
 use Rattle.lsp_store.specs.Table.{table_of}
 use Rattle.lsp_client.specs.declared.fault.ClientFault.{ClientFault}

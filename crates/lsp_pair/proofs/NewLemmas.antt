@@ -5,7 +5,7 @@ use Rattle.std.proofs.lemmas.Bool.{and_parts, leb-true}
 use Rattle.lsp_frame.specs.Limits.{Bounds, AreInRange}
 use Rattle.lsp_message.specs.declared.agreement.Offers.{Offers}
 use Rattle.lsp_server.specs.declared.config.Config.{Config}
-use Rattle.lsp_store.specs.Laws.{AreWithin}
+use Rattle.lsp_store.specs.Limits.{AreWithin}
 use Rattle.lsp_pair.specs.Events.{Setting}
 use Rattle.lsp_pair.specs.Pair.{IsFitting, is_utf16, are_within, new_pair}
 use Rattle.lsp_pair.specs.inside.Reached.{IsReached}

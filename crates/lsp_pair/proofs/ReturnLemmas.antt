@@ -11,7 +11,7 @@ use Rattle.lsp_message.specs.Message.{whole, reading, message, OutcomeData, give
 use Rattle.lsp_message.specs.Outgoing as outgoing
 use Rattle.lsp_message.specs.Outgoing.{OutgoingData, body_of}
 use Rattle.lsp_message.specs.Written.{initialize_value}
-use Rattle.lsp_message.specs.Sent.{sent}
+use Rattle.lsp_message.specs.laws.Sent.{sent}
 use Rattle.lsp_message.proofs.ReadBack.{reading-body_of, is_read_back}
 use Rattle.lsp_server.specs.declared.config.EncodingChoice.{EncodingChoice}
 use Rattle.lsp_server.specs.declared.config.EncodingChoice.TheVariants.{Fixed, Negotiated}

@@ -10,18 +10,19 @@ use Rattle.lsp_text.specs.Units.{units_in}
 use Rattle.lsp_edit.specs.Items.{Item}
 use Rattle.lsp_edit.specs.Batch.{Edit, meaning}
 use Rattle.lsp_edit.specs.Canonical.{canonical}
-use Rattle.lsp_edit.specs.Laws.{IsCanonical}
+use Rattle.lsp_edit.specs.laws.Batches.{IsCanonical}
 use Rattle.lsp_edit.proofs.LawLemmas.{canonical_law, units_some}
 use Rattle.lsp_message.specs.declared.agreement.SyncKind.{SyncKind}
 use Rattle.lsp_message.specs.declared.agreement.SyncKind.TheVariants.{Off, Full, Incremental}
 use Rattle.lsp_message.specs.Message.{reading}
 use Rattle.lsp_message.specs.Outgoing.{did_open, did_change, did_close, body_of}
 use Rattle.lsp_message.specs.Params.{DocumentItem, ChangeData, CloseData}
-use Rattle.lsp_message.specs.Sent.{IsProper, IsProperDocument, IsProperChange, IsProperEdit}
+use Rattle.lsp_message.specs.laws.Sent.{IsProper, IsProperDocument, IsProperChange, IsProperEdit}
 use Rattle.lsp_message.proofs.ReadBack.{reading-body_of, is_read_back, body_of-unique}
 use Rattle.lsp_store.specs.Table.{Refusal, Command, opens, changes, closes, body_too_long, change_refusal, after_change, changed, command_refusal, table_after, unless_refused}
 use Rattle.lsp_store.specs.Message.{AreTexts, written_edit, canonical_batch, whole_batch, whole_text, change_message, body_refusal}
-use Rattle.lsp_store.specs.Laws.{AreWithin, AllWithin, IsWithin, IsReplacedBy}
+use Rattle.lsp_store.specs.laws.Tables.{AllWithin, IsWithin, IsReplacedBy}
+use Rattle.lsp_store.specs.Limits.{AreWithin}
 use Rattle.lsp_store.proofs.FirstLemmas.{first_none, later_none}
 use Rattle.lsp_store.proofs.MessageLemmas.{Accepts, accepted_parts, batch_at, proper}
 use Rattle.lsp_store.proofs.ScalarLemmas.{canonical_texts}

@@ -3,7 +3,7 @@ use Rattle.std.proofs.Common.{◌≡◌, Bool, true, false, List, [], ◌∷◌,
 use Rattle.std.specs.Prelude.{MatchOption}
 use Rattle.lsp_message.specs.Message.{message}
 use Rattle.lsp_message.specs.Outgoing.{OutgoingData}
-use Rattle.lsp_message.specs.Sent.{sent}
+use Rattle.lsp_message.specs.laws.Sent.{sent}
 use Rattle.lsp_client.specs.declared.fault.ClientFault.{ClientFault}
 use Rattle.lsp_client.specs.Step as client
 use Rattle.lsp_client.specs.Step.{Call, call_result}

@@ -17,7 +17,7 @@ use Rattle.lsp_message.specs.Values.{member_at, text_in, items_in, is_null, whol
 use Rattle.lsp_message.specs.Message as msg
 use Rattle.lsp_message.specs.Message.{IdData, whole, text, Reading, MessageData, id_in, value_of, message_of, call_of, answer_of, outcome_of, message_with, message_by, is_version_two, reading}
 use Rattle.lsp_message.specs.Params.{DocumentItem, EditData, ChangeData, open_of, open_by, change_of, change_by, document_in, document_and_changes, edit_by, edit_in, edits_in, range_of, version_in, within_version}
-use Rattle.lsp_message.specs.Sent.{IsProperId}
+use Rattle.lsp_message.specs.laws.Sent.{IsProperId}
 use Rattle.lsp_server.specs.Incoming.{IncomingData, not_json, not_a_message, response, initialize, shutdown, other_request, exit, did_open, did_change, did_close, other_notification, incoming_by, incoming_of}
 use Rattle.lsp_server.specs.Step.{edit_from_data}
 use Rattle.lsp_store.specs.Message.{AreTexts}

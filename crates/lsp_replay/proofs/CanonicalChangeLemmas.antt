@@ -10,7 +10,7 @@ use Rattle.lsp_edit.specs.Items.{Item, text_of}
 use Rattle.lsp_edit.specs.Batch.{Edit, meaning}
 use Rattle.lsp_edit.specs.Canonical.{canonical}
 use Rattle.lsp_edit.specs.Compose.{then_items}
-use Rattle.lsp_edit.specs.Laws.{IsCanonical}
+use Rattle.lsp_edit.specs.laws.Batches.{IsCanonical}
 use Rattle.lsp_edit.proofs.LawLemmas.{canonical_law, units_some}
 use Rattle.lsp_edit.specs.Indexed.{bytes_left}
 use Rattle.lsp_message.specs.Message.{reading}

@@ -8,7 +8,7 @@ use Rattle.lsp_message.specs.declared.agreement.SyncKind.{SyncKind}
 use Rattle.lsp_message.specs.Message.{IdData, whole, text}
 use Rattle.lsp_message.specs.Outgoing.{OutgoingData, initialize_result, body_of}
 use Rattle.lsp_message.specs.Written.{initialize_value}
-use Rattle.lsp_message.specs.Sent.{IsProperId}
+use Rattle.lsp_message.specs.laws.Sent.{IsProperId}
 use Rattle.lsp_message.proofs.ReadBack.{reading-body_of, is_read_back}
 use Rattle.lsp_text.specs.declared.encoding.Encoding.{Encoding}
 use Rattle.lsp_server.specs.declared.phase.Phase.{Phase}

@@ -20,7 +20,7 @@ use Rattle.lsp_log.specs.Log.{Record, IsRecord, AreRecords, together, record_byt
 use Rattle.lsp_replay.specs.RunOutput.{RunOutput, written_first}
 use Rattle.lsp_replay.specs.Session.{Session, Verdict, answered, recorded, bad, Judged, judged, judge, judge_from, judge_incoming, counted, opened}
 use Rattle.lsp_replay.specs.Commands.{RecordOutput, writes, unless_bad, run_output_in, replaying, converting, line_if, line_before, reply_record, log_config, converted}
-use Rattle.lsp_replay.specs.Laws.{IsReplyWithin, AreRepliesWithin, ConvertedLaw, all_of}
+use Rattle.lsp_replay.specs.laws.Written.{IsReplyWithin, AreRepliesWithin, ConvertedLaw, all_of}
 use Rattle.lsp_replay.proofs.AskedLemmas.{asked_proper}
 use Rattle.lsp_replay.proofs.NormalisedLemmas.{command_output, went_on, Passes, passes}
 use Rattle.lsp_replay.proofs.ConvertedLemmas.{twin, IsGood, Follows, next_of, rest_after, waits, follows_step, judged_one, judged_two}

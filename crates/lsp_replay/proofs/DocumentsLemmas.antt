@@ -10,7 +10,7 @@ use Rattle.lsp_log.specs.declared.record.Side.{Side}
 use Rattle.lsp_log.specs.declared.record.Side.TheVariants.{Client, Server}
 use Rattle.lsp_log.specs.declared.record.Version.{Version}
 use Rattle.lsp_log.specs.Log.{LogRules, Record}
-use Rattle.lsp_log.specs.Laws.{FirstLaw, VersionLaw}
+use Rattle.lsp_log.specs.laws.Logs.{FirstLaw, VersionLaw}
 use Rattle.lsp_message.specs.Message.{IdData}
 use Rattle.lsp_replay.specs.Documents.{Kept, Selection, after_kept, after_left_out, is_due, kept_in, output_of_kept, record_stays, waiting_after, with_due, with_line}
 use Rattle.lsp_replay.specs.Commands.{RecordOutput, canonical_of_record, continue_with, ends, front_of, normalising, run_output_in, unless_bad, writes, written}

@@ -15,7 +15,7 @@ use Rattle.lsp_stream.specs.Turns.{AppendsFront, AppendsShort}
 use Rattle.lsp_log.specs.Log.{LogRules, Record, Log, IsReadAs, HasNoRecord, IsCut, IsUndecided, mark_of, is_line_due}
 use Rattle.lsp_log.specs.Splitting.{IsFed, IsReady, IsAfter, IsSplitFault, log_at, head_of, buffered_of, record_at}
 use Rattle.lsp_log.specs.Opening.{IsUnfinished}
-use Rattle.lsp_log.specs.Laws.{BufferedLaw, RestLaw}
+use Rattle.lsp_log.specs.laws.Logs.{BufferedLaw, RestLaw}
 use Rattle.lsp_log.proofs.SplitLemmas.{frame_len}
 use Rattle.lsp_replay.specs.RunOutput.{RunOutput, written_first, stopped}
 use Rattle.lsp_replay.specs.inside.RunOutput.{after}

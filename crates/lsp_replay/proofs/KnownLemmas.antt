@@ -9,7 +9,7 @@ use Rattle.lsp_log.specs.declared.record.Head.{Head}
 use Rattle.lsp_log.specs.declared.record.Side.{Side}
 use Rattle.lsp_log.specs.declared.record.Side.TheVariants.{Client, Server}
 use Rattle.lsp_log.specs.declared.record.Version.{Version}
-use Rattle.lsp_log.specs.Laws.{FirstLaw, VersionLaw}
+use Rattle.lsp_log.specs.laws.Logs.{FirstLaw, VersionLaw}
 use Rattle.lsp_log.specs.Log.{LogRules, Record}
 use Rattle.lsp_replay.specs.declared.notes.Note.{Note}
 use Rattle.lsp_replay.specs.declared.outcome.Outcome.{Outcome}

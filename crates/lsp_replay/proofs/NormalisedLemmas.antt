@@ -16,7 +16,7 @@ use Rattle.lsp_log.specs.Log.{Record, Log, IsRecord, AreRecords, IsVersion, toge
 use Rattle.lsp_replay.specs.RunOutput.{RunOutput, written_first}
 use Rattle.lsp_replay.specs.Session.{Session, Verdict, answered, recorded, bad, Judged, judge, opened}
 use Rattle.lsp_replay.specs.Commands.{View, RecordOutput, writes, ends, continue_with, unless_bad, run_output_in, normalising, replaying, canonical_output, canonical_of_record, written, front_of, line_if, log_config, canonical_log}
-use Rattle.lsp_replay.specs.Laws.{CanonicalLogLaw, all_of}
+use Rattle.lsp_replay.specs.laws.Written.{CanonicalLogLaw, all_of}
 use Rattle.lsp_replay.proofs.StateLemmas.{IsHeldState}
 use Rattle.lsp_replay.proofs.LineLemmas.{is_version_one}
 use Rattle.lsp_replay.proofs.JudgeLemmas.{judged_held, judged_again}

@@ -20,7 +20,7 @@ use Rattle.lsp_store.specs.Message.{AreTexts}
 use Rattle.lsp_store.specs.Squash.{SquashData, items_meant, squash_batch, squash_of}
 use Rattle.lsp_store.proofs.MessageLemmas.{Accepts, accepted_parts}
 use Rattle.lsp_store.proofs.ScalarLemmas.{scalar-meaning, scalar-text}
-use Rattle.lsp_store.specs.Laws.{IsWithin}
+use Rattle.lsp_store.specs.laws.Tables.{IsWithin}
 use Rattle.lsp_server.specs.Step.{State, edit_from_data, session_encoding}
 use Rattle.lsp_replay.specs.inside.Joining.{refusal_of, server_after}
 use Rattle.lsp_replay.specs.Squashed.{joined_by}

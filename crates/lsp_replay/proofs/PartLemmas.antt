@@ -8,7 +8,7 @@ use Rattle.lsp_stream.specs.declared.fault.EngineFault.{EngineFault}
 use Rattle.lsp_stream.specs.declared.fault.EngineFault.TheVariants.{NoMemory}
 use Rattle.lsp_stream.specs.Ports.{Ports}
 use Rattle.lsp_log.specs.Log.{LogRules, Record}
-use Rattle.lsp_log.specs.Laws.{FirstLaw, VersionLaw}
+use Rattle.lsp_log.specs.laws.Logs.{FirstLaw, VersionLaw}
 use Rattle.lsp_replay.specs.RunOutput.{RunOutput, written_first, stopped}
 use Rattle.lsp_replay.specs.Session.{Session, Verdict, answered, recorded, bad, judge, outcome_of, opened}
 use Rattle.lsp_replay.specs.Commands.{RecordOutput, writes, ends, continue_with, unless_bad, log_config}

@@ -25,7 +25,7 @@ use Rattle.lsp_log.proofs.LogLemmas.{are_push, due_after, together_push}
 use Rattle.std.proofs.lemmas.Slice.Eq.{bytes_eq-Decides}
 use Rattle.lsp_log.specs.declared.record.Side.{Side}
 use Rattle.lsp_store.proofs.LawLemmas.{MayChange, change_parts, within_at}
-use Rattle.lsp_store.specs.Laws.{IsWithin}
+use Rattle.lsp_store.specs.laws.Tables.{IsWithin}
 use Rattle.lsp_replay.proofs.JoiningLemmas.{uri_at}
 use Rattle.lsp_replay.proofs.SingleLemmas.{IsSingle, is_single, single_record}
 use Rattle.lsp_replay.specs.RunOutput.{written_first}

@@ -7,7 +7,7 @@ use Rattle.lsp_log.specs.Log.{Record}
 use Rattle.lsp_replay.specs.RunOutput.{RunOutput}
 use Rattle.lsp_replay.specs.Session.{Session, Verdict, answered, recorded, bad, judge, opened}
 use Rattle.lsp_replay.specs.Commands.{writes, continue_with, unless_bad, run_output_in, replaying, log_config}
-use Rattle.lsp_replay.specs.Laws.{ReportLaw}
+use Rattle.lsp_replay.specs.laws.Written.{ReportLaw}
 
 quiet_gives : (r : Record) (verdict : Verdict) → (unless_bad r verdict (writes [])).out ≡ []
 quiet_gives r (answered answer) = refl

@@ -18,7 +18,7 @@ use Rattle.lsp_log.specs.declared.splitter.Splitter.{Splitter}
 use Rattle.lsp_log.specs.Log.{LogRules, Record, IsVersion, IsUndecided, line_of, version_line, together, record_bytes}
 use Rattle.lsp_log.specs.Opening.{IsLineFront, IsBelowLine, IsUnfinished}
 use Rattle.lsp_log.specs.Splitting.{IsReady, IsOpen, IsAfter, buffered_of}
-use Rattle.lsp_log.specs.Laws.{RestLaw}
+use Rattle.lsp_log.specs.laws.Logs.{RestLaw}
 use Rattle.lsp_replay.specs.RunOutput.{RunOutput}
 use Rattle.lsp_replay.specs.Engine.{Reached, Called, NonePassedOver, PortState, WroteRecords}
 use Rattle.lsp_replay.specs.inside.Engine.{IsPieceFault, Stopped, AtEnd, Ran, IsRunFault}

@@ -22,7 +22,7 @@ use Rattle.lsp_replay.specs.Squashed.{Run, squash_step, squashed_in}
 use Rattle.lsp_replay.specs.Run.{IsEngineRun}
 use Rattle.lsp_replay.specs.AllRecords.{EndedBy, Passed, PassedEnd, CutAtEnd, ShortAtEnd, IsFaultReported, IsRunReport, RanOver}
 use Rattle.lsp_log.specs.Opening.{IsUnfinished}
-use Rattle.lsp_log.specs.Laws.{IsFirstOf, FirstLaw, VersionLaw}
+use Rattle.lsp_log.specs.laws.Logs.{IsFirstOf, FirstLaw, VersionLaw}
 use Rattle.lsp_log.proofs.UniqueLemmas.{first_byte}
 use Rattle.lsp_replay.proofs.EngineLemmas.{empty_rest, still_short}
 

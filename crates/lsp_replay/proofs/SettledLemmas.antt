@@ -10,7 +10,7 @@ use Rattle.lsp_text.specs.declared.encoding.Encoding.{Encoding}
 use Rattle.lsp_edit.specs.Items.{Item}
 use Rattle.lsp_edit.specs.Batch.{Edit, meaning}
 use Rattle.lsp_edit.specs.Canonical.{canonical}
-use Rattle.lsp_edit.specs.Laws.{IsCanonical}
+use Rattle.lsp_edit.specs.laws.Batches.{IsCanonical}
 use Rattle.lsp_edit.proofs.LawLemmas.{canonical_law, units_some}
 use Rattle.lsp_message.specs.Message.{reading}
 use Rattle.lsp_message.specs.Params.{DocumentItem, ChangeData}
@@ -20,7 +20,7 @@ use Rattle.lsp_store.specs.Message.{AreTexts, IsCanonicalOf, IsReadAgain, writte
 use Rattle.lsp_store.proofs.FirstLemmas.{first_none}
 use Rattle.lsp_store.proofs.MessageLemmas.{Accepts, accepted_parts, body_within, is_settled, is_read}
 use Rattle.lsp_store.proofs.ScalarLemmas.{canonical_texts}
-use Rattle.lsp_store.specs.Laws.{IsWithin}
+use Rattle.lsp_store.specs.laws.Tables.{IsWithin}
 use Rattle.lsp_store.proofs.LawLemmas.{within_at}
 use Rattle.lsp_server.specs.declared.phase.Phase.{Phase}
 use Rattle.lsp_server.specs.declared.phase.Phase.TheVariants.{New, Running, Down, Ended}

@@ -9,7 +9,7 @@ use Rattle.lsp_frame.proofs.WrittenLemmas.{written_is_frame}
 use Rattle.lsp_text.specs.Units.{units_in}
 use Rattle.lsp_edit.specs.Compose.{then_items}
 use Rattle.lsp_edit.specs.Items.{text_of}
-use Rattle.lsp_edit.specs.Laws.{IsCanonical}
+use Rattle.lsp_edit.specs.laws.Batches.{IsCanonical}
 use Rattle.lsp_edit.specs.Batch.{meaning}
 use Rattle.lsp_edit.proofs.LawLemmas.{canonical_law, units_some}
 use Rattle.lsp_edit.specs.Indexed.{bytes_left}
@@ -21,7 +21,7 @@ use Rattle.lsp_store.specs.Table.{entry_at, meant_text}
 use Rattle.lsp_replay.proofs.PutLemmas.{put, change_puts}
 use Rattle.lsp_store.proofs.LawLemmas.{MayChange, change_parts, within_at}
 use Rattle.lsp_store.proofs.MessageLemmas.{Accepts, accepted_parts}
-use Rattle.lsp_store.specs.Laws.{IsWithin}
+use Rattle.lsp_store.specs.laws.Tables.{IsWithin}
 use Rattle.lsp_server.specs.Incoming.{incoming_of}
 use Rattle.lsp_server.specs.Step.{edit_from_data, session_encoding}
 use Rattle.lsp_log.specs.declared.record.Version.{Version}

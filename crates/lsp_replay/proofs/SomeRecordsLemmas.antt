@@ -14,14 +14,14 @@ use Rattle.lsp_log.specs.declared.record.Version.{Version}
 use Rattle.lsp_log.specs.declared.record.Version.TheVariants.{One, Two}
 use Rattle.lsp_log.specs.Log.{LogRules, Record, Log, IsVersion, IsReadAs, IsCut, IsMalformed, IsBadMark, together, version_line}
 use Rattle.lsp_log.specs.Opening.{IsUnfinished}
-use Rattle.lsp_log.specs.Laws.{AllRecords, AllRecordsLaw}
+use Rattle.lsp_log.specs.laws.Logs.{AllRecords, AllRecordsLaw}
 use Rattle.lsp_log.proofs.OpeningLemmas.{starts_front, starts_known}
 use Rattle.lsp_replay.specs.RunOutput.{RunOutput}
 use Rattle.lsp_replay.specs.Engine.{PortState, Reached, WroteRecords, last_of, state_of}
 use Rattle.lsp_replay.specs.inside.Engine.{AtEnd, BreaksAtEnd, Broken, BrokenAtEnd, IsRunFault, Ran, RanOut, RanOutAtEnd, RefusesInput, Stopped, TurnsRanOut}
 use Rattle.lsp_replay.specs.AllRecords.{CutAtEnd, EndedBy, IsFaultReported, IsFirstPart, IsRunReport, IsShort, Passed, RanOver, ShortAtEnd}
 use Rattle.lsp_replay.specs.Commands.{report}
-use Rattle.lsp_replay.specs.Laws.{ReportLaw}
+use Rattle.lsp_replay.specs.laws.Written.{ReportLaw}
 use Rattle.lsp_replay.specs.Run.{Engine, IsEngineRun}
 
 -- ---- the version of an input

@@ -19,7 +19,8 @@ use Rattle.lsp_replay.specs.Session.{Session, Verdict, answered, recorded, bad, 
 use Rattle.lsp_replay.specs.Lines.{Known, known_after, lines_in, nothing_known, uri_of}
 use Rattle.lsp_replay.specs.Mentions.{last_for}
 use Rattle.lsp_replay.specs.Notes.{notes_of}
-use Rattle.lsp_replay.specs.Trace.{Line, TraceLaw, body_json, checked_line, document_after, first_members, id_json, id_of, is_changed, is_document, is_json, json_string, last_members, member, method_of, notes_json, reason_json, side_word, text_json, trace_line, traced_line, tracing, version_json, within, written_text}
+use Rattle.lsp_replay.specs.Trace.{body_json, document_after, first_members, id_json, id_of, is_changed, is_json, json_string, last_members, member, method_of, notes_json, reason_json, side_word, text_json, trace_line, tracing, version_json, within}
+use Rattle.lsp_replay.specs.laws.Traced.{Line, TraceLaw, checked_line, is_document, traced_line, written_text}
 use Rattle.lsp_replay.proofs.MemberLemmas.{line_parts}
 use Rattle.lsp_replay.proofs.TableLemmas.{record_keeps}
 

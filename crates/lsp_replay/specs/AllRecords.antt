@@ -12,7 +12,7 @@ use Rattle.lsp_log.specs.Log.{LogRules, Record, Log, IsVersion, IsReadAs, HasNoR
 use Rattle.lsp_log.specs.Opening.{IsUnfinished}
 use Rattle.lsp_replay.specs.RunOutput.{RunOutput}
 use Rattle.lsp_replay.specs.Engine.{PortState}
-use Rattle.lsp_replay.specs.Laws.{all_of}
+use Rattle.lsp_replay.specs.laws.Written.{all_of}
 
 -- A record ended the run: the output up to it was written.
 pub record EndedBy (run_output : List Record → RunOutput)

@@ -3,7 +3,6 @@
 use Rattle.std.specs.Prelude.{ℕ, ◌≡◌, Bool, true, false, not, ◌||◌, if◌then◌else◌, List, [], ◌∷◌, Option, Some, None, codes, Result, IfOk}
 use Rattle.std.specs.Io.KnownBytes.{Consumes, Appends}
 use Rattle.std.specs.Str.{bytes_eq}
-use Rattle.lsp_frame.specs.Limits.{AreInRange}
 use Rattle.lsp_message.specs.Message.{IdData, Reading, reading}
 use Rattle.lsp_message.specs.Message as read
 use Rattle.lsp_server.specs.declared.phase.Phase.{Phase}
@@ -17,8 +16,8 @@ use Rattle.lsp_log.specs.Log.{Record, Log, IsReadAs}
 use Rattle.lsp_replay.specs.declared.commands.Settings.{Settings}
 use Rattle.lsp_replay.specs.declared.outcome.Outcome.{Outcome}
 use Rattle.lsp_replay.specs.RunOutput.{RunOutput}
-use Rattle.lsp_replay.specs.Commands.{as_log, canonical_log, log_config, report}
-use Rattle.lsp_replay.specs.Laws.{LeavesAlike, all_of}
+use Rattle.lsp_replay.specs.Commands.{as_log, log_config, report}
+use Rattle.lsp_replay.specs.laws.Written.{LeavesAlike}
 use Rattle.lsp_replay.specs.Run.{Engine}
 use Rattle.lsp_replay.specs.Session.{Session, is_ended, is_running, judge, opened, same_id}
 use Rattle.lsp_replay.specs.Squashed.{normalised}
@@ -150,21 +149,6 @@ pub record KeepsDocuments (settings : Settings) (records : List Record) (outcome
   pub status : outcome.status ≡ (report settings records).outcome.status
   pub refused : outcome.refused ≡ (report settings records).outcome.refused
   pub leaves : LeavesAlike settings records bytes
-
--- What is written of a log in which no record ends the run.
-abbrev pub DocumentsLaw : Type 0
-DocumentsLaw =
-    (settings : Settings) → AreInRange settings.limits → (input : List ℕ) (log : Log) →
-    IsReadAs (as_log settings) input log → log.rest ≡ []
-    → (documents settings log.records).stop ≡ None →
-    KeepsDocuments settings log.records (documents settings log.records).outcome
-    (all_of (documents settings) log)
-
--- A log ends as it does where no record is left out: at the same record, for the same cause.
-abbrev pub DocumentsStopAlike : Type 0
-DocumentsStopAlike =
-    (settings : Settings) (records : List Record) →
-    (documents settings records).stop ≡ (canonical_log settings records).stop
 
 -- The engine came to the end of a log, and wrote bytes of which that holds.
 pub record WroteDocuments (settings : Settings)

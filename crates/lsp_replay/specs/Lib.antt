@@ -2,7 +2,6 @@ pub mod RunOutput
 pub mod Engine
 pub mod Session
 pub mod Squashed
-pub mod Laws
 pub mod AllRecords
 pub mod Run
 pub mod Parts
@@ -15,3 +14,4 @@ pub mod Trace
 pub mod Explained
 pub mod inside
 pub mod Commands
+pub mod laws

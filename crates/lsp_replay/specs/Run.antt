@@ -11,7 +11,7 @@ use Rattle.lsp_replay.specs.declared.outcome.Outcome.{Outcome}
 use Rattle.lsp_replay.specs.RunOutput.{RunOutput}
 use Rattle.lsp_replay.specs.Engine.{Called, NonePassedOver, WroteRecords, state_of}
 use Rattle.lsp_replay.specs.Commands.{as_converted, as_log, as_stream, converted, replies, report, verdicts}
-use Rattle.lsp_replay.specs.Laws.{Wrote}
+use Rattle.lsp_replay.specs.laws.Written.{Wrote}
 use Rattle.lsp_replay.specs.Squashed.{normalised}
 use Rattle.lsp_replay.specs.AllRecords.{RanOver}
 

@@ -7,7 +7,7 @@ ghost use Rattle.std.specs.Prelude.{◌≡◌, true, false};
 ghost use Rattle.lsp_frame.specs.Limits.{AreInRange};
 ghost use Rattle.lsp_stream.specs.Ports.{ports};
 ghost use Rattle.lsp_replay.specs.Commands.{log_config};
-ghost use Rattle.lsp_replay.specs.Laws.{IsConverted, IsCanonicalLog, IsSquashed};
+ghost use Rattle.lsp_replay.specs.laws.Written.{IsConverted, IsCanonicalLog, IsSquashed};
 ghost use Rattle.lsp_replay.specs.Run.{IsEngineRun, WritesLog};
 ghost use Rattle.lsp_replay.specs.Run.{serve_engine, check_engine, replay_engine, normalise_engine, convert_engine};
 ghost use Rattle.lsp_replay.specs.inside.Run.{each_engine, squash_engine};

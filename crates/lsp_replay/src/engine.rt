@@ -8,7 +8,7 @@ ghost use Rattle.lsp_stream.specs.Turns.{AppendsFront, AppendsShort, WritesWithi
 ghost use Rattle.lsp_stream.specs.inside.Turns.{PassesOn};
 ghost use Rattle.lsp_log.specs.Log.{LogRules, Record};
 ghost use Rattle.lsp_log.specs.Splitting.{IsReady, IsFed};
-ghost use Rattle.lsp_log.specs.Laws.{VersionLaw, FirstLaw};
+ghost use Rattle.lsp_log.specs.laws.Logs.{VersionLaw, FirstLaw};
 ghost use Rattle.lsp_replay.specs.RunOutput.{RunOutput};
 ghost use Rattle.lsp_replay.specs.Engine.{Reached, WroteRecords};
 ghost use Rattle.lsp_replay.specs.inside.Engine.{IsLoopRun, IsPieceFault, reading_by, AtEnd, Stopped};

@@ -1,9 +1,9 @@
 //! Laws over the definitions alone, which no single call has in its contract.
 
-ghost use Rattle.lsp_log.specs.Laws.{UniqueLaw};
-ghost use Rattle.lsp_replay.specs.Documents.{DocumentsLaw, DocumentsStopAlike};
-ghost use Rattle.lsp_replay.specs.Trace.{TraceLaw};
-ghost use Rattle.lsp_replay.specs.Laws.{ReportLaw, CanonicalLogLaw, SquashedLaw, StopsAlike, ConvertedLaw};
+ghost use Rattle.lsp_log.specs.laws.Logs.{UniqueLaw};
+ghost use Rattle.lsp_replay.specs.laws.Documents.{DocumentsLaw, DocumentsStopAlike};
+ghost use Rattle.lsp_replay.specs.laws.Traced.{TraceLaw};
+ghost use Rattle.lsp_replay.specs.laws.Written.{ReportLaw, CanonicalLogLaw, SquashedLaw, StopsAlike, ConvertedLaw};
 
 use lsp_log::reading_laws;
 

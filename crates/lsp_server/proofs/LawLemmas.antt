@@ -18,7 +18,7 @@ use Rattle.lsp_server.specs.declared.phase.Phase.TheVariants.{New, Running, Down
 use Rattle.lsp_server.specs.Answer.{AnswerData, reply, changed, exits}
 use Rattle.lsp_server.specs.Choice.{chosen, announced_kind}
 use Rattle.lsp_reader.specs.Incoming.{IncomingData, response, initialize, shutdown, other_request, exit, did_open, did_change, did_close, other_notification, request_of, notification_of}
-use Rattle.lsp_server.specs.Laws.{RepliesTo, way_of, IsRefusal}
+use Rattle.lsp_server.specs.laws.Steps.{RepliesTo, way_of, IsRefusal}
 use Rattle.lsp_server.specs.Step.{State, Step, stays, step_to, begins, obeyed, step_in}
 
 -- ---- requests

@@ -10,7 +10,7 @@ use Rattle.lsp_server.specs.declared.answer.Answer.TheVariants.{Reply, Changed, 
 use Rattle.lsp_server.specs.declared.answer.Answer.TheVariants as variants
 use Rattle.lsp_server.specs.Answer.{AnswerData, Sent, reply, changed, dropped, ignored, already_ended, refused, exits, as_sent}
 use Rattle.lsp_server.specs.Calls.{IsRowOf}
-use Rattle.lsp_server.specs.Laws.{IsRefusal}
+use Rattle.lsp_server.specs.laws.Steps.{IsRefusal}
 use Rattle.lsp_server.specs.Seen.{answer_view, IsRefusing}
 use Rattle.lsp_server.specs.Step.{State, step_on}
 use Rattle.lsp_server.proofs.LawLemmas.{kept}

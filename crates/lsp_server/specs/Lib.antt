@@ -2,7 +2,7 @@ pub use Rattle.lsp_reader.specs.Incoming
 pub mod Choice
 pub mod Answer
 pub mod Step
-pub mod Laws
 pub mod Seen
 pub mod Calls
 pub mod Planned
+pub mod laws

@@ -1,6 +1,6 @@
 //! Laws of the table of steps, which no call states.
 
-ghost use Rattle.lsp_server.specs.Laws.{RequestLaw, NotificationLaw, ResponseLaw, ForwardLaw, ConfigLaw, DocumentsLaw, RefusalLaw, OfferedLaw};
+ghost use Rattle.lsp_server.specs.laws.Steps.{RequestLaw, NotificationLaw, ResponseLaw, ForwardLaw, ConfigLaw, DocumentsLaw, RefusalLaw, OfferedLaw};
 
 /// Does nothing: its contract states what holds of every step.
 ///

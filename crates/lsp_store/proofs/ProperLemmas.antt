@@ -13,8 +13,8 @@ use Rattle.lsp_text.specs.Positions.{exact_position}
 use Rattle.lsp_edit.specs.Items.{Item}
 use Rattle.lsp_edit.specs.Batch.{Edit}
 use Rattle.lsp_edit.specs.Canonical.{Gap, gaps, is_changed, change_of, canonical}
-use Rattle.lsp_edit.specs.Laws.{AllHaveExactEnds, HasExactEnds}
-use Rattle.lsp_message.specs.Sent.{IsProperPosition, IsProperRange, IsProperEdit}
+use Rattle.lsp_edit.specs.laws.Batches.{AllHaveExactEnds, HasExactEnds}
+use Rattle.lsp_message.specs.laws.Sent.{IsProperPosition, IsProperRange, IsProperEdit}
 use Rattle.lsp_store.specs.Message.{AreTexts, written_edit}
 
 -- a text has as many bytes as its characters weigh, and at least as many bytes as characters

@@ -11,7 +11,7 @@ use Rattle.lsp_text.specs.Positions.{denoted}
 use Rattle.lsp_edit.specs.Items.{Item, Old, New, plain, text_of}
 use Rattle.lsp_edit.specs.Batch.{Edit, Fault, InsideStart, InsideStop, Reversed, replaced, changed_in, after_change, after_changes, continue_with, meaning}
 use Rattle.lsp_edit.specs.Canonical.{canonical}
-use Rattle.lsp_edit.specs.Laws.{IsCanonical}
+use Rattle.lsp_edit.specs.laws.Batches.{IsCanonical}
 use Rattle.lsp_store.specs.Message.{AreTexts}
 
 -- the new characters among items are scalar values

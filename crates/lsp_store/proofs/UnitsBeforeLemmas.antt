@@ -10,7 +10,7 @@ use Rattle.std.proofs.lemmas.Str.{IsUtf8-take, chars-nil, chars_from_encodes, ch
 use Rattle.lsp_text.specs.declared.encoding.Encoding.{Encoding}
 use Rattle.lsp_text.specs.declared.encoding.Encoding.TheVariants.{Utf8, Utf16, Utf32}
 use Rattle.lsp_text.specs.Text.{place_of}
-use Rattle.lsp_text.specs.UnitLaws.{utf8_bounds, utf16_bounds, utf32_bounds}
+use Rattle.lsp_text.specs.laws.Units.{utf8_bounds, utf16_bounds, utf32_bounds}
 use Rattle.lsp_text.specs.Units.{units_in, units_between}
 use Rattle.lsp_text.proofs.PlainLemmas.{units_total}
 use Rattle.lsp_text.proofs.PlaceLemmas.{index_at, place_boundary, place_one, take_place}

@@ -5,7 +5,7 @@ use Rattle.std.proofs.Math.Seq.{take-add}
 use Rattle.std.proofs.lemmas.List.{append_assoc, drop-drop, drop_all, take-append-drop}
 use Rattle.std.proofs.lemmas.List.Sums.{sum_by-append}
 use Rattle.std.proofs.lemmas.Str.{IsUtf8-between, IsUtf8-take, chars-append, chars-nil, encodes-append, encodes-chars, length-encode}
-use Rattle.lsp_text.specs.UnitLaws.{utf8_bounds}
+use Rattle.lsp_text.specs.laws.Units.{utf8_bounds}
 use Rattle.lsp_store.specs.inside.UnitsPassed.{HasPassed, IsPassed, IsTooFew}
 use Rattle.lsp_store.proofs.UnitsBeforeLemmas.{passed_few}
 

@@ -2,9 +2,10 @@ pub mod Table
 pub mod Faults
 pub mod Opened
 pub mod Message
-pub mod Laws
 pub mod Squash
 pub mod LineContent
 pub mod UnitsBefore
 pub mod inside
 pub mod Plan
+pub mod Limits
+pub mod laws

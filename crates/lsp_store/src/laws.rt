@@ -1,6 +1,6 @@
 //! Laws of the table of documents, which no call states.
 
-ghost use Rattle.lsp_store.specs.Laws.{GreaterLimitsLaw, CanonicalBatchLaw, WholeTextLaw, WithinLaw, UniqueLaw, TableLaw, LastLaw};
+ghost use Rattle.lsp_store.specs.laws.Tables.{GreaterLimitsLaw, CanonicalBatchLaw, WholeTextLaw, WithinLaw, UniqueLaw, TableLaw, LastLaw};
 
 /// Does nothing: its contract states what holds of the table of documents.
 ///

@@ -2,7 +2,7 @@
 use Rattle.std.proofs.Common.{zero, suc, refl, arith}
 use Rattle.std.proofs.Math.Utf8.{encode}
 use Rattle.lsp_text.specs.LineStarts.{IsPlace}
-use Rattle.lsp_text.specs.Examples.{HoldsOnExamples, two_lines, smile}
+use Rattle.lsp_text.specs.laws.Examples.{HoldsOnExamples, two_lines, smile}
 
 no_place_in_two : IsPlace two_lines 2 → ⊥
 unfolding encode

@@ -12,11 +12,11 @@ use Rattle.lsp_text.specs.Text.{place_of}
 use Rattle.lsp_text.specs.TextLines.{line_at, line_ends, line_start}
 use Rattle.lsp_text.specs.LineStarts.{line_starts, start_places}
 use Rattle.lsp_text.specs.Units.{name_of, encoding_named}
-use Rattle.lsp_text.specs.UnitLaws.{utf8_bounds, utf16_bounds, utf32_bounds}
-use Rattle.lsp_text.specs.PlaceLaws.{RisingLaw, EndsLaw, BoundaryLaw}
-use Rattle.lsp_text.specs.EncodingLaws.{NameLaw, UnitLaw}
-use Rattle.lsp_text.specs.LineLaws.{StartsLaw}
-use Rattle.lsp_text.specs.PositionLaws.{FoundLaw}
+use Rattle.lsp_text.specs.laws.Units.{utf8_bounds, utf16_bounds, utf32_bounds}
+use Rattle.lsp_text.specs.laws.Places.{RisingLaw, EndsLaw, BoundaryLaw}
+use Rattle.lsp_text.specs.laws.Encodings.{NameLaw, UnitLaw}
+use Rattle.lsp_text.specs.laws.Lines.{StartsLaw}
+use Rattle.lsp_text.specs.laws.Positions.{FoundLaw}
 use Rattle.lsp_text.proofs.PlaceLemmas.{place_rises, place_order, place_one, place_end, index_at}
 use Rattle.lsp_text.proofs.LineLemmas.{line_rises, line_has_start, in_content_line}
 use Rattle.lsp_text.proofs.StartRowLemmas.{length-line_starts, start_at}

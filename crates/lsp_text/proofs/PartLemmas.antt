@@ -6,7 +6,7 @@ use Rattle.std.proofs.lemmas.List.{get_or-drop, length-take, length-drop}
 use Rattle.std.proofs.lemmas.List.Sums.{prefix_len_passes}
 use Rattle.std.proofs.lemmas.Bool.{cases_Bool, and_parts, or_cases, not-true, false≢true}
 use Rattle.lsp_text.specs.TextLines.{line_feed, carriage_return, ends_line, splits_crlf, line_ends, line_start, line_stop}
-use Rattle.lsp_text.specs.LineLaws.{IsLineEnd, line_end_of, LinesPart}
+use Rattle.lsp_text.specs.laws.Lines.{IsLineEnd, line_end_of, LinesPart}
 use Rattle.lsp_text.proofs.LineLemmas.{line_rises}
 use Rattle.lsp_text.proofs.InLineLemmas.{is_inside_line, line_length}
 use Rattle.lsp_text.proofs.StartRowLemmas.{first_starts, next_start}

@@ -5,13 +5,7 @@ pub mod Positions
 pub mod Starts
 pub mod LineStarts
 pub mod Leads
-pub mod UnitLaws
-pub mod LeadLaws
 pub mod Splice
 pub mod Gapped
-pub mod LineLaws
-pub mod PlaceLaws
-pub mod EncodingLaws
-pub mod PositionLaws
-pub mod Examples
 pub mod inside
+pub mod laws

@@ -1,13 +1,13 @@
 //! Laws that follow from the definitions alone, for proofs over positions.
 
 ghost use Rattle.std.specs.Prelude.{ℕ, List};
-ghost use Rattle.lsp_text.specs.EncodingLaws.{NameLaw, UnitLaw};
-ghost use Rattle.lsp_text.specs.Examples.{HoldsOnExamples};
-ghost use Rattle.lsp_text.specs.LineLaws.{LinesPart, StartsLaw, SplitsLaw, PastEndLaw};
-ghost use Rattle.lsp_text.specs.PlaceLaws.{RisingLaw, EndsLaw, BoundaryLaw, IndexLaw};
-ghost use Rattle.lsp_text.specs.PlaceLaws.{BytesBeforeLaw, BytesBetweenLaw, BytesAfterLaw, FurtherLaw};
-ghost use Rattle.lsp_text.specs.PositionLaws.{DenotesLaw, WholeLaw, NearLaw, AloneLaw, ExactLaw, PastLineLaw, PastTextLaw};
-ghost use Rattle.lsp_text.specs.PositionLaws.{FoundLaw};
+ghost use Rattle.lsp_text.specs.laws.Encodings.{NameLaw, UnitLaw};
+ghost use Rattle.lsp_text.specs.laws.Examples.{HoldsOnExamples};
+ghost use Rattle.lsp_text.specs.laws.Lines.{LinesPart, StartsLaw, SplitsLaw, PastEndLaw};
+ghost use Rattle.lsp_text.specs.laws.Places.{RisingLaw, EndsLaw, BoundaryLaw, IndexLaw};
+ghost use Rattle.lsp_text.specs.laws.Places.{BytesBeforeLaw, BytesBetweenLaw, BytesAfterLaw, FurtherLaw};
+ghost use Rattle.lsp_text.specs.laws.Positions.{DenotesLaw, WholeLaw, NearLaw, AloneLaw, ExactLaw, PastLineLaw, PastTextLaw};
+ghost use Rattle.lsp_text.specs.laws.Positions.{FoundLaw};
 
 /// Promises what is true of positions in every text (LSP 3.17, Position). The call itself does
 /// nothing.

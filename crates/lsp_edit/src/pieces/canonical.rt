@@ -7,7 +7,7 @@ ghost use Rattle.lsp_text.specs.Units.{units_in};
 ghost use Rattle.lsp_edit.specs.Canonical.{canonical, gaps};
 ghost use Rattle.lsp_edit.specs.Edited.{edit_of};
 ghost use Rattle.lsp_edit.specs.inside.Gaps.{gap_change};
-ghost use Rattle.lsp_edit.specs.Laws.{AllHaveExactEnds};
+ghost use Rattle.lsp_edit.specs.laws.Batches.{AllHaveExactEnds};
 ghost use Rattle.lsp_edit.specs.Parts.{AreParts, items_of, parts_of};
 
 use crate::change::Change;

@@ -7,7 +7,7 @@ use Rattle.lsp_edit.specs.Batch.{Edit}
 use Rattle.lsp_message.specs.Message.{message}
 use Rattle.lsp_message.specs.Outgoing as outgoing
 use Rattle.lsp_message.specs.Outgoing.{OutgoingData}
-use Rattle.lsp_message.specs.Sent.{sent, IsProperDocument}
+use Rattle.lsp_message.specs.laws.Sent.{sent, IsProperDocument}
 use Rattle.lsp_store.specs.Table.{Command, opens, changes, closes, table_of}
 use Rattle.lsp_store.specs.Message.{AreTexts, written_edit}
 use Rattle.lsp_server.specs.declared.phase.Phase as server_phase

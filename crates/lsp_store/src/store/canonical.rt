@@ -6,7 +6,7 @@ ghost use Rattle.lsp_text.specs.Units.{units_in};
 ghost use Rattle.lsp_edit.specs.Batch.{Edit};
 ghost use Rattle.lsp_edit.specs.Edited.{edit_of};
 ghost use Rattle.lsp_message.specs.Outgoing.{OutgoingData, body_of};
-ghost use Rattle.lsp_message.specs.Sent.{IsProper, IsReadAsSent, IsReadBack};
+ghost use Rattle.lsp_message.specs.laws.Sent.{IsProper, IsReadAsSent, IsReadBack};
 ghost use Rattle.lsp_store.specs.declared.fault.StoreFault.TheVariants.{BodyTooLong, NoMemory, TooManyChanges};
 ghost use Rattle.lsp_store.specs.Faults.{IsRefusal};
 ghost use Rattle.lsp_store.specs.Opened.{MayTakeMemory};

@@ -3,7 +3,7 @@ ghost use Rattle.std.specs.Prelude.{◌≡◌, ◌+◌, ◌*◌, ◌≤◌, ◌<
 ghost use Rattle.std.specs.Str.{IsUtf8, chars};
 ghost use Rattle.lsp_text.specs.Leads.{lead_units_utf16, lead_units_utf32};
 ghost use Rattle.lsp_text.specs.inside.Leads.{line_place, byte_place};
-ghost use Rattle.lsp_text.specs.LeadLaws.{utf16_few, utf32_few};
+ghost use Rattle.lsp_text.specs.laws.Leads.{utf16_few, utf32_few};
 
 use crate::position::units::{Units, Utf8, Utf16, Utf32};
 

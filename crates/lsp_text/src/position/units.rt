@@ -4,7 +4,7 @@ ghost use Rattle.std.specs.Prelude.{◌≡◌, ◌≤◌, ℕ};
 ghost use Rattle.std.specs.Char.{len_utf8};
 ghost use Rattle.lsp_text.specs.Units.{units_in};
 ghost use Rattle.lsp_text.specs.declared.encoding.Encoding.TheVariants as encoding;
-ghost use Rattle.lsp_text.specs.UnitLaws.{utf8_bounds, utf16_bounds, utf32_bounds};
+ghost use Rattle.lsp_text.specs.laws.Units.{utf8_bounds, utf16_bounds, utf32_bounds};
 
 /// The units that a character has in an encoding.
 pub trait Units {

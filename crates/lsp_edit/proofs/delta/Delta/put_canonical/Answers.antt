@@ -2,7 +2,7 @@ use Rattle.std.proofs.Common.{◌≡◌, List, ℕ, ap, ◌∙◌, subst, sym}
 use Rattle.std.specs.Str.{chars}
 use Rattle.lsp_text.specs.Units.{units_in}
 use Rattle.lsp_edit.specs.Canonical.{gaps}
-use Rattle.lsp_edit.specs.Laws.{AllHaveExactEnds}
+use Rattle.lsp_edit.specs.laws.Batches.{AllHaveExactEnds}
 use Rattle.lsp_edit.specs.Once.{IsPut}
 use Rattle.lsp_edit.specs.Parts.{AreParts, Part, items_of, parts_of}
 use Rattle.lsp_edit.specs.inside.Parts.{AreCut, AreOrdered, replaced_parts, whole_parts}

@@ -1,5 +1,5 @@
 -- What holds of the table of documents after any commands.
-use Rattle.std.specs.Prelude.{ℕ, ℤ, ◌≡◌, ◌≤◌, IsTrue, List, [], ◌∷◌, ◌++◌, length, IsUtf8, None, ⊤}
+use Rattle.std.specs.Prelude.{ℕ, ℤ, ◌≡◌, ◌≤◌, List, [], ◌∷◌, ◌++◌, length, IsUtf8, None, ⊤}
 use Rattle.lsp_frame.specs.Limits.{Bounds, AreInRange}
 use Rattle.lsp_text.specs.declared.encoding.Encoding.{Encoding}
 use Rattle.lsp_text.specs.Units.{units_in}
@@ -7,14 +7,7 @@ use Rattle.lsp_edit.specs.Batch.{Edit}
 use Rattle.lsp_message.specs.Params.{DocumentItem}
 use Rattle.lsp_store.specs.Table.{Command, opens, changes, closes, entry_at, change_refusal, after_change, command_refusal, table_after, table_of}
 use Rattle.lsp_store.specs.Message.{AreTexts, canonical_batch, whole_batch}
-
--- Each of the limits is at most the other's, and they are lenient only if the others are.
-pub record AreWithin (small great : Bounds) : Type 0 where
-  pub body : small.max_body ≤ great.max_body
-  pub text : small.max_text ≤ great.max_text
-  pub docs : small.max_docs ≤ great.max_docs
-  pub changes : small.max_changes ≤ great.max_changes
-  pub lenient : IsTrue small.lenient → IsTrue great.lenient
+use Rattle.lsp_store.specs.Limits.{AreWithin}
 
 -- Greater limits refuse no command that smaller ones accept.
 abbrev pub GreaterLimitsLaw : Type 0

@@ -1,0 +1,2 @@
+-- What holds of the definitions beside, each stated by a call of src/laws.rt or by a clause.
+pub mod Steps
