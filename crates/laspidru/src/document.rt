@@ -150,7 +150,7 @@ pub extern "C" fn laspidru_document_change(
 }
 
 /// Returns how many bytes and how many lines an object's text has.
-#[tactic(auto, using(lsp_text::proofs::IndexesLemmas::indexes_count))]
+#[tactic(auto, using(lsp_text::proofs::TextLines::IndexesLemmas::indexes_count))]
 fn object_size(object: &Object, out: &mut Size) -> u32
     ensures answer { IsAnswer (document_of object.now) result (IsSize out.new) }
     ensures unchanged { result ≢ OK → out.new ≡ out.old }

@@ -13,7 +13,7 @@ use Rattle.lsp_message.specs.Seen.{edit_view}
 use Rattle.lsp_store.specs.declared.store.plan.Plan.{Plan}
 use Rattle.lsp_store.specs.Opened.{StoreData}
 use Rattle.lsp_store.specs.Plan.{IsPlanOf}
-use Rattle.lsp_store.proofs.RefusalLemmas.{meaning_accepted}
+use Rattle.lsp_store.proofs.Tables.RefusalLemmas.{meaning_accepted}
 use Rattle.lsp_store.specs.Message.{change_body, whole_batch, whole_text}
 use Rattle.lsp_message.specs.Params.{DocumentItem}
 use Rattle.lsp_store.specs.Table.{entry_at, changed, after_change}

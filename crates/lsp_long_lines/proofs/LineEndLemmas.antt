@@ -10,8 +10,8 @@ use Rattle.lsp_text.specs.declared.position.Range.{Range}
 use Rattle.lsp_text.specs.TextLines.{line_at, line_ends, line_start, line_stop, numbers_from}
 use Rattle.lsp_text.specs.Units.{units_in, units_between}
 use Rattle.lsp_text.specs.Positions.{exact_position, denoted}
-use Rattle.lsp_text.proofs.LineLemmas.{in_content_line, line_has_stop}
-use Rattle.lsp_text.proofs.PastLemmas.{past_line}
+use Rattle.lsp_text.proofs.TextLines.LineLemmas.{in_content_line, line_has_stop}
+use Rattle.lsp_text.proofs.Positions.PastLemmas.{past_line}
 use Rattle.lsp_text.proofs.PlainLemmas.{units_total}
 use Rattle.lsp_long_lines.specs.LongLines.{is_long, line_end}
 

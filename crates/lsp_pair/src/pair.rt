@@ -171,7 +171,7 @@ impl Pair {
 }
 
 /// Makes the call of an event.
-#[tactic(auto, using(crate::proofs::EventLemmas::proper_event))]
+#[tactic(auto, using(crate::proofs::Steps::EventLemmas::proper_event))]
 fn call(alloc: Global, client: &mut Client, event: &Event) -> Result<Vec<u8>, ClientFault>
     requires { IsCall (event_view event.now) }
     ensures ok { IfOk result (λ bytes. HoldsOnCall (event_view event.now)

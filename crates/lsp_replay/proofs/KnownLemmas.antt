@@ -28,9 +28,9 @@ use Rattle.lsp_replay.specs.inside.Engine.{IsLoopRun}
 use Rattle.lsp_replay.specs.inside.Known.{IsAbout, IsLearned, IsNoted, is_change_read, known_by, uri_read}
 use Rattle.lsp_replay.specs.inside.Noting.{notes_on_read}
 use Rattle.lsp_replay.specs.inside.Verdicts.{verdict_view}
-use Rattle.lsp_replay.proofs.CanonicalLogLemmas.{heard_for}
-use Rattle.lsp_replay.proofs.PartLemmas.{unless_not}
-use Rattle.lsp_replay.proofs.RunReportLemmas.{Grows, NoneCut, grows_on, run_of_course, settled_on}
+use Rattle.lsp_replay.proofs.Canonical.CanonicalLogLemmas.{heard_for}
+use Rattle.lsp_replay.proofs.Reports.PartLemmas.{unless_not}
+use Rattle.lsp_replay.proofs.Runs.RunReportLemmas.{Grows, NoneCut, grows_on, run_of_course, settled_on}
 
 -- ---- results
 

@@ -202,7 +202,7 @@ impl Session {
 
     /// Returns the parameters of a change that a running server is to receive. A change that comes
     /// before the result of `initialize`, which says its encoding, is never received.
-    #[tactic(auto, using(crate::proofs::JoiningLemmas::idle, crate::proofs::JoiningLemmas::early))]
+    #[tactic(auto, using(crate::proofs::Squash::JoiningLemmas::idle, crate::proofs::Squash::JoiningLemmas::early))]
     fn received_change<'a>(&self, read: &'a RecordBody<'_>) -> Option<&'a ChangeParams>
         ensures { MatchOption result (canonical_read self.now (body_view read.now) ≡ None)
             (λ params. IsReceived self.now (body_view read.now) (change_view params.now)) }

@@ -13,16 +13,16 @@ use Rattle.lsp_edit.specs.Items.{Item, New, text_of}
 use Rattle.lsp_edit.specs.Batch.{Edit, meaning}
 use Rattle.lsp_edit.specs.Canonical.{canonical}
 use Rattle.lsp_edit.specs.laws.Batches.{IsCanonical}
-use Rattle.lsp_edit.proofs.LawLemmas.{canonical_law, units_some}
+use Rattle.lsp_edit.proofs.Batches.LawLemmas.{canonical_law, units_some}
 use Rattle.lsp_edit.specs.Indexed.{bytes_left}
 use Rattle.lsp_message.specs.Params.{DocumentItem}
 use Rattle.lsp_store.specs.Table.{Command, opens, changes, closes, already_open, too_many_documents, text_too_long, not_open, batch_bytes, meant_text, entry_at, is_taken, open_refusal, refusal_on, entry_refusal, change_refusal, changed, after_open, after_change, after_close, table_after, table_from}
 use Rattle.lsp_store.specs.Message.{AreTexts, canonical_batch, whole_text, whole_batch}
 use Rattle.lsp_store.specs.laws.Tables.{GreaterLimitsLaw, CanonicalBatchLaw, WholeTextLaw, WithinLaw, UniqueLaw, TableLaw, LastLaw, IsWithin, AllWithin, AreUnique, AreAccepted, IsInOrder}
 use Rattle.lsp_store.specs.Limits.{AreWithin}
-use Rattle.lsp_store.proofs.LenientLemmas.{still_new, still_free}
-use Rattle.lsp_store.proofs.MessageLemmas.{Accepts, accepted_parts, accepted_from, leaves_same, batch_at, settled_accepted, settled_leaves, accepts}
-use Rattle.lsp_store.proofs.ScalarLemmas.{scalar-meaning, scalar-text}
+use Rattle.lsp_store.proofs.Tables.LenientLemmas.{still_new, still_free}
+use Rattle.lsp_store.proofs.Messages.MessageLemmas.{Accepts, accepted_parts, accepted_from, leaves_same, batch_at, settled_accepted, settled_leaves, accepts}
+use Rattle.lsp_store.proofs.Messages.ScalarLemmas.{scalar-meaning, scalar-text}
 
 -- ---- what an accepted command says of the table
 

@@ -20,8 +20,8 @@ use Rattle.lsp_edit.specs.laws.Batches.{IsCanonical}
 use Rattle.lsp_edit.specs.declared.delta.Delta.{Delta}
 use Rattle.lsp_edit.specs.declared.delta.Delta.TheVariants.{Put, Left}
 use Rattle.lsp_edit.specs.Once.{IsOn, bytes_after, meant_by}
-use Rattle.lsp_edit.proofs.ComposeLemmas.{text_of-then, then_means}
-use Rattle.lsp_edit.proofs.LawLemmas.{canonical_law, units_some}
+use Rattle.lsp_edit.proofs.Batches.ComposeLemmas.{text_of-then, then_means}
+use Rattle.lsp_edit.proofs.Batches.LawLemmas.{canonical_law, units_some}
 use Rattle.lsp_store.specs.declared.fault.StoreFault.{StoreFault}
 use Rattle.lsp_store.specs.declared.store.stored.Stored.{Stored}
 use Rattle.lsp_store.specs.Faults.{IsRefusal}
@@ -32,10 +32,10 @@ use Rattle.lsp_store.specs.Plan.{IsPlanOf, IsPlanOn}
 use Rattle.lsp_store.specs.Squash.{HasReached, IsSquashAfter, SquashData, add_refusal, reached_entry, squash_after, items_meant, squash_batch, squash_of, squash_refusal}
 use Rattle.lsp_message.specs.Params.{DocumentItem}
 use Rattle.lsp_store.specs.Table.{IsLeftToMeaning, Refusal, batch_bytes, changed, greatest_batch, entry_refusal, is_stale, meant_text, too_many_changes}
-use Rattle.lsp_store.proofs.MessageLemmas.{accepted_parts}
-use Rattle.lsp_store.proofs.ProperLemmas.{bytes_sum}
-use Rattle.lsp_store.proofs.RefusalLemmas.{meaning_accepted, only_memory}
-use Rattle.lsp_store.proofs.ScalarLemmas.{scalar-meaning, scalar-text}
+use Rattle.lsp_store.proofs.Messages.MessageLemmas.{accepted_parts}
+use Rattle.lsp_store.proofs.Messages.ProperLemmas.{bytes_sum}
+use Rattle.lsp_store.proofs.Tables.RefusalLemmas.{meaning_accepted, only_memory}
+use Rattle.lsp_store.proofs.Messages.ScalarLemmas.{scalar-meaning, scalar-text}
 
 -- what callers see of the fields
 abbrev pub seen : List ℕ → Bounds → Encoding → JoinedData → ℤ → SquashData

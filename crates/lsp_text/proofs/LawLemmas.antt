@@ -17,10 +17,10 @@ use Rattle.lsp_text.specs.laws.Places.{RisingLaw, EndsLaw, BoundaryLaw}
 use Rattle.lsp_text.specs.laws.Encodings.{NameLaw, UnitLaw}
 use Rattle.lsp_text.specs.laws.Lines.{StartsLaw}
 use Rattle.lsp_text.specs.laws.Positions.{FoundLaw}
-use Rattle.lsp_text.proofs.PlaceLemmas.{place_rises, place_order, place_one, place_end, index_at}
-use Rattle.lsp_text.proofs.LineLemmas.{line_rises, line_has_start, in_content_line}
-use Rattle.lsp_text.proofs.StartRowLemmas.{length-line_starts, start_at}
-use Rattle.lsp_text.proofs.ExactLemmas.{start_before}
+use Rattle.lsp_text.proofs.Positions.PlaceLemmas.{place_rises, place_order, place_one, place_end, index_at}
+use Rattle.lsp_text.proofs.TextLines.LineLemmas.{line_rises, line_has_start, in_content_line}
+use Rattle.lsp_text.proofs.TextLines.StartRowLemmas.{length-line_starts, start_at}
+use Rattle.lsp_text.proofs.Positions.ExactLemmas.{start_before}
 
 pub rising_law : RisingLaw
 rising_law text j k before within = omega (arith, place_rises text j k (omega arith) within)

@@ -12,7 +12,7 @@ use Rattle.lsp_text.specs.TextLines.{numbers_from, last_or, line_ends, line_cont
 use Rattle.lsp_text.specs.Units.{units_in, units_between}
 use Rattle.lsp_text.specs.Positions.{denoted}
 use Rattle.lsp_text.specs.laws.Units.{utf8_bounds, utf16_bounds, utf32_bounds}
-use Rattle.lsp_text.proofs.LeadLemmas.{utf8_units}
+use Rattle.lsp_text.proofs.Counting.LeadLemmas.{utf8_units}
 
 row_more : (k n : ℕ) → k < n → numbers_from k (n - k) ≡ k ∷ numbers_from (k + 1) (n - (k + 1))
 row_more k n before =

@@ -8,7 +8,7 @@ use Rattle.lsp_edit.specs.Batch.{Edit, meaning}
 use Rattle.lsp_edit.specs.Canonical.{canonical}
 use Rattle.lsp_edit.specs.Edited.{edit_of}
 use Rattle.lsp_edit.specs.Once.{IsDeltaOf, bytes_after, encoding_of, meant_by}
-use Rattle.lsp_edit.proofs.OnceLemmas.{within_told}
+use Rattle.lsp_edit.proofs.Deltas.OnceLemmas.{within_told}
 use Rattle.lsp_vectors.specs.declared.answer.Left.{Left}
 use Rattle.lsp_vectors.specs.Answer.{IsLeft}
 

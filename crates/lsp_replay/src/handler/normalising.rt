@@ -104,7 +104,7 @@ const FRONT_ROOM: usize = 64;
 
 /// Writes a record with its mark: as it is, or as its canonical message, whose body is in `buffer`
 /// after the room.
-#[tactic(auto, using(crate::proofs::CanonicalLogLemmas::appended_none, crate::proofs::CanonicalLogLemmas::appended_framed, crate::proofs::CanonicalLogLemmas::appended_too_long))]
+#[tactic(auto, using(crate::proofs::Canonical::CanonicalLogLemmas::appended_none, crate::proofs::Canonical::CanonicalLogLemmas::appended_framed, crate::proofs::Canonical::CanonicalLogLemmas::appended_too_long))]
 fn push_record(
     buffer: &mut Vec<u8>,
     head: Head,

@@ -213,7 +213,7 @@ impl Handler for Squashing {
 
     ghost unstopped = { λ _. refl };
 
-    #[tactic(auto, using(crate::proofs::DocumentsLemmas::step_ends, crate::proofs::DocumentsLemmas::step_writes))]
+    #[tactic(auto, using(crate::proofs::Stay::DocumentsLemmas::step_ends, crate::proofs::Stay::DocumentsLemmas::step_writes))]
     fn handle(
         &mut self,
         head: Head,

@@ -253,7 +253,7 @@ fn ends(text: &TextBuffer, encoding: Encoding, range: Range) -> Option<(usize, u
 }
 
 /// Copies the part of a text that a change of this range replaces, if it has a result.
-#[tactic(auto, using(crate::proofs::NoteLemmas::part_is))]
+#[tactic(auto, using(crate::proofs::Reports::NoteLemmas::part_is))]
 fn replaced_by(
     alloc: Global,
     text: &TextBuffer,
@@ -293,7 +293,7 @@ fn push_same_note(
 }
 
 /// Are two texts equal?
-#[tactic(auto, using(crate::proofs::NoteLemmas::same_chars))]
+#[tactic(auto, using(crate::proofs::Reports::NoteLemmas::same_chars))]
 fn is_same_text(text: &str, other: &str) -> bool
     ensures { result ≡ bytes_eq (chars text.now) (chars other.now) }
 {

@@ -123,7 +123,7 @@ impl Session {
     }
 
     /// Notes what is suspicious of a change, if its document is open.
-    #[tactic(auto, using(crate::proofs::NoteLemmas::edits_read))]
+    #[tactic(auto, using(crate::proofs::Reports::NoteLemmas::edits_read))]
     fn changing_notes(
         &self,
         ranged: bool,

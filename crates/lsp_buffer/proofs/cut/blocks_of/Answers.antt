@@ -1,5 +1,5 @@
 use Rattle.std.proofs.Common.{arith, ap, ◌∙◌, ◌-◌, sym, subst, ℕ, List, take, drop, ◌≡◌}
-use Rattle.lsp_buffer.proofs.CutLemmas.{IsCutSoFar, cut_more, cut_all}
+use Rattle.lsp_buffer.proofs.Blocks.CutLemmas.{IsCutSoFar, cut_more, cut_all}
 use Rattle.lsp_buffer.proofs.cut.blocks_of.Goals as goal
 
 pub loop-cut-preserved : goal.loop-cut-preserved

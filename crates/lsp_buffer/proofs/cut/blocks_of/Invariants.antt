@@ -1,7 +1,7 @@
 use Rattle.std.proofs.Common.{length}
 use denote.Text.{Utf8}
 use denote.Shadow.{shadow}
-use Rattle.lsp_buffer.proofs.CutLemmas.{IsCutSoFar}
+use Rattle.lsp_buffer.proofs.Blocks.CutLemmas.{IsCutSoFar}
 use Rattle.lsp_buffer.proofs.cut.blocks_of.Given as goal
 
 abbrev pub invariant-loop-cut : goal.invariant-loop-cut

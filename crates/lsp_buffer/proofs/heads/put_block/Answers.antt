@@ -3,7 +3,7 @@ use Rattle.std.specs.List.{concat}
 use Rattle.lsp_text.specs.Units.{units_in}
 use Rattle.lsp_buffer.specs.Blocks.{head_after, heads_from}
 use Rattle.lsp_buffer.specs.inside.Seams.{heads_end}
-use Rattle.lsp_buffer.proofs.TailLemmas.{line_end, put_count, put_lines, put_starts, put_tail, put_whole, put_last, put_same, put_first_room, put_rest_texts, count_within, heads_size, head_first, tail_after, tail_room, tail_moved}
+use Rattle.lsp_buffer.proofs.Blocks.TailLemmas.{line_end, put_count, put_lines, put_starts, put_tail, put_whole, put_last, put_same, put_first_room, put_rest_texts, count_within, heads_size, head_first, tail_after, tail_room, tail_moved}
 use Rattle.std.proofs.lemmas.List.{length-drop}
 use Rattle.lsp_buffer.proofs.heads.put_block.Goals as goal
 

@@ -4,7 +4,7 @@ use Rattle.std.proofs.lemmas.List.{length-append, take_at, drop_at, drop_all, wi
 use Rattle.lsp_text.specs.Units.{units_in}
 use Rattle.lsp_buffer.specs.Blocks.{heads_from}
 use Rattle.lsp_buffer.specs.inside.Seams.{heads_end}
-use Rattle.lsp_buffer.proofs.TailLemmas.{line_end, splice_count, splice_lines, splice_starts, splice_tail, splice_whole, splice_rest_texts, splice_first_room, splice_room, count_within, heads_size, head_first, tail_after, tail_room, tail_moved}
+use Rattle.lsp_buffer.proofs.Blocks.TailLemmas.{line_end, splice_count, splice_lines, splice_starts, splice_tail, splice_whole, splice_rest_texts, splice_first_room, splice_room, count_within, heads_size, head_first, tail_after, tail_room, tail_moved}
 use Rattle.lsp_buffer.proofs.heads.splice.Goals as goal
 
 pub split_at-requires : goal.split_at-requires

@@ -1,7 +1,7 @@
 use Rattle.std.proofs.Common.{◌≡◌, ◌+◌, ◌≤◌, ℕ, List, length, string_bytes, string_len, string_capacity, sym, ap, ◌∙◌, arith}
 use Rattle.std.proofs.lemmas.Str.{IsUtf8-string_bytes}
 use Rattle.std.specs.List.{replace_range, slice_range}
-use Rattle.lsp_buffer.proofs.InPlaceLemmas.{start_again, undone, put_back, replaced_len, removed_len, at_err}
+use Rattle.lsp_buffer.proofs.Changes.InPlaceLemmas.{start_again, undone, put_back, replaced_len, removed_len, at_err}
 use Rattle.lsp_buffer.proofs.in_place.put_in_place.Goals as goal
 
 pub replace_range-requires-clause-start_boundary : goal.replace_range-requires-clause-start_boundary

@@ -1,7 +1,7 @@
 use Rattle.std.proofs.Common.{◌-◌, ◌+◌, ℕ, arith, slice_index}
 use Rattle.std.proofs.lemmas.List.{get_or_default}
 use Rattle.std.proofs.lemmas.List.Edits.{map_over_more}
-use Rattle.lsp_buffer.proofs.SumLemmas.{moved_at}
+use Rattle.lsp_buffer.proofs.Blocks.SumLemmas.{moved_at}
 use Rattle.lsp_buffer.proofs.sums.move_all.Goals as goal
 
 pub overflow_sub-start : goal.overflow_sub-start

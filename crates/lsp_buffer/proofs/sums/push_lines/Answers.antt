@@ -1,6 +1,6 @@
 use Rattle.std.proofs.Common.{arith, ◌∙◌}
 use Rattle.lsp_buffer.specs.Blocks.{ends_of}
-use Rattle.lsp_buffer.proofs.SumLemmas.{row_more, row_low, sums_more}
+use Rattle.lsp_buffer.proofs.Blocks.SumLemmas.{row_more, row_low, sums_more}
 use Rattle.lsp_buffer.proofs.sums.push_lines.Goals as goal
 
 pub overflow_cast-next : goal.overflow_cast-next

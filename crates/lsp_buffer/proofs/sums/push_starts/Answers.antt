@@ -1,5 +1,5 @@
 use Rattle.std.proofs.Common.{arith, length, ◌∙◌, ℕ}
-use Rattle.lsp_buffer.proofs.SumLemmas.{row_more, row_low, sums_more}
+use Rattle.lsp_buffer.proofs.Blocks.SumLemmas.{row_more, row_low, sums_more}
 use Rattle.lsp_buffer.proofs.sums.push_starts.Goals as goal
 
 pub overflow_cast-next : goal.overflow_cast-next

@@ -2,7 +2,7 @@ use Rattle.std.proofs.Common.{drop, map}
 use Rattle.lsp_text.specs.Units.{units_in}
 use Rattle.lsp_edit.specs.Batch.{after_changes}
 use Rattle.lsp_edit.specs.Edited.{edit_of}
-use Rattle.lsp_edit.proofs.RoomLemmas.{Applying}
+use Rattle.lsp_edit.proofs.Composing.RoomLemmas.{Applying}
 use Rattle.lsp_edit.proofs.composed.apply_all.Given as goal
 
 abbrev pub invariant-loop-change : goal.invariant-loop-change

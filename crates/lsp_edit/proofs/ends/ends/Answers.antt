@@ -1,6 +1,6 @@
 use Rattle.std.specs.Str.{chars}
 use Rattle.lsp_text.specs.Units.{units_in}
-use Rattle.lsp_edit.proofs.EndLemmas.{places_in_order, places_reversed}
+use Rattle.lsp_edit.proofs.Composing.EndLemmas.{places_in_order, places_reversed}
 use Rattle.lsp_edit.proofs.ends.ends.Goals as goal
 
 pub returns-then-start-stop : goal.returns-then-start-stop

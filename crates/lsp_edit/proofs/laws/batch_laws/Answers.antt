@@ -1,6 +1,6 @@
 use Rattle.std.proofs.Common.{refl}
-use Rattle.lsp_edit.proofs.LawLemmas.{canonical_law}
-use Rattle.lsp_edit.proofs.ComposeLemmas.{then_means, then_associative}
+use Rattle.lsp_edit.proofs.Batches.LawLemmas.{canonical_law}
+use Rattle.lsp_edit.proofs.Batches.ComposeLemmas.{then_means, then_associative}
 use Rattle.lsp_edit.proofs.laws.batch_laws.Goals as goal
 
 pub returns : goal.returns

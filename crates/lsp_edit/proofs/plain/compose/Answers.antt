@@ -2,8 +2,8 @@ use Rattle.std.proofs.Common.{◌+◌, ◌∷◌, drop, arith, sym, ap, ◌∙�
 use Rattle.std.proofs.lemmas.List.{drop_more}
 use Rattle.lsp_text.specs.Units.{units_in}
 use Rattle.lsp_edit.specs.declared.change.Change.{Change}
-use Rattle.lsp_edit.proofs.PlainLemmas.{applying_begins}
-use Rattle.lsp_edit.proofs.RoomLemmas.{applying_on}
+use Rattle.lsp_edit.proofs.Batches.PlainLemmas.{applying_begins}
+use Rattle.lsp_edit.proofs.Composing.RoomLemmas.{applying_on}
 use Rattle.lsp_edit.proofs.plain.compose.Goals as goal
 
 pub loop-change-init : goal.loop-change-init

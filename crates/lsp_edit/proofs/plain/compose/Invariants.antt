@@ -3,7 +3,7 @@ use Rattle.std.specs.Str.{chars}
 use Rattle.lsp_text.specs.Units.{units_in}
 use Rattle.lsp_edit.specs.Batch.{meaning}
 use Rattle.lsp_edit.specs.Edited.{edit_of}
-use Rattle.lsp_edit.proofs.RoomLemmas.{Applying}
+use Rattle.lsp_edit.proofs.Composing.RoomLemmas.{Applying}
 use Rattle.lsp_edit.proofs.plain.compose.Given as goal
 
 abbrev pub invariant-loop-change : goal.invariant-loop-change

@@ -5,8 +5,8 @@ use Rattle.lsp_edit.specs.Items.{Old, New}
 use Rattle.lsp_edit.specs.Plain.{item_of, items_in_order}
 use Rattle.lsp_edit.specs.inside.Plain.{gap_at, change_at}
 use Rattle.lsp_edit.specs.Edited.{edit_of}
-use Rattle.lsp_edit.proofs.PlainLemmas.{write_begins, write_new, write_old, write_end, item_rest, item_none}
-use Rattle.lsp_edit.proofs.WalkLemmas.{walk_turned}
+use Rattle.lsp_edit.proofs.Batches.PlainLemmas.{write_begins, write_new, write_old, write_end, item_rest, item_none}
+use Rattle.lsp_edit.proofs.Canonical.WalkLemmas.{walk_turned}
 use Rattle.lsp_edit.proofs.plain.gaps_written.Goals as goal
 use Rattle.lsp_edit.proofs.plain.gaps_written.Goals.{in-Old+in_ok-put_gap-in-Old, in-New+in_ok-push-in-New}
 

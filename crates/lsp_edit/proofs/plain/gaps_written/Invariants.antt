@@ -4,8 +4,8 @@ use Rattle.lsp_text.specs.Units.{units_in}
 use Rattle.lsp_edit.specs.Canonical.{gaps}
 use Rattle.lsp_edit.specs.Edited.{edit_of}
 use Rattle.lsp_edit.specs.Plain.{items_in_order}
-use Rattle.lsp_edit.proofs.WalkLemmas.{changes_of}
-use Rattle.lsp_edit.proofs.PlainLemmas.{Writes}
+use Rattle.lsp_edit.proofs.Canonical.WalkLemmas.{changes_of}
+use Rattle.lsp_edit.proofs.Batches.PlainLemmas.{Writes}
 use Rattle.lsp_edit.proofs.plain.gaps_written.Given as goal
 
 abbrev pub invariant-loop-item : goal.invariant-loop-item

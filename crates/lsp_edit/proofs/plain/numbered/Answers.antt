@@ -1,5 +1,5 @@
 use Rattle.std.proofs.Common.{refl}
-use Rattle.lsp_edit.proofs.PlainLemmas.{numbered_on}
+use Rattle.lsp_edit.proofs.Batches.PlainLemmas.{numbered_on}
 use Rattle.lsp_edit.proofs.plain.numbered.Goals as goal
 
 pub loop-index-preserved : goal.loop-index-preserved

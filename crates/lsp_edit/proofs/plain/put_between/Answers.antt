@@ -1,4 +1,4 @@
-use Rattle.lsp_edit.proofs.PlainLemmas.{between_is}
+use Rattle.lsp_edit.proofs.Batches.PlainLemmas.{between_is}
 use Rattle.lsp_edit.proofs.plain.put_between.Goals as goal
 
 pub returns : goal.returns

@@ -4,7 +4,7 @@ use Rattle.std.proofs.lemmas.Bool.{cases_lt, eqb-false}
 use Rattle.lsp_text.specs.Units.{units_in}
 use Rattle.lsp_edit.specs.laws.Batches.{HasExactEnds}
 use Rattle.lsp_edit.specs.inside.Plain.{gap_at}
-use Rattle.lsp_edit.proofs.PlainLemmas.{gap_some, gap_one, end_place}
+use Rattle.lsp_edit.proofs.Batches.PlainLemmas.{gap_some, gap_one, end_place}
 use Rattle.lsp_edit.proofs.plain.put_gap.Goals as goal
 use Rattle.lsp_edit.proofs.plain.put_gap.Goals.{then-low-high-via-then-low-high, then-low-high-via-else-low-high+then-not-is_empty}
 

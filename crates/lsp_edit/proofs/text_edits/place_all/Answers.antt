@@ -5,7 +5,7 @@ use Rattle.std.specs.Str.{chars}
 use Rattle.lsp_text.specs.Units.{units_in}
 use Rattle.lsp_edit.specs.declared.text_edits.TextEdit.{TextEdit}
 use Rattle.lsp_edit.specs.TextEdits.{ArePlaced}
-use Rattle.lsp_edit.proofs.TextEditLemmas.{nowhere, placed_next}
+use Rattle.lsp_edit.proofs.Batches.TextEditLemmas.{nowhere, placed_next}
 use Rattle.lsp_edit.proofs.text_edits.place_all.Goals as goal
 
 pub loop-edit-init : goal.loop-edit-init

@@ -1,7 +1,7 @@
 use Rattle.std.proofs.Common.{◌+◌, take, drop, refl, sym, inl, inr, slice_index_or, take-append-drop}
 use Rattle.std.proofs.lemmas.List.{drop_more, take_more}
 use Rattle.lsp_edit.specs.Parts.{parts_of}
-use Rattle.lsp_edit.proofs.TextEditLemmas.{no_edit, overlapping, spanning_on}
+use Rattle.lsp_edit.proofs.Batches.TextEditLemmas.{no_edit, overlapping, spanning_on}
 use Rattle.lsp_edit.proofs.text_edits.spans_left.Goals as goal
 
 pub loop-edit-init : goal.loop-edit-init

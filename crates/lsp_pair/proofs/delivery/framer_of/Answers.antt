@@ -1,6 +1,6 @@
 use Rattle.std.proofs.Common.{◌≡◌, List, ◌++◌, take, ap, ◌∙◌, subst}
 use Rattle.lsp_frame.specs.Stream.{IsFrame, Framing}
-use Rattle.lsp_pair.proofs.FramerLemmas.{whole_taken}
+use Rattle.lsp_pair.proofs.Steps.FramerLemmas.{whole_taken}
 use Rattle.lsp_pair.proofs.delivery.framer_of.Goals as goal
 
 pub returns-in-Ok : goal.returns-in-Ok

@@ -9,8 +9,8 @@ use Rattle.std.proofs.Common.{subst, sym, ℕ}
 use Rattle.lsp_pair.specs.Seen.{frames}
 use Rattle.lsp_pair.specs.inside.Ends.{frames_in_delivery}
 use Rattle.lsp_client.specs.Seen.{delivered_view}
-use Rattle.lsp_pair.proofs.FramerLemmas.{first_out}
-use Rattle.lsp_pair.proofs.ServeLemmas.{first_there, hear_is}
+use Rattle.lsp_pair.proofs.Steps.FramerLemmas.{first_out}
+use Rattle.lsp_pair.proofs.Steps.ServeLemmas.{first_there, hear_is}
 use Rattle.lsp_pair.proofs.delivery.hear_first.Goals as goal
 
 pub unreachable-requires : goal.unreachable-requires

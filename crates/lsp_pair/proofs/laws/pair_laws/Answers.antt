@@ -1,5 +1,5 @@
-use Rattle.lsp_pair.proofs.StepLemmas.{steps_at, agrees}
-use Rattle.lsp_pair.proofs.DocumentLemmas.{documents_at}
+use Rattle.lsp_pair.proofs.Steps.StepLemmas.{steps_at, agrees}
+use Rattle.lsp_pair.proofs.Histories.DocumentLemmas.{documents_at}
 use Rattle.lsp_pair.proofs.LawLemmas.{last_proper}
 use Rattle.lsp_pair.proofs.laws.pair_laws.Goals as goal
 

@@ -4,8 +4,8 @@ use Rattle.lsp_pair.specs.Pair.{IsRun}
 use Rattle.lsp_pair.specs.laws.At.{IsAt}
 use Rattle.lsp_pair.specs.Seen.{event_view}
 use Rattle.lsp_pair.specs.Documents.{after, IsLater}
-use Rattle.lsp_pair.proofs.HistoryLemmas.{later-last, later_documents}
-use Rattle.lsp_pair.proofs.RunLemmas.{run-last, take_mapped}
+use Rattle.lsp_pair.proofs.Histories.HistoryLemmas.{later-last, later_documents}
+use Rattle.lsp_pair.proofs.Steps.RunLemmas.{run-last, take_mapped}
 use Rattle.lsp_pair.proofs.run.run_pair.Goals as goal
 
 pub loop-event-preserved : goal.loop-event-preserved

@@ -1,7 +1,7 @@
 use Rattle.std.proofs.Common.{false, refl}
 use Rattle.lsp_replay.specs.Session.{opened}
 use Rattle.lsp_replay.specs.Commands.{checking, log_config}
-use Rattle.lsp_replay.proofs.RunReportLemmas.{run_of}
+use Rattle.lsp_replay.proofs.Runs.RunReportLemmas.{run_of}
 use Rattle.lsp_replay.proofs.commands.check.Goals as goal
 
 pub returns : goal.returns

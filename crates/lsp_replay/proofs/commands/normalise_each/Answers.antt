@@ -1,8 +1,8 @@
 use Rattle.std.proofs.Common.{false, refl}
 use Rattle.lsp_replay.specs.Session.{opened}
 use Rattle.lsp_replay.specs.Commands.{log_config, normalising}
-use Rattle.lsp_replay.proofs.RunReportLemmas.{run_of}
-use Rattle.lsp_replay.proofs.WroteLemmas.{wrote_normal}
+use Rattle.lsp_replay.proofs.Runs.RunReportLemmas.{run_of}
+use Rattle.lsp_replay.proofs.Runs.WroteLemmas.{wrote_normal}
 use Rattle.lsp_replay.proofs.commands.normalise_each.Goals as goal
 
 pub returns-clause-run : goal.returns-clause-run

@@ -2,8 +2,8 @@ use Rattle.std.proofs.Common.{refl}
 use Rattle.std.specs.Prelude.{None}
 use Rattle.lsp_replay.specs.Session.{opened}
 use Rattle.lsp_replay.specs.Commands.{log_config}
-use Rattle.lsp_replay.proofs.RunReportLemmas.{run_of_squashed}
-use Rattle.lsp_replay.proofs.WroteLemmas.{wrote_squashed}
+use Rattle.lsp_replay.proofs.Runs.RunReportLemmas.{run_of_squashed}
+use Rattle.lsp_replay.proofs.Runs.WroteLemmas.{wrote_squashed}
 use Rattle.lsp_replay.proofs.commands.normalise_squashed.Goals as goal
 
 pub returns-clause-run : goal.returns-clause-run

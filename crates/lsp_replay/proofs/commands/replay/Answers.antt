@@ -3,7 +3,7 @@ use Rattle.lsp_stream.specs.Ports.{ports}
 use Rattle.lsp_replay.specs.inside.Engine.{IsLoopRun}
 use Rattle.lsp_replay.specs.Commands.{as_log, log_config, replaying}
 use Rattle.lsp_replay.specs.Session.{opened}
-use Rattle.lsp_replay.proofs.RunReportLemmas.{run_of}
+use Rattle.lsp_replay.proofs.Runs.RunReportLemmas.{run_of}
 use Rattle.lsp_replay.proofs.commands.replay.Goals as goal
 
 pub returns : goal.returns

@@ -1,7 +1,7 @@
 use Rattle.std.proofs.Common.{◌≡◌, ◌&&◌, not, [], true, false, refl, sym, ◌∙◌, subst}
 use Rattle.std.specs.Io.KnownBytes.{Appends}
 use Rattle.lsp_stream.specs.Turns.{AppendsFront, AppendsShort}
-use Rattle.lsp_replay.proofs.EngineLemmas.{went_cut, went_at_end, went_whole_records, last_fault, ok_and, err_and_two, err_and}
+use Rattle.lsp_replay.proofs.Runs.EngineLemmas.{went_cut, went_at_end, went_whole_records, last_fault, ok_and, err_and_two, err_and}
 use Rattle.lsp_replay.proofs.engine.finish_run.Goals as goal
 
 pub returns-then-not-at_rest-clause-error : goal.returns-then-not-at_rest-clause-error

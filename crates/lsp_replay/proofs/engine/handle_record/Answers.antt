@@ -4,7 +4,7 @@ use Rattle.std.proofs.lemmas.Result.{err_from_is_err_and}
 use Rattle.lsp_stream.specs.declared.fault.EngineFault.TheVariants.{TooManyTurns}
 use Rattle.lsp_stream.specs.Turns.{AppendsShort}
 use Rattle.lsp_replay.specs.inside.RunOutput.{output_of}
-use Rattle.lsp_replay.proofs.EngineLemmas.{write_fault}
+use Rattle.lsp_replay.proofs.Runs.EngineLemmas.{write_fault}
 use Rattle.lsp_replay.proofs.engine.handle_record.Goals.{in-Frame, in-Bytes, in-BytesFrom}
 use Rattle.lsp_replay.proofs.engine.handle_record.Goals as goal
 

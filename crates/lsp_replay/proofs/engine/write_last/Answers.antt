@@ -3,7 +3,7 @@ use Rattle.std.proofs.lemmas.Result.{err_from_is_err_and}
 use Rattle.std.specs.Io.KnownBytes.{Appends}
 use Rattle.std.proofs.KnownBytes.{Appends-trans}
 use Rattle.lsp_stream.specs.Turns.{AppendsFront, AppendsShort}
-use Rattle.lsp_replay.proofs.EngineLemmas.{part_cut, part_short, part_is}
+use Rattle.lsp_replay.proofs.Runs.EngineLemmas.{part_cut, part_short, part_is}
 use Rattle.lsp_replay.proofs.engine.write_last.Goals as goal
 
 pub returns-in_err-write_given-clause-front : goal.returns-in_err-write_given-clause-front

@@ -1,4 +1,4 @@
-use Rattle.lsp_replay.proofs.DocumentsLawLemmas.{documents_law, documents_stop}
+use Rattle.lsp_replay.proofs.Stay.DocumentsLawLemmas.{documents_law, documents_stop}
 use Rattle.lsp_replay.proofs.laws.documents_laws.Goals as goal
 
 pub returns : goal.returns

@@ -1,9 +1,9 @@
-use Rattle.lsp_replay.proofs.QuietLemmas.{report_law}
-use Rattle.lsp_replay.proofs.NormalisedLemmas.{canonical_log_law}
-use Rattle.lsp_replay.proofs.SquashedLemmas.{stops_alike}
-use Rattle.lsp_replay.proofs.SquashedLogLemmas.{squashed_law}
-use Rattle.lsp_replay.proofs.ConvertedLogLemmas.{converted_law}
-use Rattle.lsp_replay.proofs.TraceLawLemmas.{trace_law}
+use Rattle.lsp_replay.proofs.Reports.QuietLemmas.{report_law}
+use Rattle.lsp_replay.proofs.Canonical.NormalisedLemmas.{canonical_log_law}
+use Rattle.lsp_replay.proofs.Squash.SquashedLemmas.{stops_alike}
+use Rattle.lsp_replay.proofs.Squash.SquashedLogLemmas.{squashed_law}
+use Rattle.lsp_replay.proofs.Converted.ConvertedLogLemmas.{converted_law}
+use Rattle.lsp_replay.proofs.Reports.TraceLawLemmas.{trace_law}
 use Rattle.lsp_replay.proofs.laws.log_laws.Goals as goal
 
 pub returns : goal.returns

@@ -1,6 +1,6 @@
-use Rattle.lsp_text.proofs.LineLemmas.{splits_none_past}
-use Rattle.lsp_text.proofs.NearLemmas.{agree_from_take, splits_near}
-use Rattle.lsp_text.proofs.PartLemmas.{lines_part}
+use Rattle.lsp_text.proofs.TextLines.LineLemmas.{splits_none_past}
+use Rattle.lsp_text.proofs.Positions.NearLemmas.{agree_from_take, splits_near}
+use Rattle.lsp_text.proofs.TextLines.PartLemmas.{lines_part}
 use Rattle.lsp_text.proofs.LawLemmas.{found_law, starts_law}
 use Rattle.lsp_text.proofs.laws.line_laws.Goals as goal
 

@@ -1,4 +1,4 @@
-use Rattle.lsp_text.proofs.PlaceLemmas.{place_boundary, take_place, drop_place, part_place, place_add}
+use Rattle.lsp_text.proofs.Positions.PlaceLemmas.{place_boundary, take_place, drop_place, part_place, place_add}
 use Rattle.lsp_text.proofs.LawLemmas.{rising_law, ends_law, boundary_law}
 use Rattle.lsp_text.proofs.laws.place_laws.Goals as goal
 

@@ -1,6 +1,6 @@
-use Rattle.lsp_text.proofs.PositionLemmas.{exact_denotes, exact_same, denoted_whole, denoted_exact}
-use Rattle.lsp_text.proofs.NearLemmas.{exact_near}
-use Rattle.lsp_text.proofs.PastLemmas.{past_line, past_text}
+use Rattle.lsp_text.proofs.Positions.PositionLemmas.{exact_denotes, exact_same, denoted_whole, denoted_exact}
+use Rattle.lsp_text.proofs.Positions.NearLemmas.{exact_near}
+use Rattle.lsp_text.proofs.Positions.PastLemmas.{past_line, past_text}
 use Rattle.lsp_text.proofs.Examples.{holds_on_examples}
 use Rattle.lsp_text.proofs.laws.position_laws.Goals as goal
 

@@ -1,6 +1,6 @@
 use Rattle.std.proofs.Common.{sym, ◌∙◌}
 use Rattle.lsp_text.specs.Units.{units_in}
-use Rattle.lsp_text.proofs.PositionLemmas.{denoted_whole}
+use Rattle.lsp_text.proofs.Positions.PositionLemmas.{denoted_whole}
 use Rattle.lsp_text.proofs.plain.resolved.Goals as goal
 
 pub place_of-requires-clause-within : goal.place_of-requires-clause-within

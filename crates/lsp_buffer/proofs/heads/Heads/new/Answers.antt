@@ -1,4 +1,4 @@
-use Rattle.lsp_buffer.proofs.TailLemmas.{of_each}
+use Rattle.lsp_buffer.proofs.Blocks.TailLemmas.{of_each}
 use Rattle.lsp_buffer.proofs.heads.Heads.new.Goals as goal
 
 pub returns : goal.returns

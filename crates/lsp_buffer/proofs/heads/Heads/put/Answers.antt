@@ -3,7 +3,7 @@ use Rattle.std.specs.Vec.{with_items}
 use Rattle.std.proofs.lemmas.List.{with_items_is}
 use Rattle.lsp_text.specs.declared.encoding.Encoding.TheVariants.{Utf8, Utf16, Utf32}
 use Rattle.lsp_buffer.specs.inside.Seams.{Rows, WereSums, row_of}
-use Rattle.lsp_buffer.proofs.TailLemmas.{of_each}
+use Rattle.lsp_buffer.proofs.Blocks.TailLemmas.{of_each}
 use Rattle.lsp_buffer.proofs.heads.Heads.put.Goals as goal
 
 pub put_block-requires : goal.put_block-requires

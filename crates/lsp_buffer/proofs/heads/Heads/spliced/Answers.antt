@@ -1,7 +1,7 @@
 use Rattle.std.proofs.Common.{◌∙◌, ◌++◌, take, drop, ap}
 use Rattle.lsp_text.specs.declared.encoding.Encoding.TheVariants.{Utf8, Utf16, Utf32}
 use Rattle.lsp_buffer.specs.inside.Seams.{Rows, row_of}
-use Rattle.lsp_buffer.proofs.TailLemmas.{of_each}
+use Rattle.lsp_buffer.proofs.Blocks.TailLemmas.{of_each}
 use Rattle.lsp_buffer.proofs.heads.Heads.spliced.Goals as goal
 
 pub splice-requires-clause-heads_are : goal.splice-requires-clause-heads_are

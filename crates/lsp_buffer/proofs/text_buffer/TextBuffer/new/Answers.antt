@@ -1,6 +1,6 @@
 use Rattle.std.proofs.Common.{string_bytes}
 use Rattle.std.proofs.lemmas.Str.{IsUtf8-string_bytes}
-use Rattle.lsp_buffer.proofs.CutLemmas.{one_are}
+use Rattle.lsp_buffer.proofs.Blocks.CutLemmas.{one_are}
 use Rattle.lsp_buffer.proofs.text_buffer.TextBuffer.new.Goals as goal
 
 pub of_blocks-requires-clause-are : goal.of_blocks-requires-clause-are

@@ -1,6 +1,6 @@
 use Rattle.std.proofs.Common.{length, arith, sym, ap, subst}
 use Rattle.lsp_text.specs.Starts.{AreStarts}
-use Rattle.lsp_buffer.proofs.BufferLemmas.{starts_count, starts_are_starts}
+use Rattle.lsp_buffer.proofs.Blocks.BufferLemmas.{starts_count, starts_are_starts}
 use Rattle.lsp_buffer.proofs.text_buffer.TextBuffer.replace_range.Goals as goal
 
 pub block_of-first-requires : goal.block_of-first-requires

@@ -1,5 +1,5 @@
 use Rattle.std.proofs.Common.{◌∙◌, ◌++◌, ap, sym, string_bytes}
-use Rattle.lsp_buffer.proofs.CutLemmas.{concat_more}
+use Rattle.lsp_buffer.proofs.Blocks.CutLemmas.{concat_more}
 use Rattle.lsp_buffer.proofs.text_buffer.TextBuffer.to_string.Goals as goal
 
 pub loop-block-preserved : goal.loop-block-preserved

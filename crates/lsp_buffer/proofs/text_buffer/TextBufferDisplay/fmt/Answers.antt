@@ -2,7 +2,7 @@ use Rattle.std.proofs.Common.{take, ◌++◌, ◌∙◌, ap, sym, subst, rules, 
 use Rattle.std.specs.Fmt.{HasWritten}
 use Rattle.std.specs.List.{concat}
 use Rattle.std.proofs.Output.{has_written_append}
-use Rattle.lsp_buffer.proofs.CutLemmas.{concat_more}
+use Rattle.lsp_buffer.proofs.Blocks.CutLemmas.{concat_more}
 use Rattle.lsp_buffer.proofs.text_buffer.TextBufferDisplay.fmt.Goals as goal
 
 pub loop-block-preserved : goal.loop-block-preserved

@@ -2,8 +2,8 @@ use Rattle.std.proofs.Common.{◌≡◌, ◌+◌, ◌-◌, ◌++◌, ◌∙◌, 
 use Rattle.std.specs.List.{concat}
 use Rattle.lsp_text.specs.Units.{units_in}
 use Rattle.lsp_buffer.specs.Blocks.{AreBlocks, ends_of, heads_from, sums_from}
-use Rattle.lsp_buffer.proofs.BufferLemmas.{starts_count, lines_count}
-use Rattle.lsp_buffer.proofs.AgainLemmas.{IsAgain, again_are, again_size, again_start, again_stop, again_text, again_is, first_last, last_within, text_small, starts_room, lines_room}
+use Rattle.lsp_buffer.proofs.Blocks.BufferLemmas.{starts_count, lines_count}
+use Rattle.lsp_buffer.proofs.Changes.AgainLemmas.{IsAgain, again_are, again_size, again_start, again_stop, again_text, again_is, first_last, last_within, text_small, starts_room, lines_room}
 use Rattle.lsp_buffer.proofs.text_buffer.change.replace_across.Goals as goal
 
 -- What was made of slices, said of what they were lent from.

@@ -1,5 +1,5 @@
 use Rattle.std.proofs.Common.{ap, ◌∙◌, ◌++◌, take, drop}
-use Rattle.lsp_buffer.proofs.DrainLemmas.{drained_blocks}
+use Rattle.lsp_buffer.proofs.Blocks.DrainLemmas.{drained_blocks}
 use Rattle.lsp_buffer.proofs.text_buffer.change.replace_blocks.Goals as goal
 
 pub returns-clause-ok : goal.returns-clause-ok

@@ -2,8 +2,8 @@ use Rattle.std.proofs.Common.{◌∙◌, ℕ, List, arith, sym, ap, subst}
 use Rattle.lsp_text.specs.Units.{units_in}
 use Rattle.lsp_buffer.specs.Blocks.{heads_from}
 use Rattle.lsp_buffer.specs.inside.Seams.{WereHeads, row_of}
-use Rattle.lsp_buffer.proofs.BufferLemmas.{starts_count}
-use Rattle.lsp_buffer.proofs.TailLemmas.{were_heads}
+use Rattle.lsp_buffer.proofs.Blocks.BufferLemmas.{starts_count}
+use Rattle.lsp_buffer.proofs.Blocks.TailLemmas.{were_heads}
 use Rattle.lsp_buffer.proofs.text_buffer.change.replace_inside.Goals as goal
 
 pub put_inside-requires-clause-are : goal.put_inside-requires-clause-are

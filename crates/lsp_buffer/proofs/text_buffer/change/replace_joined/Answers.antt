@@ -1,9 +1,9 @@
 use Rattle.std.proofs.Common.{◌≡◌, ◌+◌, ◌-◌, ◌++◌, ◌∙◌, ℕ, List, OnOk, take, drop, length, refl, arith, sym, ap, subst}
 use Rattle.std.specs.List.{concat}
 use Rattle.lsp_text.specs.Starts.{AreStarts}
-use Rattle.lsp_buffer.proofs.BufferLemmas.{starts_count, starts_are_starts}
-use Rattle.lsp_buffer.proofs.FoundLemmas.{found_place, chunk_boundary}
-use Rattle.lsp_buffer.proofs.JoinLemmas.{IsJoin, joined_same, next_boundary, next_later}
+use Rattle.lsp_buffer.proofs.Blocks.BufferLemmas.{starts_count, starts_are_starts}
+use Rattle.lsp_buffer.proofs.Reads.FoundLemmas.{found_place, chunk_boundary}
+use Rattle.lsp_buffer.proofs.Changes.JoinLemmas.{IsJoin, joined_same, next_boundary, next_later}
 use Rattle.lsp_buffer.proofs.text_buffer.change.replace_joined.Goals as goal
 
 pub split_at-requires : goal.split_at-requires

@@ -6,7 +6,7 @@ use Rattle.lsp_edit.specs.laws.Batches.{AllHaveExactEnds}
 use Rattle.lsp_edit.specs.Once.{IsPut}
 use Rattle.lsp_edit.specs.Parts.{AreParts, Part, items_of, parts_of}
 use Rattle.lsp_edit.specs.inside.Parts.{AreCut, AreOrdered, replaced_parts, whole_parts}
-use Rattle.lsp_edit.proofs.OnceLemmas.{put_are, put_exact, put_items_are, put_order, put_ordered, put_start_cut, put_stop_cut}
+use Rattle.lsp_edit.proofs.Deltas.OnceLemmas.{put_are, put_exact, put_items_are, put_order, put_ordered, put_start_cut, put_stop_cut}
 use Rattle.lsp_edit.proofs.delta.Delta.put_canonical.Goals as goal
 
 pub replace-requires-clause-order : goal.replace-requires-clause-order

@@ -3,7 +3,7 @@ use Rattle.std.specs.Str.{chars}
 use Rattle.lsp_text.specs.Units.{units_in}
 use Rattle.lsp_edit.specs.Edited.{edit_of}
 use Rattle.lsp_edit.specs.inside.TextBatch.{text_after_changes}
-use Rattle.lsp_edit.proofs.TextBatchLemmas.{Drafting}
+use Rattle.lsp_edit.proofs.Batches.TextBatchLemmas.{Drafting}
 use Rattle.lsp_edit.proofs.indexed.IndexedText.after_all.Given as goal
 
 abbrev pub invariant-loop-number : goal.invariant-loop-number

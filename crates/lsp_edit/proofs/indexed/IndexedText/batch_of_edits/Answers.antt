@@ -1,8 +1,8 @@
 use Rattle.lsp_text.specs.Units.{units_in}
 use Rattle.lsp_edit.specs.Parts.{parts_of}
-use Rattle.lsp_edit.proofs.GapLemmas.{ends_exact}
-use Rattle.lsp_edit.proofs.LawLemmas.{units_some}
-use Rattle.lsp_edit.proofs.TextEditLemmas.{batch_means, items_keep, parts_are}
+use Rattle.lsp_edit.proofs.Canonical.GapLemmas.{ends_exact}
+use Rattle.lsp_edit.proofs.Batches.LawLemmas.{units_some}
+use Rattle.lsp_edit.proofs.Batches.TextEditLemmas.{batch_means, items_keep, parts_are}
 use Rattle.lsp_edit.proofs.indexed.IndexedText.batch_of_edits.Goals as goal
 
 pub canonical_of-requires-clause-parts : goal.canonical_of-requires-clause-parts

@@ -1,6 +1,6 @@
 use Rattle.std.proofs.Common.{refl, inr, subst, IsUtf8}
 use Rattle.std.proofs.lemmas.Result.{err_from_is_err_and}
-use Rattle.lsp_edit.proofs.IndexedLemmas.{too_long, left_within}
+use Rattle.lsp_edit.proofs.Deltas.IndexedLemmas.{too_long, left_within}
 use Rattle.lsp_edit.proofs.indexed.IndexedText.composed.Goals as goal
 
 pub returns-in_err-may_have_len-clause-error : goal.returns-in_err-may_have_len-clause-error

@@ -2,7 +2,7 @@ use Rattle.std.proofs.Common.{inr, map}
 use Rattle.std.proofs.lemmas.Result.{err_from_is_err_and}
 use Rattle.lsp_text.specs.Units.{units_in}
 use Rattle.lsp_edit.specs.Edited.{edit_of}
-use Rattle.lsp_edit.proofs.TextBatchLemmas.{left_fault, left_too_long, left_within}
+use Rattle.lsp_edit.proofs.Batches.TextBatchLemmas.{left_fault, left_too_long, left_within}
 use Rattle.lsp_edit.proofs.indexed.IndexedText.draft.Goals as goal
 
 pub returns-in_err-draft-clause-error : goal.returns-in_err-draft-clause-error

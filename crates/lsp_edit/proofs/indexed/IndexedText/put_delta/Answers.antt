@@ -3,7 +3,7 @@ use Rattle.std.proofs.lemmas.Result.{err_from_is_err_and}
 use Rattle.std.specs.Str.{chars}
 use Rattle.lsp_text.specs.Units.{units_in}
 use Rattle.lsp_edit.specs.Faults.{ends_of, places_at}
-use Rattle.lsp_edit.proofs.InPlaceLemmas.{places_of_bytes, range_fault, range_means, range_order, range_start, range_stop, range_too_long, range_within, replaced_len}
+use Rattle.lsp_edit.proofs.Deltas.InPlaceLemmas.{places_of_bytes, range_fault, range_means, range_order, range_start, range_stop, range_too_long, range_within, replaced_len}
 use Rattle.lsp_edit.proofs.indexed.IndexedText.put_delta.Goals as goal
 
 pub returns-in_err-start-clause-error : goal.returns-in_err-start-clause-error

@@ -1,8 +1,8 @@
 use Rattle.std.proofs.Common.{sym, subst, ◌∙◌}
 use Rattle.lsp_edit.specs.Deltas.{delta_parts}
 use Rattle.lsp_edit.specs.inside.Deltas.{IsDelta}
-use Rattle.lsp_edit.proofs.DeltaLemmas.{joined_seen, left_reached, more_all, more_is, more_joined}
-use Rattle.lsp_edit.proofs.OnceLemmas.{has_batch}
+use Rattle.lsp_edit.proofs.Deltas.DeltaLemmas.{joined_seen, left_reached, more_all, more_is, more_joined}
+use Rattle.lsp_edit.proofs.Deltas.OnceLemmas.{has_batch}
 use Rattle.lsp_edit.proofs.joined.Joined.add_delta.Goals as goal
 
 pub invariant_of-self-2 : goal.invariant_of-self-2

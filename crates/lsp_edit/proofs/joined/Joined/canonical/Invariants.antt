@@ -1,7 +1,7 @@
 use Rattle.std.proofs.Common.{drop, map}
 use Rattle.lsp_edit.specs.Deltas.{delta_parts}
 use Rattle.lsp_edit.specs.Parts.{parts_of}
-use Rattle.lsp_edit.proofs.DeltaLemmas.{IsFolded}
+use Rattle.lsp_edit.proofs.Deltas.DeltaLemmas.{IsFolded}
 use Rattle.lsp_edit.proofs.joined.Joined.canonical.Given as goal
 
 abbrev pub invariant-loop-delta : goal.invariant-loop-delta

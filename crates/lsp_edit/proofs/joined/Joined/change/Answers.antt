@@ -3,7 +3,7 @@ use Rattle.lsp_text.specs.Units.{units_in}
 use Rattle.lsp_edit.specs.Deltas.{delta_parts}
 use Rattle.lsp_edit.specs.Edited.{edit_of}
 use Rattle.lsp_edit.specs.inside.Deltas.{IsDelta}
-use Rattle.lsp_edit.proofs.DeltaLemmas.{joined_seen, left_reached, more_all, more_is, more_joined}
+use Rattle.lsp_edit.proofs.Deltas.DeltaLemmas.{joined_seen, left_reached, more_all, more_is, more_joined}
 use Rattle.lsp_edit.proofs.joined.Joined.change.Goals as goal
 
 pub invariant_of-self-2 : goal.invariant_of-self-2

@@ -7,7 +7,7 @@ use Rattle.lsp_edit.specs.declared.change.Change.{Change}
 use Rattle.lsp_edit.specs.Batch.{Edit}
 use Rattle.lsp_edit.specs.Edited.{edit_of}
 use Rattle.lsp_edit.specs.Joined.{IsReached}
-use Rattle.lsp_edit.proofs.RunLemmas.{IsRun, run_begins, run_ends, run_next}
+use Rattle.lsp_edit.proofs.Deltas.RunLemmas.{IsRun, run_begins, run_ends, run_next}
 use Rattle.lsp_edit.proofs.joined.Joined.of_batch.Goals as goal
 
 pub loop-run-init : goal.loop-run-init

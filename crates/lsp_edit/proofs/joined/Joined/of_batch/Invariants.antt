@@ -3,7 +3,7 @@ use Rattle.std.specs.Slice.Iter.{chunks_rest, chunks_size}
 use Rattle.lsp_text.specs.Units.{units_in}
 use Rattle.lsp_edit.specs.declared.change.Change.{Change}
 use Rattle.lsp_edit.specs.Edited.{edit_of}
-use Rattle.lsp_edit.proofs.RunLemmas.{IsRun}
+use Rattle.lsp_edit.proofs.Deltas.RunLemmas.{IsRun}
 use Rattle.lsp_edit.proofs.joined.Joined.of_batch.Given as goal
 
 abbrev pub invariant-loop-run : goal.invariant-loop-run

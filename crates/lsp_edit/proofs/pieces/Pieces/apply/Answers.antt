@@ -2,7 +2,7 @@ use Rattle.std.proofs.Common.{subst, None}
 use Rattle.lsp_text.specs.Units.{units_in}
 use Rattle.lsp_edit.specs.Batch.{Edit}
 use Rattle.lsp_edit.specs.Edited.{Applied}
-use Rattle.lsp_edit.proofs.AppliedLemmas.{edit_is}
+use Rattle.lsp_edit.proofs.Composing.AppliedLemmas.{edit_is}
 use Rattle.lsp_edit.proofs.pieces.Pieces.apply.Goals as goal
 
 pub returns-in-None-clause-applied : goal.returns-in-None-clause-applied

@@ -2,9 +2,9 @@ use Rattle.std.proofs.Common.{length, arith, None}
 use Rattle.std.specs.Str.{chars}
 use Rattle.lsp_edit.specs.Parts.{parts_of, new_parts}
 use Rattle.lsp_edit.specs.Spans.{spans_in}
-use Rattle.lsp_edit.proofs.PutLemmas.{new_few}
-use Rattle.lsp_edit.proofs.AppliedLemmas.{IsNext, all_next, room_told, next_told, next_holds}
-use Rattle.lsp_edit.proofs.SpannedLemmas.{same_edited}
+use Rattle.lsp_edit.proofs.Parts.PutLemmas.{new_few}
+use Rattle.lsp_edit.proofs.Composing.AppliedLemmas.{IsNext, all_next, room_told, next_told, next_holds}
+use Rattle.lsp_edit.proofs.Composing.SpannedLemmas.{same_edited}
 use Rattle.lsp_edit.proofs.pieces.Pieces.apply_to_all.Goals as goal
 
 pub invariant_of-self : goal.invariant_of-self

@@ -8,9 +8,9 @@ use Rattle.lsp_edit.specs.Parts.{Part, part_of, parts_of, bytes_of}
 use Rattle.lsp_edit.specs.inside.Parts.{replaced_parts}
 use Rattle.lsp_edit.specs.Spans.{spans_in}
 use Rattle.lsp_edit.specs.Edited.{IsCurrent}
-use Rattle.lsp_edit.proofs.CurrentLemmas.{current_is, current_utf8}
-use Rattle.lsp_edit.proofs.AppliedLemmas.{fault_told, IsRanged, ranged, next_told, next_holds}
-use Rattle.lsp_edit.proofs.SpannedLemmas.{same_edited}
+use Rattle.lsp_edit.proofs.Composing.CurrentLemmas.{current_is, current_utf8}
+use Rattle.lsp_edit.proofs.Composing.AppliedLemmas.{fault_told, IsRanged, ranged, next_told, next_holds}
+use Rattle.lsp_edit.proofs.Composing.SpannedLemmas.{same_edited}
 use Rattle.lsp_edit.proofs.pieces.Pieces.apply_to_range.Goals as goal
 use Rattle.lsp_edit.proofs.pieces.Pieces.apply_to_range.Goals.{in-None, in-Some+in_ok-replaced-in-Some}
 

@@ -1,5 +1,5 @@
 use Rattle.std.proofs.Common.{refl}
-use Rattle.lsp_edit.proofs.EditedLemmas.{whole_is, begun}
+use Rattle.lsp_edit.proofs.Composing.EditedLemmas.{whole_is, begun}
 use Rattle.lsp_edit.proofs.pieces.Pieces.begin.Goals as goal
 
 pub invariant_of-result : goal.invariant_of-result

@@ -3,8 +3,8 @@ use Rattle.std.specs.Str.{chars}
 use Rattle.lsp_edit.specs.Items.{text_of}
 use Rattle.lsp_edit.specs.Parts.{parts_of, items_of}
 use Rattle.lsp_edit.specs.Spans.{spans_in}
-use Rattle.lsp_edit.proofs.EditedLemmas.{now_bytes}
-use Rattle.lsp_edit.proofs.SpannedLemmas.{same_edited}
+use Rattle.lsp_edit.proofs.Composing.EditedLemmas.{now_bytes}
+use Rattle.lsp_edit.proofs.Composing.SpannedLemmas.{same_edited}
 use Rattle.lsp_edit.proofs.pieces.Pieces.has_room.Goals as goal
 
 pub returns : goal.returns

@@ -3,9 +3,9 @@ use Rattle.lsp_text.specs.LineStarts.{Indexes}
 use Rattle.lsp_edit.specs.Parts.{bytes_of, parts_of}
 use Rattle.lsp_edit.specs.declared.pieces.span.Span.{Span}
 use Rattle.lsp_edit.specs.Edited.{edited_bytes}
-use Rattle.lsp_edit.proofs.CurrentLemmas.{current_is}
-use Rattle.lsp_edit.proofs.EditedLemmas.{now_bytes}
-use Rattle.lsp_edit.proofs.SpannedLemmas.{same_edited}
+use Rattle.lsp_edit.proofs.Composing.CurrentLemmas.{current_is}
+use Rattle.lsp_edit.proofs.Composing.EditedLemmas.{now_bytes}
+use Rattle.lsp_edit.proofs.Composing.SpannedLemmas.{same_edited}
 use Rattle.lsp_edit.proofs.pieces.Pieces.into_text.Goals as goal
 
 pub returns-in-Some : goal.returns-in-Some

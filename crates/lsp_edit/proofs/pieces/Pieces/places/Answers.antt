@@ -2,8 +2,8 @@ use Rattle.std.proofs.Common.{refl, sym, ap, ◌∙◌}
 use Rattle.std.specs.Str.{chars}
 use Rattle.lsp_text.specs.Units.{units_in}
 use Rattle.lsp_edit.specs.Edited.{Edited, edited_text}
-use Rattle.lsp_edit.proofs.EditedLemmas.{now_chars, fresh_chars, places_told}
-use Rattle.lsp_edit.proofs.SpannedLemmas.{same_edited}
+use Rattle.lsp_edit.proofs.Composing.EditedLemmas.{now_chars, fresh_chars, places_told}
+use Rattle.lsp_edit.proofs.Composing.SpannedLemmas.{same_edited}
 use Rattle.lsp_edit.proofs.pieces.Pieces.places.Goals as goal
 
 pub returns-then-self-eq0-clause-places : goal.returns-then-self-eq0-clause-places

@@ -3,9 +3,9 @@ use Rattle.std.proofs.lemmas.Str.{IsUtf8-from_is_utf8, encodes-chars}
 use Rattle.lsp_edit.specs.Edited.{before_bytes}
 use Rattle.lsp_edit.specs.Parts.{AreParts, parts_of}
 use Rattle.lsp_edit.specs.Spans.{spans_in}
-use Rattle.lsp_edit.proofs.LawLemmas.{none_empty}
-use Rattle.lsp_edit.proofs.ThenLemmas.{pieces_ascend}
-use Rattle.lsp_edit.proofs.SpannedLemmas.{same_edited}
+use Rattle.lsp_edit.proofs.Batches.LawLemmas.{none_empty}
+use Rattle.lsp_edit.proofs.Composing.ThenLemmas.{pieces_ascend}
+use Rattle.lsp_edit.proofs.Composing.SpannedLemmas.{same_edited}
 use Rattle.lsp_edit.proofs.pieces.Pieces.spans.Goals as goal
 
 pub returns-clause-are : goal.returns-clause-are

@@ -1,7 +1,7 @@
 use Rattle.std.proofs.Common.{length, sym, ap, ◌∙◌}
 use Rattle.lsp_edit.specs.Edited.{Edited, edited_bytes}
-use Rattle.lsp_edit.proofs.EditedLemmas.{now_bytes}
-use Rattle.lsp_edit.proofs.SpannedLemmas.{same_edited}
+use Rattle.lsp_edit.proofs.Composing.EditedLemmas.{now_bytes}
+use Rattle.lsp_edit.proofs.Composing.SpannedLemmas.{same_edited}
 use Rattle.lsp_edit.proofs.pieces.Pieces.text_len.Goals as goal
 
 pub returns : goal.returns

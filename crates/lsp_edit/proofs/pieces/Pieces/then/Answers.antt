@@ -4,9 +4,9 @@ use Rattle.lsp_edit.specs.Batch.{meaning}
 use Rattle.lsp_edit.specs.Parts.{part_of, parts_of}
 use Rattle.lsp_edit.specs.inside.Parts.{through_parts}
 use Rattle.lsp_edit.specs.Spans.{spans_in}
-use Rattle.lsp_edit.proofs.ComposeLemmas.{then_means, then_associative}
-use Rattle.lsp_edit.proofs.ThenLemmas.{AreOver, over_seen, over_through, over_order, then_holds, then_told}
-use Rattle.lsp_edit.proofs.SpannedLemmas.{same_edited}
+use Rattle.lsp_edit.proofs.Batches.ComposeLemmas.{then_means, then_associative}
+use Rattle.lsp_edit.proofs.Composing.ThenLemmas.{AreOver, over_seen, over_through, over_order, then_holds, then_told}
+use Rattle.lsp_edit.proofs.Composing.SpannedLemmas.{same_edited}
 use Rattle.lsp_edit.proofs.pieces.Pieces.then.Goals as goal
 
 pub spans_through-requires-clause-through : goal.spans_through-requires-clause-through

@@ -4,7 +4,7 @@ use Rattle.lsp_text.specs.Units.{units_in}
 use Rattle.lsp_edit.specs.Canonical.{gaps}
 use Rattle.lsp_edit.specs.Edited.{edit_of}
 use Rattle.lsp_edit.specs.Parts.{items_of, parts_of}
-use Rattle.lsp_edit.proofs.WalkLemmas.{Walks, changes_of}
+use Rattle.lsp_edit.proofs.Canonical.WalkLemmas.{Walks, changes_of}
 use Rattle.lsp_edit.proofs.pieces.canonical.canonical_of.Given as goal
 
 abbrev pub invariant-loop-span : goal.invariant-loop-span

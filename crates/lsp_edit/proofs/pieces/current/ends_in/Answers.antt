@@ -3,7 +3,7 @@ use Rattle.lsp_text.specs.Text.{place_of}
 use Rattle.lsp_text.specs.Positions.{denoted}
 use Rattle.std.specs.Str.{chars}
 use Rattle.lsp_text.specs.Units.{units_in}
-use Rattle.lsp_edit.proofs.EndLemmas.{places_in_order, places_reversed}
+use Rattle.lsp_edit.proofs.Composing.EndLemmas.{places_in_order, places_reversed}
 use Rattle.lsp_edit.proofs.pieces.current.ends_in.Goals as goal
 
 pub returns-then-start-stop-clause-value : goal.returns-then-start-stop-clause-value

@@ -1,4 +1,4 @@
-use Rattle.lsp_edit.proofs.PartLemmas.{front_none}
+use Rattle.lsp_edit.proofs.Parts.PartLemmas.{front_none}
 use Rattle.lsp_edit.proofs.pieces.replace.push_front.Goals as goal
 
 pub returns-then-left-eq0 : goal.returns-then-left-eq0

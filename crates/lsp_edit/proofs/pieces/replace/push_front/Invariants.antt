@@ -1,6 +1,6 @@
 use Rattle.std.proofs.Common.{drop}
 use Rattle.lsp_edit.specs.Parts.{parts_of}
-use Rattle.lsp_edit.proofs.PartLemmas.{Fronts}
+use Rattle.lsp_edit.proofs.Parts.PartLemmas.{Fronts}
 use Rattle.lsp_edit.proofs.pieces.replace.push_front.Given as goal
 
 abbrev pub invariant-loop-span : goal.invariant-loop-span

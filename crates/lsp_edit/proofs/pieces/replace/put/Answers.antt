@@ -1,4 +1,4 @@
-use Rattle.lsp_edit.proofs.PartLemmas.{put_joined, put_apart}
+use Rattle.lsp_edit.proofs.Parts.PartLemmas.{put_joined, put_apart}
 use Rattle.lsp_edit.proofs.pieces.replace.put.Goals as goal
 
 pub returns-in_ok-push-in-Some-joined : goal.returns-in_ok-push-in-Some-joined

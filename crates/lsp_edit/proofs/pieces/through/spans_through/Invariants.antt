@@ -1,6 +1,6 @@
 use Rattle.std.proofs.Common.{◌≤◌, drop, length}
 use Rattle.lsp_edit.specs.Parts.{parts_of}
-use Rattle.lsp_edit.proofs.PassedLemmas.{Walks}
+use Rattle.lsp_edit.proofs.Parts.PassedLemmas.{Walks}
 use Rattle.lsp_edit.proofs.pieces.through.spans_through.Given as goal
 
 abbrev pub invariant-loop-span : goal.invariant-loop-span

@@ -6,7 +6,7 @@ use Rattle.lsp_edit.specs.Batch.{after_change, changed_in}
 use Rattle.lsp_edit.specs.Edited.{edit_of}
 use Rattle.lsp_edit.specs.Items.{Item, New}
 use Rattle.lsp_edit.specs.Plain.{items_in_order}
-use Rattle.lsp_edit.proofs.PlainLemmas.{plain_next}
+use Rattle.lsp_edit.proofs.Batches.PlainLemmas.{plain_next}
 use Rattle.lsp_edit.proofs.plain.Plain.apply.Goals as goal
 use Rattle.lsp_edit.proofs.plain.Plain.apply.Goals.{in-None+in_ok-items-in-None, in-Some+in_ok-items-in-Some}
 

@@ -1,8 +1,8 @@
 use Rattle.lsp_text.specs.Units.{units_in}
-use Rattle.lsp_edit.proofs.LawLemmas.{canonical_law, units_some}
-use Rattle.lsp_edit.proofs.PairLemmas.{pairs_kept}
-use Rattle.lsp_edit.proofs.PlainLemmas.{plain_seen}
-use Rattle.lsp_edit.proofs.RebuiltLemmas.{canonical_makes}
+use Rattle.lsp_edit.proofs.Batches.LawLemmas.{canonical_law, units_some}
+use Rattle.lsp_edit.proofs.Canonical.PairLemmas.{pairs_kept}
+use Rattle.lsp_edit.proofs.Batches.PlainLemmas.{plain_seen}
+use Rattle.lsp_edit.proofs.Canonical.RebuiltLemmas.{canonical_makes}
 use Rattle.lsp_edit.proofs.plain.Plain.canonical.Goals as goal
 
 pub returns-in_err-lines-clause-means : goal.returns-in_err-lines-clause-means

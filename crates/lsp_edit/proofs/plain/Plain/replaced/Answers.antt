@@ -5,9 +5,9 @@ use Rattle.std.proofs.lemmas.Result.{err_from_is_err_and}
 use Rattle.lsp_text.specs.Units.{units_in}
 use Rattle.lsp_edit.specs.Edited.{Edited}
 use Rattle.lsp_edit.specs.Plain.{item_of, items_in_order}
-use Rattle.lsp_edit.proofs.AppliedLemmas.{fault_told}
-use Rattle.lsp_edit.proofs.EditedLemmas.{edited_chars, places_told}
-use Rattle.lsp_edit.proofs.PlainLemmas.{AreFound, found, places_on, range_put}
+use Rattle.lsp_edit.proofs.Composing.AppliedLemmas.{fault_told}
+use Rattle.lsp_edit.proofs.Composing.EditedLemmas.{edited_chars, places_told}
+use Rattle.lsp_edit.proofs.Batches.PlainLemmas.{AreFound, found, places_on, range_put}
 use Rattle.lsp_edit.proofs.plain.Plain.replaced.Goals as goal
 
 pub returns-in_err-start : goal.returns-in_err-start

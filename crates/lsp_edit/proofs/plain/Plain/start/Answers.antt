@@ -1,5 +1,5 @@
 use Rattle.std.proofs.Common.{◌∙◌}
-use Rattle.lsp_edit.proofs.PlainLemmas.{plain_begins}
+use Rattle.lsp_edit.proofs.Batches.PlainLemmas.{plain_begins}
 use Rattle.lsp_edit.proofs.plain.Plain.start.Goals as goal
 
 pub invariant_of-result : goal.invariant_of-result

@@ -1,7 +1,7 @@
 use Rattle.std.proofs.Common.{rules, ◌≡◌, true}
 use Rattle.lsp_pair.specs.Pair.{is_utf16, are_within, IsFitting}
-use Rattle.lsp_pair.proofs.NewLemmas.{sound_from, new_reached}
-use Rattle.lsp_pair.proofs.HistoryLemmas.{new_history}
+use Rattle.lsp_pair.proofs.Steps.NewLemmas.{sound_from, new_reached}
+use Rattle.lsp_pair.proofs.Histories.HistoryLemmas.{new_history}
 use Rattle.lsp_pair.proofs.pair.Pair.new.Goals as goal
 
 pub invariant_of-result : goal.invariant_of-result

@@ -3,9 +3,9 @@ use Rattle.std.proofs.Common.{ap}
 use Rattle.lsp_pair.specs.inside.Ends.{both_ends}
 use Rattle.lsp_pair.specs.Seen.{event_view, frames}
 use Rattle.lsp_pair.proofs.pair.Pair.step.Goals as goal
-use Rattle.lsp_pair.proofs.ReachLemmas.{reached_serves, reached_hears, reach_or_same, at_if, at_next, step_from, same_at_server, same_at_client, same_from}
-use Rattle.lsp_pair.proofs.HistoryLemmas.{history_if}
-use Rattle.lsp_pair.proofs.CalledLemmas.{is_call, call_is, call_same, no_delivery, refused_if}
+use Rattle.lsp_pair.proofs.Steps.ReachLemmas.{reached_serves, reached_hears, reach_or_same, at_if, at_next, step_from, same_at_server, same_at_client, same_from}
+use Rattle.lsp_pair.proofs.Histories.HistoryLemmas.{history_if}
+use Rattle.lsp_pair.proofs.Steps.CalledLemmas.{is_call, call_is, call_same, no_delivery, refused_if}
 use Rattle.std.proofs.Common.{refl, ◌∙◌}
 
 pub serve_first-requires : goal.serve_first-requires

@@ -2,8 +2,8 @@ use Rattle.std.proofs.Common.{refl}
 use Rattle.lsp_replay.specs.Documents.{nothing_selected}
 use Rattle.lsp_replay.specs.Commands.{log_config}
 use Rattle.lsp_replay.specs.Session.{opened}
-use Rattle.lsp_replay.proofs.DocumentsLawLemmas.{wrote_each}
-use Rattle.lsp_replay.proofs.DocumentsLemmas.{run_of_each_kept}
+use Rattle.lsp_replay.proofs.Stay.DocumentsLawLemmas.{wrote_each}
+use Rattle.lsp_replay.proofs.Stay.DocumentsLemmas.{run_of_each_kept}
 use Rattle.lsp_replay.proofs.commands.documents.documents_each.Goals as goal
 
 pub returns-clause-run : goal.returns-clause-run

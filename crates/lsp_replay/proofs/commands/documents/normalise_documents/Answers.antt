@@ -1,5 +1,5 @@
 use Rattle.std.proofs.Common.{sym, ◌∙◌}
-use Rattle.lsp_replay.proofs.DocumentsLawLemmas.{each_run, squashed_run}
+use Rattle.lsp_replay.proofs.Stay.DocumentsLawLemmas.{each_run, squashed_run}
 use Rattle.lsp_replay.proofs.commands.documents.normalise_documents.Goals as goal
 
 pub returns-then-joins_runs-clause-run : goal.returns-then-joins_runs-clause-run

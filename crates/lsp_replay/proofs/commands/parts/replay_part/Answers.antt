@@ -6,7 +6,7 @@ use Rattle.lsp_replay.specs.inside.Engine.{IsLoopRun}
 use Rattle.lsp_replay.specs.Commands.{as_log, log_config}
 use Rattle.lsp_replay.specs.Parts.{part_of}
 use Rattle.lsp_replay.specs.Session.{opened}
-use Rattle.lsp_replay.proofs.PartLemmas.{run_of_part}
+use Rattle.lsp_replay.proofs.Reports.PartLemmas.{run_of_part}
 use Rattle.lsp_replay.proofs.commands.parts.replay_part.Goals as goal
 
 pub returns : goal.returns

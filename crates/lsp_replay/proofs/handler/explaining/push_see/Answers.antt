@@ -1,5 +1,5 @@
 use Rattle.std.specs.Prelude.{codes}
-use Rattle.lsp_replay.proofs.MemberLemmas.{one_member}
+use Rattle.lsp_replay.proofs.Reports.MemberLemmas.{one_member}
 use Rattle.lsp_replay.proofs.handler.explaining.push_see.Goals as goal
 
 pub returns : goal.returns

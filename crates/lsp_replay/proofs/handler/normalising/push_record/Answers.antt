@@ -2,7 +2,7 @@ use Rattle.std.proofs.Common.{drop, ap, ◌∙◌}
 use Rattle.std.proofs.lemmas.List.{take_at}
 use Rattle.lsp_log.specs.Log.{mark_of}
 use Rattle.lsp_replay.specs.Commands.{line_if}
-use Rattle.lsp_replay.proofs.CanonicalLogLemmas.{appended_framed}
+use Rattle.lsp_replay.proofs.Canonical.CanonicalLogLemmas.{appended_framed}
 use Rattle.lsp_replay.proofs.handler.normalising.push_record.Goals as goal
 
 pub returns-clause-ok : goal.returns-clause-ok

@@ -1,5 +1,5 @@
 use Rattle.std.proofs.lemmas.List.{drop_more}
-use Rattle.lsp_replay.proofs.NoteLemmas.{writing_on}
+use Rattle.lsp_replay.proofs.Reports.NoteLemmas.{writing_on}
 use Rattle.lsp_replay.proofs.handler.noted.push_notes.Goals as goal
 
 pub loop-note-preserved : goal.loop-note-preserved

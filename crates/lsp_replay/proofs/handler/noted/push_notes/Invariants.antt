@@ -1,6 +1,6 @@
 use Rattle.std.proofs.Common.{◌++◌, drop}
 use Rattle.lsp_replay.specs.Notes.{notes_words}
-use Rattle.lsp_replay.proofs.NoteLemmas.{Writing}
+use Rattle.lsp_replay.proofs.Reports.NoteLemmas.{Writing}
 use Rattle.lsp_replay.proofs.handler.noted.push_notes.Given as goal
 
 abbrev pub invariant-loop-note : goal.invariant-loop-note

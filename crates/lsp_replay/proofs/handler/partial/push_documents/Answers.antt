@@ -1,6 +1,6 @@
 use Rattle.std.proofs.Common.{◌++◌, ◌+◌, ap, ◌∙◌, sym, append_assoc, rules}
 use Rattle.lsp_replay.specs.Commands.{document_line, report_from}
-use Rattle.lsp_replay.proofs.ReportLemmas.{report_goes_on}
+use Rattle.lsp_replay.proofs.Reports.ReportLemmas.{report_goes_on}
 use Rattle.lsp_replay.proofs.handler.partial.push_documents.Goals as goal
 
 pub documents-preserved : goal.documents-preserved

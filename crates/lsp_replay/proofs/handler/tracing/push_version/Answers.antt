@@ -1,7 +1,7 @@
 use Rattle.std.proofs.Common.{◌≡◌, rules, w32, to_z, of_z}
 use Rattle.std.proofs.lemmas.Int.{to_z-of_z}
 use Rattle.std.specs.Prelude.{codes}
-use Rattle.lsp_replay.proofs.MemberLemmas.{one_member}
+use Rattle.lsp_replay.proofs.Reports.MemberLemmas.{one_member}
 use Rattle.lsp_replay.proofs.handler.tracing.push_version.Goals as goal
 
 pub returns-in-Some : goal.returns-in-Some

@@ -2,8 +2,8 @@ use Rattle.std.proofs.Common.{sym}
 use Rattle.std.specs.Str.{chars}
 use Rattle.lsp_text.specs.Units.{units_in}
 use Rattle.lsp_edit.specs.declared.fault.EditFault.TheVariants.{ReversedRange}
-use Rattle.lsp_edit.proofs.EndLemmas.{places_in_order, places_reversed}
-use Rattle.lsp_replay.proofs.NoteLemmas.{no_part}
+use Rattle.lsp_edit.proofs.Composing.EndLemmas.{places_in_order, places_reversed}
+use Rattle.lsp_replay.proofs.Reports.NoteLemmas.{no_part}
 use Rattle.lsp_replay.proofs.notes.changes.ends.Goals as goal
 
 -- `lsp_edit`'s function of this name, on a text with its lines.

@@ -1,6 +1,6 @@
 use Rattle.std.proofs.Common.{arith}
 use Rattle.lsp_text.specs.Units.{units_in}
-use Rattle.lsp_replay.proofs.NoteLemmas.{nothing_left, text_left}
+use Rattle.lsp_replay.proofs.Reports.NoteLemmas.{nothing_left, text_left}
 use Rattle.lsp_replay.proofs.notes.changes.leave.Goals as goal
 
 pub returns-then-len-gt-MAX_NEW_TEXT-clause-left : goal.returns-then-len-gt-MAX_NEW_TEXT-clause-left

@@ -1,6 +1,6 @@
 use Rattle.std.proofs.Common.{arith}
 use Rattle.lsp_replay.specs.inside.Noting.{terms_view}
-use Rattle.lsp_replay.proofs.NoteLemmas.{one_noted}
+use Rattle.lsp_replay.proofs.Reports.NoteLemmas.{one_noted}
 use Rattle.lsp_replay.proofs.notes.changes.push_batch_notes.Goals as goal
 
 pub returns-in-len1 : goal.returns-in-len1

@@ -2,7 +2,7 @@ use Rattle.std.proofs.Common.{◌+◌, ◌∷◌, drop, sym, ap, ◌∙◌}
 use Rattle.std.proofs.lemmas.List.{drop_more}
 use Rattle.lsp_edit.specs.declared.change.Change.{Change}
 use Rattle.lsp_replay.specs.inside.Noting.{terms_view}
-use Rattle.lsp_replay.proofs.NoteLemmas.{noting_ends, noting_on}
+use Rattle.lsp_replay.proofs.Reports.NoteLemmas.{noting_ends, noting_on}
 use Rattle.lsp_replay.proofs.notes.changes.push_several.Goals as goal
 
 pub loop-index-preserved : goal.loop-index-preserved

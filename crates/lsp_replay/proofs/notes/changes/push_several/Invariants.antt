@@ -2,7 +2,7 @@ use Rattle.std.proofs.Common.{◌++◌, drop, map}
 use Rattle.lsp_edit.specs.Edited.{edit_of}
 use Rattle.lsp_replay.specs.Notes.{notes_from}
 use Rattle.lsp_replay.specs.inside.Noting.{terms_view}
-use Rattle.lsp_replay.proofs.NoteLemmas.{Noting}
+use Rattle.lsp_replay.proofs.Reports.NoteLemmas.{Noting}
 use Rattle.lsp_replay.proofs.notes.changes.push_several.Given as goal
 
 abbrev pub invariant-loop-index : goal.invariant-loop-index

@@ -1,6 +1,6 @@
 use Rattle.std.specs.Str.{chars}
 use Rattle.lsp_text.specs.Units.{units_in}
-use Rattle.lsp_replay.proofs.NoteLemmas.{taken_is, taken_none}
+use Rattle.lsp_replay.proofs.Reports.NoteLemmas.{taken_is, taken_none}
 use Rattle.lsp_replay.proofs.notes.changes.taken_as.Goals as goal
 
 pub returns-in-Ok : goal.returns-in-Ok

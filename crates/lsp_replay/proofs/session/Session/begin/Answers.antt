@@ -3,7 +3,7 @@ use Rattle.lsp_message.specs.Seen.{change_view}
 use Rattle.lsp_store.specs.Squash.{squash_of}
 use Rattle.lsp_server.specs.Planned.{store_of}
 use Rattle.lsp_server.specs.Step.{session_encoding}
-use Rattle.lsp_replay.proofs.TakenLemmas.{plan_document, plan_on, plan_started}
+use Rattle.lsp_replay.proofs.Records.TakenLemmas.{plan_document, plan_on, plan_started}
 use Rattle.lsp_replay.proofs.session.Session.begin.Goals as goal
 
 pub planned_document-document-requires : goal.planned_document-document-requires

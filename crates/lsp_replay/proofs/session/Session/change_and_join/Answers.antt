@@ -3,7 +3,7 @@ use Rattle.lsp_message.specs.Seen.{change_view}
 use Rattle.lsp_server.specs.Incoming.{did_change}
 use Rattle.lsp_server.specs.Planned.{IsAnswered, IsPlanOfChange}
 use Rattle.lsp_server.specs.Step.{step_on}
-use Rattle.lsp_replay.proofs.TakenLemmas.{accepted_at, answered_at, answered_some}
+use Rattle.lsp_replay.proofs.Records.TakenLemmas.{accepted_at, answered_at, answered_some}
 use Rattle.lsp_replay.proofs.session.Session.change_and_join.Goals as goal
 
 pub join-requires-clause-planned : goal.join-requires-clause-planned

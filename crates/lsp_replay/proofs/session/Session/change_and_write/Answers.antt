@@ -3,7 +3,7 @@ use Rattle.lsp_message.specs.Seen.{change_view}
 use Rattle.lsp_server.specs.Incoming.{did_change}
 use Rattle.lsp_server.specs.Planned.{IsAnswered, IsPlanOfChange, store_of}
 use Rattle.lsp_server.specs.Step.{step_on}
-use Rattle.lsp_replay.proofs.TakenLemmas.{accepted_at, answered_at, answered_some, plan_kept, plan_on, plan_written, refused_written}
+use Rattle.lsp_replay.proofs.Records.TakenLemmas.{accepted_at, answered_at, answered_some, plan_kept, plan_on, plan_written, refused_written}
 use Rattle.lsp_replay.proofs.session.Session.change_and_write.Goals as goal
 
 pub append_body-requires : goal.append_body-requires

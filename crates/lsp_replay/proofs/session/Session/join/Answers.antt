@@ -3,8 +3,8 @@ use Rattle.lsp_message.specs.Seen.{change_view}
 use Rattle.lsp_store.specs.Plan.{IsMessageFault}
 use Rattle.lsp_server.specs.Planned.{store_of}
 use Rattle.lsp_replay.specs.inside.Joining.{IsFramed, IsOpenIn}
-use Rattle.lsp_replay.proofs.JoiningLemmas.{not_same}
-use Rattle.lsp_replay.proofs.TakenLemmas.{message_is, message_none, plan_continued, plan_framed, plan_on, plan_reached_on, plan_too_long}
+use Rattle.lsp_replay.proofs.Squash.JoiningLemmas.{not_same}
+use Rattle.lsp_replay.proofs.Records.TakenLemmas.{message_is, message_none, plan_continued, plan_framed, plan_on, plan_reached_on, plan_too_long}
 use Rattle.lsp_replay.proofs.session.Session.join.Goals as goal
 
 pub planned_message-requires : goal.planned_message-requires

@@ -1,5 +1,5 @@
 use Rattle.lsp_replay.specs.inside.Bodies.{body_view}
-use Rattle.lsp_replay.proofs.BodyLemmas.{judged_at}
+use Rattle.lsp_replay.proofs.Records.BodyLemmas.{judged_at}
 use Rattle.lsp_replay.proofs.session.Session.judge.Goals as goal
 
 pub returns-clause-verdict : goal.returns-clause-verdict

@@ -7,10 +7,10 @@ use Rattle.lsp_replay.specs.Session.{Session, Verdict}
 use Rattle.lsp_replay.specs.inside.Bodies.{body_view}
 use Rattle.lsp_replay.specs.inside.Joining.{IsOpenAfter, IsWriting}
 use Rattle.lsp_replay.specs.inside.Verdicts.{verdict_view}
-use Rattle.lsp_replay.proofs.BodyLemmas.{judged_at}
+use Rattle.lsp_replay.proofs.Records.BodyLemmas.{judged_at}
 use Rattle.lsp_log.specs.declared.record.Version.TheVariants.{One}
-use Rattle.lsp_replay.proofs.JoiningLemmas.{change_open}
-use Rattle.lsp_replay.proofs.TakenLemmas.{change_writing_at, if_both, none_writing, taken_session, taken_verdict}
+use Rattle.lsp_replay.proofs.Squash.JoiningLemmas.{change_open}
+use Rattle.lsp_replay.proofs.Records.TakenLemmas.{change_writing_at, if_both, none_writing, taken_session, taken_verdict}
 use Rattle.lsp_replay.specs.declared.session.joining.Writing.TheVariants.{AsItIs}
 use Rattle.lsp_replay.proofs.session.Session.judge_and_join.Goals as goal
 

@@ -1,7 +1,7 @@
 use Rattle.std.proofs.Common.{option_map, string_bytes}
 use Rattle.lsp_replay.specs.inside.Bodies.{body_view}
-use Rattle.lsp_replay.proofs.BodyLemmas.{judged_at}
-use Rattle.lsp_replay.proofs.KeptLemmas.{kept_over}
+use Rattle.lsp_replay.proofs.Records.BodyLemmas.{judged_at}
+use Rattle.lsp_replay.proofs.Reports.KeptLemmas.{kept_over}
 use Rattle.lsp_replay.proofs.session.Session.judge_and_keep.Goals as goal
 
 pub returns-clause-verdict : goal.returns-clause-verdict

@@ -1,9 +1,9 @@
 use Rattle.std.proofs.Common.{ap, ◌∙◌}
 use Rattle.lsp_replay.specs.Session.{Session}
 use Rattle.lsp_replay.specs.inside.Bodies.{body_view}
-use Rattle.lsp_replay.proofs.BodyLemmas.{judged_at}
+use Rattle.lsp_replay.proofs.Records.BodyLemmas.{judged_at}
 use Rattle.lsp_replay.proofs.KnownLemmas.{any_ok, if_ok, known_is, noted_is}
-use Rattle.lsp_replay.proofs.MemberLemmas.{on_ok}
+use Rattle.lsp_replay.proofs.Reports.MemberLemmas.{on_ok}
 use Rattle.lsp_replay.proofs.session.Session.judge_and_note.Goals as goal
 
 pub returns-clause-session : goal.returns-clause-session

@@ -2,8 +2,8 @@ use Rattle.std.proofs.Common.{refl}
 use Rattle.lsp_message.specs.Seen.{change_view}
 use Rattle.lsp_replay.specs.inside.Bodies.{body_view}
 use Rattle.lsp_replay.specs.inside.Verdicts.{verdict_view}
-use Rattle.lsp_replay.proofs.BodyLemmas.{judged_at}
-use Rattle.lsp_replay.proofs.TakenLemmas.{if_both, none_written, taken_session, taken_verdict, written_at}
+use Rattle.lsp_replay.proofs.Records.BodyLemmas.{judged_at}
+use Rattle.lsp_replay.proofs.Records.TakenLemmas.{if_both, none_written, taken_session, taken_verdict, written_at}
 use Rattle.lsp_replay.proofs.session.Session.judge_and_write.Goals as goal
 
 pub change_and_write-requires-clause-running : goal.change_and_write-requires-clause-running

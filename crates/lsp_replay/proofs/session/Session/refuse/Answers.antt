@@ -1,4 +1,4 @@
-use Rattle.lsp_replay.proofs.TakenLemmas.{refused_taken}
+use Rattle.lsp_replay.proofs.Records.TakenLemmas.{refused_taken}
 use Rattle.lsp_replay.proofs.session.Session.refuse.Goals as goal
 
 pub returns : goal.returns

@@ -1,6 +1,6 @@
 use Rattle.std.proofs.Common.{arith, ◌≡◌, length, ap}
 use Rattle.lsp_store.specs.Plan.{IsBodyOfPlan, IsMessageFault}
-use Rattle.lsp_replay.proofs.TakenLemmas.{body_appended, body_kept, body_too_long, message_none, message_off, message_on}
+use Rattle.lsp_replay.proofs.Records.TakenLemmas.{body_appended, body_kept, body_too_long, message_none, message_off, message_on}
 use Rattle.lsp_replay.proofs.session.writing.append_body.Goals as goal
 
 pub returns-in-Some-clause-appended : goal.returns-in-Some-clause-appended

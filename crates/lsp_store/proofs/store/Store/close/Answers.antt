@@ -1,7 +1,7 @@
 use Rattle.std.proofs.Common.{ap, arith, length, refl}
 use Rattle.ordered_map.specs.Entries.{is_key}
-use Rattle.lsp_store.proofs.StoreLemmas.{close_absent, closed}
-use Rattle.lsp_store.proofs.TableLemmas.{remove_entry-few}
+use Rattle.lsp_store.proofs.Tables.StoreLemmas.{close_absent, closed}
+use Rattle.lsp_store.proofs.Tables.TableLemmas.{remove_entry-few}
 use Rattle.lsp_store.proofs.store.Store.close.Goals as goal
 
 pub returns-in_default-clause-error : goal.returns-in_default-clause-error

@@ -1,4 +1,4 @@
-use Rattle.lsp_store.proofs.StoreLemmas.{get_found, get_none}
+use Rattle.lsp_store.proofs.Tables.StoreLemmas.{get_found, get_none}
 use Rattle.lsp_store.proofs.store.Store.get.Goals as goal
 
 pub returns-in_err-uri : goal.returns-in_err-uri

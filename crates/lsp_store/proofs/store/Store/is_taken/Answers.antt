@@ -1,5 +1,5 @@
 use Rattle.std.proofs.Common.{◌∙◌, ap, not, sym}
-use Rattle.lsp_store.proofs.StoreLemmas.{taken_strict, taken_never}
+use Rattle.lsp_store.proofs.Tables.StoreLemmas.{taken_strict, taken_never}
 use Rattle.lsp_store.proofs.store.Store.is_taken.Goals as goal
 
 pub returns-then-not-is_lenient : goal.returns-then-not-is_lenient

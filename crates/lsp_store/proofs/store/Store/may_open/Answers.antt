@@ -1,7 +1,7 @@
 use Rattle.std.proofs.Common.{◌≡◌, ◌∙◌, ℕ, sym, ap, arith}
 use Rattle.lsp_frame.specs.Limits.{Bounds}
 use Rattle.lsp_message.specs.Params.{DocumentItem}
-use Rattle.lsp_store.proofs.StoreLemmas.{taken_refused, many_refused, long_refused, open_accepted, limits_are}
+use Rattle.lsp_store.proofs.Tables.StoreLemmas.{taken_refused, many_refused, long_refused, open_accepted, limits_are}
 use Rattle.lsp_store.proofs.store.Store.may_open.Goals as goal
 
 pub returns-then-is_taken-clause-error : goal.returns-then-is_taken-clause-error

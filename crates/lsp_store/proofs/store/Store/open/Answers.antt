@@ -2,7 +2,7 @@ use Rattle.std.proofs.Common.{◌≡◌, Err, inr, rules, w32, to_z, of_z, strin
 use Rattle.std.proofs.lemmas.Int.{to_z-of_z}
 use Rattle.std.proofs.lemmas.Result.{err_from_is_err_and}
 use Rattle.lsp_store.specs.declared.fault.StoreFault.TheVariants.{NoMemory}
-use Rattle.lsp_store.proofs.StoreLemmas.{opened, opened_few}
+use Rattle.lsp_store.proofs.Tables.StoreLemmas.{opened, opened_few}
 use Rattle.lsp_store.proofs.store.Store.open.Goals as goal
 
 pub returns-in_err-may_open-clause-error : goal.returns-in_err-may_open-clause-error

@@ -1,5 +1,5 @@
 use Rattle.std.proofs.Common.{◌∙◌, sym, arith}
-use Rattle.lsp_store.proofs.StoreLemmas.{others_new, others_open}
+use Rattle.lsp_store.proofs.Tables.StoreLemmas.{others_new, others_open}
 use Rattle.lsp_store.proofs.store.Store.others.Goals as goal
 
 pub overflow_sub-result : goal.overflow_sub-result

@@ -5,8 +5,8 @@ use Rattle.lsp_store.specs.declared.fault.StoreFault.{StoreFault}
 use Rattle.lsp_store.specs.declared.fault.StoreFault.TheVariants.{NoMemory}
 use Rattle.lsp_store.specs.Opened.{entry_under}
 use Rattle.lsp_store.specs.Table.{IsLeftToMeaning, entry_at}
-use Rattle.lsp_store.proofs.PlanLemmas.{plan_is}
-use Rattle.lsp_store.proofs.StoreLemmas.{change_absent, change_refused, held_at, limits_are, may_take}
+use Rattle.lsp_store.proofs.Tables.PlanLemmas.{plan_is}
+use Rattle.lsp_store.proofs.Tables.StoreLemmas.{change_absent, change_refused, held_at, limits_are, may_take}
 use Rattle.lsp_store.proofs.store.Store.plan.Goals as goal
 
 pub returns-in_default-clause-error : goal.returns-in_default-clause-error

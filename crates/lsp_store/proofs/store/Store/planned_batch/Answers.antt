@@ -1,6 +1,6 @@
 use Rattle.std.proofs.Common.{◌≡◌, None, Some, sym, ◌∙◌, rules, w32, to_z, of_z}
 use Rattle.std.proofs.lemmas.Int.{to_z-of_z}
-use Rattle.lsp_store.proofs.PlanLemmas.{HasEntry, plan_entry, plan_key, plan_on, plan_text, planned_body}
+use Rattle.lsp_store.proofs.Tables.PlanLemmas.{HasEntry, plan_entry, plan_key, plan_on, plan_text, planned_body}
 use Rattle.lsp_store.proofs.store.Store.planned_batch.Goals as goal
 
 pub unreachable-requires : goal.unreachable-requires

@@ -1,6 +1,6 @@
 use Rattle.std.proofs.Common.{◌≡◌, List, ℕ, None, Some, ap, sym, ◌∙◌}
 use Rattle.lsp_store.specs.Opened.{entry_under}
-use Rattle.lsp_store.proofs.PlanLemmas.{HasEntry, plan_entry, same_entry}
+use Rattle.lsp_store.proofs.Tables.PlanLemmas.{HasEntry, plan_entry, same_entry}
 use Rattle.lsp_store.proofs.store.Store.planned_document.Goals as goal
 
 pub unreachable-requires : goal.unreachable-requires

@@ -1,5 +1,5 @@
 use Rattle.std.proofs.Common.{◌≡◌, None, Some, sym, ◌∙◌}
-use Rattle.lsp_store.proofs.PlanLemmas.{HasEntry, if_ok, plan_entry, plan_on, plan_text}
+use Rattle.lsp_store.proofs.Tables.PlanLemmas.{HasEntry, if_ok, plan_entry, plan_on, plan_text}
 use Rattle.lsp_store.proofs.store.Store.planned_text.Goals as goal
 
 pub unreachable-requires : goal.unreachable-requires

@@ -7,8 +7,8 @@ use Rattle.lsp_store.specs.declared.fault.StoreFault.TheVariants.{NoMemory}
 use Rattle.lsp_store.specs.Opened.{entry_under}
 use Rattle.lsp_store.specs.Table.{IsLeftToMeaning, entry_at, entry_refusal}
 use Rattle.lsp_store.specs.Message.{body_refusal, canonical_batch, canonical_body}
-use Rattle.lsp_store.proofs.StoreLemmas.{change_absent, change_refused, held_at, limits_are, may_take}
-use Rattle.lsp_store.proofs.MessageLemmas.{accepted_left, first_told, message_accepted, message_refused, canonical_is}
+use Rattle.lsp_store.proofs.Tables.StoreLemmas.{change_absent, change_refused, held_at, limits_are, may_take}
+use Rattle.lsp_store.proofs.Messages.MessageLemmas.{accepted_left, first_told, message_accepted, message_refused, canonical_is}
 use Rattle.lsp_store.proofs.store.Store.push_canonical_body.Goals as goal
 
 pub returns-in_default-clause-error : goal.returns-in_default-clause-error

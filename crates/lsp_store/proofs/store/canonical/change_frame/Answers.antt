@@ -4,7 +4,7 @@ use Rattle.lsp_frame.specs.Frame.{frame}
 use Rattle.lsp_edit.specs.Edited.{edit_of}
 use Rattle.lsp_store.specs.Faults.{IsRefusal}
 use Rattle.lsp_store.specs.Message.{body_refusal, change_body}
-use Rattle.lsp_store.proofs.MessageLemmas.{body_begun}
+use Rattle.lsp_store.proofs.Messages.MessageLemmas.{body_begun}
 use Rattle.lsp_store.proofs.store.canonical.change_frame.Goals as goal
 
 pub returns-clause-error : goal.returns-clause-error

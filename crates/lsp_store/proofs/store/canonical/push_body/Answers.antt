@@ -4,7 +4,7 @@ use Rattle.std.proofs.lemmas.Result.{on_ok_weaker, IfErr-weaker}
 use Rattle.lsp_frame.specs.declared.written.EncodeFault.TheVariants as encode
 use Rattle.lsp_edit.specs.Edited.{edit_of}
 use Rattle.lsp_store.specs.Message.{change_body}
-use Rattle.lsp_store.proofs.MessageLemmas.{body_pushed, body_within, encode_refused}
+use Rattle.lsp_store.proofs.Messages.MessageLemmas.{body_pushed, body_within, encode_refused}
 use Rattle.lsp_store.proofs.store.canonical.push_body.Goals as goal
 
 pub returns-clause-body : goal.returns-clause-body

@@ -4,7 +4,7 @@ use Rattle.lsp_text.specs.Gapped.{without_gap, starts_of_both}
 use Rattle.lsp_text.specs.inside.Gapped.{AreWithin}
 use Rattle.lsp_text.specs.LineStarts.{Indexes}
 use Rattle.lsp_text.specs.Starts.{AreStarts}
-use Rattle.lsp_text.proofs.GapTextLemmas.{gap_are, gap_within, gap_back_within, gap_indexes, gap_utf8}
+use Rattle.lsp_text.proofs.Gaps.GapTextLemmas.{gap_are, gap_within, gap_back_within, gap_indexes, gap_utf8}
 use Rattle.lsp_text.proofs.gap_text.GapText.into_text.Goals as goal
 
 pub from_utf8_unchecked-text-requires : goal.from_utf8_unchecked-text-requires

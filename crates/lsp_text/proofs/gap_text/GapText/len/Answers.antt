@@ -1,7 +1,7 @@
 use Rattle.std.proofs.Common.{subst}
 use Rattle.std.specs.Str.{IsUtf8}
 use Rattle.lsp_text.specs.Gapped.{without_gap}
-use Rattle.lsp_text.proofs.GapTextLemmas.{gap_utf8}
+use Rattle.lsp_text.proofs.Gaps.GapTextLemmas.{gap_utf8}
 use Rattle.lsp_text.proofs.gap_text.GapText.len.Goals as goal
 
 pub returns-clause-utf8 : goal.returns-clause-utf8

@@ -1,6 +1,6 @@
 use Rattle.std.proofs.Common.{◌≡◌, ◌∙◌, ℕ, List, ap, sym, subst, append-nil}
 use Rattle.lsp_text.specs.Gapped.{Gapped, IsGapText, without_gap}
-use Rattle.lsp_text.proofs.GapTextLemmas.{gap_begun}
+use Rattle.lsp_text.proofs.Gaps.GapTextLemmas.{gap_begun}
 use Rattle.lsp_text.proofs.gap_text.GapText.new.Goals as goal
 
 pub invariant_of-result : goal.invariant_of-result

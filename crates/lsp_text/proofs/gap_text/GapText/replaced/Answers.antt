@@ -5,7 +5,7 @@ use Rattle.lsp_text.specs.Gapped.{IsGapText, without_gap, starts_of_both}
 use Rattle.lsp_text.specs.inside.Gapped.{AreWithin, IsInPlace}
 use Rattle.lsp_text.specs.Starts.{AreStarts, IsLineOf}
 use Rattle.lsp_text.specs.TextLines.{splits_crlf}
-use Rattle.lsp_text.proofs.GapTextLemmas.{gap_are, gap_within, gap_back_within, gap_replaced, gap_overwritten, front_are}
+use Rattle.lsp_text.proofs.Gaps.GapTextLemmas.{gap_are, gap_within, gap_back_within, gap_replaced, gap_overwritten, front_are}
 use Rattle.lsp_text.proofs.gap_text.GapText.replaced.Goals as goal
 
 pub seek-requires-clause-are : goal.seek-requires-clause-are

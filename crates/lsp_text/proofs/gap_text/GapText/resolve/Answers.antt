@@ -1,7 +1,7 @@
 use Rattle.std.proofs.Common.{subst}
 use Rattle.std.specs.Str.{IsUtf8}
 use Rattle.lsp_text.specs.Gapped.{without_gap}
-use Rattle.lsp_text.proofs.GapTextLemmas.{gap_utf8}
+use Rattle.lsp_text.proofs.Gaps.GapTextLemmas.{gap_utf8}
 use Rattle.lsp_text.proofs.gap_text.GapText.resolve.Goals as goal
 
 pub returns-in-Utf8-clause-utf8 : goal.returns-in-Utf8-clause-utf8

@@ -1,5 +1,5 @@
 use Rattle.std.proofs.Common.{arith, drop, ap, ◌∙◌, ◌-◌}
-use Rattle.lsp_text.proofs.GapLemmas.{back_back}
+use Rattle.lsp_text.proofs.Gaps.GapLemmas.{back_back}
 use Rattle.lsp_text.proofs.gap_text.gap.move_back.Goals as goal
 
 pub returns-clause-back : goal.returns-clause-back

@@ -1,5 +1,5 @@
 use Rattle.std.proofs.Common.{arith, take, drop, ap, ◌∙◌, ◌-◌, ◌+◌}
-use Rattle.lsp_text.proofs.GapLemmas.{on_front, on_back}
+use Rattle.lsp_text.proofs.Gaps.GapLemmas.{on_front, on_back}
 use Rattle.lsp_text.proofs.gap_text.gap.move_on.Goals as goal
 
 pub returns-clause-back : goal.returns-clause-back

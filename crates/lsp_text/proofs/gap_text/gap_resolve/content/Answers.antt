@@ -1,9 +1,9 @@
 use Rattle.std.proofs.Common.{◌+◌, ◌∙◌, ℕ, length, slice_index, cond, ◌-◌, ap, arith}
 use Rattle.lsp_text.specs.Gapped.{without_gap, starts_of_both}
 use Rattle.lsp_text.specs.TextLines.{splits_crlf}
-use Rattle.lsp_text.proofs.GapStartsLemmas.{both_count}
-use Rattle.lsp_text.proofs.GapTextLemmas.{gap_indexes, gap_utf8}
-use Rattle.lsp_text.proofs.IndexesLemmas.{indexes_line, indexes_start, indexes_last, indexes_next}
+use Rattle.lsp_text.proofs.Gaps.GapStartsLemmas.{both_count}
+use Rattle.lsp_text.proofs.Gaps.GapTextLemmas.{gap_indexes, gap_utf8}
+use Rattle.lsp_text.proofs.TextLines.IndexesLemmas.{indexes_line, indexes_start, indexes_last, indexes_next}
 use Rattle.lsp_text.proofs.gap_text.gap_resolve.content.Goals as goal
 
 pub stop_before-requires-clause-some : goal.stop_before-requires-clause-some

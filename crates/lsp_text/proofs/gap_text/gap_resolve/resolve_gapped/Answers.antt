@@ -2,10 +2,10 @@ use Rattle.std.proofs.Common.{◌≡◌, ◌+◌, ◌-◌, ◌≤◌, ◌∙◌,
 use Rattle.std.specs.Str.{IsUtf8, chars}
 use Rattle.lsp_text.specs.Gapped.{without_gap, starts_of_both}
 use Rattle.lsp_text.specs.inside.Leads.{line_place}
-use Rattle.lsp_text.proofs.GapStartsLemmas.{both_count}
-use Rattle.lsp_text.proofs.GapTextLemmas.{gap_indexes, gap_utf8}
-use Rattle.lsp_text.proofs.IndexesLemmas.{indexes_line, indexes_count}
-use Rattle.lsp_text.proofs.ResolveLemmas.{resolved_past, resolved_at, content_order, content_within, content_utf8, place_in_content, part}
+use Rattle.lsp_text.proofs.Gaps.GapStartsLemmas.{both_count}
+use Rattle.lsp_text.proofs.Gaps.GapTextLemmas.{gap_indexes, gap_utf8}
+use Rattle.lsp_text.proofs.TextLines.IndexesLemmas.{indexes_line, indexes_count}
+use Rattle.lsp_text.proofs.Positions.ResolveLemmas.{resolved_past, resolved_at, content_order, content_within, content_utf8, place_in_content, part}
 use Rattle.lsp_text.proofs.gap_text.gap_resolve.resolve_gapped.Goals as goal
 
 pub returns-then-line-count-clause-value : goal.returns-then-line-count-clause-value

@@ -1,5 +1,5 @@
 use Rattle.std.proofs.Common.{arith}
-use Rattle.lsp_text.proofs.GapStartsLemmas.{same_back}
+use Rattle.lsp_text.proofs.Gaps.GapStartsLemmas.{same_back}
 use Rattle.lsp_text.proofs.gap_text.gap_starts.turn_back.Goals as goal
 
 pub returns-clause-unchanged : goal.returns-clause-unchanged

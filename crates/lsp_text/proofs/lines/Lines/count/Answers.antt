@@ -1,5 +1,5 @@
 use Rattle.std.proofs.Common.{ap, length, arith}
-use Rattle.lsp_text.proofs.IndexesLemmas.{indexes_count}
+use Rattle.lsp_text.proofs.TextLines.IndexesLemmas.{indexes_count}
 use Rattle.lsp_text.proofs.lines.Lines.count.Goals as goal
 
 pub returns-clause-line_ends : goal.returns-clause-line_ends

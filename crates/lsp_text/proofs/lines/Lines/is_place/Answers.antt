@@ -1,4 +1,4 @@
-use Rattle.lsp_text.proofs.BoundaryLemmas.{tested_both, tested_none}
+use Rattle.lsp_text.proofs.Positions.BoundaryLemmas.{tested_both, tested_none}
 use Rattle.lsp_text.proofs.lines.Lines.is_place.Goals as goal
 
 pub returns-then-is_char_boundary-clause-place : goal.returns-then-is_char_boundary-clause-place

@@ -1,4 +1,4 @@
-use Rattle.lsp_text.proofs.IndexesLemmas.{indexes_from, starts_from, made_whole}
+use Rattle.lsp_text.proofs.TextLines.IndexesLemmas.{indexes_from, starts_from, made_whole}
 use Rattle.lsp_text.proofs.lines.Lines.new.Goals as goal
 
 pub invariant_of-result : goal.invariant_of-result

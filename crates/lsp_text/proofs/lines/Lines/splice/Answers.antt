@@ -1,4 +1,4 @@
-use Rattle.lsp_text.proofs.SpliceLemmas.{replaces_from, indexes_ok, starts_kept}
+use Rattle.lsp_text.proofs.TextLines.SpliceLemmas.{replaces_from, indexes_ok, starts_kept}
 use Rattle.lsp_text.proofs.lines.Lines.splice.Goals as goal
 
 pub splice_starts-requires-clause-replaces : goal.splice_starts-requires-clause-replaces

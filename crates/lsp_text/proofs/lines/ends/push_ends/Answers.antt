@@ -1,5 +1,5 @@
 use Rattle.std.proofs.Common.{refl}
-use Rattle.lsp_text.proofs.EndLemmas.{ends_of-all, Marks-part}
+use Rattle.lsp_text.proofs.TextLines.EndLemmas.{ends_of-all, Marks-part}
 use Rattle.lsp_text.proofs.lines.ends.push_ends.Goals as goal
 
 pub loop-at-init : goal.loop-at-init

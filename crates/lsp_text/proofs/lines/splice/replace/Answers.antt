@@ -1,5 +1,5 @@
 use Rattle.std.proofs.Common.{ap, ◌∙◌, ◌++◌, take, drop}
-use Rattle.lsp_text.proofs.ShiftLemmas.{drained_is}
+use Rattle.lsp_text.proofs.TextLines.ShiftLemmas.{drained_is}
 use Rattle.lsp_text.proofs.lines.splice.replace.Goals as goal
 
 pub returns-in_ok-splice-clause-ok : goal.returns-in_ok-splice-clause-ok

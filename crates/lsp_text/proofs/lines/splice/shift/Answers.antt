@@ -1,4 +1,4 @@
-use Rattle.lsp_text.proofs.ShiftLemmas.{shifted_more}
+use Rattle.lsp_text.proofs.TextLines.ShiftLemmas.{shifted_more}
 use Rattle.lsp_text.proofs.lines.splice.shift.Goals as goal
 
 pub loop-index-preserved : goal.loop-index-preserved

@@ -1,5 +1,5 @@
 use Rattle.std.proofs.Common.{◌≡◌}
-use Rattle.lsp_text.proofs.ShiftLemmas.{shifted}
+use Rattle.lsp_text.proofs.TextLines.ShiftLemmas.{shifted}
 use Rattle.lsp_text.proofs.lines.splice.shift.Given as goal
 
 abbrev pub invariant-loop-index : goal.invariant-loop-index

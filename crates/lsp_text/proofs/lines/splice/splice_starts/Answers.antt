@@ -1,5 +1,5 @@
 use Rattle.std.proofs.Common.{◌∙◌, refl}
-use Rattle.lsp_text.proofs.SpliceLemmas.{IsPlaced, line_of_same, starts_are_same, found_anew, shown_behind, shown_room, shown_starts}
+use Rattle.lsp_text.proofs.TextLines.SpliceLemmas.{IsPlaced, line_of_same, starts_are_same, found_anew, shown_behind, shown_room, shown_starts}
 use Rattle.lsp_text.proofs.lines.splice.splice_starts.Goals as goal
 
 pub starts_to-keep-requires : goal.starts_to-keep-requires

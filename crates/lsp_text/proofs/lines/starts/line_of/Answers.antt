@@ -1,5 +1,5 @@
 use Rattle.std.proofs.Common.{◌∙◌, arith, ℕ, ◌<◌, ◌^◌, length}
-use Rattle.lsp_text.proofs.SearchLemmas.{looks_one, looked_low, looked_high}
+use Rattle.lsp_text.proofs.TextLines.SearchLemmas.{looks_one, looked_low, looked_high}
 use Rattle.lsp_text.proofs.lines.starts.line_of.Goals as goal
 
 pub loop-high-preserved-then-at-place : goal.loop-high-preserved-then-at-place

@@ -1,5 +1,5 @@
 use Rattle.std.proofs.Common.{◌≡◌, ℕ, ◌+◌, ◌-◌, ◌≤◌, ◌<◌, ◌^◌, length, slice_index}
-use Rattle.lsp_text.proofs.SearchLemmas.{LooksLeft}
+use Rattle.lsp_text.proofs.TextLines.SearchLemmas.{LooksLeft}
 use Rattle.lsp_text.proofs.lines.starts.line_of.Given as goal
 
 abbrev pub invariant-loop-high : goal.invariant-loop-high

@@ -1,5 +1,5 @@
 use Rattle.std.proofs.Common.{◌∙◌, arith}
-use Rattle.lsp_text.proofs.BlockLemmas.{pass_block}
+use Rattle.lsp_text.proofs.Counting.BlockLemmas.{pass_block}
 use Rattle.lsp_text.proofs.position.in_line.pass_blocks.Goals as goal
 
 pub loop-place-preserved : goal.loop-place-preserved

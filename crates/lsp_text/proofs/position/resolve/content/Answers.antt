@@ -1,5 +1,5 @@
 use Rattle.std.proofs.Common.{◌∙◌, arith}
-use Rattle.lsp_text.proofs.IndexesLemmas.{indexes_line, indexes_start, indexes_last, indexes_next}
+use Rattle.lsp_text.proofs.TextLines.IndexesLemmas.{indexes_line, indexes_start, indexes_last, indexes_next}
 use Rattle.lsp_text.proofs.position.resolve.content.Goals as goal
 
 pub stop_before-requires-clause-some : goal.stop_before-requires-clause-some

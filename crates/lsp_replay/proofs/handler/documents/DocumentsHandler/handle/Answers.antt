@@ -1,6 +1,6 @@
 use Rattle.std.proofs.lemmas.Result.{err_from_is_err_and}
 use Rattle.lsp_replay.specs.inside.Bodies.{body_view}
-use Rattle.lsp_replay.proofs.DocumentsLemmas.{each_failed}
+use Rattle.lsp_replay.proofs.Stay.DocumentsLemmas.{each_failed}
 use Rattle.lsp_replay.proofs.handler.documents.DocumentsHandler.handle.Goals as goal
 
 pub returns-in_err-output-clause-error : goal.returns-in_err-output-clause-error

@@ -1,6 +1,6 @@
 use Rattle.std.proofs.lemmas.Result.{err_from_is_err_and}
 use Rattle.lsp_replay.specs.inside.Bodies.{body_view}
-use Rattle.lsp_replay.proofs.DocumentsLemmas.{squashed_failed}
+use Rattle.lsp_replay.proofs.Stay.DocumentsLemmas.{squashed_failed}
 use Rattle.lsp_replay.proofs.handler.documents.SquashedDocumentsHandler.handle.Goals as goal
 
 pub returns-in_err-write_read-clause-error : goal.returns-in_err-write_read-clause-error

@@ -1,7 +1,7 @@
 use Rattle.std.proofs.Common.{◌∙◌}
 use Rattle.lsp_log.specs.Log.{Record}
 use Rattle.lsp_replay.specs.Explained.{explaining}
-use Rattle.lsp_replay.proofs.ExplainLemmas.{line_is}
+use Rattle.lsp_replay.proofs.Reports.ExplainLemmas.{line_is}
 use Rattle.lsp_replay.proofs.KnownLemmas.{line_first}
 use Rattle.lsp_replay.proofs.handler.explaining.ExplainHandler.handle.Goals as goal
 

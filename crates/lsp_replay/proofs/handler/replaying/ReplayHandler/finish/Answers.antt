@@ -1,5 +1,5 @@
 use Rattle.std.proofs.Common.{rules, refl}
-use Rattle.lsp_replay.proofs.ReportLemmas.{report_part}
+use Rattle.lsp_replay.proofs.Reports.ReportLemmas.{report_part}
 use Rattle.lsp_replay.proofs.handler.replaying.ReplayHandler.finish.Goals as goal
 
 pub returns-clause-ok : goal.returns-clause-ok

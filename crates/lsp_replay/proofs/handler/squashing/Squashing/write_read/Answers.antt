@@ -1,7 +1,7 @@
 use Rattle.std.proofs.Common.{◌≢◌, inr}
 use Rattle.lsp_replay.specs.Session.{bad}
 use Rattle.lsp_replay.specs.inside.Verdicts.{verdict_view}
-use Rattle.lsp_replay.proofs.SquashingLemmas.{told_as_it_is, told_more, told_next, told_too_long}
+use Rattle.lsp_replay.proofs.Squash.SquashingLemmas.{told_as_it_is, told_more, told_next, told_too_long}
 use Rattle.lsp_replay.proofs.handler.squashing.Squashing.write_read.Goals as goal
 
 pub returns-in-AsItIs-clause-ok : goal.returns-in-AsItIs-clause-ok

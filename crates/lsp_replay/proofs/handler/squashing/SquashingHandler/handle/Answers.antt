@@ -2,7 +2,7 @@ use Rattle.std.proofs.Common.{ap, ◌∙◌}
 use Rattle.std.proofs.lemmas.Result.{err_from_is_err_and}
 use Rattle.lsp_replay.specs.Session.{Session}
 use Rattle.lsp_replay.specs.inside.Squashed.{run_of}
-use Rattle.lsp_replay.proofs.DocumentsLemmas.{squashing_at, step_failed}
+use Rattle.lsp_replay.proofs.Stay.DocumentsLemmas.{squashing_at, step_failed}
 use Rattle.lsp_replay.proofs.handler.squashing.SquashingHandler.handle.Goals as goal
 
 pub returns-in_err-write_read-clause-error : goal.returns-in_err-write_read-clause-error

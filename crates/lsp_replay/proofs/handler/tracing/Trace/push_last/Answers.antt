@@ -1,4 +1,4 @@
-use Rattle.lsp_replay.proofs.MemberLemmas.{last_is, on_ok}
+use Rattle.lsp_replay.proofs.Reports.MemberLemmas.{last_is, on_ok}
 use Rattle.lsp_replay.proofs.handler.tracing.Trace.push_last.Goals as goal
 
 pub returns : goal.returns

@@ -2,7 +2,7 @@ use Rattle.std.proofs.Common.{◌∙◌}
 use Rattle.lsp_log.specs.Log.{Record}
 use Rattle.lsp_replay.specs.Trace.{tracing}
 use Rattle.lsp_replay.proofs.KnownLemmas.{line_first}
-use Rattle.lsp_replay.proofs.TraceLemmas.{line_is}
+use Rattle.lsp_replay.proofs.Reports.TraceLemmas.{line_is}
 use Rattle.lsp_replay.proofs.handler.tracing.TraceHandler.handle.Goals as goal
 
 pub returns-clause-ok : goal.returns-clause-ok

@@ -1,7 +1,7 @@
 use Rattle.std.proofs.Common.{ap}
 use Rattle.lsp_replay.specs.Documents.{Selection}
 use Rattle.lsp_replay.specs.inside.Bodies.{body_view}
-use Rattle.lsp_replay.proofs.DocumentsLemmas.{selected_kept}
+use Rattle.lsp_replay.proofs.Stay.DocumentsLemmas.{selected_kept}
 use Rattle.lsp_replay.proofs.session.selecting.Selection.select.Goals as goal
 
 pub returns-clause-selected : goal.returns-clause-selected

@@ -3,8 +3,8 @@ use Rattle.std.proofs.lemmas.Int.{to_z-of_z}
 use Rattle.lsp_text.specs.Units.{units_in}
 use Rattle.lsp_edit.specs.Edited.{edit_of}
 use Rattle.lsp_message.specs.Params.{DocumentItem}
-use Rattle.lsp_store.proofs.MessageLemmas.{accepted_parts, texts_held}
-use Rattle.lsp_store.proofs.RefusalLemmas.{batch_bytes-changes}
+use Rattle.lsp_store.proofs.Messages.MessageLemmas.{accepted_parts, texts_held}
+use Rattle.lsp_store.proofs.Tables.RefusalLemmas.{batch_bytes-changes}
 use Rattle.lsp_store.proofs.SquashLemmas.{add_accepted, has_reached, joins_after, memory_alone}
 use Rattle.lsp_store.proofs.squash.batches.Batches.add.Goals as goal
 

@@ -3,7 +3,7 @@ use Rattle.std.proofs.lemmas.Int.{to_z-of_z}
 use Rattle.std.proofs.lemmas.Result.{err_from_is_err_and}
 use Rattle.lsp_text.specs.Units.{units_in}
 use Rattle.lsp_store.specs.declared.fault.StoreFault.TheVariants.{NoMemory}
-use Rattle.lsp_store.proofs.RefusalLemmas.{meaning_accepted, text_told}
+use Rattle.lsp_store.proofs.Tables.RefusalLemmas.{meaning_accepted, text_told}
 use Rattle.lsp_store.proofs.store.stored.Stored.change_joined.Goals as goal
 
 pub returns-in_err-may_change-clause-error : goal.returns-in_err-may_change-clause-error

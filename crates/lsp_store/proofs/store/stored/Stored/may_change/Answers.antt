@@ -2,7 +2,7 @@ use Rattle.std.proofs.Common.{◌∙◌, refl, sym, map, rules, w32, arith}
 use Rattle.std.proofs.lemmas.Int.{to_z-of_z}
 use Rattle.lsp_edit.specs.Edited.{edit_of}
 use Rattle.lsp_store.specs.Opened.{entry_under}
-use Rattle.lsp_store.proofs.RefusalLemmas.{stale_refused, many_refused, long_refused, fit_accepted}
+use Rattle.lsp_store.proofs.Tables.RefusalLemmas.{stale_refused, many_refused, long_refused, fit_accepted}
 use Rattle.lsp_store.proofs.store.stored.Stored.may_change.Goals as goal
 use Rattle.lsp_store.proofs.store.stored.Stored.may_change.Goals.{then-changes-max_changes-via-then-changes-max_changes, then-changes-max_changes-via-else-changes-max_changes+then-not-fits}
 

@@ -2,7 +2,7 @@ use Rattle.std.proofs.Common.{◌≡◌, ◌∙◌, inr, rules, w32, to_z, of_z}
 use Rattle.std.proofs.lemmas.Int.{to_z-of_z}
 use Rattle.std.proofs.lemmas.Result.{err_from_is_err_and}
 use Rattle.lsp_text.specs.Units.{units_in}
-use Rattle.lsp_store.proofs.RefusalLemmas.{meaning_accepted, text_told}
+use Rattle.lsp_store.proofs.Tables.RefusalLemmas.{meaning_accepted, text_told}
 use Rattle.lsp_store.proofs.store.stored.Stored.plan.Goals as goal
 
 pub returns-in_err-may_change-clause-error : goal.returns-in_err-may_change-clause-error

@@ -3,7 +3,7 @@ use Rattle.std.proofs.lemmas.Bool.{cases_lt}
 use Rattle.std.proofs.lemmas.List.{length-take-le}
 use Rattle.std.specs.List.{replace_range}
 use Rattle.lsp_text.specs.Gapped.{Gapped, without_gap}
-use Rattle.lsp_text.proofs.GapBytesLemmas.{written, overwritten_front, overwritten_back}
+use Rattle.lsp_text.proofs.Gaps.GapBytesLemmas.{written, overwritten_front, overwritten_back}
 use Rattle.lsp_text.proofs.gap_text.gap_bytes.GapBytes.overwrite.Goals.{then-start-self, else-start-self}
 use Rattle.lsp_text.proofs.gap_text.gap_bytes.GapBytes.overwrite.Goals as goal
 

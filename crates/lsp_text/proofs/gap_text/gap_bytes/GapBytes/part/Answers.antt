@@ -1,7 +1,7 @@
 use Rattle.std.proofs.Common.{◌≡◌, ◌∙◌, ◌-◌, ℕ, List, length, take, drop, ap, arith}
 use Rattle.std.proofs.lemmas.List.{length-take-le}
 use Rattle.lsp_text.specs.Gapped.{Gapped}
-use Rattle.lsp_text.proofs.GapBytesLemmas.{part_front, part_back}
+use Rattle.lsp_text.proofs.Gaps.GapBytesLemmas.{part_front, part_back}
 use Rattle.lsp_text.proofs.gap_text.gap_bytes.GapBytes.part.Goals as goal
 
 pub returns-then-stop-self : goal.returns-then-stop-self

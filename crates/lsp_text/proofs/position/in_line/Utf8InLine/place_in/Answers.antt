@@ -1,4 +1,4 @@
-use Rattle.lsp_text.proofs.LeadLemmas.{utf8_past_text, utf8_inside_text, utf8_ascii_text, utf8_lead_text}
+use Rattle.lsp_text.proofs.Counting.LeadLemmas.{utf8_past_text, utf8_inside_text, utf8_ascii_text, utf8_lead_text}
 use Rattle.lsp_text.proofs.position.in_line.Utf8InLine.place_in.Goals as goal
 use Rattle.lsp_text.proofs.position.in_line.Utf8InLine.place_in.Goals.{else-line-place-ge128-via-then-line-place-ge128+else-line-place-lt192, else-line-place-ge128-via-else-line-place-ge128}
 

@@ -1,0 +1,146 @@
+-- Blocks: what comes before one and after it, and the lines of both.
+use Rattle.std.proofs.Common.{ℕ, zero, suc, ◌≡◌, ◌+◌, ◌-◌, ◌<◌, ◌⊎◌, true, List, [], ◌∷◌, ◌++◌, length, take, drop, map, sum, get_or, slice_index, ⊎_elim, inl, inr, refl, sym, ap, ◌∙◌, arith, subst}
+use Rattle.std.specs.Prelude.{encode_utf8_all}
+use Rattle.std.specs.List.{concat}
+use Rattle.std.specs.Str.{chars, is_utf8, IsUtf8}
+use Rattle.std.proofs.Math.Utf8.{encode}
+use Rattle.std.proofs.lemmas.List.{length-append, get_or-append_right, append-nil}
+use Rattle.std.proofs.lemmas.List.Folds.{concat-append}
+use Rattle.std.proofs.lemmas.List.Sums.{sum_by-cons}
+use Rattle.std.proofs.lemmas.Str.{IsUtf8-from_is_utf8, IsUtf8-append, encodes-chars, length-encode, len_utf8_bounds, chars-append, chars-nil}
+use Rattle.lsp_text.specs.TextLines.{line_ends}
+use Rattle.lsp_buffer.specs.Blocks.{EndsClear, AreBlocks, ends_of}
+use Rattle.lsp_buffer.specs.inside.Cuts.{AreFull}
+use Rattle.lsp_buffer.proofs.Blocks.SeamLemmas.{seam_count}
+
+-- ---- no carriage return at the end
+
+pub ends_join : (a b : List ℕ) → EndsClear b → EndsClear (a ++ b)
+ends_join a b ends = record {
+  some = omega (arith, length-append a b, ends.some);
+  clear = λ e.
+      let at : length (a ++ b) - 1 ≡ length a + (length b - 1) = omega (arith, length-append a b, ends.some) in
+      ends.clear (ap (λ i. get_or b i 0) (omega arith) ∙ (sym (get_or-append_right a b (length a) (length a + (length b - 1)) 0 refl (omega arith)) ∙ (ap (slice_index (a ++ b)) (sym at) ∙ e)));
+}
+
+pub ends_tail : (a b : List ℕ) → 0 < length b → EndsClear (a ++ b) → EndsClear b
+ends_tail a b some ends = record {
+  some = some;
+  clear = λ e.
+      let at : length a + (length b - 1) ≡ length (a ++ b) - 1 = omega (arith, length-append a b) in
+      ends.clear (ap (slice_index (a ++ b)) (sym at) ∙ (get_or-append_right a b (length a) (length a + (length b - 1)) 0 refl (omega arith) ∙ (ap (λ i. get_or b i 0) (omega arith) ∙ e)));
+}
+
+clear_text : (text : List ℕ) → EndsClear (encode_utf8_all text) → EndsClear text
+unfolding encode
+clear_text [] ends = absurd (omega (arith, ends.some))
+clear_text (x ∷ []) ends = record {
+  some = omega arith;
+  clear = λ (e : x ≡ 13).
+      let bytes : encode_utf8_all (x ∷ []) ≡ 13 ∷ [] = ap (λ c. encode_utf8_all (c ∷ [])) e in
+      ends.clear (ap (λ bs. slice_index bs (length bs - 1)) bytes);
+}
+clear_text (x ∷ y ∷ text) ends =
+    let some : 0 < length (encode_utf8_all (y ∷ text)) = omega (arith, length-append (encode y) (encode_utf8_all text), length-encode y, (len_utf8_bounds y).0) in
+    ends_join (x ∷ []) (y ∷ text) (clear_text (y ∷ text) (ends_tail (encode x) (encode_utf8_all (y ∷ text)) some ends))
+
+-- What doesn't end with the byte of a carriage return doesn't end with the character.
+pub clear_chars : (bytes : List ℕ) → IsUtf8 bytes → EndsClear bytes → EndsClear (chars bytes)
+clear_chars bytes utf8 ends = clear_text (chars bytes) (subst EndsClear (sym (encodes-chars bytes utf8)) ends)
+
+-- Nothing, or it ends with no carriage return.
+abbrev pub Closes : List ℕ → Type 0
+Closes bytes = (bytes ≡ []) ⊎ EndsClear bytes
+
+pub chars_close : (bytes : List ℕ) → IsUtf8 bytes → Closes bytes → Closes (chars bytes)
+chars_close bytes utf8 closes =
+    ⊎_elim
+    (λ (e : bytes ≡ []). inl (ap chars e ∙ chars-nil))
+    (λ (e : EndsClear bytes). inr (clear_chars bytes utf8 e))
+    closes
+
+-- ---- full blocks
+
+pub full_utf8 : (blocks : List (List ℕ)) → AreFull blocks → IsUtf8 (concat blocks)
+unfolding is_utf8 chars
+full_utf8 [] full = IsUtf8-from_is_utf8 [] refl
+full_utf8 (b ∷ blocks) full = IsUtf8-append b (concat blocks) (IsUtf8-from_is_utf8 b full.0) (full_utf8 blocks full.2)
+
+pub full_closes : (blocks : List (List ℕ)) → AreFull blocks → Closes (concat blocks)
+full_closes [] full = inl refl
+full_closes (b ∷ blocks) full =
+    ⊎_elim
+    (λ (e : concat blocks ≡ []). inr (rw e (rw (append-nil b) full.1)))
+    (λ (e : EndsClear (concat blocks)). inr (ends_join b (concat blocks) e))
+    (full_closes blocks full.2)
+
+pub full_ends : (blocks : List (List ℕ)) → AreFull blocks → line_ends (chars (concat blocks)) ≡ sum (map ends_of blocks)
+full_ends [] full = ap line_ends chars-nil
+full_ends (b ∷ blocks) full =
+    let utf8 : IsUtf8 b = IsUtf8-from_is_utf8 b full.0 in
+    ap line_ends (chars-append b (concat blocks) utf8) ∙
+    (seam_count (chars b) (chars (concat blocks)) (clear_chars b utf8 full.1) ∙
+    (ap (λ n. ends_of b + n) (full_ends blocks full.2) ∙ sym (sum_by-cons (λ x. x) (ends_of b) (map ends_of blocks))))
+
+pub full_length : (blocks : List (List ℕ)) → length (concat blocks) ≡ sum (map length blocks)
+full_length [] = refl
+full_length (b ∷ blocks) = omega (arith, length-append b (concat blocks), full_length blocks, sum_by-cons (λ x. x) (length b) (map length blocks))
+
+-- ---- one of the blocks
+
+-- What comes before the block with an index, the block, and what comes after it.
+pub record IsSplit (blocks : List (List ℕ)) (index : ℕ) : Type 0 where
+  pub whole : blocks ≡ take index blocks ++ get_or blocks index [] ∷ drop (index + 1) blocks
+  pub full : AreFull (take index blocks)
+  pub utf8 : is_utf8 (get_or blocks index []) ≡ true
+  pub after : (drop (index + 1) blocks ≡ []) ⊎ (EndsClear (get_or blocks index []) × AreBlocks (drop (index + 1) blocks))
+
+pub split : (blocks : List (List ℕ)) (index : ℕ) → AreBlocks blocks → index < length blocks → IsSplit blocks index
+split [] index are h = absurd are
+split (b ∷ []) zero are h = record { whole = refl; full = tt; utf8 = are; after = inl refl }
+split (b ∷ []) (suc index) are h = absurd (omega arith)
+split (b ∷ c ∷ blocks) zero are h = record { whole = refl; full = tt; utf8 = are.0; after = inr (are.1, are.2) }
+split (b ∷ c ∷ blocks) (suc index) are h =
+    let at : suc index + 1 ≡ suc (index + 1) = omega arith in
+    let later = split (c ∷ blocks) index are.2 (omega arith) in
+    record {
+      whole = rw at (ap (λ bs. b ∷ bs) later.whole);
+      full = (are.0, are.1, later.full);
+      utf8 = later.utf8;
+      after = rw at later.after;
+    }
+
+put_first : (b : List ℕ) (blocks : List (List ℕ)) → is_utf8 b ≡ true → EndsClear b → AreBlocks blocks → AreBlocks (b ∷ blocks)
+put_first b [] utf8 feed are = absurd are
+put_first b (c ∷ blocks) utf8 feed are = (utf8, feed, are)
+
+pub full_front : (front blocks : List (List ℕ)) → AreFull front → AreBlocks blocks → AreBlocks (front ++ blocks)
+full_front [] blocks full are = are
+full_front (b ∷ front) blocks full are = put_first b (front ++ blocks) full.0 full.1 (full_front front blocks full.2 are)
+
+-- Blocks in three parts.
+pub joined_blocks : (front fresh rest : List (List ℕ)) → AreFull front → AreBlocks fresh → (rest ≡ []) ⊎ (AreFull fresh × AreBlocks rest) → AreBlocks (front ++ (fresh ++ rest))
+joined_blocks front fresh rest full are after =
+    full_front front (fresh ++ rest) full
+    (⊎_elim
+    (λ (e : rest ≡ []). rw e (rw (append-nil fresh) are))
+    (λ (e : AreFull fresh × AreBlocks rest). full_front fresh rest e.0 e.1)
+    after)
+
+-- The last of some blocks is another one.
+pub full_last : (front : List (List ℕ)) (b : List ℕ) → AreFull front → is_utf8 b ≡ true → EndsClear b → AreFull (front ++ b ∷ [])
+full_last [] b full utf8 feed = (utf8, feed, tt)
+full_last (c ∷ front) b full utf8 feed = (full.0, full.1, full_last front b full.2 utf8 feed)
+
+pub blocks_utf8 : (blocks : List (List ℕ)) → AreBlocks blocks → IsUtf8 (concat blocks)
+blocks_utf8 [] are = absurd are
+blocks_utf8 (b ∷ []) are = subst IsUtf8 (sym (append-nil b)) (IsUtf8-from_is_utf8 b are)
+blocks_utf8 (b ∷ c ∷ blocks) are = IsUtf8-append b (concat (c ∷ blocks)) (IsUtf8-from_is_utf8 b are.0) (blocks_utf8 (c ∷ blocks) are.2)
+
+pub blocks_some : (blocks : List (List ℕ)) → AreBlocks blocks → 0 < length blocks
+blocks_some [] are = absurd are
+blocks_some (b ∷ blocks) are = omega arith
+
+-- The text in three parts.
+pub split_text : (blocks : List (List ℕ)) (index : ℕ) → IsSplit blocks index → concat blocks ≡ concat (take index blocks) ++ (get_or blocks index [] ++ concat (drop (index + 1) blocks))
+split_text blocks index is = ap concat is.whole ∙ concat-append (take index blocks) (get_or blocks index [] ∷ drop (index + 1) blocks)

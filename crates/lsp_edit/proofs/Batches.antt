@@ -1,0 +1,7 @@
+-- What batches and text edits mean.
+pub mod BatchLemmas
+pub mod ComposeLemmas
+pub mod LawLemmas
+pub mod PlainLemmas
+pub mod TextBatchLemmas
+pub mod TextEditLemmas

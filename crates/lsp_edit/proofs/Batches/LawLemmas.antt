@@ -1,0 +1,43 @@
+-- The laws of batches, put together.
+use Rattle.std.proofs.Common.{ℕ, ◌≡◌, ◌≤◌, true, false, nat_lt, List, [], ◌∷◌, arith, ⊎_elim}
+use Rattle.std.proofs.lemmas.Bool.{cases_Bool}
+use Rattle.std.proofs.lemmas.Str.{len_utf8_bounds}
+use Rattle.lsp_text.specs.declared.encoding.Encoding.{Encoding}
+use Rattle.lsp_text.specs.declared.encoding.Encoding.TheVariants.{Utf8, Utf16, Utf32}
+use Rattle.lsp_text.specs.Units.{units_in}
+use Rattle.lsp_edit.specs.laws.Batches.{CanonicalLaw}
+use Rattle.lsp_edit.specs.Parts.{Part, OldPart, NewPart, AreParts, NoneEmpty}
+use Rattle.lsp_edit.proofs.Canonical.KeepsLemmas.{meaning_keeps}
+use Rattle.lsp_edit.proofs.Canonical.PairLemmas.{pairs_kept}
+use Rattle.lsp_edit.proofs.Canonical.GapLemmas.{ends_exact}
+use Rattle.lsp_edit.proofs.Canonical.RebuiltLemmas.{canonical_makes}
+use Rattle.lsp_edit.proofs.Canonical.CountLemmas.{no_more_changes}
+use Rattle.lsp_edit.proofs.Canonical.WeightLemmas.{no_longer}
+use Rattle.lsp_edit.proofs.Canonical.SameLemmas.{canonical_means, equal_exactly, canonical_again}
+
+-- A character has a unit at least.
+pub units_some : (encoding : Encoding) (c : ℕ) → 1 ≤ units_in encoding c
+units_some Utf8 c = (len_utf8_bounds c).0
+units_some Utf16 c =
+    ⊎_elim
+    (λ (e : nat_lt c 0x1_0000 ≡ true). rw e (omega arith))
+    (λ (e : nat_lt c 0x1_0000 ≡ false). rw e (omega arith))
+    (cases_Bool (nat_lt c 0x1_0000))
+units_some Utf32 c = omega arith
+
+pub canonical_law : CanonicalLaw
+canonical_law units some old batch items is = record {
+  pairs = pairs_kept old items (meaning_keeps old units batch items is);
+  ends = ends_exact old items (meaning_keeps old units batch items is);
+  means = canonical_means units some old batch items is;
+  ranges = (canonical_makes units some old items (meaning_keeps old units batch items is)).ranges;
+  few = no_more_changes units old batch items is;
+  short = λ weight. no_longer weight units old items;
+  exactly = λ other others are. equal_exactly units some old batch other items others is are;
+  again = λ more h. canonical_again units some old batch items more is h;
+}
+
+pub none_empty : (old : List ℕ) (parts : List Part) → AreParts old parts → NoneEmpty parts
+none_empty old [] are = tt
+none_empty old (OldPart from to ∷ parts) are = (omega (arith, are.0.0), none_empty old parts are.1)
+none_empty old (NewPart bytes ∷ parts) are = (are.0.0, none_empty old parts are.1)

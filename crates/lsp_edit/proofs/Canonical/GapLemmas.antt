@@ -1,0 +1,80 @@
+-- The gaps of items, told from the front, and what their ends are where the items keep each CRLF whole.
+use Rattle.std.proofs.Common.{ℕ, suc, ◌≡◌, ◌<◌, true, false, nat_lt, List, [], ◌∷◌, ◌++◌, length, map, ⊎_elim, refl, sym, ap, ap₂, ◌∙◌, subst, arith, append_assoc, append-nil, ltb-true}
+use Rattle.std.proofs.lemmas.Bool.{or_cases}
+use Rattle.lsp_text.specs.TextLines.{splits_crlf}
+use Rattle.lsp_text.proofs.TextLines.LineLemmas.{splits_none_past}
+use Rattle.lsp_edit.specs.Items.{Item, Old, New}
+use Rattle.lsp_edit.specs.Canonical.{kept, gap_texts, put_first, Gap, gaps_between, gaps, is_changed}
+use Rattle.lsp_edit.specs.Keeps.{Keeps}
+use Rattle.lsp_edit.specs.laws.Batches.{AllHaveExactEnds}
+
+abbrev pub gap : ℕ → ℕ → List ℕ → Gap
+gap low high text = record { low = low; high = high; text = text }
+
+-- The gaps of items behind the old index `low`, where `text` came before them in the first gap.
+abbrev pub gaps_from : List ℕ → ℕ → List ℕ → List Item → List Gap
+gaps_from old low text [] = gap low (length old) text ∷ []
+gaps_from old low text (Old index ∷ items) = gap low index text ∷ gaps_from old (suc index) [] items
+gaps_from old low text (New character ∷ items) = gaps_from old low (text ++ character ∷ []) items
+
+put_before : List ℕ → List (List ℕ) → List (List ℕ)
+put_before text [] = []
+put_before text (first ∷ rest) = (text ++ first) ∷ rest
+
+put_nothing : (texts : List (List ℕ)) → put_before [] texts ≡ texts
+unfolding put_before
+put_nothing [] = refl
+put_nothing (first ∷ rest) = refl
+
+put_one_more : (text : List ℕ) (character : ℕ) (texts : List (List ℕ)) → put_before text (put_first character texts) ≡ put_before (text ++ character ∷ []) texts
+unfolding put_before
+put_one_more text character [] = refl
+put_one_more text character (first ∷ rest) = ap (λ (x : List ℕ). x ∷ rest) (sym (append_assoc text (character ∷ []) first))
+
+gaps_told : (old : List ℕ) (low : ℕ) (text : List ℕ) (items : List Item) → gaps_between (low ∷ map suc (kept items)) (kept items ++ length old ∷ []) (put_before text (gap_texts items)) ≡ gaps_from old low text items
+unfolding put_before
+gaps_told old low text [] = ap (λ (t : List ℕ). gap low (length old) t ∷ []) (append-nil text)
+gaps_told old low text (Old index ∷ items) =
+    ap₂
+    (λ (t : List ℕ) (rest : List Gap). gap low index t ∷ rest)
+    (append-nil text)
+    (ap (λ (ts : List (List ℕ)). gaps_between (suc index ∷ map suc (kept items)) (kept items ++ length old ∷ []) ts) (sym (put_nothing (gap_texts items))) ∙ gaps_told old (suc index) [] items)
+gaps_told old low text (New character ∷ items) =
+    ap (λ (ts : List (List ℕ)). gaps_between (low ∷ map suc (kept items)) (kept items ++ length old ∷ []) ts) (put_one_more text character (gap_texts items)) ∙ gaps_told old low (text ++ character ∷ []) items
+
+pub gaps_are : (old : List ℕ) (items : List Item) → gaps old items ≡ gaps_from old 0 [] items
+unfolding put_before
+gaps_are old items =
+    ap (λ (ts : List (List ℕ)). gaps_between (0 ∷ map suc (kept items)) (kept items ++ length old ∷ []) ts) (sym (put_nothing (gap_texts items))) ∙ gaps_told old 0 [] items
+
+-- Both ends of a changed gap split no CRLF, where the items keep each CRLF whole.
+ends_from : (old : List ℕ) (low : ℕ) (text : List ℕ) (items : List Item) → (0 < length text → splits_crlf old low ≡ false) → Keeps old low items → AllHaveExactEnds old (gaps_from old low text items)
+ends_from old low text [] whole keeps =
+    ((λ changed. record { order = keeps.0; within = omega arith; low_whole = keeps.1; high_whole = splits_none_past old (length old) (omega arith) }), tt)
+ends_from old low text (Old index ∷ items) whole keeps = (
+  (λ changed. record { order = keeps.0; within = omega (arith, keeps.1); low_whole = low_whole changed; high_whole = high_whole (low_whole changed) }),
+  ends_from old (suc index) [] items (λ h. absurd (omega arith)) keeps.3,
+)
+  where
+    low_whole : is_changed (gap low index text) ≡ true → splits_crlf old low ≡ false
+    low_whole changed =
+        ⊎_elim
+        (λ (e : nat_lt low index ≡ true).
+        let less : low < index = ltb-true low index e in
+        ⊎_elim
+        (λ (same : low ≡ index). absurd (omega arith))
+        (λ (both : (splits_crlf old low ≡ false) × (splits_crlf old index ≡ false)). both.0)
+        keeps.2)
+        (λ (e : nat_lt 0 (length text) ≡ true). whole (ltb-true 0 (length text) e))
+        (or_cases (nat_lt low index) (nat_lt 0 (length text)) changed)
+
+    high_whole : splits_crlf old low ≡ false → splits_crlf old index ≡ false
+    high_whole e =
+        ⊎_elim
+        (λ (same : low ≡ index). ap (splits_crlf old) (sym same) ∙ e)
+        (λ (both : (splits_crlf old low ≡ false) × (splits_crlf old index ≡ false)). both.1)
+        keeps.2
+ends_from old low text (New character ∷ items) whole keeps = ends_from old low (text ++ character ∷ []) items (λ h. keeps.0) keeps.1
+
+pub ends_exact : (old : List ℕ) (items : List Item) → Keeps old 0 items → AllHaveExactEnds old (gaps old items)
+ends_exact old items keeps = subst (AllHaveExactEnds old) (sym (gaps_are old items)) (ends_from old 0 [] items (λ h. refl) keeps)

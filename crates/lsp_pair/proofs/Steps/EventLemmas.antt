@@ -1,0 +1,25 @@
+-- Events as the types hold them.
+use Rattle.std.proofs.Common.{FitsSigned, w32}
+use Rattle.std.specs.Prelude.{⊤}
+use Rattle.std.proofs.lemmas.Str.{IsUtf8-string_bytes}
+use Rattle.lsp_store.proofs.Messages.MessageLemmas.{texts_held}
+use Rattle.lsp_pair.specs.declared.event.Event.{Event}
+use Rattle.lsp_pair.specs.declared.event.Event.TheVariants.{Start, Open, Edit, Close, Shutdown, Exit, ToServer, ToClient}
+use Rattle.lsp_pair.specs.laws.World.{IsProperEvent}
+use Rattle.lsp_pair.specs.Seen.{event_view}
+
+-- its version fits
+abbrev pub FitsVersion : Event → Type 0
+FitsVersion (Open uri language version text) = FitsSigned w32 version
+FitsVersion (Edit uri version changes) = FitsSigned w32 version
+FitsVersion event = ⊤
+
+pub proper_event : (e : Event) → FitsVersion e → IsProperEvent (event_view e)
+proper_event Start fits = tt
+proper_event (Open uri language version text) fits = record { uri = IsUtf8-string_bytes uri; language = IsUtf8-string_bytes language; version = fits; text = IsUtf8-string_bytes text }
+proper_event (Edit uri version changes) fits = record { name = IsUtf8-string_bytes uri; fits = fits; texts = texts_held changes.items }
+proper_event (Close uri) fits = IsUtf8-string_bytes uri
+proper_event Shutdown fits = tt
+proper_event Exit fits = tt
+proper_event ToServer fits = tt
+proper_event ToClient fits = tt

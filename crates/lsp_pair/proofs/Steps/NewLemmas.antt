@@ -1,0 +1,38 @@
+-- A new pair.
+use Rattle.std.proofs.Common.{◌≡◌, Bool, true, false, true≢false, not, IsTrue, [], nat_le, sym}
+use Rattle.std.specs.Prelude.{◌&&◌, ◌||◌}
+use Rattle.std.proofs.lemmas.Bool.{and_parts, leb-true}
+use Rattle.lsp_frame.specs.Limits.{Bounds, AreInRange}
+use Rattle.lsp_message.specs.declared.agreement.Offers.{Offers}
+use Rattle.lsp_server.specs.declared.config.Config.{Config}
+use Rattle.lsp_store.specs.Limits.{AreWithin}
+use Rattle.lsp_pair.specs.Events.{Setting}
+use Rattle.lsp_pair.specs.Pair.{IsFitting, is_utf16, are_within, new_pair}
+use Rattle.lsp_pair.specs.inside.Reached.{IsReached}
+use Rattle.lsp_pair.proofs.Steps.StepLemmas.{new_at}
+
+lenient_from : (small great : Bool) → (not small || great) ≡ true → IsTrue small → IsTrue great
+lenient_from true great e is = e
+lenient_from false great e is = absurd (true≢false (sym is))
+
+pub within_from : (small great : Bounds) → are_within small great ≡ true → AreWithin small great
+within_from small great e =
+    let four : Bool = nat_le small.max_body great.max_body && nat_le small.max_text great.max_text && nat_le small.max_docs great.max_docs && nat_le small.max_changes great.max_changes in
+    let all = and_parts four (not small.lenient || great.lenient) e in
+    let a = and_parts (nat_le small.max_body great.max_body && nat_le small.max_text great.max_text && nat_le small.max_docs great.max_docs) (nat_le small.max_changes great.max_changes) all.0 in
+    let b = and_parts (nat_le small.max_body great.max_body && nat_le small.max_text great.max_text) (nat_le small.max_docs great.max_docs) a.0 in
+    let c = and_parts (nat_le small.max_body great.max_body) (nat_le small.max_text great.max_text) b.0 in
+    record {
+      body = leb-true small.max_body great.max_body c.0;
+      text = leb-true small.max_text great.max_text c.1;
+      docs = leb-true small.max_docs great.max_docs b.1;
+      changes = leb-true small.max_changes great.max_changes a.1;
+      lenient = lenient_from small.lenient great.lenient all.1;
+    }
+
+pub sound_from : (limits : Bounds) (offers : Offers) (config : Config) → AreInRange limits → AreInRange config.limits → are_within limits config.limits ≡ true → is_utf16 config.choice ≡ true
+    → IsFitting (record { limits = limits; offers = offers; config = config })
+sound_from limits offers config ranges great within choice = record { ranges = ranges; great = great; within = within_from limits config.limits within; choice = choice }
+
+pub new_reached : (setting : Setting) → IsFitting setting → IsReached (new_pair setting)
+new_reached setting sound = record { setting = setting; sound = sound; events = []; at = new_at setting }

@@ -1,0 +1,146 @@
+-- What the client makes of each message that waits for it.
+use Rattle.std.proofs.Common.{ℕ, ◌≡◌, ◌≤◌, true, false, List, [], ◌∷◌, ◌++◌, length, map, Some, refl, ap, ◌∙◌, arith, pos}
+use Rattle.std.specs.Prelude.{⊤}
+use Rattle.std.proofs.lemmas.List.{drop-append-le}
+use Rattle.lsp_text.specs.declared.encoding.Encoding.{Encoding}
+use Rattle.lsp_text.specs.declared.encoding.Encoding.TheVariants.{Utf8, Utf16, Utf32}
+use Rattle.lsp_message.specs.declared.agreement.Offers.{Offers}
+use Rattle.lsp_message.specs.Agreement.{is_offered, announced_of}
+use Rattle.serde_json.specs.Data.{null}
+use Rattle.lsp_message.specs.Message.{whole, reading, message, OutcomeData, given, failed}
+use Rattle.lsp_message.specs.Outgoing as outgoing
+use Rattle.lsp_message.specs.Outgoing.{OutgoingData, body_of}
+use Rattle.lsp_message.specs.Written.{initialize_value}
+use Rattle.lsp_message.specs.laws.Sent.{sent}
+use Rattle.lsp_message.proofs.ReadBack.{reading-body_of, is_read_back}
+use Rattle.lsp_server.specs.declared.config.EncodingChoice.{EncodingChoice}
+use Rattle.lsp_server.specs.declared.config.EncodingChoice.TheVariants.{Fixed, Negotiated}
+use Rattle.lsp_server.specs.declared.config.ChangeForm.{ChangeForm}
+use Rattle.lsp_server.specs.declared.config.ChangeForm.TheVariants.{Incremental, Full}
+use Rattle.lsp_server.specs.Choice.{chosen, announced_kind}
+use Rattle.lsp_server.proofs.LawLemmas.{offered_if}
+use Rattle.lsp_client.specs.declared.phase.Phase.{Phase}
+use Rattle.lsp_client.specs.declared.phase.Phase.TheVariants.{Closed}
+use Rattle.lsp_client.specs.Step as client
+use Rattle.lsp_client.specs.Step.{State, Delivery, delivery_of, begin_if_synced, begin_as_announced, begin_in, response_delivery, is_listening}
+use Rattle.lsp_pair.specs.declared.event.Happened.TheVariants.{Client}
+use Rattle.lsp_pair.specs.Events.{Setting, heard_of, messages_in}
+use Rattle.lsp_pair.specs.Pair.{IsFitting, is_utf16}
+use Rattle.lsp_pair.specs.laws.World.{ClientMessage, lifecycle, World, client_of, turn_of_delivery}
+use Rattle.lsp_pair.specs.laws.At.{waiting_back}
+use Rattle.lsp_pair.specs.laws.Usual.{IsUsualBack}
+use Rattle.lsp_pair.proofs.Worlds.LifeLemmas.{first_result, last_result, short_first, short_last}
+use Rattle.lsp_pair.proofs.Worlds.ListLemmas.{table_after_all, next_is, length_more}
+use Rattle.lsp_pair.proofs.Worlds.Shapes.{the_encoding, the_kind, said-append, said_quiet, Shape, fresh, asking, answered, down, closed, leaving, left, working, closing, client_at, server_at, agreed_at, encoding_at, there_at, here_at, IsBusyShape, AtShape, WorldSound}
+
+-- What the client makes of a message that waits for it: as it is written and as it was said, it does the same.
+pub record Returns (setting : Setting) (w : World) (m : OutgoingData) (rest : List OutgoingData) : Type 0 where
+  pub delivery_is : Delivery
+  pub listening : is_listening w.client_phase ≡ true
+  pub given : delivery_of (client_of setting w) (message (sent m)) ≡ delivery_is
+  pub written : delivery_of (client_of setting w) (reading (body_of m)) ≡ delivery_is
+  pub short : length (body_of m) ≤ setting.limits.max_body
+  pub state : delivery_is.state ≡ record (client_of setting w) { phase = delivery_is.state.phase; agreed = delivery_is.state.agreed }
+  pub usual : IsUsualBack m (Client (heard_of delivery_is.delivered))
+  pub next : WorldSound setting (turn_of_delivery w delivery_is).world
+
+abbrev pub Returning : Setting → World → List OutgoingData → Type 0
+Returning setting w [] = ⊤
+Returning setting w (m ∷ rest) = Returns setting w m rest
+
+-- the world when the client heard a message
+return : (setting : Setting) (w : World) (shape next : Shape) (m : OutgoingData) (rest : List OutgoingData) (delivery : Delivery) → AtShape setting w shape → waiting_back w ≡ m ∷ rest
+    → IsBusyShape next → server_at shape ≡ server_at next → encoding_at setting shape ≡ encoding_at setting next
+    → delivery.state.phase ≡ client_at next → delivery.state.agreed ≡ agreed_at setting next
+    → rest ≡ here_at setting next → there_at setting shape ++ map lifecycle (messages_in delivery.delivered) ≡ there_at setting next
+    → WorldSound setting (turn_of_delivery w delivery).world
+return setting w shape next m rest delivery at e busy server encoding phase agreed here there =
+    let i = next_is w.back w.back_delivered m rest e in
+    record {
+      shape = next;
+      at = record {
+        busy = busy;
+        client_is = phase;
+        agreed_is = agreed;
+        server_is = at.server_is ∙ server;
+        encoding_is = at.encoding_is ∙ encoding;
+        there = drop-append-le w.out_delivered w.out (map lifecycle (messages_in delivery.delivered)) at.arrived ∙ (ap (λ (xs : List ClientMessage). xs ++ map lifecycle (messages_in delivery.delivered)) at.there ∙ there);
+        here = i.after ∙ here;
+        arrived = length_more w.out_delivered w.out (map lifecycle (messages_in delivery.delivered)) at.arrived;
+        returned = i.within;
+        said = said-append setting [] w.out (map lifecycle (messages_in delivery.delivered)) at.said (said_quiet setting (table_after_all [] w.out) (messages_in delivery.delivered));
+      };
+    }
+
+-- how a result went
+abbrev outcome : OutgoingData → OutcomeData
+outcome (outgoing.initialize_result id encoding kind) = given (initialize_value encoding kind)
+outcome (outgoing.shutdown_result id) = given null
+outcome m = failed
+
+-- ---- what is announced
+
+pub offered_is : (choice : EncodingChoice) (offers : Offers) → is_utf16 choice ≡ true → is_offered offers (chosen choice offers) ≡ true
+offered_is (Fixed Utf8) offers e = absurd (let bad : false ≡ true = e in cc)
+offered_is (Fixed Utf16) offers e = refl
+offered_is (Fixed Utf32) offers e = absurd (let bad : false ≡ true = e in cc)
+offered_is (Negotiated prefer) offers e = offered_if prefer offers (is_offered offers prefer) refl
+
+agrees_on : (s : State) (encoding : Encoding) (sync : ChangeForm) → is_offered s.offers encoding ≡ true → begin_if_synced s true (announced_kind sync) (Some encoding) ≡ begin_in s encoding (announced_kind sync)
+agrees_on s encoding Incremental e = rw e refl
+agrees_on s encoding Full e = rw e refl
+
+begins_given : (s : State) (encoding : Encoding) (sync : ChangeForm) → is_offered s.offers encoding ≡ true
+    → begin_as_announced s (announced_of (initialize_value encoding (announced_kind sync))) ≡ begin_in s encoding (announced_kind sync)
+begins_given s encoding sync e = ap (begin_as_announced s) (is_read_back (first_result encoding (announced_kind sync)) (record { sfits = omega arith })) ∙ agrees_on s encoding sync e
+
+least : (setting : Setting) (n : ℕ) → IsFitting setting → n ≤ 4096 → n ≤ setting.limits.max_body
+least setting n sound h = let r = sound.ranges in omega (arith, r.least_body, h)
+
+module _ (setting : Setting) (sound : IsFitting setting) (w : World) where
+  answered_returns : AtShape setting w answered → Returns setting w (first_result (the_encoding setting) (the_kind setting)) []
+  answered_returns at =
+      let e : waiting_back w ≡ first_result (the_encoding setting) (the_kind setting) ∷ [] = at.here in
+      let s : State = client_of setting w in
+      let m : OutgoingData = first_result (the_encoding setting) (the_kind setting) in
+      let delivery_is : Delivery = begin_in s (the_encoding setting) (the_kind setting) in
+      let answer : delivery_of s (message (sent m)) ≡ delivery_is =
+      ap (λ (p : Phase). response_delivery p s (Some (whole (pos 1))) (outcome m)) at.client_is ∙ begins_given s (the_encoding setting) setting.config.sync (offered_is setting.config.choice setting.offers sound.choice) in
+      record {
+        delivery_is = delivery_is;
+        listening = ap is_listening at.client_is;
+        given = answer;
+        written = ap (delivery_of s) (reading-body_of m (record { sfits = omega arith })) ∙ answer;
+        short = least setting _ sound (short_first (the_encoding setting) (the_kind setting));
+        state = refl;
+        usual = refl;
+        next = return setting w answered (working (lifecycle outgoing.initialized ∷ [])) m [] delivery_is at e (tt, tt) refl refl refl refl refl refl;
+      }
+
+  down_returns : AtShape setting w down → Returns setting w last_result []
+  down_returns at =
+      let e : waiting_back w ≡ last_result ∷ [] = at.here in
+      let s : State = client_of setting w in
+      let delivery_is : Delivery = record { delivered = client.noted; state = record s { phase = Closed } } in
+      let answer : delivery_of s (message (sent last_result)) ≡ delivery_is = ap (λ (p : Phase). response_delivery p s (Some (whole (pos 2))) (outcome last_result)) at.client_is in
+      record {
+        delivery_is = delivery_is;
+        listening = ap is_listening at.client_is;
+        given = answer;
+        written = ap (delivery_of s) (reading-body_of last_result (record { sfits = omega arith })) ∙ answer;
+        short = least setting _ sound short_last;
+        state = refl;
+        usual = refl;
+        next = return setting w down closed last_result [] delivery_is at e tt refl refl refl at.agreed_is refl refl;
+      }
+
+  pub returning : (shape : Shape) → AtShape setting w shape → Returning setting w (here_at setting shape)
+  returning answered at = answered_returns at
+  returning down at = down_returns at
+  returning fresh at = tt
+  returning asking at = tt
+  returning closed at = tt
+  returning leaving at = tt
+  returning left at = tt
+  returning (working busy) at = tt
+  returning (closing busy) at = tt

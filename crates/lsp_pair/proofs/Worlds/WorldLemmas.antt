@@ -1,0 +1,147 @@
+-- What holds of the world of every list of events.
+use Rattle.std.proofs.Common.{◌≡◌, Bool, true, false, List, [], ◌∷◌, ◌++◌, Option, Some, Result, Ok, Err, refl, sym, ap, ◌∙◌, subst, arith}
+use Rattle.std.specs.Prelude.{MatchOption}
+use Rattle.lsp_message.specs.Message.{message}
+use Rattle.lsp_message.specs.Outgoing.{OutgoingData}
+use Rattle.lsp_message.specs.laws.Sent.{sent}
+use Rattle.lsp_client.specs.declared.fault.ClientFault.{ClientFault}
+use Rattle.lsp_client.specs.Step as client
+use Rattle.lsp_client.specs.Step.{Call, call_result}
+use Rattle.lsp_pair.specs.declared.event.Happened.TheVariants.{Server, Client, Nothing}
+use Rattle.lsp_pair.specs.Events.{Setting, EventData, calls, to_server, to_client, did_of, heard_of}
+use Rattle.lsp_pair.specs.Pair.{IsFitting}
+use Rattle.lsp_pair.specs.laws.World.{ClientMessage, World, beginning, Turn, turn_of_call, message_of_call, message_in, turn_of_step, to_server_event, turn_of_delivery, turn_of_result, to_client_event, turn, world_from, world_of, client_of, IsProperEvent, AreProperEvents}
+use Rattle.lsp_pair.specs.laws.At.{waiting_out, waiting_back, pair_of}
+use Rattle.lsp_pair.specs.laws.Usual.{IsUsual, IsUsualBack, IsUsualTurn, agreed_of, has_agreed, HaveOneEncoding}
+use Rattle.lsp_pair.proofs.Worlds.ListLemmas.{next_is, none_next}
+use Rattle.lsp_pair.proofs.Worlds.Shapes.{Shape, fresh, asking, answered, client_at, agreed_at, encoding_at, AtShape, WorldSound}
+use Rattle.lsp_pair.proofs.Worlds.ArriveLemmas.{Arrives, Arrivals, arrivals}
+use Rattle.lsp_pair.proofs.Worlds.ReturnLemmas.{Returns, Returning, returning}
+use Rattle.lsp_pair.proofs.Worlds.CallLemmas.{CallResult, called_sound}
+
+pub beginning_sound : (setting : Setting) → WorldSound setting beginning
+beginning_sound setting =
+    record {
+      shape = fresh;
+      at = record {
+        busy = tt;
+        client_is = refl;
+        agreed_is = refl;
+        server_is = refl;
+        encoding_is = refl;
+        there = refl;
+        here = refl;
+        arrived = omega arith;
+        returned = omega arith;
+        said = tt;
+      };
+    }
+
+-- ---- one turn
+
+-- what a turn answers, and that the world stays sound
+pub record IsGoodTurn (setting : Setting) (w : World) (event : EventData) (t : Turn) : Type 0 where
+  pub usual : IsUsualTurn w event t.happened
+  pub next : WorldSound setting t.world
+
+module _ (setting : Setting) (sound : IsFitting setting) (w : World) (ok : WorldSound setting w) where
+  -- the messages that wait, and what becomes of them
+  pub there_arrives : Arrivals setting w (waiting_out w)
+  there_arrives = subst (Arrivals setting w) (sym ok.at.there) (arrivals setting sound w ok.shape ok.at)
+
+  pub here_returns : Returning setting w (waiting_back w)
+  here_returns = subst (Returning setting w) (sym ok.at.here) (returning setting sound w ok.shape ok.at)
+
+  -- the turn where a message waits
+  pub served_turn : (said : ClientMessage) (rest : List ClientMessage) (e : waiting_out w ≡ said ∷ rest) (a : Arrives setting w said rest) → turn setting w to_server ≡ turn_of_step w a.step_is
+  served_turn said rest e a = ap (to_server_event setting w) (next_is w.out w.out_delivered said rest e).there ∙ ap (turn_of_step w) a.given
+
+  pub heard_turn : (m : OutgoingData) (rest : List OutgoingData) (e : waiting_back w ≡ m ∷ rest) (r : Returns setting w m rest) → turn setting w to_client ≡ turn_of_delivery w r.delivery_is
+  heard_turn m rest e r =
+      ap (to_client_event setting w) (next_is w.back w.back_delivered m rest e).there
+      ∙ (ap (λ (b : Bool). turn_of_result w (client.if_listening b (client_of setting w) (message (sent m)))) r.listening
+      ∙ ap (turn_of_delivery w) r.given)
+
+  pub quiet_there : waiting_out w ≡ [] → turn setting w to_server ≡ record { happened = Nothing; world = w }
+  quiet_there e = ap (to_server_event setting w) (none_next w.out w.out_delivered e)
+
+  pub quiet_here : waiting_back w ≡ [] → turn setting w to_client ≡ record { happened = Nothing; world = w }
+  quiet_here e = ap (to_client_event setting w) (none_next w.back w.back_delivered e)
+
+  server_turn : (q : List ClientMessage) → waiting_out w ≡ q → Arrivals setting w q → IsGoodTurn setting w to_server (turn setting w to_server)
+  server_turn [] e a =
+      subst (IsGoodTurn setting w to_server) (sym (quiet_there e)) (record {
+        usual = subst (λ (o : Option ClientMessage). MatchOption o (Nothing ≡ Nothing) (λ said. IsUsual said Nothing)) (sym (none_next w.out w.out_delivered e)) refl;
+        next = ok;
+      })
+  server_turn (said ∷ rest) e a =
+      subst (IsGoodTurn setting w to_server) (sym (served_turn said rest e a)) (record {
+        usual =
+            subst (λ (o : Option ClientMessage). MatchOption o (Server (did_of a.step_is.answer) ≡ Nothing) (λ said. IsUsual said (Server (did_of a.step_is.answer))))
+            (sym (next_is w.out w.out_delivered said rest e).there) a.usual;
+        next = a.next;
+      })
+
+  client_turn : (q : List OutgoingData) → waiting_back w ≡ q → Returning setting w q → IsGoodTurn setting w to_client (turn setting w to_client)
+  client_turn [] e r =
+      subst (IsGoodTurn setting w to_client) (sym (quiet_here e)) (record {
+        usual = subst (λ (o : Option OutgoingData). MatchOption o (Nothing ≡ Nothing) (λ m. IsUsualBack m Nothing)) (sym (none_next w.back w.back_delivered e)) refl;
+        next = ok;
+      })
+  client_turn (m ∷ rest) e r =
+      subst (IsGoodTurn setting w to_client) (sym (heard_turn m rest e r)) (record {
+        usual =
+            subst (λ (o : Option OutgoingData). MatchOption o (Client (heard_of r.delivery_is.delivered) ≡ Nothing) (λ m. IsUsualBack m (Client (heard_of r.delivery_is.delivered))))
+            (sym (next_is w.back w.back_delivered m rest e).there) r.usual;
+        next = r.next;
+      })
+
+  call_turn : (call : Call) (result : Result client.Sending ClientFault) → CallResult setting w (message_of_call (client_of setting w) call) result
+      → WorldSound setting (turn_of_call w (message_of_call (client_of setting w) call (message_in result)) result).world
+  call_turn call (Ok sending) is = is.next
+  call_turn call (Err refusal) is = ok
+
+  pub good_turn : (event : EventData) → IsProperEvent event → IsGoodTurn setting w event (turn setting w event)
+  good_turn (calls call) proper =
+      record { usual = tt; next = call_turn call (call_result (client_of setting w) call) (called_sound setting w ok.shape ok.at call proper) }
+  good_turn to_server proper = server_turn (waiting_out w) refl there_arrives
+  good_turn to_client proper = client_turn (waiting_back w) refl here_returns
+
+-- ---- whole lists
+
+pub from_sound : (setting : Setting) → IsFitting setting → (w : World) → WorldSound setting w → (events : List EventData) → AreProperEvents events → WorldSound setting (world_from setting w events)
+from_sound setting sound w ok [] proper = ok
+from_sound setting sound w ok (event ∷ events) proper =
+    from_sound setting sound (turn setting w event).world (good_turn setting sound w ok event proper.0).next events proper.1
+
+pub world_sound : (setting : Setting) → IsFitting setting → (events : List EventData) → AreProperEvents events → WorldSound setting (world_of setting events)
+world_sound setting sound events proper = from_sound setting sound beginning (beginning_sound setting) events proper
+
+pub world-last : (setting : Setting) (w : World) (events : List EventData) (event : EventData) → world_from setting w (events ++ event ∷ []) ≡ (turn setting (world_from setting w events) event).world
+world-last setting w [] event = refl
+world-last setting w (first ∷ events) event = world-last setting (turn setting w first).world events event
+
+pub proper_last : (events : List EventData) (event : EventData) → AreProperEvents events → IsProperEvent event → AreProperEvents (events ++ event ∷ [])
+proper_last [] event p q = (q, tt)
+proper_last (first ∷ events) event p q = (p.0, proper_last events event p.1 q)
+
+-- ---- what both ends agree on
+
+pub agree_at : (setting : Setting) (w : World) (shape : Shape) → AtShape setting w shape → HaveOneEncoding setting (pair_of setting w)
+agree_at setting w shape at =
+    record {
+      client = λ h. at.agreed_is ∙ client_agrees shape (subst (λ p. has_agreed p ≡ true) at.client_is h);
+      server = λ h. at.encoding_is ∙ server_agrees shape (subst (λ p. has_agreed p ≡ true) at.client_is h);
+    }
+  where
+    client_agrees : (shape : Shape) → has_agreed (client_at shape) ≡ true → agreed_at setting shape ≡ Some (agreed_of setting)
+    client_agrees fresh h = absurd (let bad : false ≡ true = h in cc)
+    client_agrees asking h = absurd (let bad : false ≡ true = h in cc)
+    client_agrees answered h = absurd (let bad : false ≡ true = h in cc)
+    client_agrees shape h = refl
+
+    server_agrees : (shape : Shape) → has_agreed (client_at shape) ≡ true → encoding_at setting shape ≡ Some (agreed_of setting).encoding
+    server_agrees fresh h = absurd (let bad : false ≡ true = h in cc)
+    server_agrees asking h = absurd (let bad : false ≡ true = h in cc)
+    server_agrees answered h = absurd (let bad : false ≡ true = h in cc)
+    server_agrees shape h = refl

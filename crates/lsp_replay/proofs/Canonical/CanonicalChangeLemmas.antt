@@ -1,0 +1,112 @@
+-- The canonical message of what some batch means on an open document: it is read as a change, which is accepted there, leaves what the batch
+-- leaves, and is its own canonical message.
+use Rattle.std.proofs.Common.{◌≡◌, ℕ, ℤ, ◌≤◌, false, nat_lt, List, map, length, IsUtf8, Some, None, Ok, refl, ap, ◌∙◌, subst, arith, w32, FitsSigned}
+use Rattle.std.specs.Str.{chars}
+use Rattle.std.proofs.lemmas.Str.{scalars-chars}
+use Rattle.lsp_frame.specs.Limits.{AreInRange}
+use Rattle.lsp_text.specs.Units.{units_in}
+use Rattle.lsp_text.specs.declared.encoding.Encoding.{Encoding}
+use Rattle.lsp_edit.specs.Items.{Item, text_of}
+use Rattle.lsp_edit.specs.Batch.{Edit, meaning}
+use Rattle.lsp_edit.specs.Canonical.{canonical}
+use Rattle.lsp_edit.specs.Compose.{then_items}
+use Rattle.lsp_edit.specs.laws.Batches.{IsCanonical}
+use Rattle.lsp_edit.proofs.Batches.LawLemmas.{canonical_law, units_some}
+use Rattle.lsp_edit.specs.Indexed.{bytes_left}
+use Rattle.lsp_message.specs.Message.{reading}
+use Rattle.lsp_message.specs.Params.{DocumentItem, ChangeData}
+use Rattle.lsp_message.proofs.ReadBack.{reading-body_of, is_read_back, body_of-unique}
+use Rattle.lsp_store.specs.Table.{entry_at, entry_refusal, is_stale, meant_text}
+use Rattle.lsp_store.specs.Message.{AreTexts, IsReadAgain, written_edit, change_body, canonical_batch, canonical_body}
+use Rattle.lsp_store.specs.Squash.{SquashData, items_meant}
+use Rattle.lsp_store.proofs.Messages.MessageLemmas.{is_read}
+use Rattle.lsp_store.proofs.Messages.ScalarLemmas.{canonical_texts}
+use Rattle.lsp_store.proofs.SquashLemmas.{squash_accepted}
+use Rattle.lsp_server.specs.Incoming.{incoming_of, did_change}
+use Rattle.lsp_server.specs.Step.{State, edit_from_data, session_encoding}
+use Rattle.lsp_server.proofs.EditLemmas.{edits_back}
+use Rattle.lsp_replay.specs.Commands.{canonical_change_body}
+use Rattle.lsp_replay.specs.inside.Joining.{refusal_of, server_after}
+use Rattle.lsp_replay.specs.Squashed.{joined_by}
+use Rattle.lsp_replay.proofs.Records.PutLemmas.{put, change_puts}
+use Rattle.lsp_replay.proofs.Canonical.SettledLemmas.{asks_back}
+
+-- what a document's URI, version and text must be
+pub record IsProperAt (t : State) (uri : List ℕ) (version : ℤ) (entry : DocumentItem) (batch : List Edit) (items : List Item) : Type 0 where
+  pub found : entry_at t.table uri ≡ Some entry
+  pub utf8 : IsUtf8 entry.text
+  pub received : length entry.text ≤ t.config.limits.max_text
+  pub uri_utf8 : IsUtf8 uri
+  pub version_fits : FitsSigned w32 version
+  pub means : meaning (units_in (session_encoding t)) (chars entry.text) batch ≡ Ok items
+  pub texts : AreTexts batch
+  pub newer : is_stale t.config.limits version entry.version ≡ false
+  pub short : length (bytes_left entry.text items) ≤ t.config.limits.max_text
+  pub few : nat_lt t.config.limits.max_changes (length (canonical (units_in (session_encoding t)) (chars entry.text) items)) ≡ false
+
+-- the batch, and the change that asks for it
+abbrev pub canonical_at : State → DocumentItem → List Item → List Edit
+canonical_at t entry items = canonical (units_in (session_encoding t)) (chars entry.text) items
+
+abbrev pub canonical_change : State → List ℕ → ℤ → DocumentItem → List Item → ChangeData
+canonical_change t uri version entry items = record { uri = uri; version = version; changes = map written_edit (canonical_at t entry items) }
+
+pub record IsCanonicalChange (t : State) (uri : List ℕ) (version : ℤ) (entry : DocumentItem) (items : List Item) : Type 0 where
+  pub asks : incoming_of (reading (change_body uri version (canonical_at t entry items))) ≡ did_change (Some (canonical_change t uri version entry items))
+  pub may : refusal_of t (canonical_change t uri version entry items) ≡ None
+  pub leaves : server_after t (canonical_change t uri version entry items) ≡ record t { table = put t.table uri version (bytes_left entry.text items) }
+  pub own : canonical_change_body t (canonical_change t uri version entry items) ≡ change_body uri version (canonical_at t entry items)
+  pub joins : (squash : SquashData) → squash.encoding ≡ session_encoding t → text_of (chars squash.text) squash.items ≡ chars entry.text
+      → joined_by (canonical_change t uri version entry items) squash ≡ record squash { items = then_items squash.items items; version = version }
+
+module _ (t : State) (uri : List ℕ) (version : ℤ) (entry : DocumentItem) (batch : List Edit) (items : List Item) (ranges : AreInRange t.config.limits) (at : IsProperAt t uri version entry batch items) where
+  units : ℕ → ℕ
+  units = units_in (session_encoding t)
+
+  laws : (some : List Edit) (others : List Item) → meaning (units_in (session_encoding t)) (chars entry.text) some ≡ Ok others → IsCanonical (units_in (session_encoding t)) (chars entry.text) some others
+  laws some others means = canonical_law (units_in (session_encoding t)) (units_some (session_encoding t)) (chars entry.text) some others means
+
+  law : IsCanonical (units_in (session_encoding t)) (chars entry.text) batch items
+  law = laws batch items at.means
+
+  accepted : entry_refusal t.config.limits (units_in (session_encoding t)) entry version (canonical_at t entry items) ≡ None
+  accepted = squash_accepted t.config.limits (session_encoding t) entry version batch items at.means at.newer at.short (omega (arith, ranges.greatest_text)) at.few
+
+  all_texts : AreTexts (canonical_at t entry items)
+  all_texts = canonical_texts (units_in (session_encoding t)) (chars entry.text) batch items law (scalars-chars entry.text at.utf8) at.texts at.means
+
+  same_batch : canonical_batch (units_in (session_encoding t)) t.table uri (canonical_at t entry items) ≡ canonical_at t entry items
+  same_batch = rw (at.found, law.means) refl
+
+  read : IsReadAgain uri version (canonical_at t entry items)
+  read =
+      subst (IsReadAgain uri version) same_batch
+      (is_read t.config.limits (session_encoding t) t.table uri version entry at.found laws at.uri_utf8 at.version_fits at.utf8 (omega (arith, at.received, ranges.greatest_text)) body_of-unique
+      (canonical_at t entry items) all_texts accepted reading-body_of is_read_back)
+
+  back : map edit_from_data (map written_edit (canonical_at t entry items)) ≡ canonical_at t entry items
+  back = edits_back (canonical_at t entry items) all_texts
+
+  may_on : refusal_of t (canonical_change t uri version entry items) ≡ None
+  may_on = rw (at.found, back) accepted
+
+  leaves_on : server_after t (canonical_change t uri version entry items) ≡ record t { table = put t.table uri version (bytes_left entry.text items) }
+  leaves_on =
+      ap (λ (table : List DocumentItem). record t { table = table })
+      (change_puts (units_in (session_encoding t)) t.table uri version (map edit_from_data (map written_edit (canonical_at t entry items))) entry at.found
+      ∙ ap (λ (b : List Edit). put t.table uri version (meant_text entry.text (meaning (units_in (session_encoding t)) (chars entry.text) b))) back
+      ∙ ap (λ m. put t.table uri version (meant_text entry.text m)) law.means)
+
+  own_on : canonical_change_body t (canonical_change t uri version entry items) ≡ change_body uri version (canonical_at t entry items)
+  own_on = ap (canonical_body (units_in (session_encoding t)) t.table uri version) back ∙ ap (change_body uri version) same_batch
+
+  joins_on : (squash : SquashData) → squash.encoding ≡ session_encoding t → text_of (chars squash.text) squash.items ≡ chars entry.text
+      → joined_by (canonical_change t uri version entry items) squash ≡ record squash { items = then_items squash.items items; version = version }
+  joins_on squash encoding text =
+      ap (λ (b : List Edit). record squash { items = then_items squash.items (items_meant (meaning (units_in squash.encoding) (text_of (chars squash.text) squash.items) b)); version = version }) back
+      ∙ ap (λ (e : Encoding). record squash { items = then_items squash.items (items_meant (meaning (units_in e) (text_of (chars squash.text) squash.items) (canonical_at t entry items))); version = version }) encoding
+      ∙ ap (λ (x : List ℕ). record squash { items = then_items squash.items (items_meant (meaning (units_in (session_encoding t)) x (canonical_at t entry items))); version = version }) text
+      ∙ ap (λ m. record squash { items = then_items squash.items (items_meant m); version = version }) law.means
+
+  pub is_canonical_change : IsCanonicalChange t uri version entry items
+  is_canonical_change = record { asks = asks_back uri version (canonical_at t entry items) read; may = may_on; leaves = leaves_on; own = own_on; joins = joins_on }

@@ -1,0 +1,171 @@
+-- What `convert` writes of a log: a log of which the same is told.
+use Rattle.std.proofs.Common.{◌≡◌, ℕ, Bool, true, false, Option, Some, None, refl, ap, ◌∙◌}
+use Rattle.std.specs.Prelude.{⊤, if◌then◌else◌}
+use Rattle.std.proofs.lemmas.Bool.Decides.{Decides-int_eq}
+use Rattle.std.proofs.lemmas.Slice.Eq.{bytes_eq-Decides}
+use Rattle.lsp_message.specs.declared.agreement.Offers.{Offers}
+use Rattle.lsp_message.specs.declared.agreement.SyncKind.{SyncKind}
+use Rattle.lsp_message.specs.Message.{IdData, whole, text}
+use Rattle.lsp_message.specs.Outgoing.{OutgoingData, initialize_result, body_of}
+use Rattle.lsp_message.specs.Written.{initialize_value}
+use Rattle.lsp_message.specs.laws.Sent.{IsProperId}
+use Rattle.lsp_message.proofs.ReadBack.{reading-body_of, is_read_back}
+use Rattle.lsp_text.specs.declared.encoding.Encoding.{Encoding}
+use Rattle.lsp_server.specs.declared.phase.Phase.{Phase}
+use Rattle.lsp_server.specs.declared.phase.Phase.TheVariants.{New, Running, Down, Ended}
+use Rattle.lsp_server.specs.Answer.{AnswerData, Sent, reply, changed, dropped, ignored, already_ended, refused, exits, as_sent}
+use Rattle.lsp_server.specs.Choice.{chosen, announced_kind}
+use Rattle.lsp_server.specs.Incoming.{IncomingData, not_json, not_a_message, response, initialize, shutdown, other_request, exit, did_open, did_change, did_close, other_notification}
+use Rattle.lsp_server.specs.Step.{State, step_in, step_on, begins, with_encoding}
+use Rattle.lsp_log.specs.declared.record.Version.{Version}
+use Rattle.lsp_log.specs.declared.record.Version.TheVariants.{One, Two}
+use Rattle.lsp_stream.specs.Ports.{one_more}
+use Rattle.lsp_replay.specs.Session.{Session, Verdict, answered, recorded, bad, Judged, judged, judge_incoming, handled, hear_for, heard, settle_by, result_for, same_id, is_ended, is_early, is_new, expected_of, count_if, is_refused}
+use Rattle.lsp_replay.proofs.Records.AskedLemmas.{IsProperIncoming}
+
+-- ---- a log of version 1 and one of version 2, side by side
+
+-- the session of the log of version 2, which was given so many records
+abbrev pub twin : Session → ℕ → Session
+twin s n = record s { records = n }
+
+abbrev pub IsGood : Verdict → Type 0
+IsGood (answered answer) = ⊤
+IsGood recorded = ⊤
+IsGood bad = ⊥
+
+good_tests : (a b : Bool) (s : Session) (j : Judged) → IsGood (if a then judged bad s else if b then judged bad s else j).verdict → (a ≡ false) × (b ≡ false)
+good_tests true b s j good = absurd good
+good_tests false true s j good = absurd good
+good_tests false false s j good = (refl, refl)
+
+handled_on : (s : Session) (version : Version) (m : IncomingData) → is_ended s.server.phase ≡ false → is_early s m ≡ false
+    → judge_incoming s version m ≡ handled s version m (step_on s.server m).state (as_sent (step_on s.server m).answer)
+handled_on s version m a b = rw (a, b) refl
+
+-- no result is waited for in a log of version 1
+none_expected : (b : Bool) (m : IncomingData) (expected : Option IdData) → expected ≡ None → (if b then expected_of One m expected else expected) ≡ None
+none_expected true m expected none = none
+none_expected false m expected none = none
+
+-- ---- the result of `initialize`
+
+same_id_is : (id : IdData) → same_id id id ≡ true
+same_id_is (whole n) = (Decides-int_eq n n).1 refl
+same_id_is (text s) = (bytes_eq-Decides s s).1 refl
+
+if_true : {A : Type 0} (b : Bool) (x y : A) → b ≡ true → (if b then x else y) ≡ x
+if_true true x y e = refl
+if_true false x y e = absurd (let wrong : false ≡ true = e in cc)
+
+hears_result : (u : Session) (id : IdData) (encoding : Encoding) (kind : SyncKind) → IsProperId id
+    → hear_for u (Some id) (body_of (initialize_result id encoding kind)) ≡ judged recorded (record u { server = with_encoding u.server encoding; expected = None })
+hears_result u id encoding kind proper =
+    ap (λ r. heard u (result_for id r)) (reading-body_of (initialize_result id encoding kind) proper)
+    ∙ ap (heard u) (if_true (same_id id id) (Some (initialize_value encoding kind)) None (same_id_is id))
+    ∙ ap (settle_by u) (is_read_back (initialize_result id encoding kind) proper)
+
+-- ---- what is waited for behind a client's record
+
+-- what is told behind an answer: the server's record of a reply settles what is waited for, and else nothing is
+abbrev pub Follows : Session → AnswerData OutgoingData → Type 0
+Follows u (reply m) = hear_for u u.expected (body_of m) ≡ judged recorded (record u { expected = None })
+Follows u changed = u.expected ≡ None
+Follows u dropped = u.expected ≡ None
+Follows u ignored = u.expected ≡ None
+Follows u already_ended = u.expected ≡ None
+Follows u (refused why) = u.expected ≡ None
+Follows u (exits status) = u.expected ≡ None
+
+follows_none : (u : Session) (answer : AnswerData OutgoingData) → u.expected ≡ None → Follows u answer
+follows_none u (reply m) none = ap (λ e. hear_for u e (body_of m)) none ∙ (λ i. judged recorded (record u { expected = none i }))
+follows_none u changed none = none
+follows_none u dropped none = none
+follows_none u ignored none = none
+follows_none u already_ended none = none
+follows_none u (refused why) none = none
+follows_none u (exits status) none = none
+
+abbrev pub waits : Phase → IncomingData → Option IdData
+waits phase m = if is_new phase then expected_of Two m None else None
+
+-- the session behind a client's record, in the log of version 1 and in that of version 2
+abbrev pub next_of : Session → State → AnswerData Sent → Session
+next_of s server answer = record s {
+  server = server;
+  expected = None;
+  records = one_more s.records;
+  messages = one_more s.messages;
+  refusals = count_if (is_refused answer) s.refusals;
+}
+
+abbrev pub rest_after : Session → ℕ → State → AnswerData Sent → Option IdData → Session
+rest_after s n server answer expected = record {
+  server = server;
+  expected = expected;
+  records = one_more n;
+  messages = one_more s.messages;
+  refusals = count_if (is_refused answer) s.refusals;
+}
+
+abbrev pub FollowsStep : Session → ℕ → Phase → State → IncomingData → Type 0
+FollowsStep s n phase server m = Follows (rest_after s n (step_in phase server m).state (as_sent (step_in phase server m).answer) (waits phase m)) (step_in phase server m).answer
+
+begun : (s : Session) (n : ℕ) (server : State) (id : IdData) (offers : Offers) → IsProperId id → FollowsStep s n New server (initialize id (Some offers))
+begun s n server id offers proper =
+    hears_result (rest_after s n (begins server id offers).state (as_sent (begins server id offers).answer) (Some id)) id (chosen server.config.choice offers) (announced_kind server.config.sync) proper
+
+pub follows_step : (s : Session) (n : ℕ) (phase : Phase) (server : State) (m : IncomingData) → IsProperIncoming m → FollowsStep s n phase server m
+follows_step s n New server (initialize id (Some offers)) proper = begun s n server id offers proper
+follows_step s n New server (initialize id None) proper = refl
+follows_step s n New server not_json proper = refl
+follows_step s n New server (not_a_message id) proper = refl
+follows_step s n New server (response id) proper = refl
+follows_step s n New server (shutdown id) proper = refl
+follows_step s n New server (other_request id method) proper = refl
+follows_step s n New server exit proper = refl
+follows_step s n New server (did_open params) proper = refl
+follows_step s n New server (did_change params) proper = refl
+follows_step s n New server (did_close params) proper = refl
+follows_step s n New server (other_notification method) proper = refl
+follows_step s n Running server m proper = follows_none (rest_after s n (step_in Running server m).state (as_sent (step_in Running server m).answer) None) (step_in Running server m).answer refl
+follows_step s n Down server m proper = follows_none (rest_after s n (step_in Down server m).state (as_sent (step_in Down server m).answer) None) (step_in Down server m).answer refl
+follows_step s n Ended server m proper = refl
+
+-- ---- a client's record is judged alike in both logs
+
+module _ (s : Session) (n : ℕ) (m : IncomingData) (none : s.expected ≡ None) (good : IsGood (judge_incoming s One m).verdict) where
+  tests : (is_ended s.server.phase ≡ false) × (is_early s m ≡ false)
+  tests = good_tests (is_ended s.server.phase) (is_early s m) s (handled s One m (step_on s.server m).state (as_sent (step_on s.server m).answer)) good
+
+  pub judged_one : judge_incoming s One m ≡ judged (answered (as_sent (step_on s.server m).answer)) (record s {
+    server = (step_on s.server m).state;
+    expected = None;
+    messages = one_more s.messages;
+    refusals = count_if (is_refused (as_sent (step_on s.server m).answer)) s.refusals;
+  })
+  judged_one =
+      handled_on s One m tests.0 tests.1
+      ∙ ap (λ (e : Option IdData). judged (answered (as_sent (step_on s.server m).answer)) (record s {
+        server = (step_on s.server m).state;
+        expected = e;
+        messages = one_more s.messages;
+        refusals = count_if (is_refused (as_sent (step_on s.server m).answer)) s.refusals;
+      })) (none_expected (is_new s.server.phase) m s.expected none)
+
+  pub judged_two : judge_incoming (twin s n) Two m ≡ judged (answered (as_sent (step_on s.server m).answer)) (record s {
+    server = (step_on s.server m).state;
+    expected = waits s.server.phase m;
+    records = n;
+    messages = one_more s.messages;
+    refusals = count_if (is_refused (as_sent (step_on s.server m).answer)) s.refusals;
+  })
+  judged_two =
+      handled_on (twin s n) Two m tests.0 tests.1
+      ∙ ap (λ (e : Option IdData). judged (answered (as_sent (step_on s.server m).answer)) (record s {
+        server = (step_on s.server m).state;
+        expected = (if is_new s.server.phase then expected_of Two m e else e);
+        records = n;
+        messages = one_more s.messages;
+        refusals = count_if (is_refused (as_sent (step_on s.server m).answer)) s.refusals;
+      })) none

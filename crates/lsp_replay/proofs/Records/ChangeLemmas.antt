@@ -1,0 +1,139 @@
+-- Which records are accepted changes, and what becomes of them.
+use Rattle.std.proofs.Common.{◌≡◌, ◌≢◌, ◌⊎◌, inl, inr, ℕ, ◌≤◌, Bool, true, false, List, ◌++◌, length, Option, Some, None, refl, sym, ap, ◌∙◌, subst, nat_lt}
+use Rattle.std.specs.Prelude.{if◌then◌else◌, Err}
+use Rattle.std.proofs.lemmas.Bool.{ltb-false}
+use Rattle.lsp_message.specs.Message.{IdData, reading}
+use Rattle.lsp_message.specs.Params.{ChangeData}
+use Rattle.lsp_server.specs.declared.phase.Phase.{Phase}
+use Rattle.lsp_server.specs.declared.phase.Phase.TheVariants.{New, Running, Down, Ended}
+use Rattle.lsp_server.specs.Answer.{AnswerData, Sent, reply, changed, dropped, ignored, already_ended, refused, exits}
+use Rattle.lsp_server.specs.Incoming.{incoming_of, did_change}
+use Rattle.lsp_server.specs.Step.{State}
+use Rattle.lsp_log.specs.declared.record.Version.{Version}
+use Rattle.lsp_log.specs.declared.record.Side.{Side}
+use Rattle.lsp_log.specs.declared.record.Side.TheVariants.{Client, Server}
+use Rattle.lsp_log.specs.Log.{Record}
+use Rattle.lsp_stream.specs.declared.fault.EngineFault.TheVariants.{BadLog, BodyTooLong}
+use Rattle.lsp_stream.specs.Ports.{one_more}
+use Rattle.lsp_frame.specs.Frame.{frame}
+use Rattle.lsp_replay.specs.Commands.{change_in, canonical_if, canonical_change_body}
+use Rattle.lsp_replay.specs.inside.Joining.{refusal_of, server_after}
+use Rattle.lsp_replay.specs.Session.{Session, Verdict, answered, recorded, bad, Judged, judge, judge_from, judge_incoming, counted}
+use Rattle.lsp_replay.specs.Squashed.{Run, faulty, change_output, step_if}
+use Rattle.lsp_replay.proofs.Records.AskedLemmas.{IsProperAsked, IsProperIncoming, asked_proper}
+use Rattle.lsp_replay.proofs.Squash.JoiningLemmas.{running_accepted}
+use Rattle.lsp_replay.proofs.Records.JudgeLemmas.{asks_change}
+use Rattle.lsp_replay.proofs.Canonical.CanonicalLogLemmas.{accepted, heard_has_none}
+use Rattle.lsp_replay.proofs.Records.NumberedLemmas.{IsAlike, numbered}
+
+-- ---- a record that doesn't end the run is an accepted change within the limit, or is written as it is
+
+abbrev pub IsOtherKind : State → Option ChangeData → Verdict → Type 0
+IsOtherKind server change verdict = (verdict ≢ bad) × (canonical_if server change verdict ≡ None)
+
+abbrev pub IsChangeKind : State → Option ChangeData → Verdict → Type 0
+IsChangeKind server change verdict = (p : ChangeData) × (change ≡ Some p) × (verdict ≡ answered changed) × (length (canonical_change_body server p) ≤ server.config.limits.max_body)
+
+abbrev IsKind : State → Option ChangeData → Verdict → Type 0
+IsKind server change verdict = IsOtherKind server change verdict ⊎ IsChangeKind server change verdict
+
+not_bad : (answer : AnswerData Sent) → answered answer ≢ bad
+not_bad answer e = cc
+
+not_recorded : recorded ≢ bad
+not_recorded e = cc
+
+pub kind_of : (server : State) (r : Record) (front : List ℕ) (run : Option Run) (change : Option ChangeData) (verdict : Verdict) → (step_if server r front run change verdict).end ≡ None → IsKind server change verdict
+kind_of server r front run None bad e = absurd (let wrong : Some (Err (BadLog r.head.place)) ≡ None = e in cc)
+kind_of server r front run (Some p) bad e = absurd (let wrong : Some (Err (BadLog r.head.place)) ≡ None = e in cc)
+kind_of server r front run None recorded e = inl (not_recorded, refl)
+kind_of server r front run (Some p) recorded e = inl (not_recorded, refl)
+kind_of server r front run None (answered answer) e = inl (not_bad answer, refl)
+kind_of server r front run (Some p) (answered (reply m)) e = inl (not_bad (reply m), refl)
+kind_of server r front run (Some p) (answered dropped) e = inl (not_bad dropped, refl)
+kind_of server r front run (Some p) (answered ignored) e = inl (not_bad ignored, refl)
+kind_of server r front run (Some p) (answered already_ended) e = inl (not_bad already_ended, refl)
+kind_of server r front run (Some p) (answered (refused why)) e = inl (not_bad (refused why), refl)
+kind_of server r front run (Some p) (answered (exits status)) e = inl (not_bad (exits status), refl)
+kind_of server r front run (Some p) (answered changed) e =
+    inr (p, refl, refl, ltb-false server.config.limits.max_body (length (canonical_change_body server p)) (short (nat_lt server.config.limits.max_body (length (canonical_change_body server p))) e))
+  where
+    short : (over : Bool) → (if over then faulty (BodyTooLong r.head.place) else change_output server p front (front ++ frame (canonical_change_body server p)) run).end ≡ None → over ≡ false
+    short true f = absurd (let wrong : Some (Err (BodyTooLong r.head.place)) ≡ None = f in cc)
+    short false f = refl
+
+-- neither is bad
+pub not_bad_of : (server : State) (r : Record) (front : List ℕ) (run : Option Run) (change : Option ChangeData) (verdict : Verdict) → (step_if server r front run change verdict).end ≡ None → verdict ≢ bad
+not_bad_of server r front run None bad e = absurd (let wrong : Some (Err (BadLog r.head.place)) ≡ None = e in cc)
+not_bad_of server r front run (Some p) bad e = absurd (let wrong : Some (Err (BadLog r.head.place)) ≡ None = e in cc)
+not_bad_of server r front run change recorded e = not_recorded
+not_bad_of server r front run change (answered answer) e = not_bad answer
+
+-- ---- an accepted change
+
+-- the session once a change is done, but for its counts
+abbrev pub session_after : Session → ChangeData → Session
+session_after s p = record s { server = server_after s.server p }
+
+pub record IsAccepted (s : Session) (r : Record) (p : ChangeData) : Type 0 where
+  pub side : r.head.side ≡ Client
+  pub asks : incoming_of (reading r.body) ≡ did_change (Some p)
+  pub running : s.server.phase ≡ Running
+  pub waits : s.expected ≡ None
+  pub may : refusal_of s.server p ≡ None
+
+module _ (s : Session) (version : Version) (p : ChangeData) where
+  runs : (phase : Phase) → s.server.phase ≡ phase → (expected : Option IdData) → s.expected ≡ expected → (judge_incoming s version (did_change (Some p))).verdict ≡ answered changed
+      → (s.server.phase ≡ Running) × (s.expected ≡ None)
+  runs Running is None none e = (is, none)
+  runs Running is (Some id) some e = absurd (let wrong = rw (is, some) at e in cc)
+  runs New is None none e = absurd (let wrong = rw (is, none) at e in cc)
+  runs New is (Some id) some e = absurd (let wrong = rw (is, some) at e in cc)
+  runs Down is None none e = absurd (let wrong = rw (is, none) at e in cc)
+  runs Down is (Some id) some e = absurd (let wrong = rw (is, some) at e in cc)
+  runs Ended is expected waits e = absurd (let wrong = rw is at e in cc)
+
+-- what it is that a record is accepted for
+pub was_accepted : (s : Session) (r : Record) (p : ChangeData) → change_in (incoming_of (reading r.body)) ≡ Some p → (judge s r).verdict ≡ answered changed → IsAccepted s r p
+was_accepted s r p is error = by r.head.side refl
+  where
+    asks : incoming_of (reading r.body) ≡ did_change (Some p)
+    asks = asks_change (incoming_of (reading r.body)) p is
+
+    by : (side : Side) → r.head.side ≡ side → IsAccepted s r p
+    by Server server =
+        let heard = ap (λ side. (judge_from s r.head.version side r.body).verdict) (sym server) ∙ error in
+        let none : canonical_if s.server (Some p) (answered changed) ≡ None = ap (canonical_if s.server (Some p)) (sym heard) ∙ heard_has_none s.server (Some p) s s.expected r.body in
+        absurd (let wrong : Some (canonical_change_body s.server p) ≡ None = none in cc)
+    by Client client =
+        let told_here : (judge_incoming s r.head.version (did_change (Some p))).verdict ≡ answered changed =
+        ap (λ x. (judge_incoming s r.head.version x).verdict) (sym asks) ∙ ap (λ side. (judge_from s r.head.version side r.body).verdict) (sym client) ∙ error in
+        let where_it_runs = runs s r.head.version p s.server.phase refl s.expected refl told_here in
+        record {
+          side = client;
+          asks = asks;
+          running = where_it_runs.0;
+          waits = where_it_runs.1;
+          may = accepted s r.head.version p told_here;
+        }
+
+pub proper_change : (r : Record) (p : ChangeData) → incoming_of (reading r.body) ≡ did_change (Some p) → IsProperAsked p
+proper_change r p asks = subst IsProperIncoming asks (asked_proper r.body)
+
+-- What becomes of it.
+pub record IsDone (s : Session) (r : Record) (p : ChangeData) : Type 0 where
+  pub error : (judge s r).verdict ≡ answered changed
+  pub leaves : IsAlike (session_after s p) (judge s r).session
+
+pub done_session : (s : Session) (version : Version) (p : ChangeData) → s.server.phase ≡ Running → s.expected ≡ None → refusal_of s.server p ≡ None
+    → (counted (judge_incoming s version (did_change (Some p)))).session ≡ numbered (one_more s.records) (one_more s.messages) (session_after s p)
+done_session s version p running waits may = rw (running, waits, may) refl
+
+pub is_done : (s : Session) (r : Record) (p : ChangeData) → IsAccepted s r p → IsDone s r p
+is_done s r p a = record {
+  error = ap (λ (j : Judged). j.verdict) here ∙ running_accepted s r.head.version p a.running a.waits a.may;
+  leaves = (one_more s.records, one_more s.messages, ap (λ (j : Judged). (counted j).session) here ∙ done_session s r.head.version p a.running a.waits a.may);
+}
+  where
+    here : judge_from s r.head.version r.head.side r.body ≡ judge_incoming s r.head.version (did_change (Some p))
+    here = ap (λ side. judge_from s r.head.version side r.body) a.side ∙ ap (judge_incoming s r.head.version) a.asks

@@ -1,0 +1,10 @@
+-- Lines that `check`, `trace` and `replay` write.
+pub mod ReportLemmas
+pub mod QuietLemmas
+pub mod PartLemmas
+pub mod KeptLemmas
+pub mod MemberLemmas
+pub mod TraceLemmas
+pub mod TraceLawLemmas
+pub mod ExplainLemmas
+pub mod NoteLemmas

@@ -1,0 +1,9 @@
+-- Changes of one document that are written as one message.
+pub mod JoiningLemmas
+pub mod OpenRunLemmas
+pub mod PendingLemmas
+pub mod SingleLemmas
+pub mod SquashedLemmas
+pub mod SquashedLogLemmas
+pub mod SquashingLemmas
+pub mod SquashLawLemmas

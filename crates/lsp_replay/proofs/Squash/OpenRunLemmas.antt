@@ -1,0 +1,235 @@
+-- A run that is open: what its batches make together of the document before it is the document that is open now.
+use Rattle.std.proofs.Common.{◌≡◌, ℕ, ℤ, ◌≤◌, Bool, true, false, not, ◌&&◌, nat_lt, int_le, List, [], ◌∷◌, ◌++◌, map, length, bytes_eq, encode_utf8_all, IsUtf8, Some, None, Ok, refl, sym, ap, ◌∙◌, subst, arith, w32, FitsSigned}
+use Rattle.std.specs.Str.{chars}
+use Rattle.std.proofs.lemmas.Bool.{leb-false, lt-leb}
+use Rattle.std.proofs.Math.IntN.{pos, negsuc}
+use Rattle.std.proofs.lemmas.Slice.Eq.{bytes_eq-Decides}
+use Rattle.std.proofs.lemmas.Str.{chars-encodes, scalars-chars}
+use Rattle.lsp_frame.specs.Limits.{AreInRange}
+use Rattle.lsp_text.specs.Units.{units_in}
+use Rattle.lsp_edit.specs.Items.{Item, plain, text_of}
+use Rattle.lsp_edit.specs.Batch.{Edit, meaning}
+use Rattle.lsp_edit.specs.Canonical.{canonical}
+use Rattle.lsp_edit.specs.Compose.{then_items}
+use Rattle.lsp_edit.proofs.Batches.ComposeLemmas.{text_of-then, then_means}
+use Rattle.lsp_edit.proofs.Composing.EditedLemmas.{plain_text}
+use Rattle.lsp_edit.specs.Indexed.{bytes_left}
+use Rattle.lsp_message.specs.Params.{DocumentItem, ChangeData}
+use Rattle.lsp_store.specs.Table.{entry_at, is_stale, meant_text}
+use Rattle.lsp_store.specs.Message.{AreTexts}
+use Rattle.lsp_store.specs.Squash.{SquashData, items_meant, squash_batch, squash_of}
+use Rattle.lsp_store.proofs.Messages.MessageLemmas.{Accepts, accepted_parts}
+use Rattle.lsp_store.proofs.Messages.ScalarLemmas.{scalar-meaning, scalar-text}
+use Rattle.lsp_store.specs.laws.Tables.{IsWithin}
+use Rattle.lsp_server.specs.Step.{State, edit_from_data, session_encoding}
+use Rattle.lsp_replay.specs.inside.Joining.{refusal_of, server_after}
+use Rattle.lsp_replay.specs.Squashed.{joined_by}
+use Rattle.lsp_replay.proofs.Records.AskedLemmas.{IsProperAsked}
+use Rattle.lsp_replay.proofs.Squash.JoiningLemmas.{uri_at}
+use Rattle.lsp_replay.proofs.Records.PutLemmas.{put, change_puts, put_at, put_twice}
+use Rattle.lsp_replay.proofs.Canonical.CanonicalChangeLemmas.{IsProperAt, IsCanonicalChange, canonical_change, is_canonical_change}
+
+-- the squash with other items and another version
+abbrev pub with_items : SquashData → List Item → ℤ → SquashData
+with_items squash items version = record squash { items = items; version = version }
+
+-- Batches on a document of a server led to the server as it is now.
+pub record IsOpenFrom (t : State) (squash : SquashData) (now : State) : Type 0 where
+  pub entry : DocumentItem
+  pub found : entry_at t.table squash.uri ≡ Some entry
+  pub received : IsWithin t.config.limits entry
+  pub is : squash ≡ with_items (squash_of t.config.limits (session_encoding t) entry) squash.items squash.version
+  pub batch : List Edit
+  pub means : meaning (units_in (session_encoding t)) (chars entry.text) batch ≡ Ok squash.items
+  pub texts : AreTexts batch
+  pub newer : is_stale t.config.limits squash.version entry.version ≡ false
+  pub short : length (bytes_left entry.text squash.items) ≤ t.config.limits.max_text
+  pub uri : IsUtf8 squash.uri
+  pub version : FitsSigned w32 squash.version
+  pub now_is : now ≡ record t { table = put t.table squash.uri squash.version (bytes_left entry.text squash.items) }
+
+-- ---- items
+
+plain_then : (units : ℕ → ℕ) (old : List ℕ) (batch : List Edit) (items : List Item) → meaning units old batch ≡ Ok items → then_items (plain old) items ≡ items
+plain_then units old batch items means =
+    let on : meaning units (text_of old (plain old)) batch ≡ Ok items = ap (λ t. meaning units t batch) (plain_text old) ∙ means in
+    let both : Ok (then_items (plain old) items) ≡ Ok items = sym (then_means units old [] batch (plain old) items refl on) ∙ means in
+    cc
+
+texts_more : (batch more : List Edit) → AreTexts batch → AreTexts more → AreTexts (batch ++ more)
+texts_more [] more texts also = also
+texts_more (change ∷ batch) more texts also = (texts.0, texts_more batch more texts.1 also)
+
+-- the characters of a text that a batch leaves
+left_chars : (units : ℕ → ℕ) (text : List ℕ) (batch : List Edit) (items : List Item) → IsUtf8 text → AreTexts batch → meaning units (chars text) batch ≡ Ok items
+    → chars (bytes_left text items) ≡ text_of (chars text) items
+left_chars units text batch items utf8 texts means =
+    chars-encodes (text_of (chars text) items) (scalar-text (chars text) items (scalars-chars text utf8) (scalar-meaning units (chars text) batch items texts means))
+
+-- ---- a change begins a run
+
+module _ (t : State) (p : ChangeData) (entry : DocumentItem) (found : entry_at t.table p.uri ≡ Some entry) (received : IsWithin t.config.limits entry) (proper : IsProperAsked p) (may : refusal_of t p ≡ None) where
+  begun_accepts : Accepts t.config.limits (units_in (session_encoding t)) entry p.version (map edit_from_data p.changes)
+  begun_accepts = accepted_parts t.config.limits (units_in (session_encoding t)) entry p.version (map edit_from_data p.changes) (rw found at may)
+
+  abbrev begun_squash : SquashData
+  begun_squash = joined_by p (squash_of t.config.limits (session_encoding t) entry)
+
+  begun_items : begun_squash.items ≡ begun_accepts.items
+  begun_items =
+      ap (λ x. then_items (plain (chars entry.text)) (items_meant (meaning (units_in (session_encoding t)) x (map edit_from_data p.changes)))) (plain_text (chars entry.text))
+      ∙ ap (λ m. then_items (plain (chars entry.text)) (items_meant m)) begun_accepts.means
+      ∙ plain_then (units_in (session_encoding t)) (chars entry.text) (map edit_from_data p.changes) begun_accepts.items begun_accepts.means
+
+  same_uri : entry.uri ≡ p.uri
+  same_uri = uri_at t.table p.uri entry found
+
+  pub begins_from : IsOpenFrom t begun_squash (server_after t p)
+  begins_from = record {
+    entry = entry;
+    found = ap (entry_at t.table) same_uri ∙ found;
+    received = received;
+    is = refl;
+    batch = map edit_from_data p.changes;
+    means = begun_accepts.means ∙ ap Ok (sym begun_items);
+    texts = proper.texts;
+    newer = begun_accepts.newer;
+    short = subst (λ (items : List Item). length (bytes_left entry.text items) ≤ t.config.limits.max_text) (sym begun_items) begun_accepts.short;
+    uri = subst IsUtf8 (sym same_uri) proper.uri;
+    version = proper.version;
+    now_is =
+        ap (λ (table : List DocumentItem). record t { table = table })
+        (change_puts (units_in (session_encoding t)) t.table p.uri p.version (map edit_from_data p.changes) entry found
+        ∙ ap (λ m. put t.table p.uri p.version (meant_text entry.text m)) begun_accepts.means
+        ∙ ap (λ items. put t.table p.uri p.version (bytes_left entry.text items)) (sym begun_items)
+        ∙ ap (λ u. put t.table u p.version (bytes_left entry.text begun_squash.items)) (sym same_uri));
+  }
+
+-- ---- a change goes on with it
+
+-- what is newer than a newer version is newer
+newer_yet : (a b c : ℤ) → int_le a b ≡ false → int_le b c ≡ false → int_le a c ≡ false
+newer_yet (pos a) (pos b) (pos c) over more = lt-leb a c (omega (arith, leb-false a b over, leb-false b c more))
+newer_yet (pos a) b (negsuc c) over more = refl
+newer_yet (pos a) (negsuc b) (pos c) over more = absurd (let wrong : true ≡ false = more in cc)
+newer_yet (negsuc a) (pos b) c over more = absurd (let wrong : true ≡ false = over in cc)
+newer_yet (negsuc a) (negsuc b) (pos c) over more = absurd (let wrong : true ≡ false = more in cc)
+newer_yet (negsuc a) (negsuc b) (negsuc c) over more = lt-leb c a (omega (arith, leb-false b a over, leb-false c b more))
+
+newer_still : (lenient : Bool) (a b c : ℤ) → (not lenient && int_le a b) ≡ false → (not lenient && int_le b c) ≡ false → (not lenient && int_le a c) ≡ false
+newer_still true a b c over more = refl
+newer_still false a b c over more = newer_yet a b c over more
+
+module _ (t : State) (squash : SquashData) (now : State) (from : IsOpenFrom t squash now) (p : ChangeData) (same : bytes_eq p.uri squash.uri ≡ true) (proper : IsProperAsked p) (may : refusal_of now p ≡ None) where
+  abbrev reached_text : List ℕ
+  reached_text = bytes_left from.entry.text squash.items
+
+  abbrev reached_now : DocumentItem
+  reached_now = record from.entry { version = squash.version; text = reached_text }
+
+  abbrev next : State
+  next = record t { table = put t.table squash.uri squash.version reached_text }
+
+  uri_is : p.uri ≡ squash.uri
+  uri_is = (bytes_eq-Decides p.uri squash.uri).0 same
+
+  found_now : entry_at next.table p.uri ≡ Some reached_now
+  found_now = ap (entry_at next.table) uri_is ∙ put_at t.table squash.uri squash.version reached_text from.entry from.found
+
+  may_now : refusal_of next p ≡ None
+  may_now = subst (λ (s : State). refusal_of s p ≡ None) from.now_is may
+
+  accepts_now : Accepts t.config.limits (units_in (session_encoding t)) reached_now p.version (map edit_from_data p.changes)
+  accepts_now = accepted_parts t.config.limits (units_in (session_encoding t)) reached_now p.version (map edit_from_data p.changes) (rw found_now at may_now)
+
+  chars_now : chars reached_text ≡ text_of (chars from.entry.text) squash.items
+  chars_now = left_chars (units_in (session_encoding t)) from.entry.text from.batch squash.items from.received.utf8 from.texts from.means
+
+  means_now : meaning (units_in (session_encoding t)) (text_of (chars from.entry.text) squash.items) (map edit_from_data p.changes) ≡ Ok accepts_now.items
+  means_now = ap (λ x. meaning (units_in (session_encoding t)) x (map edit_from_data p.changes)) (sym chars_now) ∙ accepts_now.means
+
+  abbrev longer_squash : SquashData
+  longer_squash = joined_by p squash
+
+  items_in : (k : SquashData) → k ≡ squash → items_meant (meaning (units_in k.encoding) (text_of (chars k.text) squash.items) (map edit_from_data p.changes)) ≡ items_meant (meaning (units_in squash.encoding) (text_of (chars squash.text) squash.items) (map edit_from_data p.changes))
+  items_in k e = ap (λ (x : SquashData). items_meant (meaning (units_in x.encoding) (text_of (chars x.text) squash.items) (map edit_from_data p.changes))) e
+
+  longer_items : longer_squash.items ≡ then_items squash.items accepts_now.items
+  longer_items =
+      ap (then_items squash.items)
+      (sym (items_in (with_items (squash_of t.config.limits (session_encoding t) from.entry) squash.items squash.version) (sym from.is)) ∙ ap items_meant means_now)
+
+  left_now : bytes_left reached_text accepts_now.items ≡ bytes_left from.entry.text longer_squash.items
+  left_now =
+      ap encode_utf8_all
+      (ap (λ x. text_of x accepts_now.items) chars_now ∙ sym (text_of-then (chars from.entry.text) squash.items accepts_now.items) ∙ ap (text_of (chars from.entry.text)) (sym longer_items))
+
+  pub goes_on_from : IsOpenFrom t longer_squash (server_after now p)
+  goes_on_from = record {
+    entry = from.entry;
+    found = from.found;
+    received = from.received;
+    is = ap (λ (k : SquashData). with_items k longer_squash.items longer_squash.version) from.is;
+    batch = from.batch ++ map edit_from_data p.changes;
+    means = then_means (units_in (session_encoding t)) (chars from.entry.text) from.batch (map edit_from_data p.changes) squash.items accepts_now.items from.means means_now ∙ ap Ok (sym longer_items);
+    texts = texts_more from.batch (map edit_from_data p.changes) from.texts proper.texts;
+    newer = newer_still t.config.limits.lenient p.version squash.version from.entry.version accepts_now.newer from.newer;
+    short = subst (λ (text : List ℕ). length text ≤ t.config.limits.max_text) left_now accepts_now.short;
+    uri = from.uri;
+    version = proper.version;
+    now_is =
+        ap (λ (s : State). server_after s p) from.now_is
+        ∙ ap (λ (table : List DocumentItem). record t { table = table })
+        (change_puts (units_in (session_encoding t)) next.table p.uri p.version (map edit_from_data p.changes) reached_now found_now
+        ∙ ap (λ m. put next.table p.uri p.version (meant_text reached_text m)) accepts_now.means
+        ∙ ap (λ u. put next.table u p.version (bytes_left reached_text accepts_now.items)) uri_is
+        ∙ put_twice t.table squash.uri squash.version p.version reached_text (bytes_left reached_text accepts_now.items)
+        ∙ ap (put t.table squash.uri p.version) left_now);
+  }
+
+-- ---- the document that is open now
+
+module _ (t : State) (squash : SquashData) (now : State) (from : IsOpenFrom t squash now) where
+  pub same_encoding : squash.encoding ≡ session_encoding now
+  same_encoding = ap (λ (k : SquashData). k.encoding) from.is ∙ sym (ap session_encoding from.now_is)
+
+  pub same_text : (uri : List ℕ) (entry : DocumentItem) → uri ≡ squash.uri → entry_at now.table uri ≡ Some entry → text_of (chars squash.text) squash.items ≡ chars entry.text
+  same_text uri entry same found =
+      let reached : List ℕ = bytes_left from.entry.text squash.items in
+      let both : Some (record from.entry { version = squash.version; text = reached }) ≡ Some entry =
+      sym (put_at t.table squash.uri squash.version reached from.entry from.found) ∙ sym (ap (λ (s : State). entry_at s.table squash.uri) from.now_is) ∙ ap (entry_at now.table) (sym same) ∙ found in
+      let one : record from.entry { version = squash.version; text = reached } ≡ entry = cc in
+      ap (λ (k : SquashData). text_of (chars k.text) squash.items) from.is
+      ∙ sym (left_chars (units_in (session_encoding t)) from.entry.text from.batch squash.items from.received.utf8 from.texts from.means)
+      ∙ ap (λ (e : DocumentItem). chars e.text) one
+
+-- ---- all batches of a run as one message
+
+module _ (t : State) (squash : SquashData) (now : State) (from : IsOpenFrom t squash now) (ranges : AreInRange t.config.limits) (few : nat_lt t.config.limits.max_changes (length (squash_batch squash)) ≡ false) where
+  pub one_batch : squash_batch squash ≡ canonical (units_in (session_encoding t)) (chars from.entry.text) squash.items
+  one_batch = ap squash_batch from.is
+
+  proper_at : IsProperAt t squash.uri squash.version from.entry from.batch squash.items
+  proper_at = record {
+    found = from.found;
+    utf8 = from.received.utf8;
+    received = from.received.short;
+    uri_utf8 = from.uri;
+    version_fits = from.version;
+    means = from.means;
+    texts = from.texts;
+    newer = from.newer;
+    short = from.short;
+    few = subst (λ (b : List Edit). nat_lt t.config.limits.max_changes (length b) ≡ false) one_batch few;
+  }
+
+  pub one_message : IsCanonicalChange t squash.uri squash.version from.entry squash.items
+  one_message = is_canonical_change t squash.uri squash.version from.entry from.batch squash.items ranges proper_at
+
+  -- Read again, it begins a run that means the same.
+  pub one_joins : joined_by (canonical_change t squash.uri squash.version from.entry squash.items) (squash_of t.config.limits (session_encoding t) from.entry) ≡ squash
+  one_joins =
+      one_message.joins (squash_of t.config.limits (session_encoding t) from.entry) refl (plain_text (chars from.entry.text))
+      ∙ ap (λ items. with_items (squash_of t.config.limits (session_encoding t) from.entry) items squash.version)
+      (plain_then (units_in (session_encoding t)) (chars from.entry.text) from.batch squash.items from.means)
+      ∙ sym from.is

@@ -1,0 +1,209 @@
+-- A record that is left out changes nothing of a session but its counts.
+use Rattle.std.proofs.Common.{◌≡◌, ◌≢◌, ℕ, Bool, true, false, ◌&&◌, ◌||◌, List, Option, Some, None, is_some, refl, sym, ap, ◌∙◌, subst}
+use Rattle.std.specs.Prelude.{not, if◌then◌else◌}
+use Rattle.lsp_message.specs.Message.{IdData, Reading, reading}
+use Rattle.lsp_message.specs.Message as read
+use Rattle.lsp_message.specs.Outgoing.{OutgoingData, error_reply}
+use Rattle.lsp_message.specs.Params.{ChangeData}
+use Rattle.lsp_message.specs.declared.outgoing.ErrorCode.TheVariants.{MethodNotFound}
+use Rattle.lsp_server.specs.declared.phase.Phase.{Phase}
+use Rattle.lsp_server.specs.declared.phase.Phase.TheVariants.{New, Running, Down, Ended}
+use Rattle.lsp_server.specs.Answer.{AnswerData, Sent, reply, dropped, ignored, as_sent}
+use Rattle.lsp_server.specs.Incoming.{IncomingData, not_json, not_a_message, response, initialize, shutdown, other_request, exit, did_open, did_change, did_close, other_notification, incoming_of}
+use Rattle.lsp_server.specs.Step.{State, Step, stays, step_in, step_on}
+use Rattle.lsp_stream.specs.Ports.{one_more}
+use Rattle.lsp_log.specs.declared.record.Version.{Version}
+use Rattle.lsp_log.specs.declared.record.Version.TheVariants.{One, Two}
+use Rattle.lsp_log.specs.declared.record.Side.{Side}
+use Rattle.lsp_log.specs.declared.record.Side.TheVariants.{Client, Server}
+use Rattle.lsp_log.specs.Log.{Record}
+use Rattle.lsp_replay.specs.Documents.{is_answer_to, is_kept_method, message_stays, record_stays}
+use Rattle.lsp_replay.specs.Commands.{canonical_if, change_in}
+use Rattle.lsp_replay.specs.Session.{Session, Verdict, answered, recorded, bad, Judged, judged, judge, judge_from, judge_incoming, handled, hear_for, heard, counted, count_if, result_for, is_change, is_early, is_ended, is_new, is_refused, is_running, expected_of, expected_after}
+use Rattle.lsp_replay.proofs.Records.NumberedLemmas.{IsAlike}
+
+-- What becomes of a record that is left out.
+pub record IsHarmless (s : Session) (change : Option ChangeData) (j : Judged) : Type 0 where
+  pub alike : IsAlike s j.session
+  pub not_bad : j.verdict ≢ bad
+  pub none : canonical_if s.server change j.verdict ≡ None
+
+-- ---- a client's message
+
+-- A step that answers and changes nothing, and isn't a refusal.
+record IsIdle (phase : Phase) (server : State) (m : IncomingData) : Type 0 where
+  goes_on : is_ended phase ≡ false
+  answer : AnswerData OutgoingData
+  step : step_in phase server m ≡ stays server answer
+  accepted : is_refused (as_sent answer) ≡ false
+  no_change : is_change m ≡ false
+  nothing : change_in m ≡ None
+  expects : (version : Version) (expected : Option IdData) → expected_of version m expected ≡ expected
+
+module _ (server : State) where
+  expects_response : (id : Option IdData) (version : Version) (expected : Option IdData) → expected_of version (response id) expected ≡ expected
+  expects_response id One expected = refl
+  expects_response id Two expected = refl
+
+  expects_request : (id : IdData) (method : List ℕ) (version : Version) (expected : Option IdData) → expected_of version (other_request id method) expected ≡ expected
+  expects_request id method One expected = refl
+  expects_request id method Two expected = refl
+
+  expects_notification : (method : List ℕ) (version : Version) (expected : Option IdData) → expected_of version (other_notification method) expected ≡ expected
+  expects_notification method One expected = refl
+  expects_notification method Two expected = refl
+
+  idle_response : (phase : Phase) (id : Option IdData) → is_ended phase ≡ false → step_in phase server (response id) ≡ stays server ignored → IsIdle phase server (response id)
+  idle_response phase id goes step = record {
+    goes_on = goes;
+    answer = ignored;
+    step = step;
+    accepted = refl;
+    no_change = refl;
+    nothing = refl;
+    expects = expects_response id;
+  }
+
+  idle_notification : (phase : Phase) (method : List ℕ) (answer : AnswerData OutgoingData) → is_ended phase ≡ false → step_in phase server (other_notification method) ≡ stays server answer → is_refused (as_sent answer) ≡ false
+      → IsIdle phase server (other_notification method)
+  idle_notification phase method answer goes step accepted = record {
+    goes_on = goes;
+    answer = answer;
+    step = step;
+    accepted = accepted;
+    no_change = refl;
+    nothing = refl;
+    expects = expects_notification method;
+  }
+
+  idle_request : (id : IdData) (method : List ℕ) → IsIdle Running server (other_request id method)
+  idle_request id method = record {
+    goes_on = refl;
+    answer = reply (error_reply (Some id) MethodNotFound);
+    step = refl;
+    accepted = refl;
+    no_change = refl;
+    nothing = refl;
+    expects = expects_request id method;
+  }
+
+  wrong : (phase : Phase) (m : IncomingData) → true ≡ false → IsIdle phase server m
+  wrong phase m e = absurd (cc)
+
+  idle : (phase : Phase) (m : IncomingData) → message_stays phase m ≡ false → IsIdle phase server m
+  idle New (response id) e = idle_response New id refl refl
+  idle Running (response id) e = idle_response Running id refl refl
+  idle Down (response id) e = idle_response Down id refl refl
+  idle Ended (response id) e = wrong Ended (response id) e
+  idle Running (other_request id method) e = idle_request id method
+  idle New (other_request id method) e = wrong New (other_request id method) e
+  idle Down (other_request id method) e = wrong Down (other_request id method) e
+  idle Ended (other_request id method) e = wrong Ended (other_request id method) e
+  idle New (other_notification method) e = idle_notification New method dropped refl refl refl
+  idle Running (other_notification method) e = idle_notification Running method ignored refl refl refl
+  idle Down (other_notification method) e = idle_notification Down method dropped refl refl refl
+  idle Ended (other_notification method) e = wrong Ended (other_notification method) e
+  idle phase not_json e = wrong phase not_json e
+  idle phase (not_a_message id) e = wrong phase (not_a_message id) e
+  idle phase (initialize id offers) e = wrong phase (initialize id offers) e
+  idle phase (shutdown id) e = wrong phase (shutdown id) e
+  idle phase exit e = wrong phase exit e
+  idle phase (did_open params) e = wrong phase (did_open params) e
+  idle phase (did_change params) e = wrong phase (did_change params) e
+  idle phase (did_close params) e = wrong phase (did_close params) e
+
+early : (a b c : Bool) → c ≡ false → (a && b && c) ≡ false
+early a b true e = absurd (cc)
+early true true false e = refl
+early true false false e = refl
+early false true false e = refl
+early false false false e = refl
+
+expects_on : (b : Bool) (x y : Option IdData) → x ≡ y → (if b then x else y) ≡ y
+expects_on true x y e = e
+expects_on false x y e = refl
+
+module _ (s : Session) (version : Version) (m : IncomingData) (left_out : message_stays s.server.phase m ≡ false) where
+  here : IsIdle s.server.phase s.server m
+  here = idle s.server s.server.phase m left_out
+
+  not_early : is_early s m ≡ false
+  not_early = early (is_some s.expected) (is_running s.server.phase) (is_change m) here.no_change
+
+  abbrev quiet : Judged
+  quiet = judged (answered (as_sent here.answer)) (record s { messages = one_more s.messages })
+
+  is_handled : judge_incoming s version m ≡ handled s version m (step_on s.server m).state (as_sent (step_on s.server m).answer)
+  is_handled = rw (here.goes_on, not_early) refl
+
+  is_quiet : judge_incoming s version m ≡ quiet
+  is_quiet =
+      is_handled ∙ ap (λ (step : Step). handled s version m step.state (as_sent step.answer)) here.step
+      ∙ ap (λ (e : Option IdData). judged (answered (as_sent here.answer)) (record s { expected = e; messages = one_more s.messages; refusals = count_if (is_refused (as_sent here.answer)) s.refusals }))
+      (expects_on (is_new s.server.phase) (expected_of version m s.expected) s.expected (here.expects version s.expected))
+      ∙ ap (λ (b : Bool). judged (answered (as_sent here.answer)) (record s { messages = one_more s.messages; refusals = count_if b s.refusals })) here.accepted
+
+  not_bad : answered (as_sent here.answer) ≢ bad
+  not_bad e = cc
+
+  client_harmless : IsHarmless s (change_in m) (judge_incoming s version m)
+  client_harmless =
+      subst (IsHarmless s (change_in m)) (sym is_quiet)
+      (record { alike = (s.records, one_more s.messages, refl); not_bad = not_bad; none = ap (λ (c : Option ChangeData). canonical_if s.server c (answered (as_sent here.answer))) here.nothing })
+
+-- ---- a server's record
+
+no_result : (id : IdData) (body : Reading) → is_answer_to (Some id) body ≡ false → result_for id body ≡ None
+no_result id read.not_json e = refl
+no_result id (read.not_a_message other) e = refl
+no_result id (read.message (read.request other method params)) e = refl
+no_result id (read.message (read.notification method params)) e = refl
+no_result id (read.message (read.response None read.failed)) e = refl
+no_result id (read.message (read.response None (read.given result))) e = refl
+no_result id (read.message (read.response (Some other) read.failed)) e = refl
+no_result id (read.message (read.response (Some other) (read.given result))) e = rw e refl
+
+no_answer : (s : Session) (expected : Option IdData) (body : List ℕ) → is_answer_to expected (reading body) ≡ false → hear_for s expected body ≡ judged recorded s
+no_answer s None body e = refl
+no_answer s (Some id) body e = ap (heard s) (no_result id (reading body) e)
+
+neither : (a b : Bool) → (a || b) ≡ false → a ≡ false
+neither true b e = absurd (let wrong : true ≡ false = e in cc)
+neither false b e = refl
+
+not_recorded : recorded ≢ bad
+not_recorded e = cc
+
+none_recorded : (server : State) (change : Option ChangeData) → canonical_if server change recorded ≡ None
+none_recorded server None = refl
+none_recorded server (Some p) = refl
+
+server_harmless : (s : Session) (waiting : Option IdData) (change : Option ChangeData) (body : List ℕ) → record_stays s waiting Server body ≡ false → IsHarmless s change (hear_for s s.expected body)
+server_harmless s waiting change body e =
+    subst (IsHarmless s change) (sym (no_answer s s.expected body (neither _ _ e)))
+    (record { alike = (s.records, s.messages, refl); not_bad = not_recorded; none = none_recorded s.server change })
+
+-- ---- any record
+
+from_harmless : (s : Session) (waiting : Option IdData) (version : Version) (side : Side) (body : List ℕ) → record_stays s waiting side body ≡ false → IsHarmless s (change_in (incoming_of (reading body))) (judge_from s version side body)
+from_harmless s waiting version Client body e = client_harmless s version (incoming_of (reading body)) e
+from_harmless s waiting version Server body e = server_harmless s waiting (change_in (incoming_of (reading body))) body e
+
+counted_harmless : (s : Session) (change : Option ChangeData) (j : Judged) → IsHarmless s change j → IsHarmless s change (counted j)
+counted_harmless s change j h = record {
+  alike = (one_more j.session.records, h.alike.1, ap (λ (t : Session). record t { records = one_more j.session.records }) h.alike.2);
+  not_bad = h.not_bad;
+  none = h.none;
+}
+
+pub harmless : (s : Session) (waiting : Option IdData) (r : Record) → record_stays s waiting r.head.side r.body ≡ false → IsHarmless s (change_in (incoming_of (reading r.body))) (judge s r)
+harmless s waiting r e = counted_harmless s _ (judge_from s r.head.version r.head.side r.body) (from_harmless s waiting r.head.version r.head.side r.body e)
+
+-- Whether a record stays doesn't depend on the counts.
+stays_numbered : (n m : ℕ) (s : Session) (waiting : Option IdData) (side : Side) (body : List ℕ)
+    → record_stays (record { server = s.server; expected = s.expected; records = n; messages = m; refusals = s.refusals }) waiting side body ≡ record_stays s waiting side body
+stays_numbered n m s waiting Client body = refl
+stays_numbered n m s waiting Server body = refl
+
+pub stays_alike : (s t : Session) (waiting : Option IdData) (side : Side) (body : List ℕ) → IsAlike s t → record_stays t waiting side body ≡ record_stays s waiting side body
+stays_alike s t waiting side body like = ap (λ (u : Session). record_stays u waiting side body) like.2 ∙ stays_numbered like.0 like.1 s waiting side body

@@ -1,0 +1,5 @@
+-- The canonical message of a batch.
+pub mod FrameLemmas
+pub mod MessageLemmas
+pub mod ProperLemmas
+pub mod ScalarLemmas

@@ -1,0 +1,4 @@
+-- Units of characters, counted by bytes.
+pub mod UnitLemmas
+pub mod LeadLemmas
+pub mod BlockLemmas
