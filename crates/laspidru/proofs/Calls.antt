@@ -4,7 +4,7 @@ use Rattle.lsp_message.specs.Message.{Reading}
 use Rattle.lsp_client.specs.declared.fault.ClientFault.{ClientFault}
 use Rattle.lsp_client.specs.declared.fault.ClientFault.TheVariants as client
 use Rattle.lsp_client.specs.Seen.{IsSent, IsFaultOf, IsDelivered}
-use Rattle.lsp_client.specs.Step.{State, Sending, Delivery, DeliveredData, delivery_of, delivery_result, if_listening, is_listening}
+use Rattle.lsp_client.specs.Step.{ClientData, Sending, Delivery, DeliveredData, delivery_of, delivery_result, if_listening, is_listening}
 use Rattle.laspidru.specs.declared.answers.Answer.{Answer}
 use Rattle.laspidru.specs.declared.codes.TheConstants.{OK}
 use Rattle.laspidru.specs.declared.object.Object.{Object}
@@ -14,7 +14,7 @@ use Rattle.laspidru.specs.Streams.{StreamData}
 use Rattle.laspidru.specs.Clients.{IsCalled, IsDeliveredTo, IsTakenIn, IsRefusedCall, IsWritten, IsCallReport, call_code, delivered_out, frame_out}
 
 -- A call that sends a frame is accepted.
-pub accepted : (stream : StreamData) (r : Result Sending ClientFault) (bytes : List ℕ) (new : State) (code len : ℕ) (stored : Option Object)
+pub accepted : (stream : StreamData) (r : Result Sending ClientFault) (bytes : List ℕ) (new : ClientData) (code len : ℕ) (stored : Option Object)
     → IsSent r bytes new → code ≡ OK → stored ≡ Some (Client (record { client = new; frame = bytes; stream = stream })) → len ≡ length bytes
     → IsCalled stream r code stored len
 accepted stream (Ok sending) bytes new code len stored sent done held counted =
@@ -54,12 +54,12 @@ report_written (Err (client.Store refusal)) fault code out (inr why) is written 
 report_written (Err client.NoMemory) fault code out why is written = tt
 
 -- An accepted call writes no fault.
-pub none_written : (r : Result Sending ClientFault) (bytes : List ℕ) (new : State) (code : ℕ) (out : Fault) → IsSent r bytes new → IsWritten r code out
+pub none_written : (r : Result Sending ClientFault) (bytes : List ℕ) (new : ClientData) (code : ℕ) (out : Fault) → IsSent r bytes new → IsWritten r code out
 none_written (Ok sending) bytes new code out sent = tt
 none_written (Err refusal) bytes new code out sent = absurd sent
 
 -- A body that a client takes.
-pub delivered : (stream : StreamData) (r : Result Delivery ClientFault) (given : DeliveredData (List ℕ)) (new : State) (code : ℕ) (stored : Option Object) (out : Answer)
+pub delivered : (stream : StreamData) (r : Result Delivery ClientFault) (given : DeliveredData (List ℕ)) (new : ClientData) (code : ℕ) (stored : Option Object) (out : Answer)
     → IsDelivered r given new → code ≡ OK → stored ≡ Some (Client (record { client = new; frame = frame_out given; stream = stream })) → out ≡ delivered_out given
     → IsDeliveredTo stream r code stored out
 delivered stream (Ok delivery) given new code stored out is done held answered =
@@ -77,7 +77,7 @@ delivery_refused stream (Ok delivery) fault code stored out why is = inl (is ∙
 delivery_refused stream (Err refusal) fault code stored out why is = delivery_code_is refusal fault code why is
 
 -- A body that a listening client takes.
-pub heard : (stream : StreamData) (s : State) (body : Reading) (given : DeliveredData (List ℕ)) (new : State) (code : ℕ) (stored : Option Object) (out : Answer)
+pub heard : (stream : StreamData) (s : ClientData) (body : Reading) (given : DeliveredData (List ℕ)) (new : ClientData) (code : ℕ) (stored : Option Object) (out : Answer)
     → is_listening s.phase ≡ true → IsDelivered (delivery_result s body) given new → code ≡ OK
     → stored ≡ Some (Client (record { client = new; frame = frame_out given; stream = stream })) → out ≡ delivered_out given
     → IsTakenIn stream (delivery_of s body) code stored out

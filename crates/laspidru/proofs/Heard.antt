@@ -62,7 +62,7 @@ waits old new piece body code taken before after fed is whole rest same =
 
 -- A message is whole, and was handled.
 pub one_served : (old new : SessionData) (stream : StreamData) (piece body reply : List ℕ) (code : ℕ) (taken : Taken)
-    (before after : Answer) (after_it : server.State) (given : AnswerData Sent)
+    (before after : Answer) (after_it : server.ServerData) (given : AnswerData Sent)
     → IsFedTo old.stream piece code stream taken → code ≡ OK → IsBodyOf stream.framing body
     → given ≡ as_sent (step_at old body).answer → after_it ≡ (step_at old body).state → reply ≡ reply_out given
     → new ≡ record { server = after_it; reply = reply; stream = handled stream } → after ≡ answer_out given

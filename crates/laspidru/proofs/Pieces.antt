@@ -1,6 +1,6 @@
 -- What is taken of a piece of a stream.
 use Rattle.std.proofs.Common.{◌≡◌, ◌≢◌, ℕ, Bool, List, false, true, inl, inr, ap, arith, subst, sym}
-use Rattle.lsp_frame.specs.Stream.{Framing}
+use Rattle.lsp_frame.specs.Stream.{FramerData}
 use Rattle.lsp_frame.specs.declared.fault.FrameFault.{FrameFault}
 use Rattle.lsp_frame.specs.declared.fault.FrameFault.TheVariants.{BadHeader, HeaderTooLong, MissingLength, RepeatedHeader, BadLength, BodyTooLong, BadCharset, Failed, NoMemory}
 use Rattle.laspidru.specs.declared.codes.TheConstants.{BAD_FRAME, OK}
@@ -31,21 +31,21 @@ none NoMemory code out is report kept =
     let e : out ≡ nothing_taken = kept (λ (z : code ≡ OK). omega arith) (λ (z : code ≡ BAD_FRAME). omega arith) in
     (ap (λ (it : Taken). it.bytes) e, ap (λ (it : Taken). it.is_whole) e)
 
-none_of : (old new : Framing) (piece : List ℕ) (code : ℕ) (out : Taken) → IsFed old piece code new out → code ≢ OK
+none_of : (old new : FramerData) (piece : List ℕ) (code : ℕ) (out : Taken) → IsFed old piece code new out → code ≢ OK
     → (code ≢ OK → code ≢ BAD_FRAME → (new ≡ old) × (out ≡ nothing_taken)) → IsNothing out
 none_of old new piece code out (inl done) bad kept = absurd (bad done.0)
 none_of old new piece code out (inr fault) bad kept = none fault.fault code out fault.is fault.report (λ a b. (kept a b).1)
 
 -- A message that was handled is released.
-pub released_next : (is_handled : Bool) (old new : Framing) → is_handled ≡ true → IsReleased old new → IsNext is_handled old new
+pub released_next : (is_handled : Bool) (old new : FramerData) → is_handled ≡ true → IsReleased old new → IsNext is_handled old new
 released_next is_handled old new is done = subst (λ b. IsNext b old new) (sym is) done
 
 -- One that wasn't stays.
-pub kept_next : (is_handled : Bool) (old new : Framing) → is_handled ≡ false → new ≡ old → IsNext is_handled old new
+pub kept_next : (is_handled : Bool) (old new : FramerData) → is_handled ≡ false → new ≡ old → IsNext is_handled old new
 kept_next is_handled old new is same = subst (λ b. IsNext b old new) (sym is) same
 
 -- A piece was fed after the message that was handled.
-pub fed_to : (old new : StreamData) (at : Framing) (piece : List ℕ) (code : ℕ) (out : Taken)
+pub fed_to : (old new : StreamData) (at : FramerData) (piece : List ℕ) (code : ℕ) (out : Taken)
     → IsNext old.is_handled old.framing at → IsFed at piece code new.framing out → new.is_handled ≡ false
     → (code ≢ OK → code ≢ BAD_FRAME → (new.framing ≡ at) × (out ≡ nothing_taken)) → IsFedTo old piece code new out
 fed_to old new at piece code out next fed unhandled kept = record {

@@ -2,7 +2,7 @@
 use Rattle.std.specs.Prelude.{ℕ, ℤ, ◌≡◌, ◌⊎◌, false, List, [], length, option_map, Option, Some, None, Result, Ok, Err}
 use Rattle.std.specs.Option.{ok_or}
 use Rattle.lsp_frame.specs.Frame.{frame}
-use Rattle.lsp_frame.specs.Limits.{Bounds}
+use Rattle.lsp_frame.specs.Limits.{LimitsData}
 use Rattle.lsp_text.specs.declared.encoding.Encoding.{Encoding}
 use Rattle.lsp_text.specs.declared.encoding.Encoding.TheVariants.{Utf8, Utf16, Utf32}
 use Rattle.lsp_edit.specs.declared.fault.EditFault.TheVariants as edit
@@ -38,7 +38,7 @@ use Rattle.laspidru.specs.Streams.{StreamData, stream_of}
 -- ---- how a client is set up
 
 -- The limits in the settings of a client.
-abbrev pub client_bounds : ClientSettings → Bounds
+abbrev pub client_bounds : ClientSettings → LimitsData
 client_bounds settings = record {
   max_body = settings.max_body;
   max_text = settings.max_text;

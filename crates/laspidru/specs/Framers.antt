@@ -1,8 +1,8 @@
 -- A framer that C asks for, and what it takes of a stream (LSP 3.17, Base Protocol).
 use Rattle.std.specs.Prelude.{ℕ, ◌≡◌, ◌≢◌, ◌≤◌, ◌<◌, ◌++◌, ◌⊎◌, Bool, true, false, List, length, take, Option, Some, None, Result, Ok, Err}
-use Rattle.lsp_frame.specs.Limits.{Bounds, default_limits}
+use Rattle.lsp_frame.specs.Limits.{LimitsData, default_limits}
 use Rattle.lsp_frame.specs.Frame.{IsFrameOf}
-use Rattle.lsp_frame.specs.Stream.{Framing, IsFrame, HoldsOne, IsFeedFault, released}
+use Rattle.lsp_frame.specs.Stream.{FramerData, IsFrame, HoldsOne, IsFeedFault, released}
 use Rattle.lsp_frame.specs.declared.fault.FrameFault.{FrameFault}
 use Rattle.lsp_frame.specs.declared.fault.FrameFault.TheVariants as frame
 use Rattle.laspidru.specs.declared.codes.TheConstants.{BAD_FRAME, EMPTY, FAILED, NO_MESSAGE, OK, OTHER_KIND, OUT_OF_MEMORY}
@@ -17,23 +17,23 @@ use Rattle.laspidru.specs.Streams.{StreamData}
 -- ---- the framer of a handle
 
 -- The limits of a framer, if the greatest length of a body is in its range. The others are ignored.
-abbrev pub framer_limits : ℕ → Result Bounds ℕ
+abbrev pub framer_limits : ℕ → Result LimitsData ℕ
 framer_limits max_body = limits_asked (record default_limits { max_body = max_body })
 
 -- The framer of an object.
-abbrev pub framer_of : Object → Result Framing ℕ
+abbrev pub framer_of : Object → Result FramerData ℕ
 framer_of (Framer framing) = Ok framing
 framer_of other = Err OTHER_KIND
 
 -- The framer in a handle.
-abbrev pub framer_in : Option Object → Result Framing ℕ
+abbrev pub framer_in : Option Object → Result FramerData ℕ
 framer_in (Some object) = framer_of object
 framer_in None = Err EMPTY
 
 -- ---- what it takes
 
 -- A whole message is buffered, whose body has so many bytes; or none is.
-abbrev pub HasBody : Framing → Bool → ℕ → Type 0
+abbrev pub HasBody : FramerData → Bool → ℕ → Type 0
 HasBody framing true len = (framing.failed ≡ false)
     × (body : List ℕ) × IsFrameOf framing.limits.max_body framing.buffered body
     × (len ≡ length body)
@@ -41,7 +41,7 @@ HasBody framing false len = (len ≡ 0) × (framing.failed ≡ false → (body :
     IsFrameOf framing.limits.max_body framing.buffered body → ⊥)
 
 -- Bytes of a piece were taken: all of them, or those up to the end of one message.
-pub record HasTaken (old new : Framing) (piece : List ℕ) (out : Taken) : Type 0 where
+pub record HasTaken (old new : FramerData) (piece : List ℕ) (out : Taken) : Type 0 where
   pub within : out.bytes ≤ length piece
   pub buffered : new ≡ record old { buffered = old.buffered ++ take out.bytes piece }
   pub stops : out.bytes < length piece → IsFrame new.limits.max_body new.buffered
@@ -75,26 +75,26 @@ IsFrameReport (frame.BadCharset place) out = out ≡ taken_fault 7 place
 IsFrameReport other out = Unit {0}
 
 -- A piece was not taken, by this fault of the framer.
-pub record IsNotTaken (old new : Framing) (piece : List ℕ) (code : ℕ) (out : Taken) : Type 0 where
+pub record IsNotTaken (old new : FramerData) (piece : List ℕ) (code : ℕ) (out : Taken) : Type 0 where
   pub fault : FrameFault
   pub why : IsFeedFault old new piece fault
   pub is : code ≡ frame_code fault
   pub report : IsFrameReport fault out
 
 -- A piece was fed to a framer: bytes were taken, or there is a fault.
-abbrev pub IsFed : Framing → List ℕ → ℕ → Framing → Taken → Type 0
+abbrev pub IsFed : FramerData → List ℕ → ℕ → FramerData → Taken → Type 0
 IsFed old piece code new out =
     ((code ≡ OK) × HasTaken old new piece out) ⊎ IsNotTaken old new piece code out
 
 -- ---- the message that is buffered
 
 -- No whole message is buffered.
-abbrev pub HasNoBody : Framing → Type 0
+abbrev pub HasNoBody : FramerData → Type 0
 HasNoBody framing = framing.failed ≡ false → (body : List ℕ) →
     IsFrameOf framing.limits.max_body framing.buffered body → ⊥
 
 -- The bytes of the body are copied from `start` on.
-pub record IsBodyCopy (framing : Framing) (start code : ℕ) (old new : List ℕ)
+pub record IsBodyCopy (framing : FramerData) (start code : ℕ) (old new : List ℕ)
     (copied : ℕ) : Type 0 where
   pub sound : framing.failed ≡ false
   pub body : List ℕ
@@ -102,32 +102,32 @@ pub record IsBodyCopy (framing : Framing) (start code : ℕ) (old new : List ℕ
   pub answer : IsAnswer (rest_asked start (Ok body)) code (IsCopy old new copied)
 
 -- They are, or there is no whole message.
-abbrev pub IsBodyAnswer : Framing → ℕ → ℕ → List ℕ → List ℕ → ℕ → Type 0
+abbrev pub IsBodyAnswer : FramerData → ℕ → ℕ → List ℕ → List ℕ → ℕ → Type 0
 IsBodyAnswer framing start code old new copied =
     ((code ≡ NO_MESSAGE) × HasNoBody framing) ⊎ IsBodyCopy framing start code old new copied
 
 -- The message is released, if one is whole; else nothing changes.
-pub record IsReleased (old new : Framing) : Type 0 where
+pub record IsReleased (old new : FramerData) : Type 0 where
   pub whole : old.failed ≡ false → IsFrame old.limits.max_body old.buffered → new ≡ released old
   pub none : (old.failed ≡ false → IsFrame old.limits.max_body old.buffered → ⊥) → new ≡ old
 
 -- ---- the stream of an end
 
 -- The framer as the next piece finds it: a message that was handled is released.
-abbrev pub IsNext : Bool → Framing → Framing → Type 0
+abbrev pub IsNext : Bool → FramerData → FramerData → Type 0
 IsNext true old new = IsReleased old new
 IsNext false old new = new ≡ old
 
 -- A piece was fed to a stream. With another code than OK no byte of it was taken.
 pub record IsFedTo (old : StreamData) (piece : List ℕ) (code : ℕ) (new : StreamData)
     (out : Taken) : Type 0 where
-  pub at : Framing
+  pub at : FramerData
   pub next : IsNext old.is_handled old.framing at
   pub fed : IsFed at piece code new.framing out
   pub unhandled : new.is_handled ≡ false
   pub none : code ≢ OK → (out.bytes ≡ 0) × (out.is_whole ≡ false)
 
 -- The body of the message that is buffered.
-abbrev pub IsBodyOf : Framing → List ℕ → Type 0
+abbrev pub IsBodyOf : FramerData → List ℕ → Type 0
 IsBodyOf framing body = (framing.failed ≡ false)
     × IsFrameOf framing.limits.max_body framing.buffered body

@@ -1,6 +1,6 @@
 -- A command on a log that C asks for, and the result that C gets.
 use Rattle.std.specs.Prelude.{ℕ, ◌≡◌, ◌≢◌, Bool, true, false, List, [], length, Option, Some, None, Result, Ok, Err, IfOk}
-use Rattle.lsp_frame.specs.Limits.{Bounds}
+use Rattle.lsp_frame.specs.Limits.{LimitsData}
 use Rattle.lsp_frame.specs.declared.fault.FrameFault.{FrameFault}
 use Rattle.lsp_frame.specs.declared.fault.FrameFault.TheVariants as frame
 use Rattle.lsp_stream.specs.declared.fault.EngineFault.{EngineFault}
@@ -28,7 +28,7 @@ use Rattle.laspidru.specs.Servers.{limits_asked}
 -- ---- how a log is read
 
 -- The limits in the settings of a log.
-abbrev pub log_bounds : LogSettings → Bounds
+abbrev pub log_bounds : LogSettings → LimitsData
 log_bounds settings = record {
   max_body = settings.max_body;
   max_text = settings.max_text;

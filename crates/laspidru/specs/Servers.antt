@@ -2,7 +2,7 @@
 use Rattle.std.specs.Prelude.{ℕ, ℤ, ◌≡◌, pos, if◌then◌else◌, Bool, true, false, List, [], length, option_map, Option, Some, None, Result, Ok, Err}
 use Rattle.std.specs.Option.{ok_or}
 use Rattle.std.specs.Str.{is_utf8}
-use Rattle.lsp_frame.specs.Limits.{Bounds, first_out_of_range}
+use Rattle.lsp_frame.specs.Limits.{LimitsData, first_out_of_range}
 use Rattle.lsp_text.specs.declared.encoding.Encoding.{Encoding}
 use Rattle.lsp_edit.specs.declared.fault.EditFault.TheVariants as edit
 use Rattle.lsp_message.specs.declared.outgoing.ErrorCode.{ErrorCode}
@@ -37,7 +37,7 @@ use Rattle.laspidru.specs.Streams.{stream_of}
 -- ---- how a server is set up
 
 -- The limits in the settings of a server.
-abbrev pub bounds_of : Settings → Bounds
+abbrev pub bounds_of : Settings → LimitsData
 bounds_of settings = record {
   max_body = settings.max_body;
   max_text = settings.max_text;
@@ -57,7 +57,7 @@ sync_of true = Full
 sync_of false = Incremental
 
 -- Limits, if each is in its range.
-abbrev pub limits_asked : Bounds → Result Bounds ℕ
+abbrev pub limits_asked : LimitsData → Result LimitsData ℕ
 limits_asked bounds
     = unless (option_map (λ which. BAD_LIMIT) (first_out_of_range bounds)) (Ok bounds)
 

@@ -1,17 +1,17 @@
 -- The stream that an end takes its messages from.
 use Rattle.std.specs.Prelude.{Bool, false, []}
-use Rattle.lsp_frame.specs.Limits.{Bounds}
-use Rattle.lsp_frame.specs.Stream.{Framing}
+use Rattle.lsp_frame.specs.Limits.{LimitsData}
+use Rattle.lsp_frame.specs.Stream.{FramerData}
 
 -- A framer at the start of a stream.
-abbrev pub framing_of : Bounds → Framing
+abbrev pub framing_of : LimitsData → FramerData
 framing_of limits = record { place = 0; buffered = []; failed = false; limits = limits }
 
 -- A framer, and whether the message that it has buffered was handled.
 pub record StreamData : Type 0 where
-  pub framing : Framing
+  pub framing : FramerData
   pub is_handled : Bool
 
 -- A stream at its start.
-abbrev pub stream_of : Bounds → StreamData
+abbrev pub stream_of : LimitsData → StreamData
 stream_of limits = record { framing = framing_of limits; is_handled = false }

@@ -1,7 +1,7 @@
 //! The settings that C passes to a server, and the answer that it gets.
 
 ghost use Rattle.std.specs.Prelude.{◌≡◌, Err, IfErr, IfOk, Ok};
-ghost use Rattle.lsp_frame.specs.Limits.{Bounds};
+ghost use Rattle.lsp_frame.specs.Limits.{LimitsData};
 ghost use Rattle.lsp_server.specs.Seen.{answer_view};
 ghost use Rattle.laspidru.specs.Servers.{answer_out, config_asked, error_number, limits_asked};
 ghost use Rattle.laspidru.specs.Servers.{plain_out, refusal_code, store_code};
@@ -66,7 +66,7 @@ pub(crate) fn limits_of(
     max_changes: usize,
     lenient: bool,
 ) -> Result<Limits, u32>
-    ensures { let given : Bounds = record {
+    ensures { let given : LimitsData = record {
       max_body = max_body;
       max_text = max_text;
       max_docs = max_docs;

@@ -15,7 +15,7 @@ use Rattle.lsp_store.specs.Table as documents_table
 use Rattle.lsp_message.specs.Params.{DocumentItem}
 use Rattle.lsp_store.specs.Table.{already_open, too_many_documents, text_too_long, not_open, too_many_changes, stale_version, edit, body_too_long, changes, command_refusal, table_after}
 use Rattle.lsp_client.specs.declared.fault.ClientFault.TheVariants.{Store, NoMemory}
-use Rattle.lsp_client.specs.Step.{State, Sending, sent_body, sending_unless, command_result}
+use Rattle.lsp_client.specs.Step.{ClientData, Sending, sent_body, sending_unless, command_result}
 use Rattle.lsp_client.specs.Seen.{IsFaultOf, IsSent, client_fault}
 
 -- ---- refusals
@@ -64,7 +64,7 @@ refused_later first later fault none why = rw none why
 -- ---- what is sent
 
 -- A command that is not refused sends its message.
-pub sent_if : (s : State) (kind : SyncKind) (command : documents_table.Command) (bytes : List ℕ) (new : State)
+pub sent_if : (s : ClientData) (kind : SyncKind) (command : documents_table.Command) (bytes : List ℕ) (new : ClientData)
     → command_refusal s.limits s.table command ≡ None → body_refusal s.limits (sent_body kind s.table command) ≡ None
     → bytes ≡ frame (sent_body kind s.table command) → new ≡ record s { table = table_after s.table command }
     → IsSent (command_result s kind command) bytes new

@@ -14,7 +14,7 @@ use Rattle.lsp_client.specs.declared.delivered.Delivered.TheVariants.{Send, Note
 use Rattle.lsp_store.specs.Opened.{MayTakeMemory}
 use Rattle.lsp_store.specs.Table.{open_refusal, close_refusal}
 use Rattle.lsp_client.specs.declared.phase.Phase.TheVariants.{Ready}
-use Rattle.lsp_client.specs.Step.{State, Sending, Order, opens, edits, closes, Delivery, DeliveredData, sends, noted, ignored, bad_server}
+use Rattle.lsp_client.specs.Step.{ClientData, Sending, Order, opens, edits, closes, Delivery, DeliveredData, sends, noted, ignored, bad_server}
 
 -- ---- what a call asks
 
@@ -49,7 +49,7 @@ IsFaultOf (Err why) fault = fault ≡ why
 -- ---- what is accepted
 
 -- A call is accepted: this frame is to be sent, and this is the client's new state.
-abbrev pub IsSent : Result Sending ClientFault → List ℕ → State → Type 0
+abbrev pub IsSent : Result Sending ClientFault → List ℕ → ClientData → Type 0
 IsSent (Ok sending) bytes new =
     (bytes ≡ frame (body_of sending.message)) × (new ≡ sending.state)
 IsSent (Err refusal) bytes new = ⊥
@@ -69,7 +69,7 @@ as_sent ignored = ignored
 as_sent (bad_server reason) = bad_server reason
 
 -- A body is accepted: this is the result, and this is the client's new state.
-abbrev pub IsDelivered : Result Delivery ClientFault → DeliveredData (List ℕ) → State → Type 0
+abbrev pub IsDelivered : Result Delivery ClientFault → DeliveredData (List ℕ) → ClientData → Type 0
 IsDelivered (Ok delivery) delivered new =
     (delivered ≡ as_sent delivery.delivered) × (new ≡ delivery.state)
 IsDelivered (Err refusal) delivered new = ⊥
@@ -77,12 +77,12 @@ IsDelivered (Err refusal) delivered new = ⊥
 -- ---- memory
 
 -- Only what a batch means, or the length of the message, can still refuse an order.
-abbrev pub IsAdmitted : State → Order → Type 0
+abbrev pub IsAdmitted : ClientData → Order → Type 0
 IsAdmitted s (opens entry) = open_refusal s.limits s.table entry ≡ None
 IsAdmitted s (edits uri version batch) =
     MayTakeMemory (record { limits = s.limits; table = s.table }) uri version batch
 IsAdmitted s (closes uri) = close_refusal s.table uri ≡ None
 
 -- An order takes memory only in phase Ready, and only where it is admitted.
-abbrev pub MayAllocate : State → Order → Type 0
+abbrev pub MayAllocate : ClientData → Order → Type 0
 MayAllocate s order = (s.phase ≡ Ready) × IsAdmitted s order

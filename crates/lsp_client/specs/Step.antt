@@ -2,7 +2,7 @@
 -- Synchronization). The tables say which calls it accepts, which message each sends, and what it
 -- does with what the server sends.
 use Rattle.std.specs.Prelude.{ℕ, ℤ, Bool, true, false, ◌==◌, if◌then◌else◌, List, [], Option, Some, None, unwrap_or, Result, Ok, Err, pos}
-use Rattle.lsp_frame.specs.Limits.{Bounds}
+use Rattle.lsp_frame.specs.Limits.{LimitsData}
 use Rattle.lsp_text.specs.declared.encoding.Encoding.{Encoding}
 use Rattle.lsp_text.specs.declared.encoding.Encoding.TheVariants.{Utf16}
 use Rattle.lsp_text.specs.Units.{units_in}
@@ -30,15 +30,15 @@ use Rattle.lsp_client.specs.declared.phase.Reason.TheVariants.{NotAnAnswer, Erro
 
 -- A client: its limits, the encodings that it offers, its phase, what was agreed on, if anything,
 -- and the open documents.
-pub record State : Type 0 where
-  pub limits : Bounds
+pub record ClientData : Type 0 where
+  pub limits : LimitsData
   pub offers : Offers
   pub phase : Phase
   pub agreed : Option Agreed
   pub table : List DocumentItem
 
 -- A new client.
-abbrev pub new_client : Bounds → Offers → State
+abbrev pub new_client : LimitsData → Offers → ClientData
 new_client limits offers =
     record { limits = limits; offers = offers; phase = New; agreed = None; table = [] }
 
@@ -59,10 +59,10 @@ pub data Call : Type 0 where
 -- What an accepted call sends, and the client's new state.
 pub record Sending : Type 0 where
   pub message : OutgoingData
-  pub state : State
+  pub state : ClientData
 
 -- What was agreed on. Before that there are no orders; UTF-16 is the protocol's default.
-abbrev pub agreement : State → Agreed
+abbrev pub agreement : ClientData → Agreed
 agreement s = unwrap_or s.agreed (record { encoding = Utf16; kind = Incremental })
 
 -- The command of an order, whose changes are in the encoding that was agreed on.
@@ -88,7 +88,7 @@ unfoldable pub sent_body : SyncKind → List DocumentItem → Command → List �
 sent_body kind table command = body_of (message_of kind table command)
 
 -- Why a command is refused: as the store refuses it, then because the body to send is too long.
-abbrev pub order_refusal : Bounds → SyncKind → List DocumentItem → Command →
+abbrev pub order_refusal : LimitsData → SyncKind → List DocumentItem → Command →
     Option documents.Refusal
 order_refusal limits kind table command =
     else_refused
@@ -101,7 +101,7 @@ sending_unless (Some refusal) sending = Err (Store (fault_of refusal))
 sending_unless None sending = Ok sending
 
 -- What a command sends and the client's new state, or why it is refused.
-abbrev pub command_result : State → SyncKind → Command → Result Sending ClientFault
+abbrev pub command_result : ClientData → SyncKind → Command → Result Sending ClientFault
 command_result s kind command =
     sending_unless
     (order_refusal s.limits kind s.table command)
@@ -111,18 +111,18 @@ command_result s kind command =
     })
 
 -- What an order sends and the client's new state, or why it is refused.
-abbrev pub order_result : State → Order → Result Sending ClientFault
+abbrev pub order_result : ClientData → Order → Result Sending ClientFault
 order_result s order =
     command_result s (agreement s).kind (command_of (agreement s).encoding order)
 
 -- A message of the session's lifecycle is sent, and the client enters this phase.
-abbrev pub lifecycle_result : State → Phase → OutgoingData → Result Sending ClientFault
+abbrev pub lifecycle_result : ClientData → Phase → OutgoingData → Result Sending ClientFault
 lifecycle_result s phase m = Ok (record { message = m; state = record s { phase = phase } })
 
 -- ---- the table of calls: the first row that fits decides
 
 -- The result of a call, by phase.
-abbrev pub call_result_in : Phase → State → Call → Result Sending ClientFault
+abbrev pub call_result_in : Phase → ClientData → Call → Result Sending ClientFault
 call_result_in New s starts = lifecycle_result s Asked (initialize s.offers)
 call_result_in Ready s (orders order) = order_result s order
 call_result_in Ready s shuts_down = lifecycle_result s Closing shutdown
@@ -131,7 +131,7 @@ call_result_in phase s call = Err (WrongPhase phase)
 
 -- What a call sends and the client's new state, or why it is refused. A refused call changes
 -- nothing.
-abbrev pub call_result : State → Call → Result Sending ClientFault
+abbrev pub call_result : ClientData → Call → Result Sending ClientFault
 call_result s call = call_result_in s.phase s call
 
 -- ---- what the server sends
@@ -146,19 +146,19 @@ pub data DeliveredData (Reply : Type 0) : Type 0 where
 -- The result of a delivery, and the client's new state.
 pub record Delivery : Type 0 where
   pub delivered : DeliveredData OutgoingData
-  pub state : State
+  pub state : ClientData
 
 -- A delivery that changes nothing.
-abbrev pub same_state : State → DeliveredData OutgoingData → Delivery
+abbrev pub same_state : ClientData → DeliveredData OutgoingData → Delivery
 same_state s delivered = record { delivered = delivered; state = s }
 
 -- The session can't continue; the documents stay.
-abbrev pub failure : State → Reason → Delivery
+abbrev pub failure : ClientData → Reason → Delivery
 failure s reason =
     record { delivered = bad_server reason; state = record s { phase = Failed reason } }
 
 -- The session begins (Initialized Notification).
-abbrev pub begin_in : State → Encoding → SyncKind → Delivery
+abbrev pub begin_in : ClientData → Encoding → SyncKind → Delivery
 begin_in s encoding kind =
     record {
       delivered = sends initialized;
@@ -169,31 +169,31 @@ begin_in s encoding kind =
     }
 
 -- The session begins, if the announced encoding is one that was offered (PositionEncodingKind).
-abbrev pub begin_if_offered : State → SyncKind → Option Encoding → Delivery
+abbrev pub begin_if_offered : ClientData → SyncKind → Option Encoding → Delivery
 begin_if_offered s kind None = failure s BadEncoding
 begin_if_offered s kind (Some encoding) =
     if is_offered s.offers encoding then begin_in s encoding kind else failure s BadEncoding
 
 -- The session begins, if the server wants to be notified of open documents and of changes
 -- (TextDocumentSyncOptions).
-abbrev pub begin_if_synced : State → Bool → SyncKind → Option Encoding → Delivery
+abbrev pub begin_if_synced : ClientData → Bool → SyncKind → Option Encoding → Delivery
 begin_if_synced s false kind encoding = failure s NoSync
 begin_if_synced s true Off encoding = failure s NoSync
 begin_if_synced s true kind encoding = begin_if_offered s kind encoding
 
 -- The session begins, if the result of `initialize` can be read.
-abbrev pub begin_as_announced : State → Option Announced → Delivery
+abbrev pub begin_as_announced : ClientData → Option Announced → Delivery
 begin_as_announced s None = failure s NotAnAnswer
 begin_as_announced s (Some announced) =
     begin_if_synced s announced.open_close announced.kind announced.encoding
 
 -- The response to `initialize`.
-abbrev pub initialize_delivery : State → OutcomeData → Delivery
+abbrev pub initialize_delivery : ClientData → OutcomeData → Delivery
 initialize_delivery s failed = failure s ErrorAnswer
 initialize_delivery s (given result) = begin_as_announced s (announced_of result)
 
 -- The response to `shutdown`.
-abbrev pub shutdown_delivery : State → OutcomeData → Delivery
+abbrev pub shutdown_delivery : ClientData → OutcomeData → Delivery
 shutdown_delivery s failed = failure s ErrorAnswer
 shutdown_delivery s (given result) =
     record { delivered = noted; state = record s { phase = Closed } }
@@ -205,7 +205,7 @@ is_id n id = false
 
 -- A response, by phase. `initialize` has the id 1 and `shutdown` the id 2; the client sends no
 -- other request.
-abbrev pub response_delivery : Phase → State → Option IdData → OutcomeData → Delivery
+abbrev pub response_delivery : Phase → ClientData → Option IdData → OutcomeData → Delivery
 response_delivery Asked s id outcome =
     if is_id 1 id then initialize_delivery s outcome else failure s NotAnAnswer
 response_delivery Closing s id outcome =
@@ -215,7 +215,7 @@ response_delivery phase s id outcome = failure s NotAnAnswer
 -- ---- the table of deliveries: the first row that fits decides
 
 -- What a client that listens does with a body.
-abbrev pub delivery_of : State → Reading → Delivery
+abbrev pub delivery_of : ClientData → Reading → Delivery
 delivery_of s (message (notification method params)) = same_state s ignored
 delivery_of s (message (request id method params)) =
     same_state s (sends (error_reply (Some id) MethodNotFound))
@@ -230,10 +230,10 @@ is_listening (Failed reason) = false
 is_listening phase = true
 
 -- What a client does with a body, if it listens.
-abbrev pub if_listening : Bool → State → Reading → Result Delivery ClientFault
+abbrev pub if_listening : Bool → ClientData → Reading → Result Delivery ClientFault
 if_listening true s body = Ok (delivery_of s body)
 if_listening false s body = Err (WrongPhase s.phase)
 
 -- The result of a body that the server sent and the client's new state, or why the body is refused.
-abbrev pub delivery_result : State → Reading → Result Delivery ClientFault
+abbrev pub delivery_result : ClientData → Reading → Result Delivery ClientFault
 delivery_result s body = if_listening (is_listening s.phase) s body

@@ -27,9 +27,9 @@ pub struct Client {
 }
 
 impl Model for Client {
-    ghost use Rattle.lsp_client.specs.Step.{State};
+    ghost use Rattle.lsp_client.specs.Step.{ClientData};
 
-    ghost Value = { State };
+    ghost Value = { ClientData };
 
     ghost view = { λ s. record {
       limits = s.store.limits;

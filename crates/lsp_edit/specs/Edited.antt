@@ -8,26 +8,26 @@ use Rattle.lsp_edit.specs.Keeps.{Keeps}
 use Rattle.lsp_edit.specs.Parts.{Part, AreParts, NoneTouch, items_of, bytes_of}
 
 -- The old text, what became of it, and how many changes were applied.
-pub record Edited : Type 0 where
+pub record PlainData : Type 0 where
   pub before : List ℕ
   pub items : List Item
   pub changes : ℕ
 
 -- The same, and the parts of its spans.
-pub record Spanned : Type 0 where
-  pub edited : Edited
+pub record PiecesData : Type 0 where
+  pub edited : PlainData
   pub parts : List Part
 
 -- The current text.
-abbrev pub edited_text : Edited → List ℕ
+abbrev pub edited_text : PlainData → List ℕ
 edited_text edited = text_of edited.before edited.items
 
 -- The bytes of the current text.
-abbrev pub edited_bytes : Edited → List ℕ
+abbrev pub edited_bytes : PlainData → List ℕ
 edited_bytes edited = encode_utf8_all (edited_text edited)
 
 -- The bytes of the old text.
-abbrev pub before_bytes : Edited → List ℕ
+abbrev pub before_bytes : PlainData → List ℕ
 before_bytes edited = encode_utf8_all edited.before
 
 -- A change with its text as characters.
@@ -43,7 +43,7 @@ abbrev pub both_counts : ℕ → ℕ → ℕ
 both_counts first second = min (first + second) 18446744073709551615
 
 -- `next` is `edited` after a change, and counts it.
-pub record Applied (units : ℕ → ℕ) (edited : Edited) (change : Edit) (next : Edited) : Type 0 where
+pub record Applied (units : ℕ → ℕ) (edited : PlainData) (change : Edit) (next : PlainData) : Type 0 where
   pub changed : after_change units edited.before edited.items change ≡ Ok next.items
   pub same : next.before ≡ edited.before
   pub counted : next.changes ≡ next_number edited.changes
@@ -67,7 +67,7 @@ IsCurrent bytes current = MatchOption current (Unit {0}) (λ text. text ≡ byte
 
 -- The result of a batch on a text: its meaning, after so many changes.
 pub record Means (before : List ℕ) (meant : Result (List Item) (ℕ × Fault)) (changes : ℕ)
-    (edited : Edited) : Type 0 where
+    (edited : PlainData) : Type 0 where
   pub means : meant ≡ Ok edited.items
   pub same : edited.before ≡ before
   pub counted : edited.changes ≡ changes

@@ -57,9 +57,9 @@ impl<'a> Model for Pieces<'a> {
     ghost use Rattle.std.specs.Str.{chars};
     ghost use Rattle.lsp_edit.specs.Parts.{items_of, parts_of, bytes_of};
     ghost use Rattle.lsp_edit.specs.Spans.{spans_in};
-    ghost use Rattle.lsp_edit.specs.Edited.{Spanned, ArePieces, IsCurrent};
+    ghost use Rattle.lsp_edit.specs.Edited.{PiecesData, ArePieces, IsCurrent};
 
-    ghost Value = { Spanned };
+    ghost Value = { PiecesData };
 
     ghost view = { λ pieces. record {
       edited = record {

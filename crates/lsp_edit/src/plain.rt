@@ -47,10 +47,10 @@ pub struct Plain<'a> {
 
 impl<'a> Model for Plain<'a> {
     ghost use Rattle.std.specs.Str.{chars};
-    ghost use Rattle.lsp_edit.specs.Edited.{Edited};
+    ghost use Rattle.lsp_edit.specs.Edited.{PlainData};
     ghost use Rattle.lsp_edit.specs.Plain.{ArePlain, items_in_order};
 
-    ghost Value = { Edited };
+    ghost Value = { PlainData };
 
     ghost view = { λ plain. record {
       before = chars plain.before.now;

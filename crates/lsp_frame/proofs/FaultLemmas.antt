@@ -6,8 +6,8 @@ use Rattle.std.proofs.Math.Seq.{take-append-add}
 use Rattle.lsp_frame.specs.Header.{Line, AreLines, header_of, BeginsHeader}
 use Rattle.lsp_frame.specs.Verdict.{judge}
 use Rattle.lsp_frame.specs.Frame.{IsFrameOf, IsHopeless}
-use Rattle.lsp_frame.specs.Limits.{Bounds}
-use Rattle.lsp_frame.specs.Stream.{Framing, IsFrame, IsPart, HoldsOne, IsStreamFault, IsFeedFault}
+use Rattle.lsp_frame.specs.Limits.{LimitsData}
+use Rattle.lsp_frame.specs.Stream.{FramerData, IsFrame, IsPart, HoldsOne, IsStreamFault, IsFeedFault}
 use Rattle.lsp_frame.specs.declared.fault.FrameFault.{FrameFault}
 use Rattle.lsp_frame.specs.declared.fault.FrameFault.TheVariants.{Failed}
 use Rattle.lsp_frame.specs.Faults.{IsBadHeaderAt, IsHeaderTooLongAt, IsJudgedAt, IsDecidedAt, header_fault_at, place_after}
@@ -175,12 +175,12 @@ never_failed header.BadLength place e = cc
 never_failed header.BodyTooLong place e = cc
 never_failed header.BadCharset place e = cc
 
-pub same_framing : (place : ℕ) (buffered other : List ℕ) (failed other_failed : Bool) (limits : Bounds) → buffered ≡ other → failed ≡ other_failed → (let f : Framing = record { place = place; buffered = buffered; failed = failed; limits = limits } in f) ≡ (let f : Framing = record { place = place; buffered = other; failed = other_failed; limits = limits } in f)
+pub same_framing : (place : ℕ) (buffered other : List ℕ) (failed other_failed : Bool) (limits : LimitsData) → buffered ≡ other → failed ≡ other_failed → (let f : FramerData = record { place = place; buffered = buffered; failed = failed; limits = limits } in f) ≡ (let f : FramerData = record { place = place; buffered = other; failed = other_failed; limits = limits } in f)
 same_framing place buffered other failed other_failed limits e f =
     ap (λ (p : List ℕ × Bool). record { place = place; buffered = p.0; failed = p.1; limits = limits }) (let r : (buffered, failed) ≡ (other, other_failed) = cc in r)
 
 -- A fault of the stream, from what the framer held.
-pub stream_fault : (old : Framing) (piece : List ℕ) (new : Framing) (kind : HeaderFault) (k place : ℕ) (fault : FrameFault) → old.failed ≡ false → IsDecidedAt old.limits.max_body (old.buffered ++ piece) k kind → place ≡ place_after old.place k → fault ≡ header_fault_at kind place → new ≡ record old { failed = true } → IsStreamFault old new piece fault
+pub stream_fault : (old : FramerData) (piece : List ℕ) (new : FramerData) (kind : HeaderFault) (k place : ℕ) (fault : FrameFault) → old.failed ≡ false → IsDecidedAt old.limits.max_body (old.buffered ++ piece) k kind → place ≡ place_after old.place k → fault ≡ header_fault_at kind place → new ≡ record old { failed = true } → IsStreamFault old new piece fault
 stream_fault old piece new kind k place fault sound decided placed is after =
     record {
       sound = sound;
@@ -189,7 +189,7 @@ stream_fault old piece new kind k place fault sound decided placed is after =
       after = after;
     }
 
-pub feed_fault : (old : Framing) (piece : List ℕ) (new : Framing) (kind : HeaderFault) (place : ℕ) (fault : FrameFault) → fault ≡ header_fault_at kind place → IsStreamFault old new piece fault → IsFeedFault old new piece fault
+pub feed_fault : (old : FramerData) (piece : List ℕ) (new : FramerData) (kind : HeaderFault) (place : ℕ) (fault : FrameFault) → fault ≡ header_fault_at kind place → IsStreamFault old new piece fault → IsFeedFault old new piece fault
 feed_fault old piece new header.BadHeader place fault e at = subst (IsFeedFault old new piece) (sym e) (subst (IsStreamFault old new piece) e at)
 feed_fault old piece new header.HeaderTooLong place fault e at = subst (IsFeedFault old new piece) (sym e) (subst (IsStreamFault old new piece) e at)
 feed_fault old piece new header.MissingLength place fault e at = subst (IsFeedFault old new piece) (sym e) (subst (IsStreamFault old new piece) e at)
@@ -199,34 +199,34 @@ feed_fault old piece new header.BodyTooLong place fault e at = subst (IsFeedFaul
 feed_fault old piece new header.BadCharset place fault e at = subst (IsFeedFault old new piece) (sym e) (subst (IsStreamFault old new piece) e at)
 
 -- The same from the fields.
-pub feed_fault_at : (now : Framing) (place max_body : ℕ) (buffered other piece : List ℕ) (was : Bool) (limits : Bounds) (why : Stop) (kind : HeaderFault) (k error : ℕ) (fault : FrameFault) → (let f : Framing = record { place = place; buffered = buffered; failed = was; limits = limits } in f) ≡ now → was ≡ false → max_body ≡ limits.max_body → IsHeaderStop max_body (buffered ++ piece) why → why ≡ stop.Fault kind k → error ≡ place_after place k → fault ≡ header_fault_at kind error → other ≡ buffered → IsFeedFault now (record { place = place; buffered = other; failed = true; limits = limits }) piece fault
+pub feed_fault_at : (now : FramerData) (place max_body : ℕ) (buffered other piece : List ℕ) (was : Bool) (limits : LimitsData) (why : Stop) (kind : HeaderFault) (k error : ℕ) (fault : FrameFault) → (let f : FramerData = record { place = place; buffered = buffered; failed = was; limits = limits } in f) ≡ now → was ≡ false → max_body ≡ limits.max_body → IsHeaderStop max_body (buffered ++ piece) why → why ≡ stop.Fault kind k → error ≡ place_after place k → fault ≡ header_fault_at kind error → other ≡ buffered → IsFeedFault now (record { place = place; buffered = other; failed = true; limits = limits }) piece fault
 feed_fault_at now place max_body buffered other piece was limits why kind k error fault is sound limit stops why_is told_is fault_is same =
-    let old : Framing = record { place = place; buffered = buffered; failed = was; limits = limits } in
-    let new : Framing = record { place = place; buffered = other; failed = true; limits = limits } in
+    let old : FramerData = record { place = place; buffered = buffered; failed = was; limits = limits } in
+    let new : FramerData = record { place = place; buffered = other; failed = true; limits = limits } in
     let decided : IsDecidedAt max_body (buffered ++ piece) k kind = subst (IsHeaderStop max_body (buffered ++ piece)) why_is stops in
     let decided_here : IsDecidedAt limits.max_body (buffered ++ piece) k kind = subst (λ (n : ℕ). IsDecidedAt n (buffered ++ piece) k kind) limit decided in
     let after : new ≡ record old { failed = true } = same_framing place other buffered true true limits same refl in
     let at : IsStreamFault old new piece fault = stream_fault old piece new kind k error fault sound decided_here told_is fault_is after in
-    subst (λ (f : Framing). IsFeedFault f new piece fault) is (feed_fault old piece new kind error fault fault_is at)
+    subst (λ (f : FramerData). IsFeedFault f new piece fault) is (feed_fault old piece new kind error fault fault_is at)
 
 -- Why a piece was not taken, as the stream tells it.
-pub feed_stop : (now : Framing) (place max_body : ℕ) (buffered other piece : List ℕ) (was next : Stage) (limits : Bounds) (why : Stop) (error : FrameFault) → (let f : Framing = record { place = place; buffered = buffered; failed = has_failed was; limits = limits } in f) ≡ now → has_failed was ≡ false → max_body ≡ limits.max_body → IsHeaderStop max_body (buffered ++ piece) why → error ≡ stopped_at place why → other ≡ buffered → next ≡ stage_after was why → IsFeedFault now (record { place = place; buffered = other; failed = has_failed next; limits = limits }) piece error × (error ≡ Failed → ⊥)
+pub feed_stop : (now : FramerData) (place max_body : ℕ) (buffered other piece : List ℕ) (was next : Stage) (limits : LimitsData) (why : Stop) (error : FrameFault) → (let f : FramerData = record { place = place; buffered = buffered; failed = has_failed was; limits = limits } in f) ≡ now → has_failed was ≡ false → max_body ≡ limits.max_body → IsHeaderStop max_body (buffered ++ piece) why → error ≡ stopped_at place why → other ≡ buffered → next ≡ stage_after was why → IsFeedFault now (record { place = place; buffered = other; failed = has_failed next; limits = limits }) piece error × (error ≡ Failed → ⊥)
 feed_stop now place max_body buffered other piece was next limits (stop.Fault kind k) error is sound limit stops told_is same after =
     let at = feed_fault_at now place max_body buffered other piece (has_failed was) limits (stop.Fault kind k) kind k (place_after place k) error is sound limit stops refl refl told_is same in
     (rw after at, λ e. never_failed kind (place_after place k) (sym told_is ∙ e))
 feed_stop now place max_body buffered other piece was next limits stop.NoMemory error is sound limit stops told_is same after =
-    let still : now.failed ≡ false = sym (ap (λ (f : Framing). f.failed) is) ∙ sound in
+    let still : now.failed ≡ false = sym (ap (λ (f : FramerData). f.failed) is) ∙ sound in
     (rw (told_is, same, after) (still, is), λ e. cc)
 
 -- A framer that hasn't failed holds a part of a frame, or one.
-pub framing_part : (now : Framing) (place : ℕ) (buffered : List ℕ) (s : Stage) (limits : Bounds) → (let f : Framing = record { place = place; buffered = buffered; failed = has_failed s; limits = limits } in f) ≡ now → IsAtStage limits.max_body buffered s → now.failed ≡ false → IsPart now.limits.max_body now.buffered
-framing_part now place buffered s limits is at = subst (λ (f : Framing). f.failed ≡ false → IsPart f.limits.max_body f.buffered) is (stage_part limits.max_body buffered s at)
+pub framing_part : (now : FramerData) (place : ℕ) (buffered : List ℕ) (s : Stage) (limits : LimitsData) → (let f : FramerData = record { place = place; buffered = buffered; failed = has_failed s; limits = limits } in f) ≡ now → IsAtStage limits.max_body buffered s → now.failed ≡ false → IsPart now.limits.max_body now.buffered
+framing_part now place buffered s limits is at = subst (λ (f : FramerData). f.failed ≡ false → IsPart f.limits.max_body f.buffered) is (stage_part limits.max_body buffered s at)
 
 -- A framer that holds no whole frame.
-abbrev pub HasNone : Framing → Type 0
+abbrev pub HasNone : FramerData → Type 0
 HasNone now = now.failed ≡ false → IsFrame now.limits.max_body now.buffered → ⊥
 
-pub unfinished : (now : Framing) (place : ℕ) (buffered : List ℕ) (s : Stage) (limits : Bounds) (start stop_at : ℕ) → (let f : Framing = record { place = place; buffered = buffered; failed = has_failed s; limits = limits } in f) ≡ now → IsAtStage limits.max_body buffered s → s ≡ stage.Body start stop_at → (length buffered ≡ stop_at → ⊥) → HasNone now
+pub unfinished : (now : FramerData) (place : ℕ) (buffered : List ℕ) (s : Stage) (limits : LimitsData) (start stop_at : ℕ) → (let f : FramerData = record { place = place; buffered = buffered; failed = has_failed s; limits = limits } in f) ≡ now → IsAtStage limits.max_body buffered s → s ≡ stage.Body start stop_at → (length buffered ≡ stop_at → ⊥) → HasNone now
 unfinished now place buffered s limits start stop_at is at body less =
     let in_body : IsInBody limits.max_body buffered start stop_at = subst (IsAtStage limits.max_body buffered) body at in
     subst HasNone is (λ sound frame. less (frame_len limits.max_body buffered start stop_at in_body frame))
@@ -236,7 +236,7 @@ none_at max_body buffered (stage.Header header) at none sound frame = no_frame_a
 none_at max_body buffered (stage.Body start stop_at) at none sound frame = none start stop_at refl
 none_at max_body buffered stage.Failed at none sound frame = cc
 
-pub no_body : (now : Framing) (place : ℕ) (buffered : List ℕ) (s : Stage) (limits : Bounds) → (let f : Framing = record { place = place; buffered = buffered; failed = has_failed s; limits = limits } in f) ≡ now → IsAtStage limits.max_body buffered s → ((start stop_at : ℕ) → s ≡ stage.Body start stop_at → ⊥) → HasNone now
+pub no_body : (now : FramerData) (place : ℕ) (buffered : List ℕ) (s : Stage) (limits : LimitsData) → (let f : FramerData = record { place = place; buffered = buffered; failed = has_failed s; limits = limits } in f) ≡ now → IsAtStage limits.max_body buffered s → ((start stop_at : ℕ) → s ≡ stage.Body start stop_at → ⊥) → HasNone now
 no_body now place buffered s limits is at none = subst HasNone is (none_at limits.max_body buffered s at none)
 
 pub frame_of : (max_body : ℕ) (buffered body : List ℕ) → IsFrameOf max_body buffered body → IsFrame max_body buffered

@@ -6,7 +6,7 @@ use Rattle.lsp_frame.specs.Header.{Line, AreLines, lines_bytes, header_of, Begin
 use Rattle.lsp_frame.specs.Verdict.{judge}
 use Rattle.lsp_frame.specs.Frame.{IsFrameOf, HasNoFrame}
 use Rattle.lsp_frame.specs.Faults.{IsBadHeaderAt, IsHeaderTooLongAt, IsJudgedAt, IsDecidedAt, IsDecided, header_fault_at, place_after}
-use Rattle.lsp_frame.specs.Stream.{Framing, IsFrame, IsPart, AreFrames, IsSound, IsRead, IsStreamFault, IsFeedFault, released}
+use Rattle.lsp_frame.specs.Stream.{FramerData, IsFrame, IsPart, AreFrames, IsSound, IsRead, IsStreamFault, IsFeedFault, released}
 use Rattle.lsp_frame.specs.inside.Stream.{IsHolding, HasTaken, IsFaulty}
 use Rattle.lsp_frame.specs.laws.Frames.{SameFrame}
 use Rattle.lsp_frame.specs.declared.fault.HeaderFault.{HeaderFault}
@@ -14,7 +14,7 @@ use Rattle.lsp_frame.specs.declared.fault.HeaderFault.TheVariants as header
 use Rattle.lsp_frame.specs.declared.fault.FrameFault.{FrameFault}
 use Rattle.lsp_frame.specs.declared.fault.FrameFault.TheVariants as fault_of
 use Rattle.lsp_frame.proofs.ProgressLemmas.{all_of}
-use Rattle.lsp_frame.specs.Limits.{Bounds}
+use Rattle.lsp_frame.specs.Limits.{LimitsData}
 use Rattle.std.specs.List.{flat_map}
 use Rattle.std.proofs.lemmas.List.Concat.{flat_map-append}
 use Rattle.std.proofs.lemmas.List.Folds.{length-flat_map-take}
@@ -196,10 +196,10 @@ pub place_more : (whole buffered place : ℕ) → buffered ≤ whole → place �
 place_more whole buffered place less e = omega (arith, less, e)
 
 -- A framer that gave a frame up.
-pub given_none : (f n : Framing) → n ≡ released f → f.failed ≡ false → (IsFrame n.limits.max_body n.buffered → ⊥) × (n.failed ≡ false)
-given_none f n e sound = subst (λ (g : Framing). (IsFrame g.limits.max_body g.buffered → ⊥) × (g.failed ≡ false)) (sym e) (no_empty_frame f.limits.max_body, sound)
+pub given_none : (f n : FramerData) → n ≡ released f → f.failed ≡ false → (IsFrame n.limits.max_body n.buffered → ⊥) × (n.failed ≡ false)
+given_none f n e sound = subst (λ (g : FramerData). (IsFrame g.limits.max_body g.buffered → ⊥) × (g.failed ≡ false)) (sym e) (no_empty_frame f.limits.max_body, sound)
 
-pub given_behind : (max_body : ℕ) (stream : List ℕ) (bodies more : List (List ℕ)) (f n : Framing) (body : List ℕ) → IsHolding max_body stream bodies f → n ≡ released f → IsFrameOf f.limits.max_body f.buffered body → more ≡ bodies ++ body ∷ [] → HasTaken max_body stream more n
+pub given_behind : (max_body : ℕ) (stream : List ℕ) (bodies more : List (List ℕ)) (f n : FramerData) (body : List ℕ) → IsHolding max_body stream bodies f → n ≡ released f → IsFrameOf f.limits.max_body f.buffered body → more ≡ bodies ++ body ∷ [] → HasTaken max_body stream more n
 given_behind max_body stream bodies more f n body at e s m =
     let is_frame_of : IsFrameOf max_body f.buffered body = subst (λ (k : ℕ). IsFrameOf k f.buffered body) at.limit s in
     let framed : AreFrames max_body stream more [] = subst (λ (b : List (List ℕ)). AreFrames max_body stream b []) (sym m) (framed_push max_body stream bodies f.buffered body at.framed is_frame_of) in
@@ -213,13 +213,13 @@ given_behind max_body stream bodies more f n body at e s m =
       };
       none = no_empty_frame max_body;
     } in
-    subst (λ (g : Framing). HasTaken max_body stream more g) (sym e) rest_after
+    subst (λ (g : FramerData). HasTaken max_body stream more g) (sym e) rest_after
 
 -- A framer that was fed.
-pub fed_holding : (max_body : ℕ) (stream : List ℕ) (bodies : List (List ℕ)) (f n : Framing) (more : List ℕ) → HasTaken max_body stream bodies f → n ≡ record f { buffered = f.buffered ++ more } → IsPart n.limits.max_body n.buffered → IsHolding max_body (stream ++ more) bodies n
+pub fed_holding : (max_body : ℕ) (stream : List ℕ) (bodies : List (List ℕ)) (f n : FramerData) (more : List ℕ) → HasTaken max_body stream bodies f → n ≡ record f { buffered = f.buffered ++ more } → IsPart n.limits.max_body n.buffered → IsHolding max_body (stream ++ more) bodies n
 fed_holding max_body stream bodies f n more at e part =
-    let fed : Framing = record f { buffered = f.buffered ++ more } in
-    let part_here : IsPart f.limits.max_body (f.buffered ++ more) = subst (λ (g : Framing). IsPart g.limits.max_body g.buffered) e part in
+    let fed : FramerData = record f { buffered = f.buffered ++ more } in
+    let part_here : IsPart f.limits.max_body (f.buffered ++ more) = subst (λ (g : FramerData). IsPart g.limits.max_body g.buffered) e part in
     let less = framed_len max_body stream bodies f.buffered at.holding.framed in
     let same : length stream - length f.buffered ≡ length (stream ++ more) - length (f.buffered ++ more) = omega (arith, less, length-append stream more, length-append f.buffered more) in
     let holding : IsHolding max_body (stream ++ more) bodies (record f { buffered = f.buffered ++ more }) = record {
@@ -229,7 +229,7 @@ fed_holding max_body stream bodies f n more at e part =
       part = subst (λ (k : ℕ). IsPart k (f.buffered ++ more)) at.holding.limit part_here;
       limit = at.holding.limit;
     } in
-    subst (λ (g : Framing). IsHolding max_body (stream ++ more) bodies g) (sym e) holding
+    subst (λ (g : FramerData). IsHolding max_body (stream ++ more) bodies g) (sym e) holding
 
 -- What was decided stays so with more bytes.
 pub front_more : (bytes more : List ℕ) (k : ℕ) → k < length bytes → take (k + 1) bytes ≡ take (k + 1) (bytes ++ more)
@@ -310,7 +310,7 @@ part_longest max_body buffered part none raw body more s e =
     let all : raw ≡ buffered = sym (e ∙ ap (λ z. raw ++ z) nothing ∙ append-nil raw) in
     none (record { body = body; is_frame_of = subst (λ (z : List ℕ). IsFrameOf max_body z body) all s })
 
-pub behind_read : (max_body : ℕ) (stream : List ℕ) (bodies : List (List ℕ)) (f : Framing) → HasTaken max_body stream bodies f → IsRead max_body stream bodies None
+pub behind_read : (max_body : ℕ) (stream : List ℕ) (bodies : List (List ℕ)) (f : FramerData) → HasTaken max_body stream bodies f → IsRead max_body stream bodies None
 behind_read max_body stream bodies f at =
     record {
       rest = f.buffered;
@@ -319,7 +319,7 @@ behind_read max_body stream bodies f at =
     }
 
 -- The fault of a feed is the stream's, but for want of memory.
-pub stream_fault_of : (f n : Framing) (piece : List ℕ) (fault : FrameFault) → IsFeedFault f n piece fault → f.failed ≡ false → (fault ≡ fault_of.NoMemory → ⊥) → IsStreamFault f n piece fault
+pub stream_fault_of : (f n : FramerData) (piece : List ℕ) (fault : FrameFault) → IsFeedFault f n piece fault → f.failed ≡ false → (fault ≡ fault_of.NoMemory → ⊥) → IsStreamFault f n piece fault
 stream_fault_of f n piece (fault_of.BadHeader place) at sound some = at
 stream_fault_of f n piece (fault_of.HeaderTooLong place) at sound some = at
 stream_fault_of f n piece (fault_of.MissingLength place) at sound some = at
@@ -330,7 +330,7 @@ stream_fault_of f n piece (fault_of.BadCharset place) at sound some = at
 stream_fault_of f n piece fault_of.Failed at sound some = let failed : f.failed ≡ true = at.0 in cc
 stream_fault_of f n piece fault_of.NoMemory at sound some = absurd (some refl)
 
-pub fault_behind : (max_body : ℕ) (stream piece : List ℕ) (at : ℕ) (bodies : List (List ℕ)) (f n : Framing) (fault : FrameFault) → HasTaken max_body (stream ++ take at piece) bodies f → IsFeedFault f n (take (length piece - at) (drop at piece)) fault → (fault ≡ fault_of.NoMemory → ⊥) → IsFaulty max_body (stream ++ piece) bodies fault
+pub fault_behind : (max_body : ℕ) (stream piece : List ℕ) (at : ℕ) (bodies : List (List ℕ)) (f n : FramerData) (fault : FrameFault) → HasTaken max_body (stream ++ take at piece) bodies f → IsFeedFault f n (take (length piece - at) (drop at piece)) fault → (fault ≡ fault_of.NoMemory → ⊥) → IsFaulty max_body (stream ++ piece) bodies fault
 fault_behind max_body stream piece at bodies f n fault rest_after fed some =
     let rest : List ℕ = take (length piece - at) (drop at piece) in
     let why = stream_fault_of f n (take (length piece - at) (drop at piece)) fault fed rest_after.holding.sound some in
@@ -353,16 +353,16 @@ fault_behind max_body stream piece at bodies f n fault rest_after fed some =
     subst (λ (z : List ℕ). IsFaulty max_body z bodies fault) (all_of stream piece (stream ++ take at piece) at refl) faulty
 
 -- A new framer.
-pub new_behind : (limits : Bounds) (f : Framing) → f ≡ record { place = 0; buffered = []; failed = false; limits = limits } → HasTaken limits.max_body [] [] f
+pub new_behind : (limits : LimitsData) (f : FramerData) → f ≡ record { place = 0; buffered = []; failed = false; limits = limits } → HasTaken limits.max_body [] [] f
 new_behind limits f e =
-    let fresh : Framing = record { place = 0; buffered = []; failed = false; limits = limits } in
+    let fresh : FramerData = record { place = 0; buffered = []; failed = false; limits = limits } in
     let rest_after : HasTaken limits.max_body [] [] (record { place = 0; buffered = []; failed = false; limits = limits }) = record {
       holding = record { framed = refl; place = refl; sound = refl; part = nothing_part limits.max_body; limit = refl };
       none = no_empty_frame limits.max_body;
     } in
-    subst (λ (g : Framing). HasTaken limits.max_body [] [] g) (sym e) rest_after
+    subst (λ (g : FramerData). HasTaken limits.max_body [] [] g) (sym e) rest_after
 
-pub behind_none : (max_body : ℕ) (stream : List ℕ) (bodies : List (List ℕ)) (f : Framing) → HasTaken max_body stream bodies f → IsFrame f.limits.max_body f.buffered → ⊥
+pub behind_none : (max_body : ℕ) (stream : List ℕ) (bodies : List (List ℕ)) (f : FramerData) → HasTaken max_body stream bodies f → IsFrame f.limits.max_body f.buffered → ⊥
 behind_none max_body stream bodies f at frame = at.none (subst (λ (n : ℕ). IsFrame n f.buffered) at.holding.limit frame)
 
 -- The pieces of a stream, one after another.
@@ -381,7 +381,7 @@ piece_faulty max_body f pieces i piece now bodies fault within is e faulty =
     let all : IsFaulty max_body (flat_map f (take (i + 1) pieces) ++ flat_map f (drop (i + 1) pieces)) bodies fault = faulty_more max_body (flat_map f (take (i + 1) pieces)) (flat_map f (drop (i + 1) pieces)) bodies fault here in
     faulty_read max_body (flat_map f pieces) bodies fault (subst (λ (z : List ℕ). IsFaulty max_body z bodies fault) (joined_all f pieces (i + 1)) all)
 
-pub piece_behind : (max_body : ℕ) (f : Vec ℕ Global → List ℕ) (pieces : List (Vec ℕ Global)) (i : ℕ) (piece : Vec ℕ Global) (now : List ℕ) (bodies : List (List ℕ)) (g : Framing) → i < length pieces → piece ≡ get_or pieces i piece → now ≡ f piece → HasTaken max_body (flat_map f (take i pieces) ++ now) bodies g → HasTaken max_body (flat_map f (take (i + 1) pieces)) bodies g
+pub piece_behind : (max_body : ℕ) (f : Vec ℕ Global → List ℕ) (pieces : List (Vec ℕ Global)) (i : ℕ) (piece : Vec ℕ Global) (now : List ℕ) (bodies : List (List ℕ)) (g : FramerData) → i < length pieces → piece ≡ get_or pieces i piece → now ≡ f piece → HasTaken max_body (flat_map f (take i pieces) ++ now) bodies g → HasTaken max_body (flat_map f (take (i + 1) pieces)) bodies g
 piece_behind max_body f pieces i piece now bodies g within is e rest_after =
     let joined : flat_map f (take i pieces) ++ now ≡ flat_map f (take (i + 1) pieces) = ap (λ z. flat_map f (take i pieces) ++ z) e ∙ joined_more f pieces i piece within is in
     subst (λ (z : List ℕ). HasTaken max_body z bodies g) joined rest_after

@@ -1,6 +1,6 @@
 -- What a framer has buffered, and the frames of a whole stream.
 use Rattle.std.specs.Prelude.{ℕ, ◌≡◌, ◌≤◌, ◌<◌, ◌⊎◌, Bool, List, [], ◌∷◌, ◌++◌, length, ◌-◌, Option, MatchOption}
-use Rattle.lsp_frame.specs.Limits.{Bounds}
+use Rattle.lsp_frame.specs.Limits.{LimitsData}
 use Rattle.lsp_frame.specs.Header.{Line, AreLines, header_of, BeginsHeader}
 use Rattle.lsp_frame.specs.Verdict.{judge}
 use Rattle.lsp_frame.specs.Frame.{IsFrameOf, HasNoFrame}
@@ -15,11 +15,11 @@ use Rattle.lsp_frame.specs.declared.fault.FrameFault.TheVariants.{Failed, NoMemo
 
 -- What contracts see of a framer: how many bytes were released or skipped, the buffered bytes,
 -- whether a fault was found, and the limits.
-pub record Framing : Type 0 where
+pub record FramerData : Type 0 where
   pub place : ℕ
   pub buffered : List ℕ
   pub failed : Bool
-  pub limits : Bounds
+  pub limits : LimitsData
 
 -- A fault was found.
 abbrev pub has_failed : Stage → Bool
@@ -58,20 +58,20 @@ HoldsOne max_body bytes = (raw body more : List ℕ) → IsFrameOf max_body raw 
 
 -- A fault was decided on the buffered bytes and those of the piece. No frame can come any more, and
 -- the framer has failed. All else is unchanged.
-pub record IsStreamFault (old new : Framing) (piece : List ℕ) (fault : FrameFault) : Type 0 where
+pub record IsStreamFault (old new : FramerData) (piece : List ℕ) (fault : FrameFault) : Type 0 where
   pub sound : old.failed ≡ false
   pub decided : IsDecided old.limits.max_body old.place (old.buffered ++ piece) fault
   pub hopeless : IsHopeless old.limits.max_body (old.buffered ++ piece)
   pub after : new ≡ record old { failed = true }
 
 -- Why a piece was not taken. Only the faults F1 to F7 change the framer.
-abbrev pub IsFeedFault : Framing → Framing → List ℕ → FrameFault → Type 0
+abbrev pub IsFeedFault : FramerData → FramerData → List ℕ → FrameFault → Type 0
 IsFeedFault old new piece Failed = (old.failed ≡ true) × (new ≡ old)
 IsFeedFault old new piece NoMemory = (old.failed ≡ false) × (new ≡ old)
 IsFeedFault old new piece fault = IsStreamFault old new piece fault
 
 -- The framer after its buffered frame was released.
-abbrev pub released : Framing → Framing
+abbrev pub released : FramerData → FramerData
 released f = record f { place = place_after f.place (length f.buffered); buffered = [] }
 
 -- The bytes are frames of these bodies, one after another, and then the rest.

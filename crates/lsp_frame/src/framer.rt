@@ -33,9 +33,9 @@ pub struct Framer {
 }
 
 impl Model for Framer {
-    ghost use Rattle.lsp_frame.specs.Stream.{Framing, has_failed};
+    ghost use Rattle.lsp_frame.specs.Stream.{FramerData, has_failed};
 
-    ghost Value = { Framing };
+    ghost Value = { FramerData };
 
     ghost use Rattle.std.specs.Prelude.{◌≤◌};
     ghost use Rattle.lsp_frame.specs.inside.Stage.{IsAtStage};

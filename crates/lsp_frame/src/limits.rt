@@ -1,7 +1,7 @@
 //! The limits that a user sets once, and that every layer keeps.
 
 ghost use Rattle.std.specs.Prelude.{◌≡◌, ◌≤◌, false, true, None, Some, MatchResult};
-ghost use Rattle.lsp_frame.specs.Limits.{Bounds, AreInRange, first_out_of_range};
+ghost use Rattle.lsp_frame.specs.Limits.{LimitsData, AreInRange, first_out_of_range};
 
 use std::marker::Model;
 use thiserror::Error;
@@ -19,9 +19,9 @@ pub struct Limits {
 }
 
 impl Model for Limits {
-    ghost use Rattle.lsp_frame.specs.Limits.{Bounds, AreInRange};
+    ghost use Rattle.lsp_frame.specs.Limits.{LimitsData, AreInRange};
 
-    ghost Value = { Bounds };
+    ghost Value = { LimitsData };
 
     ghost view = { λ l.
         record {
@@ -108,7 +108,7 @@ impl Limits {
         max_docs: usize,
         max_changes: usize,
     ) -> Result<Limits, BadLimits>
-        ensures { let given : Bounds
+        ensures { let given : LimitsData
             = record {
               max_body = max_body;
               max_text = max_text;

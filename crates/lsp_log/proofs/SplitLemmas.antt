@@ -5,7 +5,7 @@ use Rattle.std.proofs.lemmas.List.{length-append, take-append-drop}
 use Rattle.lsp_frame.specs.Frame.{IsFrameOf}
 use Rattle.lsp_frame.specs.Header.{header_of, lines_bytes}
 use Rattle.lsp_frame.specs.Faults.{place_after, IsDecided}
-use Rattle.lsp_frame.specs.Stream.{Framing, IsFrame, IsPart, HoldsOne, IsFeedFault, IsStreamFault, released}
+use Rattle.lsp_frame.specs.Stream.{FramerData, IsFrame, IsPart, HoldsOne, IsFeedFault, IsStreamFault, released}
 use Rattle.lsp_stream.specs.Faults.{engine_fault}
 use Rattle.lsp_frame.specs.declared.fault.FrameFault.{FrameFault}
 use Rattle.lsp_frame.specs.declared.fault.FrameFault.TheVariants as fault_of
@@ -53,13 +53,13 @@ fed_held : (mark buffered piece : List ℕ) (k : ℕ) → (mark ++ (buffered ++ 
 fed_held mark buffered piece k =
     append_assoc mark (buffered ++ take k piece) (drop k piece) ∙ ap (λ z. mark ++ z) (fed_bytes buffered piece k) ∙ sym (append_assoc mark buffered piece)
 
-pub fed_stands : (reading : LogRules) (input piece : List ℕ) (records : List Record) (s : Splitter) (f : Framing) (k : ℕ) → f ≡ record s.framer { buffered = s.framer.buffered ++ take k piece }
+pub fed_stands : (reading : LogRules) (input piece : List ℕ) (records : List Record) (s : Splitter) (f : FramerData) (k : ℕ) → f ≡ record s.framer { buffered = s.framer.buffered ++ take k piece }
     → IsPart f.limits.max_body f.buffered → HoldsOne f.limits.max_body f.buffered → IsAfter reading input piece records s → IsAfter reading input (drop k piece) records (record s { framer = f })
 fed_stands reading input piece records s f k e part one at =
     let bytes = fed_bytes s.framer.buffered piece k in
     let all = fed_held (mark_part s.version s.side) s.framer.buffered piece k in
-    let part_here : IsPart s.framer.limits.max_body (s.framer.buffered ++ take k piece) = subst (λ (g : Framing). IsPart g.limits.max_body g.buffered) e part in
-    let one_here : HoldsOne s.framer.limits.max_body (s.framer.buffered ++ take k piece) = subst (λ (g : Framing). HoldsOne g.limits.max_body g.buffered) e one in
+    let part_here : IsPart s.framer.limits.max_body (s.framer.buffered ++ take k piece) = subst (λ (g : FramerData). IsPart g.limits.max_body g.buffered) e part in
+    let one_here : HoldsOne s.framer.limits.max_body (s.framer.buffered ++ take k piece) = subst (λ (g : FramerData). HoldsOne g.limits.max_body g.buffered) e one in
     let is_after : IsAfter reading input (drop k piece) records (record s { framer = record s.framer { buffered = s.framer.buffered ++ take k piece } }) = record {
       reads = record {
         version = at.reads.version;
@@ -75,10 +75,10 @@ fed_stands reading input piece records s f k e part one at =
       side = at.side;
       due = at.due;
     } in
-    subst (λ (g : Framing). IsAfter reading input (drop k piece) records (record s { framer = g })) (sym e) is_after
+    subst (λ (g : FramerData). IsAfter reading input (drop k piece) records (record s { framer = g })) (sym e) is_after
 
 -- No more of them can be taken.
-malformed : (reading : LogRules) (input piece : List ℕ) (records : List Record) (s : Splitter) (side : Side) (n : Framing) (fault : FrameFault) → s.side ≡ Some side
+malformed : (reading : LogRules) (input piece : List ℕ) (records : List Record) (s : Splitter) (side : Side) (n : FramerData) (fault : FrameFault) → s.side ≡ Some side
     → IsStreamFault s.framer n piece fault → IsAfter reading input piece records s → IsMalformed reading.max_body input fault (log_at s records piece)
 malformed reading input piece records s side n fault is why at =
     let limited : IsDecided reading.max_body s.framer.place (s.framer.buffered ++ piece) fault =
@@ -91,7 +91,7 @@ malformed reading input piece records s side n fault is why at =
       hopeless = λ more raw body tail t. why.hopeless more raw body tail (subst (λ (m : ℕ). IsFrameOf m raw body) (sym at.limit) t);
     }
 
-split_fault : (reading : LogRules) (input piece : List ℕ) (records : List Record) (s : Splitter) (side : Side) (n : Framing) (fault : FrameFault) → s.side ≡ Some side
+split_fault : (reading : LogRules) (input piece : List ℕ) (records : List Record) (s : Splitter) (side : Side) (n : FramerData) (fault : FrameFault) → s.side ≡ Some side
     → IsFeedFault s.framer n piece fault → s.framer.failed ≡ false → IsAfter reading input piece records s → IsSplitFault reading.max_body input (log_at s records piece) (engine_fault fault)
 split_fault reading input piece records s side n (fault_of.BadHeader place) is why sound at = malformed reading input piece records s side n (fault_of.BadHeader place) is why at
 split_fault reading input piece records s side n (fault_of.HeaderTooLong place) is why sound at = malformed reading input piece records s side n (fault_of.HeaderTooLong place) is why at
@@ -103,7 +103,7 @@ split_fault reading input piece records s side n (fault_of.BadCharset place) is 
 split_fault reading input piece records s side n fault_of.Failed is why sound at = let failed : s.framer.failed ≡ true = why.0 in let two : true ≡ false = sym failed ∙ sound in cc
 split_fault reading input piece records s side n fault_of.NoMemory is why sound at = tt
 
-pub feed_fault : (reading : LogRules) (input piece : List ℕ) (records : List Record) (s : Splitter) (n : Framing) (fault : FrameFault) → (s.side ≡ None → ⊥)
+pub feed_fault : (reading : LogRules) (input piece : List ℕ) (records : List Record) (s : Splitter) (n : FramerData) (fault : FrameFault) → (s.side ≡ None → ⊥)
     → IsFeedFault s.framer n piece fault → s.framer.failed ≡ false → IsAfter reading input piece records s → IsSplitFault reading.max_body input (log_at s records piece) (engine_fault fault)
 feed_fault reading input piece records s n fault some why sound at =
     let known : KnownSide s.side = known_side s.side some in
@@ -114,7 +114,7 @@ two_between : (version : Version) → IsSide version None → version ≡ Two
 two_between One side = absurd side
 two_between Two side = refl
 
-pub marked_stands : (reading : LogRules) (input piece tail : List ℕ) (mark : ℕ) (records : List Record) (s : Splitter) (side : Side) (f : Framing) → s.side ≡ None → s.framer.buffered ≡ []
+pub marked_stands : (reading : LogRules) (input piece tail : List ℕ) (mark : ℕ) (records : List Record) (s : Splitter) (side : Side) (f : FramerData) → s.side ≡ None → s.framer.buffered ≡ []
     → piece ≡ mark ∷ tail → mark_of Two side ≡ mark ∷ [] → f ≡ record s.framer { place = place_after s.framer.place 1 } → IsAfter reading input piece records s
     → IsAfter reading input tail records (record s { framer = f; side = Some side })
 marked_stands reading input piece tail mark records s side f none nothing is said e at =
@@ -143,7 +143,7 @@ marked_stands reading input piece tail mark records s side f none nothing is sai
       side = subst (λ (v : Version). IsSide v (Some side)) (sym two) tt;
       due = at.due;
     } in
-    subst (λ (g : Framing). IsAfter reading input tail records (record s { framer = g; side = Some side })) (sym e) is_after
+    subst (λ (g : FramerData). IsAfter reading input tail records (record s { framer = g; side = Some side })) (sym e) is_after
 
 -- A record was given up.
 one_side : (version : Version) (side : Side) → IsSide version (Some side) → version ≡ One → side ≡ Client
@@ -172,7 +172,7 @@ known_reads reading input more body records s was is is_frame_of at =
           (subst (λ (b : Bool). IsRecord reading.max_body s.version (length (line_of s.version) + length (together s.version records [])) b (record_at s body)) (sym (due_now s.version records)) record_here);
     }
 
-given_known : (reading : LogRules) (input more body : List ℕ) (records : List Record) (s : Splitter) (f : Framing) (was : Side) (side : Option Side) (mark place : ℕ) → s.side ≡ Some was
+given_known : (reading : LogRules) (input more body : List ℕ) (records : List Record) (s : Splitter) (f : FramerData) (was : Side) (side : Option Side) (mark place : ℕ) → s.side ≡ Some was
     → f ≡ released s.framer → IsSide s.version side → mark_part s.version side ≡ [] → mark ≡ length (mark_of s.version was)
     → place ≡ min (min (s.place + mark) (2 ^ 64 - 1) + length s.framer.buffered) (2 ^ 64 - 1) → IsFrameOf reading.max_body s.framer.buffered body → IsAfter reading input more records s
     → IsAfter reading input more (records ++ record_at s body ∷ []) (record { framer = f; version = s.version; side = side; place = place; line_due = false })
@@ -198,7 +198,7 @@ given_known reading input more body records s f was side mark place is e sided n
       side = sided;
       due = sym (not_due s.version records (record_at s body));
     } in
-    subst (λ (g : Framing). IsAfter reading input more (records ++ record_at s body ∷ []) (record { framer = g; version = s.version; side = side; place = place; line_due = false })) (sym e) is_after
+    subst (λ (g : FramerData). IsAfter reading input more (records ++ record_at s body ∷ []) (record { framer = g; version = s.version; side = side; place = place; line_due = false })) (sym e) is_after
 
 pub some_side : (s : Splitter) → IsFed s → IsFrame s.framer.limits.max_body s.framer.buffered → s.side ≡ None → ⊥
 some_side s fed frame none = no_empty_frame s.framer.limits.max_body (subst (λ (z : List ℕ). IsFrame s.framer.limits.max_body z) (fed.between none) frame)
@@ -209,7 +209,7 @@ given_reads reading input more body records s some is_frame_of at =
     let known : KnownSide s.side = known_side s.side some in
     known_reads reading input more body records s known.side known.is is_frame_of at
 
-pub given_stands : (reading : LogRules) (input more body : List ℕ) (records : List Record) (s : Splitter) (f : Framing) (side : Option Side) (mark place : ℕ) → (s.side ≡ None → ⊥)
+pub given_stands : (reading : LogRules) (input more body : List ℕ) (records : List Record) (s : Splitter) (f : FramerData) (side : Option Side) (mark place : ℕ) → (s.side ≡ None → ⊥)
     → f ≡ released s.framer → IsSide s.version side → mark_part s.version side ≡ [] → ((was : Side) → mark ≡ length (mark_of s.version was))
     → place ≡ min (min (s.place + mark) (2 ^ 64 - 1) + length s.framer.buffered) (2 ^ 64 - 1) → IsFrameOf reading.max_body s.framer.buffered body → IsAfter reading input more records s
     → IsAfter reading input more (records ++ record_at s body ∷ [])
@@ -218,10 +218,10 @@ given_stands reading input more body records s f side mark place some e sided no
     let known : KnownSide s.side = known_side s.side some in
     given_known reading input more body records s f known.side side mark place known.is e sided none (marked known.side) placed is_frame_of at
 
-pub given_ready : (s : Splitter) (f : Framing) (side : Option Side) (place : ℕ) → f ≡ released s.framer → s.framer.failed ≡ false
+pub given_ready : (s : Splitter) (f : FramerData) (side : Option Side) (place : ℕ) → f ≡ released s.framer → s.framer.failed ≡ false
     → IsReady (record { framer = f; version = s.version; side = side; place = place; line_due = false })
 given_ready s f side place e sound =
-    subst (λ (g : Framing). IsReady (record { framer = g; version = s.version; side = side; place = place; line_due = false })) (sym e)
+    subst (λ (g : FramerData). IsReady (record { framer = g; version = s.version; side = side; place = place; line_due = false })) (sym e)
     (record { fed = record { sound = sound; between = λ _. refl }; none = no_empty_frame s.framer.limits.max_body })
 
 line_len : (version : Version) → length (line_of version) ≤ 18

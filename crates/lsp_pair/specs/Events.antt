@@ -1,6 +1,6 @@
 -- How both ends are set up, what may happen to them, and what they answer.
 use Rattle.std.specs.Prelude.{List, [], ◌∷◌}
-use Rattle.lsp_frame.specs.Limits.{Bounds}
+use Rattle.lsp_frame.specs.Limits.{LimitsData}
 use Rattle.lsp_message.specs.declared.agreement.Offers.{Offers}
 use Rattle.lsp_message.specs.Outgoing.{OutgoingData}
 use Rattle.lsp_server.specs.declared.config.Config.{Config}
@@ -15,7 +15,7 @@ use Rattle.lsp_pair.specs.declared.event.Heard.TheVariants as heard
 
 -- The configuration of both ends.
 pub record Setting : Type 0 where
-  pub limits : Bounds
+  pub limits : LimitsData
   pub offers : Offers
   pub config : Config
 

@@ -1,7 +1,7 @@
 -- Both ends of a session and the frames between them, and one step of both.
 use Rattle.std.specs.Prelude.{ℕ, ◌≡◌, ◌≢◌, Bool, true, false, not, nat_le, ◌&&◌, ◌||◌, List, [], ◌∷◌, ◌++◌, map, Result, Ok, Err}
 use Rattle.lsp_frame.specs.Frame.{frame, IsFrameOf}
-use Rattle.lsp_frame.specs.Limits.{Bounds, AreInRange}
+use Rattle.lsp_frame.specs.Limits.{LimitsData, AreInRange}
 use Rattle.lsp_text.specs.declared.encoding.Encoding.TheVariants.{Utf16}
 use Rattle.lsp_message.specs.Message.{reading}
 use Rattle.lsp_message.specs.Outgoing.{OutgoingData, body_of}
@@ -18,8 +18,8 @@ use Rattle.lsp_pair.specs.Events.{Setting, EventData, calls, to_server, to_clien
 
 -- Both ends, and the frames on the way to each, oldest first.
 pub record PairData : Type 0 where
-  pub client : client.State
-  pub server : server.State
+  pub client : client.ClientData
+  pub server : server.ServerData
   pub to_server : List (List ℕ)
   pub to_client : List (List ℕ)
 
@@ -119,7 +119,7 @@ is_utf16 (Negotiated prefer) = true
 is_utf16 choice = false
 
 -- Each of the limits is at most the other's, and they are lenient only if the others are.
-abbrev pub are_within : Bounds → Bounds → Bool
+abbrev pub are_within : LimitsData → LimitsData → Bool
 are_within small great =
     nat_le small.max_body great.max_body && nat_le small.max_text great.max_text
     && nat_le small.max_docs great.max_docs && nat_le small.max_changes great.max_changes

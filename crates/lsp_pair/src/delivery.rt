@@ -4,7 +4,7 @@ ghost use Rattle.std.specs.Prelude.{◌≡◌, ◌≢◌, ◌<◌, ◌++◌, [],
 ghost use Rattle.std.specs.VecDeque.{deque_len, deque_capacity};
 ghost use Rattle.lsp_frame.specs.Stream.{IsFrame};
 ghost use Rattle.lsp_client.specs.Seen.{delivered_view};
-ghost use Rattle.lsp_client.specs.Step.{State, is_listening};
+ghost use Rattle.lsp_client.specs.Step.{ClientData, is_listening};
 ghost use Rattle.lsp_server.specs.declared.phase.Phase.TheVariants.{Ended};
 ghost use Rattle.lsp_server.specs.Seen.{answer_view};
 ghost use Rattle.lsp_server.specs.Step as server;
@@ -42,7 +42,7 @@ pub(crate) fn serve_first(
 ) -> Result<Happened, AllocError>
     requires { HoldsOfFirst (frames sent.old.items) (λ first.
         IsFrame server.old.config.limits.max_body first × (server.old.phase ≢ Ended)) }
-    ensures step { (client : State) → IfOk result (λ happened.
+    ensures step { (client : ClientData) → IfOk result (λ happened.
         IsStep
         (both_ends client server.old (frames sent.old.items) (frames replies.old.items))
         to_server happened
@@ -98,7 +98,7 @@ pub(crate) fn hear_first(
 ) -> Result<Happened, AllocError>
     requires { HoldsOfFirst (frames replies.old.items) (λ first.
         IsFrame client.old.limits.max_body first × (is_listening client.old.phase ≡ true)) }
-    ensures step { (other : server.State) → IfOk result (λ happened.
+    ensures step { (other : server.ServerData) → IfOk result (λ happened.
         IsStep
         (both_ends client.old other (frames sent.old.items) (frames replies.old.items))
         to_client happened

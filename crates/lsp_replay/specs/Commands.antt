@@ -17,7 +17,7 @@ use Rattle.lsp_store.specs.declared.fault.StoreFault.TheVariants.{AlreadyOpen, T
 use Rattle.lsp_server.specs.declared.answer.Refusal.{Refusal}
 use Rattle.lsp_server.specs.declared.answer.Refusal.TheVariants.{InvalidParams as BadParams, Store}
 use Rattle.lsp_server.specs.Incoming.{IncomingData, incoming_of, did_change}
-use Rattle.lsp_server.specs.Step.{State, session_encoding, edit_from_data}
+use Rattle.lsp_server.specs.Step.{ServerData, session_encoding, edit_from_data}
 use Rattle.lsp_server.specs.Answer.{AnswerData, reply, changed, dropped, ignored, refused, exits, already_ended, Sent}
 use Rattle.lsp_replay.specs.declared.outcome.Outcome.{Outcome}
 use Rattle.lsp_stream.specs.declared.fault.EngineFault.{EngineFault}
@@ -184,7 +184,7 @@ change_in (did_change params) = params
 change_in m = None
 
 -- The body of the canonical message of a batch on the documents of a server.
-abbrev pub canonical_change_body : State → ChangeData → List ℕ
+abbrev pub canonical_change_body : ServerData → ChangeData → List ℕ
 canonical_change_body server p
     = canonical_body (units_in (session_encoding server)) server.table p.uri p.version
     (map edit_from_data p.changes)
@@ -198,7 +198,7 @@ abbrev pub front_of : Head → List ℕ
 front_of head = line_if head.line_due ++ mark_of head.version head.side
 
 -- The canonical body of an accepted change. Other records have none.
-abbrev pub canonical_if : State → Option ChangeData → Verdict → Option (List ℕ)
+abbrev pub canonical_if : ServerData → Option ChangeData → Verdict → Option (List ℕ)
 canonical_if server (Some p) (answered changed) = Some (canonical_change_body server p)
 canonical_if server change verdict = None
 

@@ -1,7 +1,7 @@
 -- `check --explain`: a line of `check` for each record, with the reason where it was refused and
 -- the notes where it is suspicious, and at the end what to do next.
 use Rattle.std.specs.Prelude.{ℕ, Bool, false, ◌==◌, ◌∷◌, ◌++◌, if◌then◌else◌, List, [], Option, Some, None, codes, decimal}
-use Rattle.lsp_frame.specs.Limits.{Bounds}
+use Rattle.lsp_frame.specs.Limits.{LimitsData}
 use Rattle.lsp_message.specs.Message.{reading}
 use Rattle.lsp_message.specs.Params.{ChangeData}
 use Rattle.lsp_server.specs.Incoming.{IncomingData, incoming_of}
@@ -30,7 +30,7 @@ see_words (Some number) = codes "; see message " ++ decimal number
 
 -- What comes after the word of a record that counts as refused, by its document, the change that it
 -- asks for, and the record to look at.
-abbrev pub explanation : Bounds → Option (List ℕ) → Option ChangeData → Option ℕ → Verdict
+abbrev pub explanation : LimitsData → Option (List ℕ) → Option ChangeData → Option ℕ → Verdict
     → List ℕ
 explanation limits uri change last (answered answer) = if is_refused answer then
     document_words uri ++ codes ": " ++ reason_words limits change answer ++ see_words last else []

@@ -25,7 +25,7 @@ use Rattle.lsp_message.specs.declared.agreement.SyncKind.TheVariants.{Incrementa
 use Rattle.lsp_store.specs.Table.{entry_at, greatest_batch}
 use Rattle.lsp_server.specs.Answer.{changed}
 use Rattle.lsp_server.specs.Incoming.{IncomingData, did_open, did_change, incoming_of}
-use Rattle.lsp_server.specs.Step.{State, edit_from_data, session_encoding}
+use Rattle.lsp_server.specs.Step.{ServerData, edit_from_data, session_encoding}
 use Rattle.lsp_stream.specs.Ports.{one_more}
 use Rattle.lsp_log.specs.declared.record.Side.{Side as Sender}
 use Rattle.lsp_log.specs.declared.record.Side.TheVariants.{Client, Server}
@@ -177,7 +177,7 @@ opening_notes None = []
 opening_notes (Some entry) = OpenAlready ∷ []
 
 -- What the notes of the changes of a body go by, in the encoding of the session.
-abbrev pub terms_in : State → Bool → Reading → Terms
+abbrev pub terms_in : ServerData → Bool → Reading → Terms
 terms_in s ranged body = record {
   units = units_in (session_encoding s);
   lengths = lengths_of body;
@@ -186,7 +186,7 @@ terms_in s ranged body = record {
 
 -- What there is to note of a message on the documents before it, if it is accepted. `ranged`: did
 -- the server ask for ranges?
-abbrev pub notes_on : State → Bool → Reading → IncomingData → List Note
+abbrev pub notes_on : ServerData → Bool → Reading → IncomingData → List Note
 notes_on s ranged body (did_open (Some p)) = opening_notes (entry_at s.table p.uri)
 notes_on s ranged body (did_change (Some p))
     = changing_notes (terms_in s ranged body) p (entry_at s.table p.uri)

@@ -2,7 +2,7 @@
 -- backslash.
 use Rattle.std.specs.Prelude.{ℕ, ◌++◌, List, [], Option, Some, None, option_and_then, codes, decimal, slice_get}
 use Rattle.std.specs.Fmt.{signed_decimal}
-use Rattle.lsp_frame.specs.Limits.{Bounds}
+use Rattle.lsp_frame.specs.Limits.{LimitsData}
 use Rattle.lsp_text.specs.declared.position.Position.{Position}
 use Rattle.lsp_text.specs.declared.position.Range.{Range}
 use Rattle.lsp_edit.specs.declared.fault.EditFault.{EditFault}
@@ -53,7 +53,7 @@ edit_reason p (ReversedRange change) =
     ++ codes ", after it" ++ end_words Stop (range_sent p change)
 edit_reason p NoMemoryToEdit = []
 
-abbrev pub store_reason : Bounds → Option ChangeData → StoreFault → List ℕ
+abbrev pub store_reason : LimitsData → Option ChangeData → StoreFault → List ℕ
 store_reason limits p AlreadyOpen = codes "the document is open already"
 store_reason limits p TooManyDocuments =
     codes "as many documents are open as --max-docs allows, " ++ decimal limits.max_docs
@@ -69,7 +69,7 @@ store_reason limits p TooManyChanges =
 store_reason limits p (Edit fault) = edit_reason p fault
 store_reason limits p fault = []
 
-abbrev pub refusal_reason : Bounds → Option ChangeData → Refusal → List ℕ
+abbrev pub refusal_reason : LimitsData → Option ChangeData → Refusal → List ℕ
 refusal_reason limits p BadParams = codes "the parameters can't be read"
 refusal_reason limits p (Store fault) = store_reason limits p fault
 
@@ -85,7 +85,7 @@ error_reason (Some ServerNotInitialized) = codes "no request may come before `in
 error_reason code = []
 
 -- The words for an answer that counts as refused, by the change that it is the answer to.
-abbrev pub reason_words : Bounds → Option ChangeData → AnswerData Sent → List ℕ
+abbrev pub reason_words : LimitsData → Option ChangeData → AnswerData Sent → List ℕ
 reason_words limits p (reply r) = error_reason r.code
 reason_words limits p (refused refusal) = refusal_reason limits p refusal
 reason_words limits p (exits status) = codes "`exit` came without `shutdown`"

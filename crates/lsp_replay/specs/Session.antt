@@ -16,7 +16,7 @@ use Rattle.lsp_server.specs.declared.phase.Phase.TheVariants.{New, Running, Ende
 use Rattle.lsp_server.specs.Incoming.{IncomingData, incoming_of, did_change, initialize}
 use Rattle.lsp_server.specs.Answer.{AnswerData, reply, refused, exits, Sent, as_sent}
 use Rattle.lsp_server.specs.declared.config.Config.{Config}
-use Rattle.lsp_server.specs.Step.{State, new_server, step_on, with_encoding}
+use Rattle.lsp_server.specs.Step.{ServerData, new_server, step_on, with_encoding}
 use Rattle.lsp_replay.specs.declared.outcome.Outcome.{Outcome}
 use Rattle.lsp_stream.specs.Ports.{one_more}
 use Rattle.lsp_log.specs.declared.record.Version.{Version}
@@ -29,7 +29,7 @@ use Rattle.lsp_log.specs.Log.{Record}
 -- A server that is run on a log, and what is counted.
 pub record Session : Type 0 where
   -- the server that the client's records are handed to
-  pub server : State
+  pub server : ServerData
   -- the id of the accepted `initialize`, until its result has come in a log of version 2
   pub expected : Option IdData
   -- how many records were judged
@@ -111,7 +111,7 @@ expected_after s version m = if is_new s.server.phase then expected_of version m
     s.expected
 
 -- The server answered a message, which is counted.
-abbrev pub handled : Session → Version → IncomingData → State → AnswerData Sent → Judged
+abbrev pub handled : Session → Version → IncomingData → ServerData → AnswerData Sent → Judged
 handled s version m server answer =
     judged (answered answer) (record s {
       server = server;

@@ -8,7 +8,7 @@ use Rattle.lsp_message.specs.Params.{DocumentItem, ChangeData}
 use Rattle.lsp_store.specs.Squash.{SquashData, squash_of, squash_after, squash_frame, squash_refusal}
 use Rattle.lsp_store.specs.Table.{Refusal, entry_at}
 use Rattle.lsp_server.specs.Incoming.{incoming_of}
-use Rattle.lsp_server.specs.Step.{State, session_encoding, edit_from_data}
+use Rattle.lsp_server.specs.Step.{ServerData, session_encoding, edit_from_data}
 use Rattle.lsp_server.specs.Answer.{changed}
 use Rattle.lsp_replay.specs.declared.commands.Settings.{Settings}
 use Rattle.lsp_replay.specs.declared.outcome.Outcome.{Outcome}
@@ -51,7 +51,7 @@ joined_by p squash = squash_after squash p.version (map edit_from_data p.changes
 
 -- A run that a change begins, on the document before it. `single` is the record as it is written
 -- without squash.
-abbrev pub begun_on : State → ChangeData → List ℕ → List ℕ → Option DocumentItem → Option Run
+abbrev pub begun_on : ServerData → ChangeData → List ℕ → List ℕ → Option DocumentItem → Option Run
 begun_on server p front single None = None
 begun_on server p front single (Some entry) =
     Some (record {
@@ -61,7 +61,7 @@ begun_on server p front single (Some entry) =
     })
 
 -- The same on the documents of a server.
-abbrev pub begun : State → ChangeData → List ℕ → List ℕ → Option Run
+abbrev pub begun : ServerData → ChangeData → List ℕ → List ℕ → Option Run
 begun server p front single = begun_on server p front single (entry_at server.table p.uri)
 
 -- A run after one more change.
@@ -84,7 +84,7 @@ faulty fault = record { out = []; end = Some (Err fault); run = None }
 
 -- An accepted change joins the open run if it is of the same document. Else it ends that run and
 -- begins one.
-abbrev pub change_output : State → ChangeData → List ℕ → List ℕ → Option Run → Step
+abbrev pub change_output : ServerData → ChangeData → List ℕ → List ℕ → Option Run → Step
 change_output server p front single None
     = record { out = []; end = None; run = begun server p front single }
 change_output server p front single (Some run) =
@@ -93,7 +93,7 @@ change_output server p front single (Some run) =
     else record { out = run_bytes run; end = None; run = begun server p front single }
 
 -- Its own canonical message must not be too long.
-abbrev pub change_step : State → Record → ChangeData → List ℕ → Option Run → Step
+abbrev pub change_step : ServerData → Record → ChangeData → List ℕ → Option Run → Step
 change_step server r p front run =
     if nat_lt server.config.limits.max_body (length (canonical_change_body server p)) then
     faulty (BodyTooLong r.head.place)
@@ -105,7 +105,7 @@ other_step r front run
     = record { out = end_bytes run ++ (front ++ r.raw); end = None; run = None }
 
 -- A record's output, by the change in it and the judgement of it.
-abbrev pub step_if : State → Record → List ℕ → Option Run → Option ChangeData → Verdict → Step
+abbrev pub step_if : ServerData → Record → List ℕ → Option Run → Option ChangeData → Verdict → Step
 step_if server r front run change bad = faulty (BadLog r.head.place)
 step_if server r front run (Some p) (answered changed) = change_step server r p front run
 step_if server r front run change verdict = other_step r front run

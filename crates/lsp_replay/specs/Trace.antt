@@ -3,7 +3,7 @@ use Rattle.std.specs.Prelude.{ℕ, Bool, true, false, ◌&&◌, ◌||◌, ◌==�
 use Rattle.std.specs.Fmt.{signed_decimal}
 use Rattle.serde_json.specs.Data.{string}
 use Rattle.serde_json.specs.Written.{compact_text}
-use Rattle.lsp_frame.specs.Limits.{Bounds}
+use Rattle.lsp_frame.specs.Limits.{LimitsData}
 use Rattle.lsp_message.specs.Message.{IdData, whole, text, reading}
 use Rattle.lsp_message.specs.Params.{DocumentItem}
 use Rattle.lsp_store.specs.Table.{entry_at}
@@ -80,7 +80,7 @@ first_members number head m =
 -- ---- what is answered
 
 -- Why a record was refused, if it counts as refused.
-abbrev pub reason_json : Bounds → IncomingData → Verdict → Option (List ℕ)
+abbrev pub reason_json : LimitsData → IncomingData → Verdict → Option (List ℕ)
 reason_json limits m (answered answer) = if is_refused answer then
     Some (codes "\"" ++ reason_words limits (change_in m) answer ++ codes "\"") else None
 reason_json limits m verdict = None

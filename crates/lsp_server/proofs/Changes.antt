@@ -23,15 +23,15 @@ use Rattle.lsp_server.specs.declared.planned.PlannedChange.TheVariants.{Accepted
 use Rattle.lsp_server.specs.Answer.{dropped, refused}
 use Rattle.lsp_server.specs.Calls.{IsStepOf}
 use Rattle.lsp_server.specs.Planned.{IsAnswered, IsPlanOfChange, IsPlannedAs, store_of}
-use Rattle.lsp_server.specs.Step.{State, Step, change_command, edit_from_data, session_encoding, obeys, stays, step_in, step_on}
+use Rattle.lsp_server.specs.Step.{ServerData, Step, change_command, edit_from_data, session_encoding, obeys, stays, step_in, step_on}
 use Rattle.lsp_server.proofs.Commands.{edits_of, obeyed_as_refused}
 
 -- The step of a change in phase Running.
-pub running_step : (s : State) (p : ChangeData) → s.phase ≡ Running → step_on s (did_change (Some p)) ≡ obeys s (change_command s p)
+pub running_step : (s : ServerData) (p : ChangeData) → s.phase ≡ Running → step_on s (did_change (Some p)) ≡ obeys s (change_command s p)
 running_step s p running = ap (λ phase. step_in phase s (did_change (Some p))) running
 
 -- The store's plan of a change is the server's.
-pub planned_is : (s : State) (store : StoreData) (p : ChangeParams) (uri : List ℕ) (version : ℤ) (encoding : Encoding) (edits : List Change) (plan : Plan)
+pub planned_is : (s : ServerData) (store : StoreData) (p : ChangeParams) (uri : List ℕ) (version : ℤ) (encoding : Encoding) (edits : List Change) (plan : Plan)
     → store ≡ store_of s → uri ≡ string_bytes p.uri → version ≡ p.version → encoding ≡ session_encoding s → edits ≡ p.changes.items → s.phase ≡ Running
     → IsPlanOf store uri version encoding (map edit_of edits) plan
     → IsPlannedAs s (change_view p) (Accepted plan)
@@ -41,7 +41,7 @@ planned_is s store p uri version encoding edits plan store_is uri_is version_is 
     (record { running = running; on = same.on }, same)
 
 -- The store's refusal of a change is the server's answer.
-pub refused_is : (s : State) (store : StoreData) (p : ChangeParams) (uri : List ℕ) (version : ℤ) (encoding : Encoding) (edits : List Change) (fault : StoreFault) (a : Answer)
+pub refused_is : (s : ServerData) (store : StoreData) (p : ChangeParams) (uri : List ℕ) (version : ℤ) (encoding : Encoding) (edits : List Change) (fault : StoreFault) (a : Answer)
     → store ≡ store_of s → uri ≡ string_bytes p.uri → version ≡ p.version → encoding ≡ session_encoding s → edits ≡ p.changes.items → s.phase ≡ Running
     → (fault ≢ NoMemory) × (a ≡ Refused (Store fault))
     → IsRefused store (changes uri version encoding (map edit_of edits)) fault
@@ -57,7 +57,7 @@ refused_is s store p uri version encoding edits fault a store_is uri_is version_
     (subst (λ (taken : Step). IsAnswered s taken (Refused (Store fault))) (sym step) (record { answer = refl; unchanged = refl; not_changed = λ e. cc }))
 
 -- Outside phase Running a change is dropped.
-pub dropped_is : (s : State) (p : ChangeData) → (s.phase ≡ New) ⊎ (s.phase ≡ Down) → IsAnswered s (step_on s (did_change (Some p))) Dropped
+pub dropped_is : (s : ServerData) (p : ChangeData) → (s.phase ≡ New) ⊎ (s.phase ≡ Down) → IsAnswered s (step_on s (did_change (Some p))) Dropped
 dropped_is s p (inl new) =
     let step : step_on s (did_change (Some p)) ≡ stays s dropped = ap (λ phase. step_in phase s (did_change (Some p))) new in
     subst (λ (taken : Step). IsAnswered s taken Dropped) (sym step) (record { answer = refl; unchanged = refl; not_changed = λ e. cc })
@@ -66,11 +66,11 @@ dropped_is s p (inr down) =
     subst (λ (taken : Step). IsAnswered s taken Dropped) (sym step) (record { answer = refl; unchanged = refl; not_changed = λ e. cc })
 
 -- What was planned may be committed, if it is a plan.
-pub accepted_on : (s : State) (p : ChangeData) (planned : PlannedChange) (plan : Plan) → planned ≡ Accepted plan → IsPlannedAs s p planned → IsPlannedAs s p (Accepted plan)
+pub accepted_on : (s : ServerData) (p : ChangeData) (planned : PlannedChange) (plan : Plan) → planned ≡ Accepted plan → IsPlannedAs s p planned → IsPlannedAs s p (Accepted plan)
 accepted_on s p planned plan is h = subst (λ (x : PlannedChange). IsPlannedAs s p x) is h
 
 -- A plan that is committed is the step of its change.
-pub accepted_step : {E : Type 0} (s : State) (p : ChangeData) (planned : PlannedChange) (plan : Plan) (result : Result Answer E) (new : State)
+pub accepted_step : {E : Type 0} (s : ServerData) (p : ChangeData) (planned : PlannedChange) (plan : Plan) (result : Result Answer E) (new : ServerData)
     → planned ≡ Accepted plan → s.phase ≡ Running → IsPlannedAs s p planned
     → ((q : ChangeData) → IsPlanOfChange s q plan → IsStepOf (step_on s (did_change (Some q))) result s new)
     → IsStepOf (obeys s (change_command s p)) result s new
@@ -78,7 +78,7 @@ accepted_step s p planned plan result new is running h step =
     subst (λ (taken : Step). IsStepOf taken result s new) (running_step s p running) (step p (accepted_on s p planned plan is h).1)
 
 -- So is an answer that changes nothing.
-pub answered_step : {E : Type 0} (s : State) (p : ChangeData) (planned : PlannedChange) (a : Answer) → planned ≡ Answered a → s.phase ≡ Running → IsPlannedAs s p planned
+pub answered_step : {E : Type 0} (s : ServerData) (p : ChangeData) (planned : PlannedChange) (a : Answer) → planned ≡ Answered a → s.phase ≡ Running → IsPlannedAs s p planned
     → IsStepOf {E = E} (obeys s (change_command s p)) (Ok a) s s
 answered_step {E} s p planned a is running h =
     let answered : IsAnswered s (step_on s (did_change (Some p))) a = subst (λ (x : PlannedChange). IsPlannedAs s p x) is h in

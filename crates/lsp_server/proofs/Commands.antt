@@ -14,7 +14,7 @@ use Rattle.lsp_server.specs.declared.answer.Answer.{Answer}
 use Rattle.lsp_server.specs.declared.answer.Answer.TheVariants.{Changed, Refused}
 use Rattle.lsp_server.specs.declared.answer.Refusal.TheVariants.{Store}
 use Rattle.lsp_server.specs.Answer.{refused, IsQuiet}
-use Rattle.lsp_server.specs.Step.{State, edit_from_data, stays, obeyed, obeys}
+use Rattle.lsp_server.specs.Step.{ServerData, edit_from_data, stays, obeyed, obeys}
 use Rattle.lsp_server.specs.Calls.{IsStepOf, IsRowOf}
 use Rattle.lsp_server.specs.Planned.{store_of}
 
@@ -24,24 +24,24 @@ edits_of [] = refl
 edits_of (change ∷ changes) = ap (λ edits. made.edit_of change ∷ edits) (edits_of changes)
 
 -- a server with another store
-abbrev pub over : State → StoreData → State
+abbrev pub over : ServerData → StoreData → ServerData
 over s store = record s { config = record s.config { limits = store.limits }; table = store.table }
 
 -- What is answered to a refused command tells the store's fault.
-refusal_answered : (s : State) (refusal : Option table.Refusal) (next : List DocumentItem) (fault : StoreFault)
+refusal_answered : (s : ServerData) (refusal : Option table.Refusal) (next : List DocumentItem) (fault : StoreFault)
     → option_map fault_of refusal ≡ Some fault → obeyed s (unless_refused refusal next) ≡ stays s (refused (Store fault))
 refusal_answered s None next fault e = cc
 refusal_answered s (Some refusal) next fault e =
     let same : fault_of refusal ≡ fault = cc in ap (λ error. stays s (refused (Store error))) same
 
-pub obeyed_as_refused : (s : State) (command : Command) (fault : StoreFault)
+pub obeyed_as_refused : (s : ServerData) (command : Command) (fault : StoreFault)
     → fault ≢ NoMemory → IsRefused (store_of s) command fault → obeys s command ≡ stays s (refused (Store fault))
 obeyed_as_refused s command fault other (inl e) = absurd (other e)
 obeyed_as_refused s command fault other (inr e) =
     refusal_answered s (command_refusal s.config.limits s.table command) (table_after s.table command) fault e
 
 -- The store's result of a command, as an answer, is the step that obeys it.
-pub obeyed_step : {E : Type 0} (s : State) (given command : Command) (new : StoreData) (outcome : Result (Unit {0}) StoreFault) (result : Result Answer E)
+pub obeyed_step : {E : Type 0} (s : ServerData) (given command : Command) (new : StoreData) (outcome : Result (Unit {0}) StoreFault) (result : Result Answer E)
     → OnOk outcome (Takes (store_of s) given new)
     → OnErr outcome (new ≡ store_of s)
     → IfErr outcome (IsRefused (store_of s) given)
@@ -62,11 +62,11 @@ obeyed_step s given command new (Err fault) (Ok a) takes unchanged error changed
     }
 
 -- A step that answers for the store takes memory.
-loud : (s : State) (result : Result (List DocumentItem) table.Refusal) → IsQuiet (obeyed s result).answer → ⊥
+loud : (s : ServerData) (result : Result (List DocumentItem) table.Refusal) → IsQuiet (obeyed s result).answer → ⊥
 loud s (Ok next) quiet = quiet
 loud s (Err refusal) quiet = quiet
 
-pub obeyed_row : {E : Type 0} (s : State) (command : Command) (result : Result Answer E) (old new : State)
+pub obeyed_row : {E : Type 0} (s : ServerData) (command : Command) (result : Result Answer E) (old new : ServerData)
     → IsStepOf (obeys s command) result old new → IsRowOf (obeys s command) result old new
 obeyed_row s command result old new step =
     record { taken = step; quiet = λ quiet. absurd (loud s (after_command s.config.limits s.table command) quiet) }

@@ -19,7 +19,7 @@ use Rattle.lsp_server.specs.Answer.{AnswerData, reply, changed, exits}
 use Rattle.lsp_server.specs.Choice.{chosen, announced_kind}
 use Rattle.lsp_reader.specs.Incoming.{IncomingData, response, initialize, shutdown, other_request, exit, did_open, did_change, did_close, other_notification, request_of, notification_of}
 use Rattle.lsp_server.specs.laws.Steps.{RepliesTo, way_of, IsRefusal}
-use Rattle.lsp_server.specs.Step.{State, Step, stays, step_to, begins, obeyed, step_in}
+use Rattle.lsp_server.specs.Step.{ServerData, Step, stays, step_to, begins, obeyed, step_in}
 
 -- ---- requests
 
@@ -41,7 +41,7 @@ request_of-is id method params =
     one_of id (bytes_eq method (codes "initialize")) (bytes_eq method (codes "shutdown")) (initialize id (offers_of params)) (shutdown id)
     (other_request id method) refl refl refl
 
-pub replied : (p : Phase) (s : State) (id : IdData) (m : IncomingData) → IsRequestOf id m → p ≢ Ended → RepliesTo id (step_in p s m).answer
+pub replied : (p : Phase) (s : ServerData) (id : IdData) (m : IncomingData) → IsRequestOf id m → p ≢ Ended → RepliesTo id (step_in p s m).answer
 replied Ended s id m is live = absurd (live refl)
 replied New s id (initialize other None) is live = (error_reply (Some other) InvalidParams, refl, ap Some is)
 replied New s id (initialize other (Some offers)) is live =
@@ -81,11 +81,11 @@ notification_of-is method params =
     (bytes_eq method (codes "textDocument/didClose")) exit (did_open (open_of params)) (did_change (change_of params)) (did_close (close_of params))
     (other_notification method) tt tt tt tt tt
 
-obeyed_quietly : (s : State) (result : Result (List DocumentItem) table.Refusal) (m : OutgoingData) → (obeyed s result).answer ≢ reply m
+obeyed_quietly : (s : ServerData) (result : Result (List DocumentItem) table.Refusal) (m : OutgoingData) → (obeyed s result).answer ≢ reply m
 obeyed_quietly s (Ok next) m = λ e. cc
 obeyed_quietly s (Err refusal) m = λ e. cc
 
-pub unreplied : (p : Phase) (s : State) (n : IncomingData) (m : OutgoingData) → IsNotification n → (step_in p s n).answer ≢ reply m
+pub unreplied : (p : Phase) (s : ServerData) (n : IncomingData) (m : OutgoingData) → IsNotification n → (step_in p s n).answer ≢ reply m
 unreplied Ended s n m is = λ e. cc
 unreplied New s exit m is = λ e. cc
 unreplied New s (did_open params) m is = λ e. cc
@@ -107,7 +107,7 @@ unreplied Down s (did_close params) m is = λ e. cc
 unreplied Down s (other_notification method) m is = λ e. cc
 unreplied p s n m is = absurd is
 
-pub unanswered : (p : Phase) (s : State) (id : Option IdData) (m : OutgoingData)
+pub unanswered : (p : Phase) (s : ServerData) (id : Option IdData) (m : OutgoingData)
     → (step_in p s (response id)).answer ≢ reply m
 unanswered Ended s id m = λ e. cc
 unanswered New s id m = λ e. cc
@@ -116,30 +116,30 @@ unanswered Down s id m = λ e. cc
 
 -- ---- what stays
 
-pub record Keeps (p : Phase) (s : State) (next : Step) : Type 0 where
+pub record Keeps (p : Phase) (s : ServerData) (next : Step) : Type 0 where
   pub config : next.state.config ≡ s.config
   pub forward : way_of p ≤ way_of next.state.phase
   pub documents : next.answer ≢ changed → next.state.table ≡ s.table
   pub refusal : IsRefusal next.answer → next.state ≡ s
 
-stays_kept : (p : Phase) (s : State) (answer : AnswerData OutgoingData) → s.phase ≡ p → Keeps p s (stays s answer)
+stays_kept : (p : Phase) (s : ServerData) (answer : AnswerData OutgoingData) → s.phase ≡ p → Keeps p s (stays s answer)
 stays_kept p s answer e =
     record { config = refl; forward = rw e (omega arith); documents = λ _. refl; refusal = λ _. refl }
 
-goes_kept : (p q : Phase) (s : State) (answer : AnswerData OutgoingData) → way_of p ≤ way_of q → (IsRefusal answer → ⊥) → Keeps p s (step_to s q answer)
+goes_kept : (p q : Phase) (s : ServerData) (answer : AnswerData OutgoingData) → way_of p ≤ way_of q → (IsRefusal answer → ⊥) → Keeps p s (step_to s q answer)
 goes_kept p q s answer on apart =
     record { config = refl; forward = on; documents = λ _. refl; refusal = λ h. absurd (apart h) }
 
-begins_kept : (s : State) (id : IdData) (offers : Offers) → Keeps New s (begins s id offers)
+begins_kept : (s : ServerData) (id : IdData) (offers : Offers) → Keeps New s (begins s id offers)
 begins_kept s id offers =
     record { config = refl; forward = omega arith; documents = λ _. refl; refusal = λ h. absurd h }
 
-obeyed_kept : (p : Phase) (s : State) (result : Result (List DocumentItem) table.Refusal) → s.phase ≡ p → Keeps p s (obeyed s result)
+obeyed_kept : (p : Phase) (s : ServerData) (result : Result (List DocumentItem) table.Refusal) → s.phase ≡ p → Keeps p s (obeyed s result)
 obeyed_kept p s (Ok next) e =
     record { config = refl; forward = rw e (omega arith); documents = λ apart. absurd (apart refl); refusal = λ h. absurd h }
 obeyed_kept p s (Err refusal) e = stays_kept p s _ e
 
-pub kept : (p : Phase) (s : State) (m : IncomingData) → s.phase ≡ p → Keeps p s (step_in p s m)
+pub kept : (p : Phase) (s : ServerData) (m : IncomingData) → s.phase ≡ p → Keeps p s (step_in p s m)
 kept Ended s m e = stays_kept Ended s _ e
 kept New s exit e = goes_kept New Ended s (exits 1) (omega arith) (λ h. h)
 kept New s (initialize id (Some offers)) e = begins_kept s id offers

@@ -3,10 +3,10 @@ use Rattle.std.specs.Prelude.{◌≡◌, Result, IfOk, OnOk, OnErr, IsOk}
 use Rattle.lsp_server.specs.declared.answer.Answer.{Answer}
 use Rattle.lsp_server.specs.Answer.{as_sent, IsQuiet}
 use Rattle.lsp_server.specs.Seen.{answer_view}
-use Rattle.lsp_server.specs.Step.{State, Step}
+use Rattle.lsp_server.specs.Step.{ServerData, Step}
 
 -- A call took this step, or failed and changed nothing.
-pub record IsStepOf {E : Type 0} (step : Step) (result : Result Answer E) (old new : State) :
+pub record IsStepOf {E : Type 0} (step : Step) (result : Result Answer E) (old new : ServerData) :
     Type 0 where
   -- The reply is sent as a frame.
   pub answer : IfOk result (λ a. answer_view a ≡ as_sent step.answer)
@@ -14,7 +14,7 @@ pub record IsStepOf {E : Type 0} (step : Step) (result : Result Answer E) (old n
   pub unchanged : OnErr result (new ≡ old)
 
 -- A call took this step, and was out of memory only where its answer takes memory.
-pub record IsRowOf {E : Type 0} (step : Step) (result : Result Answer E) (old new : State) :
+pub record IsRowOf {E : Type 0} (step : Step) (result : Result Answer E) (old new : ServerData) :
     Type 0 where
   pub taken : IsStepOf step result old new
   pub quiet : IsQuiet step.answer → IsOk result

@@ -24,7 +24,7 @@ use Rattle.lsp_reader.specs.Incoming.{IncomingData, not_json, not_a_message, res
 
 -- A server: its configuration, its phase, the chosen encoding, if there is one, and the open
 -- documents.
-pub record State : Type 0 where
+pub record ServerData : Type 0 where
   pub config : Config
   pub phase : Phase
   pub encoding : Option Encoding
@@ -33,28 +33,28 @@ pub record State : Type 0 where
 -- What a server answers, and its state afterwards.
 pub record Step : Type 0 where
   pub answer : AnswerData OutgoingData
-  pub state : State
+  pub state : ServerData
 
 -- A new server.
-abbrev pub new_server : Config → State
+abbrev pub new_server : Config → ServerData
 new_server config = record { config = config; phase = New; encoding = None; table = [] }
 
 -- ---- what a step may do
 
 -- A step that answers and changes nothing.
-abbrev pub stays : State → AnswerData OutgoingData → Step
+abbrev pub stays : ServerData → AnswerData OutgoingData → Step
 stays s answer = record { answer = answer; state = s }
 
 -- A step that answers with an error response and changes nothing.
-abbrev pub fails : State → Option IdData → ErrorCode → Step
+abbrev pub fails : ServerData → Option IdData → ErrorCode → Step
 fails s id error = stays s (reply (error_reply id error))
 
 -- A step to another phase.
-abbrev pub step_to : State → Phase → AnswerData OutgoingData → Step
+abbrev pub step_to : ServerData → Phase → AnswerData OutgoingData → Step
 step_to s phase answer = record { answer = answer; state = record s { phase = phase } }
 
 -- An accepted `initialize`, in this encoding.
-abbrev pub begins_in : State → IdData → Encoding → Step
+abbrev pub begins_in : ServerData → IdData → Encoding → Step
 begins_in s id encoding =
     record {
       answer = reply (initialize_result id encoding (announced_kind s.config.sync));
@@ -62,16 +62,16 @@ begins_in s id encoding =
     }
 
 -- An accepted `initialize`, in the encoding chosen among those that the client offers.
-abbrev pub begins : State → IdData → Offers → Step
+abbrev pub begins : ServerData → IdData → Offers → Step
 begins s id offers = begins_in s id (chosen s.config.choice offers)
 
 -- The step of a command with this result.
-abbrev pub obeyed : State → Result (List DocumentItem) table.Refusal → Step
+abbrev pub obeyed : ServerData → Result (List DocumentItem) table.Refusal → Step
 obeyed s (Ok next) = record { answer = changed; state = record s { table = next } }
 obeyed s (Err refusal) = stays s (refused (Store (fault_of refusal)))
 
 -- A step that runs a command on the open documents, or refuses it.
-abbrev pub obeys : State → Command → Step
+abbrev pub obeys : ServerData → Command → Step
 obeys s command = obeyed s (after_command s.config.limits s.table command)
 
 -- ---- commands
@@ -82,11 +82,11 @@ edit_from_data e = record { range = e.range; text = chars e.text }
 
 -- The encoding of changes. Before one is chosen there are no changes; UTF-16 is the protocol's
 -- default.
-abbrev pub session_encoding : State → Encoding
+abbrev pub session_encoding : ServerData → Encoding
 session_encoding s = unwrap_or s.encoding Utf16
 
 -- The command of a `textDocument/didChange`.
-abbrev pub change_command : State → ChangeData → Command
+abbrev pub change_command : ServerData → ChangeData → Command
 change_command s p = changes p.uri p.version (session_encoding s) (map edit_from_data p.changes)
 
 -- The command of a `textDocument/didClose`.
@@ -94,13 +94,13 @@ abbrev pub close_command : CloseData → Command
 close_command p = closes p.uri
 
 -- A server with another encoding of changes. Before one is chosen nothing changes.
-abbrev pub with_encoding : State → Encoding → State
+abbrev pub with_encoding : ServerData → Encoding → ServerData
 with_encoding s encoding = record s { encoding = option_map (λ _. encoding) s.encoding }
 
 -- ---- the table of steps: the first row that fits decides
 
 -- The step in a phase.
-abbrev pub step_in : Phase → State → IncomingData → Step
+abbrev pub step_in : Phase → ServerData → IncomingData → Step
 -- After `exit` there is no answer.
 step_in Ended s m = stays s already_ended
 -- A body that is no JSON, or JSON and no message, is answered with an error response in any phase
@@ -142,9 +142,9 @@ step_in Down s (other_request id method) = fails s (Some id) InvalidRequest
 step_in Down s notification = stays s dropped
 
 -- What a server answers to what a body asks, and its state afterwards.
-abbrev pub step_on : State → IncomingData → Step
+abbrev pub step_on : ServerData → IncomingData → Step
 step_on s m = step_in s.phase s m
 
 -- What a server answers to a body, and its state afterwards, by what the body is read as.
-abbrev pub step : State → Reading → Step
+abbrev pub step : ServerData → Reading → Step
 step s body = step_on s (incoming_of body)

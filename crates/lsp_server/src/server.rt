@@ -41,9 +41,9 @@ pub struct Server {
 impl Model for Server {
     ghost use Rattle.std.specs.Prelude.{◌≡◌, IsSome};
     ghost use Rattle.lsp_server.specs.declared.phase.Phase.TheVariants.{Running};
-    ghost use Rattle.lsp_server.specs.Step.{State};
+    ghost use Rattle.lsp_server.specs.Step.{ServerData};
 
-    ghost Value = { State };
+    ghost Value = { ServerData };
 
     ghost view = { λ s. record {
       config = record { limits = s.store.limits; choice = s.choice; sync = s.sync };

@@ -7,7 +7,7 @@ use Rattle.std.proofs.lemmas.List.{length-append}
 use Rattle.std.proofs.lemmas.List.Sums.{sum_by-cons}
 use Rattle.std.proofs.lemmas.Slice.Eq.{bytes_eq-Decides}
 use Rattle.std.proofs.lemmas.Str.{encodes-chars, scalars-chars}
-use Rattle.lsp_frame.specs.Limits.{Bounds, AreInRange}
+use Rattle.lsp_frame.specs.Limits.{LimitsData, AreInRange}
 use Rattle.lsp_text.specs.Units.{units_in}
 use Rattle.lsp_edit.specs.Items.{Item, New, text_of}
 use Rattle.lsp_edit.specs.Batch.{Edit, meaning}
@@ -27,7 +27,7 @@ use Rattle.lsp_store.proofs.Messages.ScalarLemmas.{scalar-meaning, scalar-text}
 -- ---- what an accepted command says of the table
 
 -- a document may be opened
-pub record MayOpen (limits : Bounds) (table : List DocumentItem) (entry : DocumentItem) : Type 0 where
+pub record MayOpen (limits : LimitsData) (table : List DocumentItem) (entry : DocumentItem) : Type 0 where
   pub new : is_taken limits table entry.uri ≡ false
   pub few : length (after_close table entry.uri) < limits.max_docs
   pub short : length entry.text ≤ limits.max_text
@@ -39,22 +39,22 @@ open_cases false true c e = absurd (let bad : Some too_many_documents ≡ None =
 open_cases false false true e = absurd (let bad : Some text_too_long ≡ None = e in cc)
 open_cases false false false e = (refl, refl, refl)
 
-pub open_parts : (limits : Bounds) (table : List DocumentItem) (entry : DocumentItem) → open_refusal limits table entry ≡ None → MayOpen limits table entry
+pub open_parts : (limits : LimitsData) (table : List DocumentItem) (entry : DocumentItem) → open_refusal limits table entry ≡ None → MayOpen limits table entry
 open_parts limits table entry e =
     let others : ℕ = length (after_close table entry.uri) in
     let parts = open_cases (is_taken limits table entry.uri) (nat_le limits.max_docs others) (nat_lt limits.max_text (length entry.text)) e in
     record { new = parts.0; few = leb-false limits.max_docs others parts.1; short = ltb-false limits.max_text (length entry.text) parts.2 }
 
-pub open_from : (limits : Bounds) (table : List DocumentItem) (entry : DocumentItem) → MayOpen limits table entry → open_refusal limits table entry ≡ None
+pub open_from : (limits : LimitsData) (table : List DocumentItem) (entry : DocumentItem) → MayOpen limits table entry → open_refusal limits table entry ≡ None
 open_from limits table entry may = rw (may.new, lt-leb limits.max_docs (length (after_close table entry.uri)) may.few, le-ltb limits.max_text (length entry.text) may.short) refl
 
 -- an open document, which a batch changes
-pub record MayChange (limits : Bounds) (units : ℕ → ℕ) (table : List DocumentItem) (uri : List ℕ) (version : ℤ) (batch : List Edit) : Type 0 where
+pub record MayChange (limits : LimitsData) (units : ℕ → ℕ) (table : List DocumentItem) (uri : List ℕ) (version : ℤ) (batch : List Edit) : Type 0 where
   pub entry : DocumentItem
   pub is_open : entry_at table uri ≡ Some entry
   pub may : entry_refusal limits units entry version batch ≡ None
 
-pub change_parts : (limits : Bounds) (units : ℕ → ℕ) (table : List DocumentItem) (uri : List ℕ) (version : ℤ) (batch : List Edit) → change_refusal limits units table uri version batch ≡ None
+pub change_parts : (limits : LimitsData) (units : ℕ → ℕ) (table : List DocumentItem) (uri : List ℕ) (version : ℤ) (batch : List Edit) → change_refusal limits units table uri version batch ≡ None
     → MayChange limits units table uri version batch
 change_parts limits units table uri version batch e = by (entry_at table uri) refl e
   where
@@ -62,25 +62,25 @@ change_parts limits units table uri version batch e = by (entry_at table uri) re
     by None is f = absurd (let bad : Some not_open ≡ None = f in cc)
     by (Some entry) is f = record { entry = entry; is_open = is; may = f }
 
-pub change_from : (limits : Bounds) (units : ℕ → ℕ) (table : List DocumentItem) (uri : List ℕ) (version : ℤ) (batch : List Edit) (entry : DocumentItem) → entry_at table uri ≡ Some entry
+pub change_from : (limits : LimitsData) (units : ℕ → ℕ) (table : List DocumentItem) (uri : List ℕ) (version : ℤ) (batch : List Edit) (entry : DocumentItem) → entry_at table uri ≡ Some entry
     → entry_refusal limits units entry version batch ≡ None → change_refusal limits units table uri version batch ≡ None
 change_from limits units table uri version batch entry is may = ap (λ (found : Option DocumentItem). refusal_on limits units found version batch) is ∙ may
 
 -- ---- greater limits
 
-pub greater_accepts : (small great : Bounds) (units : ℕ → ℕ) (entry : DocumentItem) (version : ℤ) (batch : List Edit) → AreWithin small great → Accepts small units entry version batch → Accepts great units entry version batch
+pub greater_accepts : (small great : LimitsData) (units : ℕ → ℕ) (entry : DocumentItem) (version : ℤ) (batch : List Edit) → AreWithin small great → Accepts small units entry version batch → Accepts great units entry version batch
 greater_accepts small great units entry version batch within a =
     let few = within.changes in
     let short = within.text in
     let newer = still_new small great within.lenient version entry.version a.newer in
     record { newer = newer; few = omega (arith, a.few, few); fits = a.fits; items = a.items; means = a.means; short = omega (arith, a.short, short) }
 
-pub greater_entry : (small great : Bounds) (units : ℕ → ℕ) (entry : DocumentItem) (version : ℤ) (batch : List Edit) → AreWithin small great
+pub greater_entry : (small great : LimitsData) (units : ℕ → ℕ) (entry : DocumentItem) (version : ℤ) (batch : List Edit) → AreWithin small great
     → entry_refusal small units entry version batch ≡ None → entry_refusal great units entry version batch ≡ None
 greater_entry small great units entry version batch within e =
     accepted_from great units entry version batch (greater_accepts small great units entry version batch within (accepted_parts small units entry version batch e))
 
-pub greater_change : (small great : Bounds) (units : ℕ → ℕ) (table : List DocumentItem) (uri : List ℕ) (version : ℤ) (batch : List Edit) → AreWithin small great
+pub greater_change : (small great : LimitsData) (units : ℕ → ℕ) (table : List DocumentItem) (uri : List ℕ) (version : ℤ) (batch : List Edit) → AreWithin small great
     → change_refusal small units table uri version batch ≡ None → change_refusal great units table uri version batch ≡ None
 greater_change small great units table uri version batch within e =
     let m = change_parts small units table uri version batch e in
@@ -120,7 +120,7 @@ canonical_batch_law small great encoding table uri version batch ranges within e
 
 -- ---- the documents of a table
 
-pub within_at : (limits : Bounds) (table : List DocumentItem) (uri : List ℕ) (entry : DocumentItem) → AllWithin limits table → entry_at table uri ≡ Some entry → IsWithin limits entry
+pub within_at : (limits : LimitsData) (table : List DocumentItem) (uri : List ℕ) (entry : DocumentItem) → AllWithin limits table → entry_at table uri ≡ Some entry → IsWithin limits entry
 within_at limits [] uri entry kept found = absurd (let bad : None ≡ Some entry = found in cc)
 within_at limits (first ∷ table) uri entry kept found =
     ⊎_elim
@@ -128,23 +128,23 @@ within_at limits (first ∷ table) uri entry kept found =
     (λ (not : bytes_eq uri first.uri ≡ false). within_at limits table uri entry kept.1 (rw not at found))
     (cases_Bool (bytes_eq uri first.uri))
 
-within_last : (limits : Bounds) (table : List DocumentItem) (entry : DocumentItem) → AllWithin limits table → IsWithin limits entry → AllWithin limits (table ++ entry ∷ [])
+within_last : (limits : LimitsData) (table : List DocumentItem) (entry : DocumentItem) → AllWithin limits table → IsWithin limits entry → AllWithin limits (table ++ entry ∷ [])
 within_last limits [] entry kept is = (is, tt)
 within_last limits (first ∷ table) entry kept is = (kept.0, within_last limits table entry kept.1 is)
 
-pub within_close : (limits : Bounds) (table : List DocumentItem) (uri : List ℕ) → AllWithin limits table → AllWithin limits (after_close table uri)
+pub within_close : (limits : LimitsData) (table : List DocumentItem) (uri : List ℕ) → AllWithin limits table → AllWithin limits (after_close table uri)
 within_close limits [] uri kept = tt
 within_close limits (first ∷ table) uri kept =
     ⊎_elim (λ (is : bytes_eq uri first.uri ≡ true). rw is kept.1) (λ (not : bytes_eq uri first.uri ≡ false). rw not (kept.0, within_close limits table uri kept.1)) (cases_Bool (bytes_eq uri first.uri))
 
-pub within_end : (limits : Bounds) (table : List DocumentItem) (entry : DocumentItem) → AllWithin limits table → IsWithin limits entry → AllWithin limits (after_open table entry)
+pub within_end : (limits : LimitsData) (table : List DocumentItem) (entry : DocumentItem) → AllWithin limits table → IsWithin limits entry → AllWithin limits (after_open table entry)
 within_end limits table entry kept is = within_last limits (after_close table entry.uri) entry (within_close limits table entry.uri kept) is
 
 -- the text that an accepted batch leaves, and that it is a text
-left_text : (limits : Bounds) (units : ℕ → ℕ) (entry : DocumentItem) (version : ℤ) (batch : List Edit) (a : Accepts limits units entry version batch) → meant_text entry.text (meaning units (chars entry.text) batch) ≡ bytes_left entry.text a.items
+left_text : (limits : LimitsData) (units : ℕ → ℕ) (entry : DocumentItem) (version : ℤ) (batch : List Edit) (a : Accepts limits units entry version batch) → meant_text entry.text (meaning units (chars entry.text) batch) ≡ bytes_left entry.text a.items
 left_text limits units entry version batch a = ap (meant_text entry.text) a.means
 
-pub within_changed : (limits : Bounds) (units : ℕ → ℕ) (entry : DocumentItem) (version : ℤ) (batch : List Edit) → AreTexts batch → IsWithin limits entry
+pub within_changed : (limits : LimitsData) (units : ℕ → ℕ) (entry : DocumentItem) (version : ℤ) (batch : List Edit) → AreTexts batch → IsWithin limits entry
     → entry_refusal limits units entry version batch ≡ None → IsWithin limits (changed units entry version batch)
 within_changed limits units entry version batch texts kept e =
     let a = accepted_parts limits units entry version batch e in
@@ -156,7 +156,7 @@ within_changed limits units entry version batch texts kept e =
       short = subst (λ (text : List ℕ). length text ≤ limits.max_text) (sym left) a.short;
     }
 
-pub within_change : (limits : Bounds) (units : ℕ → ℕ) (table : List DocumentItem) (uri : List ℕ) (version : ℤ) (batch : List Edit) → AreTexts batch → AllWithin limits table
+pub within_change : (limits : LimitsData) (units : ℕ → ℕ) (table : List DocumentItem) (uri : List ℕ) (version : ℤ) (batch : List Edit) → AreTexts batch → AllWithin limits table
     → change_refusal limits units table uri version batch ≡ None → AllWithin limits (after_change units table uri version batch)
 within_change limits units [] uri version batch texts kept e = tt
 within_change limits units (first ∷ table) uri version batch texts kept e =
@@ -221,7 +221,7 @@ one_weighs bytes utf8 =
     omega (arith, sum_by-cons (λ (e : Edit). length (encode_utf8_all e.text)) (record { range = None; text = chars bytes }) [], ap length (encodes-chars bytes utf8))
 
 -- The whole text is accepted, and leaves it.
-whole_accepts : (small great : Bounds) (units : ℕ → ℕ) (entry : DocumentItem) (version : ℤ) (batch : List Edit) → AreInRange small → AreWithin small great
+whole_accepts : (small great : LimitsData) (units : ℕ → ℕ) (entry : DocumentItem) (version : ℤ) (batch : List Edit) → AreInRange small → AreWithin small great
     → IsWithin small entry → AreTexts batch → entry_refusal small units entry version batch ≡ None
     → Accepts great units entry version (one_text (changed units entry version batch).text)
 whole_accepts small great units entry version batch ranges within kept texts e =
@@ -356,7 +356,7 @@ unique_law limits table (closes uri) unique e = unique_closed table uri unique
 
 -- ---- a list of commands
 
-table_in_order : (limits : Bounds) (table : List DocumentItem) (commands : List Command) → IsInOrder limits table → AreAccepted limits table commands → IsInOrder limits (table_from table commands)
+table_in_order : (limits : LimitsData) (table : List DocumentItem) (commands : List Command) → IsInOrder limits table → AreAccepted limits table commands → IsInOrder limits (table_from table commands)
 table_in_order limits table [] is accepted = is
 table_in_order limits table (command ∷ commands) is accepted =
     let next = within_law limits table command is.texts is.many accepted.0 accepted.1 in

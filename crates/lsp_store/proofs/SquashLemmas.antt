@@ -5,7 +5,7 @@ use Rattle.std.proofs.lemmas.List.Sums.{sum_by-le-sum_by}
 use Rattle.std.proofs.lemmas.Str.{chars-encodes, encodes-chars, scalars-chars}
 use Rattle.std.specs.Char.{len_utf8}
 use Rattle.std.specs.Str.{all_scalars, chars}
-use Rattle.lsp_frame.specs.Limits.{Bounds}
+use Rattle.lsp_frame.specs.Limits.{LimitsData}
 use Rattle.lsp_text.specs.Units.{units_in}
 use Rattle.lsp_text.specs.declared.encoding.Encoding.{Encoding}
 use Rattle.lsp_edit.specs.Items.{Item, plain, text_of}
@@ -38,7 +38,7 @@ use Rattle.lsp_store.proofs.Tables.RefusalLemmas.{meaning_accepted, only_memory}
 use Rattle.lsp_store.proofs.Messages.ScalarLemmas.{scalar-meaning, scalar-text}
 
 -- what callers see of the fields
-abbrev pub seen : List ℕ → Bounds → Encoding → JoinedData → ℤ → SquashData
+abbrev pub seen : List ℕ → LimitsData → Encoding → JoinedData → ℤ → SquashData
 seen uri limits encoding joined version = record {
   uri = uri;
   limits = limits;
@@ -53,12 +53,12 @@ weights edits = sum_by-le-sum_by (λ (e : Edit). length (encode_utf8_all e.text)
 
 -- ---- before any batch
 
-pub start_seen : (uri : List ℕ) (limits : Bounds) (encoding : Encoding) (joined : JoinedData) (before : List ℕ) (version : ℤ) (entry : DocumentItem) → joined ≡ record { before = before; items = plain (chars before) } → uri ≡ entry.uri → before ≡ entry.text
+pub start_seen : (uri : List ℕ) (limits : LimitsData) (encoding : Encoding) (joined : JoinedData) (before : List ℕ) (version : ℤ) (entry : DocumentItem) → joined ≡ record { before = before; items = plain (chars before) } → uri ≡ entry.uri → before ≡ entry.text
     → version ≡ entry.version → seen uri limits encoding joined version ≡ squash_of limits encoding entry
 start_seen uri limits encoding joined before version entry is same_uri same_text same_version =
     (λ i. seen (same_uri i) limits encoding (is i) (same_version i)) ∙ ap (λ (t : List ℕ). seen entry.uri limits encoding (record { before = t; items = plain (chars t) }) entry.version) same_text
 
-module _ (uri : List ℕ) (limits : Bounds) (encoding : Encoding) (joined : JoinedData) (stored : Stored) (at : IsReached joined stored.text) (kept : SquashData) (view : seen uri limits encoding joined stored.version ≡ kept) where
+module _ (uri : List ℕ) (limits : LimitsData) (encoding : Encoding) (joined : JoinedData) (stored : Stored) (at : IsReached joined stored.text) (kept : SquashData) (view : seen uri limits encoding joined stored.version ≡ kept) where
   text_is : stored.text ≡ bytes_left joined.before joined.items
   text_is = sym (encodes-chars stored.text at.utf8) ∙ ap encode_utf8_all at.text_is
 
@@ -100,7 +100,7 @@ module _ (uri : List ℕ) (limits : Bounds) (encoding : Encoding) (joined : Join
 
 -- ---- the message
 
-module _ (uri : List ℕ) (limits : Bounds) (encoding : Encoding) (joined : JoinedData) (version : ℤ) (kept : SquashData) (view : seen uri limits encoding joined version ≡ kept)
+module _ (uri : List ℕ) (limits : LimitsData) (encoding : Encoding) (joined : JoinedData) (version : ℤ) (kept : SquashData) (view : seen uri limits encoding joined version ≡ kept)
     (made : List Edit) (is : made ≡ canonical (units_in encoding) (chars joined.before) joined.items) where
   pub batch_is : made ≡ squash_batch kept
   batch_is = is ∙ ap squash_batch view
@@ -112,7 +112,7 @@ module _ (uri : List ℕ) (limits : Bounds) (encoding : Encoding) (joined : Join
 
 -- ---- the message of all batches is accepted on the document as it was, and leaves the one that was reached
 
-module _ (limits : Bounds) (encoding : Encoding) (entry : DocumentItem) (version : ℤ) (batch : List Edit) (items : List Item)
+module _ (limits : LimitsData) (encoding : Encoding) (entry : DocumentItem) (version : ℤ) (batch : List Edit) (items : List Item)
     (means : meaning (units_in encoding) (chars entry.text) batch ≡ Ok items)
     (newer : is_stale limits version entry.version ≡ false)
     (short : length (bytes_left entry.text items) ≤ limits.max_text) (within : limits.max_text ≤ 1073741824)
@@ -182,7 +182,7 @@ module _ (kept : SquashData) (entry : DocumentItem) (version : ℤ) (more : List
       }
 
 -- A batch more, by what is kept of the batches before it.
-pub joins_after : (uri : List ℕ) (limits : Bounds) (encoding : Encoding) (joined next : JoinedData) (before version next_version : ℤ) (kept : SquashData) (more : List Edit) → seen uri limits encoding joined before ≡ kept
+pub joins_after : (uri : List ℕ) (limits : LimitsData) (encoding : Encoding) (joined next : JoinedData) (before version next_version : ℤ) (kept : SquashData) (more : List Edit) → seen uri limits encoding joined before ≡ kept
     → add_refusal kept version more ≡ None → IsJoined (units_in encoding) joined more next → next_version ≡ version → IsSquashAfter kept version more (seen uri limits encoding next next_version)
 joins_after uri limits encoding joined next before version next_version kept more view accepted is version_is = record {
   accepted = accepted;
@@ -202,7 +202,7 @@ joins_after uri limits encoding joined next before version next_version kept mor
         ∙ ap (λ (k : SquashData). record k { items = then_items k.items is.others; version = version }) view
 
 -- A batch that is accepted is refused only where memory runs out.
-pub memory_alone : (uri : List ℕ) (limits : Bounds) (encoding : Encoding) (joined : JoinedData) (before : ℤ) (kept : SquashData) → seen uri limits encoding joined before ≡ kept
+pub memory_alone : (uri : List ℕ) (limits : LimitsData) (encoding : Encoding) (joined : JoinedData) (before : ℤ) (kept : SquashData) → seen uri limits encoding joined before ≡ kept
     → (entry : DocumentItem) (version : ℤ) (more : List Edit) → entry_refusal kept.limits (units_in kept.encoding) entry version more ≡ None
     → (reached : List ℕ) → reached ≡ entry.text
     → (fault : TextFault) → (fault ≡ NoMemory) ⊎ (text_within limits.max_text reached (meaning (units_in encoding) (chars reached) more) ≡ Err fault) → fault ≡ NoMemory
@@ -218,7 +218,7 @@ on_utf8 : (before : List ℕ) (delta : Delta) → IsOn before delta → IsUtf8 b
 on_utf8 before (Put encoding start stop new) on = on.utf8
 on_utf8 before (Left encoding changes left) on = on.utf8
 
-module _ (uri : List ℕ) (limits : Bounds) (encoding : Encoding) (joined next : JoinedData) (before next_version : ℤ) (kept : SquashData) (view : seen uri limits encoding joined before ≡ kept)
+module _ (uri : List ℕ) (limits : LimitsData) (encoding : Encoding) (joined next : JoinedData) (before next_version : ℤ) (kept : SquashData) (view : seen uri limits encoding joined before ≡ kept)
     (store : StoreData) (plan : Plan) (given : next_version ≡ plan.version) (text : List ℕ) (same : (on : IsPlanOn store plan) → text ≡ on.entry.text) (at : (on : IsPlanOn store plan) → HasReached kept on.entry)
     (joins : (units : ℕ → ℕ) (batch : List Edit) → meaning units (chars text) batch ≡ meant_by text plan.delta → IsJoined units joined batch next)
     (reaches : (max_len : ℕ) (left : List ℕ) → text_within max_len text (meant_by text plan.delta) ≡ Ok left → IsReached next left)
@@ -231,7 +231,7 @@ module _ (uri : List ℕ) (limits : Bounds) (encoding : Encoding) (joined next :
 
   kept_accepts : entry_refusal kept.limits (units_in kept.encoding) q.on.entry version batch ≡ None
   kept_accepts =
-      ap₂ (λ (l : Bounds) (e : Encoding). entry_refusal l (units_in e) q.on.entry version batch) limits_are coded_is
+      ap₂ (λ (l : LimitsData) (e : Encoding). entry_refusal l (units_in e) q.on.entry version batch) limits_are coded_is
       ∙ entry_accepts
 
   added_accepted : add_refusal kept version batch ≡ None
@@ -264,7 +264,7 @@ module _ (uri : List ℕ) (limits : Bounds) (encoding : Encoding) (joined next :
   }
 
 -- The document that a plan is of is the one that was reached.
-pub plan_at : (uri : List ℕ) (limits : Bounds) (encoding : Encoding) (joined : JoinedData) (before : ℤ) (kept : SquashData) → seen uri limits encoding joined before ≡ kept
+pub plan_at : (uri : List ℕ) (limits : LimitsData) (encoding : Encoding) (joined : JoinedData) (before : ℤ) (kept : SquashData) → seen uri limits encoding joined before ≡ kept
     → (store : StoreData) (plan : Plan) (on : IsPlanOn store plan) (text : List ℕ) → text ≡ on.entry.text → HasReached kept on.entry → IsReached joined text
 plan_at uri limits encoding joined before kept view store plan on text same at = record {
   utf8 = subst IsUtf8 (sym same) (on_utf8 on.entry.text plan.delta on.on);

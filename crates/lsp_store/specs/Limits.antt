@@ -1,9 +1,9 @@
 -- Limits beside other limits.
 use Rattle.std.specs.Prelude.{◌≤◌, IsTrue}
-use Rattle.lsp_frame.specs.Limits.{Bounds}
+use Rattle.lsp_frame.specs.Limits.{LimitsData}
 
 -- Each of the limits is at most the other's, and they are lenient only if the others are.
-pub record AreWithin (small great : Bounds) : Type 0 where
+pub record AreWithin (small great : LimitsData) : Type 0 where
   pub body : small.max_body ≤ great.max_body
   pub text : small.max_text ≤ great.max_text
   pub docs : small.max_docs ≤ great.max_docs

@@ -3,7 +3,7 @@
 use Rattle.std.specs.Prelude.{ℕ, ℤ, ◌≡◌, true, if◌then◌else◌, nat_lt, List, [], ◌∷◌, length, map, encode_utf8_all, Option, Some, None, Result, Ok, Err, ⊤}
 use Rattle.std.specs.Str.{all_scalars, chars}
 use Rattle.lsp_frame.specs.Frame.{frame}
-use Rattle.lsp_frame.specs.Limits.{Bounds}
+use Rattle.lsp_frame.specs.Limits.{LimitsData}
 use Rattle.lsp_edit.specs.Items.{Item}
 use Rattle.lsp_edit.specs.Batch.{Edit, Fault, meaning}
 use Rattle.lsp_edit.specs.Canonical.{DoTheSame, canonical}
@@ -60,7 +60,7 @@ whole_batch units table uri version batch =
     whole_text (entry_at (after_change units table uri version batch) uri)
 
 -- Why a body is refused: it is too long.
-abbrev pub body_refusal : Bounds → List ℕ → Option Refusal
+abbrev pub body_refusal : LimitsData → List ℕ → Option Refusal
 body_refusal limits body = if nat_lt limits.max_body (length body) then
     Some (body_too_long (length body)) else None
 
@@ -70,7 +70,7 @@ else_refused (Some first) later = Some first
 else_refused None later = later
 
 -- Why the canonical message of a batch is refused: as the change is, then as its body is.
-abbrev pub message_refusal : Bounds → (ℕ → ℕ) → List DocumentItem → List ℕ → ℤ → List Edit →
+abbrev pub message_refusal : LimitsData → (ℕ → ℕ) → List DocumentItem → List ℕ → ℤ → List Edit →
     Option Refusal
 message_refusal limits units table uri version batch =
     else_refused (change_refusal limits units table uri version batch)
@@ -107,7 +107,7 @@ pub record IsCanonicalOn (units : ℕ → ℕ) (table : List DocumentItem) (uri 
 
 -- A canonical batch is accepted where the batch was, has the same result, and has the same
 -- canonical message.
-pub record IsCanonicalOf (limits : Bounds) (units : ℕ → ℕ) (table : List DocumentItem)
+pub record IsCanonicalOf (limits : LimitsData) (units : ℕ → ℕ) (table : List DocumentItem)
     (uri : List ℕ) (version : ℤ) (batch canonical : List Edit) : Type 0 where
   pub accepted : message_refusal limits units table uri version canonical ≡ None
   pub leaves : after_change units table uri version canonical

@@ -1,7 +1,7 @@
 -- A store as callers see it, and what its calls do to it.
 use Rattle.std.specs.Prelude.{◌≡◌, ℕ, ℤ, IsSomeAnd, List, String, string_bytes, Ok}
 use Rattle.std.specs.declared.alloc.Global.{Global}
-use Rattle.lsp_frame.specs.Limits.{Bounds}
+use Rattle.lsp_frame.specs.Limits.{LimitsData}
 use Rattle.lsp_store.specs.declared.fault.StoreFault.{StoreFault}
 use Rattle.lsp_store.specs.declared.store.stored.Stored.{Stored}
 use Rattle.lsp_edit.specs.Batch.{Edit}
@@ -11,7 +11,7 @@ use Rattle.lsp_store.specs.Faults.{IsRefusal}
 
 -- A store: its limits, and its open documents in order of opening.
 pub record StoreData : Type 0 where
-  pub limits : Bounds
+  pub limits : LimitsData
   pub table : List DocumentItem
 
 -- The document of a URI and what is kept under it.

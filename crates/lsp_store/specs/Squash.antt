@@ -3,7 +3,7 @@
 use Rattle.std.specs.Prelude.{ℕ, ℤ, ◌≡◌, if◌then◌else◌, nat_lt, List, [], ◌++◌, length, Option, Some, None, Result, Ok, Err}
 use Rattle.std.specs.Str.{chars}
 use Rattle.lsp_frame.specs.Frame.{frame}
-use Rattle.lsp_frame.specs.Limits.{Bounds}
+use Rattle.lsp_frame.specs.Limits.{LimitsData}
 use Rattle.lsp_text.specs.declared.encoding.Encoding.{Encoding}
 use Rattle.lsp_text.specs.Units.{units_in}
 use Rattle.lsp_edit.specs.Items.{Item, plain, text_of}
@@ -23,14 +23,14 @@ use Rattle.lsp_store.specs.Message.{change_body, body_refusal}
 -- what became of the text's characters.
 pub record SquashData : Type 0 where
   pub uri : List ℕ
-  pub limits : Bounds
+  pub limits : LimitsData
   pub encoding : Encoding
   pub text : List ℕ
   pub items : List Item
   pub version : ℤ
 
 -- A document before any batch.
-abbrev pub squash_of : Bounds → Encoding → DocumentItem → SquashData
+abbrev pub squash_of : LimitsData → Encoding → DocumentItem → SquashData
 squash_of limits encoding entry = record {
   uri = entry.uri;
   limits = limits;

@@ -3,7 +3,7 @@
 -- is.
 use Rattle.std.specs.Prelude.{ℕ, ℤ, ◌≡◌, Bool, not, ◌&&◌, ◌||◌, if◌then◌else◌, nat_lt, nat_le, int_le, List, [], ◌∷◌, ◌++◌, length, sum_by, encode_utf8_all, Option, Some, None, is_some, Result, Ok, Err}
 use Rattle.std.specs.Str.{bytes_eq, chars}
-use Rattle.lsp_frame.specs.Limits.{Bounds}
+use Rattle.lsp_frame.specs.Limits.{LimitsData}
 use Rattle.lsp_text.specs.declared.encoding.Encoding.{Encoding}
 use Rattle.lsp_text.specs.Units.{units_in}
 use Rattle.lsp_edit.specs.Items.{Item}
@@ -37,12 +37,12 @@ abbrev pub other_count : List DocumentItem → List ℕ → ℕ
 other_count table uri = length (after_close table uri)
 
 -- A URI is taken where its document is open. Where lenient none is.
-abbrev pub is_taken : Bounds → List DocumentItem → List ℕ → Bool
+abbrev pub is_taken : LimitsData → List DocumentItem → List ℕ → Bool
 is_taken limits table uri = not limits.lenient && is_some (entry_at table uri)
 
 -- Why opening a document is refused: it is open, or there are too many others, or its text is too
 -- long.
-abbrev pub open_refusal : Bounds → List DocumentItem → DocumentItem → Option Refusal
+abbrev pub open_refusal : LimitsData → List DocumentItem → DocumentItem → Option Refusal
 open_refusal limits table entry =
     if is_taken limits table entry.uri then Some already_open
     else if nat_le limits.max_docs (other_count table entry.uri) then Some too_many_documents
@@ -65,18 +65,18 @@ greatest_batch = 1073741824
 
 -- Why a batch's meaning on a text is refused: it has none, or its final text is too long. The texts
 -- between may be longer.
-abbrev pub meaning_refusal : Bounds → List ℕ → Result (List Item) (ℕ × Fault) → Option Refusal
+abbrev pub meaning_refusal : LimitsData → List ℕ → Result (List Item) (ℕ × Fault) → Option Refusal
 meaning_refusal limits text (Err fault) = Some (edit fault.0 fault.1)
 meaning_refusal limits text (Ok items)
     = if nat_lt limits.max_text (length (bytes_left text items)) then Some text_too_long else None
 
 -- A version is stale where it isn't greater than the current one. Where lenient none is.
-abbrev pub is_stale : Bounds → ℤ → ℤ → Bool
+abbrev pub is_stale : LimitsData → ℤ → ℤ → Bool
 is_stale limits version current = not limits.lenient && int_le version current
 
 -- Why a batch on a document is refused: a stale version, too many changes or too long ones, or its
 -- meaning.
-abbrev pub entry_refusal : Bounds → (ℕ → ℕ) → DocumentItem → ℤ → List Edit → Option Refusal
+abbrev pub entry_refusal : LimitsData → (ℕ → ℕ) → DocumentItem → ℤ → List Edit → Option Refusal
 entry_refusal limits units entry version batch =
     if is_stale limits version entry.version then Some (stale_version entry.version)
     else if nat_lt limits.max_changes (length batch)
@@ -85,19 +85,19 @@ entry_refusal limits units entry version batch =
 
 -- Only its meaning can refuse a batch: the version isn't stale, and there are not too many changes
 -- nor too long ones.
-abbrev pub IsLeftToMeaning : Bounds → DocumentItem → ℤ → List Edit → Type 0
+abbrev pub IsLeftToMeaning : LimitsData → DocumentItem → ℤ → List Edit → Type 0
 IsLeftToMeaning limits entry version batch =
     (units : ℕ → ℕ) →
     entry_refusal limits units entry version batch ≡
     meaning_refusal limits entry.text (meaning units (chars entry.text) batch)
 
 -- Why a batch on a document that may be open is refused.
-abbrev pub refusal_on : Bounds → (ℕ → ℕ) → Option DocumentItem → ℤ → List Edit → Option Refusal
+abbrev pub refusal_on : LimitsData → (ℕ → ℕ) → Option DocumentItem → ℤ → List Edit → Option Refusal
 refusal_on limits units None version batch = Some not_open
 refusal_on limits units (Some entry) version batch = entry_refusal limits units entry version batch
 
 -- Why a change of the document of a URI is refused.
-abbrev pub change_refusal : Bounds → (ℕ → ℕ) → List DocumentItem → List ℕ → ℤ → List Edit →
+abbrev pub change_refusal : LimitsData → (ℕ → ℕ) → List DocumentItem → List ℕ → ℤ → List Edit →
     Option Refusal
 change_refusal limits units table uri version batch
     = refusal_on limits units (entry_at table uri) version batch
@@ -139,7 +139,7 @@ pub data Command : Type 0 where
   closes : List ℕ → Command
 
 -- Why a command is refused.
-abbrev pub command_refusal : Bounds → List DocumentItem → Command → Option Refusal
+abbrev pub command_refusal : LimitsData → List DocumentItem → Command → Option Refusal
 command_refusal limits table (opens entry) = open_refusal limits table entry
 command_refusal limits table (changes uri version encoding batch)
     = change_refusal limits (units_in encoding) table uri version batch
@@ -158,7 +158,7 @@ unless_refused None table = Ok table
 unless_refused (Some refusal) table = Err refusal
 
 -- The table after a command, or why the command is refused.
-abbrev pub after_command : Bounds → List DocumentItem → Command → Result (List DocumentItem) Refusal
+abbrev pub after_command : LimitsData → List DocumentItem → Command → Result (List DocumentItem) Refusal
 after_command limits table command
     = unless_refused (command_refusal limits table command) (table_after table command)
 

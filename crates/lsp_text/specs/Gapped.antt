@@ -4,12 +4,12 @@ use Rattle.std.specs.Str.{is_utf8}
 use Rattle.lsp_text.specs.LineStarts.{line_starts}
 
 -- A list with a gap: the items before it, and the items after it.
-pub record Gapped : Type 0 where
+pub record GapData : Type 0 where
   pub front : List ℕ
   pub back : List ℕ
 
 -- The bytes without the gap.
-abbrev pub without_gap : Gapped → List ℕ
+abbrev pub without_gap : GapData → List ℕ
 without_gap bytes = bytes.front ++ bytes.back
 
 -- The line starts of a text of `end` bytes: those before the gap as they are, those after it by

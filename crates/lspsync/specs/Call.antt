@@ -12,7 +12,7 @@ use Rattle.clap.specs.declared.error.Error.{Error}
 use Rattle.clap.specs.declared.error.kind.ErrorKind.TheVariants.{OutOfMemory}
 use Rattle.clap.specs.Walk.{rows_of}
 use Rattle.clap.specs.declared.parser.matches.ArgMatches.{ArgMatches}
-use Rattle.lsp_frame.specs.Limits.{Bounds, first_out_of_range}
+use Rattle.lsp_frame.specs.Limits.{LimitsData, first_out_of_range}
 use Rattle.lsp_text.specs.Units.{encoding_named}
 use Rattle.lsp_text.specs.declared.encoding.Encoding.{Encoding}
 use Rattle.lsp_server.specs.declared.config.Config.{Config}
@@ -41,7 +41,7 @@ pub record IsFlag (options : ArgMatches) (id : List ℕ) (flag : Bool) : Type 0 
   pub not_set : one_text (found_of options) id ≡ Some (codes "false") → flag ≡ false
 
 -- The four limits are those of the options, each in its range, and lenient by a flag.
-pub record AreLimits (options : ArgMatches) (limits : Bounds) : Type 0 where
+pub record AreLimits (options : ArgMatches) (limits : LimitsData) : Type 0 where
   pub max_body : HasNumber options (codes "max-body") limits.max_body
   pub max_text : HasNumber options (codes "max-text") limits.max_text
   pub max_docs : HasNumber options (codes "max-docs") limits.max_docs

@@ -11,7 +11,7 @@ ghost use Rattle.lspsync.specs.Help.{own_rules, rule_of_limit, rules_of_limits};
 ghost use Rattle.lspsync.specs.inside.Options.{AddsRules, IsCommand, shape_by, top_app};
 ghost use Rattle.lspsync.specs.Call.{AreDetails, AreLimits, AreSettings, HasNumber, IsCallNamed, IsConfig, IsLogPart, is_whole};
 ghost use Rattle.lspsync.specs.Call.{IsFound, IsRead, encoding_given, sync_given};
-ghost use Rattle.lsp_frame.specs.Limits.{Bounds};
+ghost use Rattle.lsp_frame.specs.Limits.{LimitsData};
 
 mod help;
 
@@ -222,7 +222,7 @@ fn encoding_of(options: &ArgMatches<'_>) -> Option<Encoding>
 
 fn limits_of(options: &ArgMatches<'_>) -> Option<Limits>
     ensures some { IfSome result (AreLimits options.now) }
-    ensures none { (limits : Bounds) → AreLimits options.now limits → IsSome result }
+    ensures none { (limits : LimitsData) → AreLimits options.now limits → IsSome result }
 {
     let max_body = number_of(options, "max-body")?;
     let max_text = number_of(options, "max-text")?;

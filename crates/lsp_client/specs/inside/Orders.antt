@@ -4,10 +4,10 @@ use Rattle.std.specs.Str.{chars}
 use Rattle.lsp_edit.specs.Batch.{Edit}
 use Rattle.lsp_store.specs.declared.fault.StoreFault.{StoreFault}
 use Rattle.lsp_store.specs.Faults.{IsRefusal}
-use Rattle.lsp_client.specs.Step.{State, Order, agreement, command_of, order_refusal}
+use Rattle.lsp_client.specs.Step.{ClientData, Order, agreement, command_of, order_refusal}
 
 -- This is the fault of a refused order, or the client is out of memory.
-abbrev pub IsOrderFault : State → Order → StoreFault → Type 0
+abbrev pub IsOrderFault : ClientData → Order → StoreFault → Type 0
 IsOrderFault s order fault =
     let agreed = agreement s in
     IsRefusal

@@ -18,7 +18,7 @@ use Rattle.lsp_edit.specs.Items.{Item, Old, New, plain, character_of, text_of}
 use Rattle.lsp_edit.specs.Batch.{Edit, after_change, after_changes, changed_in, meaning}
 use Rattle.lsp_edit.specs.Compose.{then_items}
 use Rattle.lsp_edit.specs.Canonical.{gaps, is_changed, change_of}
-use Rattle.lsp_edit.specs.Edited.{Edited, both_counts, edit_of, edited_bytes, edited_text}
+use Rattle.lsp_edit.specs.Edited.{PlainData, both_counts, edit_of, edited_bytes, edited_text}
 use Rattle.lsp_edit.specs.Faults.{places_at, ends_of}
 use Rattle.lsp_edit.specs.Keeps.{Keeps}
 use Rattle.lsp_edit.specs.laws.Batches.{HasExactEnds, AllHaveExactEnds}
@@ -148,15 +148,15 @@ plain_begins before old items count utf8 size old_is count_is items_are =
       room = omega arith;
     }
 
-pub plain_seen : (before old : List ℕ) (items : List Item) (changes : ℕ) (edited : Edited) → ArePlain before old items → record { before = chars before; items = items; changes = changes } ≡ edited → Keeps edited.before 0 edited.items
-plain_seen before old items changes edited are view = subst (λ (e : Edited). Keeps e.before 0 e.items) view are.keeps
+pub plain_seen : (before old : List ℕ) (items : List Item) (changes : ℕ) (edited : PlainData) → ArePlain before old items → record { before = chars before; items = items; changes = changes } ≡ edited → Keeps edited.before 0 edited.items
+plain_seen before old items changes edited are view = subst (λ (e : PlainData). Keeps e.before 0 e.items) view are.keeps
 
 -- The fields after a change.
-pub plain_next : (units : ℕ → ℕ) (before old : List ℕ) (items next : List Item) (changes : ℕ) (edited : Edited) (change : Edit) (more : ℕ) → ArePlain before old items → record { before = chars before; items = items; changes = changes } ≡ edited
+pub plain_next : (units : ℕ → ℕ) (before old : List ℕ) (items next : List Item) (changes : ℕ) (edited : PlainData) (change : Edit) (more : ℕ) → ArePlain before old items → record { before = chars before; items = items; changes = changes } ≡ edited
     → after_change units edited.before edited.items change ≡ Ok next → length (encode_utf8_all change.text) ≡ more → length (edited_bytes edited) + more ≤ 2147483648 → ArePlain before old next
 plain_next units before old items next changes edited change more are view made own fits =
-    let here : after_change units (chars before) items change ≡ Ok next = subst (λ (e : Edited). after_change units e.before e.items change ≡ Ok next) (sym view) made in
-    let long : length (edited_bytes edited) ≡ length (encode_utf8_all (text_of (chars before) items)) = ap (λ (e : Edited). length (edited_bytes e)) (sym view) in
+    let here : after_change units (chars before) items change ≡ Ok next = subst (λ (e : PlainData). after_change units e.before e.items change ≡ Ok next) (sym view) made in
+    let long : length (edited_bytes edited) ≡ length (encode_utf8_all (text_of (chars before) items)) = ap (λ (e : PlainData). length (edited_bytes e)) (sym view) in
     record {
       utf8 = are.utf8;
       old_is = are.old_is;
@@ -165,12 +165,12 @@ plain_next units before old items next changes edited change more are view made 
       room = omega (arith, change_longer units (chars before) items next change here);
     }
 
-pub applying_begins : (units : ℕ → ℕ) (before : List ℕ) (changes : List Change) (edited : Edited) → IsUtf8 before → edited ≡ record { before = chars before; items = plain (chars before); changes = 0 } → length before ≤ 1073741824
+pub applying_begins : (units : ℕ → ℕ) (before : List ℕ) (changes : List Change) (edited : PlainData) → IsUtf8 before → edited ≡ record { before = chars before; items = plain (chars before); changes = 0 } → length before ≤ 1073741824
     → sum_by (λ change. string_len change.text) changes ≤ 1073741824 → Applying units (chars before) (meaning units (chars before) (map edit_of changes)) 0 changes edited
 applying_begins units before changes edited utf8 is size fits = record {
-  left = ap (λ (e : Edited). after_changes units (chars before) e.changes e.items (map edit_of changes)) is;
-  same = ap (λ (e : Edited). e.before) is;
-  counted = ap (λ (e : Edited). e.changes) is;
+  left = ap (λ (e : PlainData). after_changes units (chars before) e.changes e.items (map edit_of changes)) is;
+  same = ap (λ (e : PlainData). e.before) is;
+  counted = ap (λ (e : PlainData). e.changes) is;
   room = omega (arith, first_bytes before edited utf8 is);
 }
 
@@ -204,7 +204,7 @@ pub record AreFound (units : ℕ → ℕ) (old : List ℕ) (items : List Item) (
   pub high : length (chars (take stop bytes)) ≡ ends.high
   pub within : ends.high ≤ length items
 
-pub found : (units : ℕ → ℕ) (edited : Edited) (range : Range) (number start stop : ℕ) (bytes : List ℕ) → IsUtf8 bytes → bytes ≡ edited_bytes edited → Ok (start, stop) ≡ places_at number (chars bytes) (ends_of units (chars bytes) range)
+pub found : (units : ℕ → ℕ) (edited : PlainData) (range : Range) (number start stop : ℕ) (bytes : List ℕ) → IsUtf8 bytes → bytes ≡ edited_bytes edited → Ok (start, stop) ≡ places_at number (chars bytes) (ends_of units (chars bytes) range)
     → AreFound units edited.before edited.items range bytes start stop
 found units edited range number start stop bytes utf8 is error =
     let same : chars bytes ≡ edited_text edited = edited_chars edited bytes utf8 is in
@@ -238,16 +238,16 @@ then_plain before old mid over items others made are were same is =
       room = omega (arith, were.room, ap (λ (t : List ℕ). length (encode_utf8_all t)) text);
     }
 
-pub over_plain : (before mid : List ℕ) (items others : List Item) (changes more : ℕ) (first second : Edited) → record { before = chars before; items = items; changes = changes } ≡ first → record { before = chars mid; items = others; changes = more } ≡ second → second.before ≡ edited_text first
+pub over_plain : (before mid : List ℕ) (items others : List Item) (changes more : ℕ) (first second : PlainData) → record { before = chars before; items = items; changes = changes } ≡ first → record { before = chars mid; items = others; changes = more } ≡ second → second.before ≡ edited_text first
     → chars mid ≡ text_of (chars before) items
-over_plain before mid items others changes more first second view other over = ap (λ (e : Edited). e.before) other ∙ (over ∙ sym (ap edited_text view))
+over_plain before mid items others changes more first second view other over = ap (λ (e : PlainData). e.before) other ∙ (over ∙ sym (ap edited_text view))
 
-pub then_told : (before mid : List ℕ) (items others made : List Item) (changes more count : ℕ) (first second : Edited) → record { before = chars before; items = items; changes = changes } ≡ first → record { before = chars mid; items = others; changes = more } ≡ second
+pub then_told : (before mid : List ℕ) (items others made : List Item) (changes more count : ℕ) (first second : PlainData) → record { before = chars before; items = items; changes = changes } ≡ first → record { before = chars mid; items = others; changes = more } ≡ second
     → made ≡ then_items items others → count ≡ both_counts changes more
-    → ◌≡◌ {A = Edited} (record { before = chars before; items = made; changes = count }) (record { before = first.before; items = then_items first.items second.items; changes = both_counts first.changes second.changes })
+    → ◌≡◌ {A = PlainData} (record { before = chars before; items = made; changes = count }) (record { before = first.before; items = then_items first.items second.items; changes = both_counts first.changes second.changes })
 then_told before mid items others made changes more count first second view other is counted =
-    let a : ◌≡◌ {A = Edited} (record { before = chars before; items = made; changes = count }) (record { before = chars before; items = then_items items others; changes = both_counts changes more })
+    let a : ◌≡◌ {A = PlainData} (record { before = chars before; items = made; changes = count }) (record { before = chars before; items = then_items items others; changes = both_counts changes more })
     = λ i. record { before = chars before; items = is i; changes = counted i } in
-    let b : ◌≡◌ {A = Edited} (record { before = chars before; items = then_items items others; changes = both_counts changes more }) (record { before = first.before; items = then_items first.items second.items; changes = both_counts first.changes second.changes })
+    let b : ◌≡◌ {A = PlainData} (record { before = chars before; items = then_items items others; changes = both_counts changes more }) (record { before = first.before; items = then_items first.items second.items; changes = both_counts first.changes second.changes })
     = λ i. record { before = (view i).before; items = then_items (view i).items (other i).items; changes = both_counts (view i).changes (other i).changes } in
     a ∙ b

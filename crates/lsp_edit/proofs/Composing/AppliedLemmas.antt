@@ -20,7 +20,7 @@ use Rattle.lsp_edit.specs.inside.Faults.{IsPlaces}
 use Rattle.lsp_edit.specs.Keeps.{Keeps}
 use Rattle.lsp_edit.specs.Parts.{Part, items_of, bytes_of, AreParts, NoneTouch, new_parts}
 use Rattle.lsp_edit.specs.inside.Parts.{AreCut, AreOrdered, replaced_parts}
-use Rattle.lsp_edit.specs.Edited.{ArePieces, Applied, Edited, edit_of, edited_text, edited_bytes, next_number}
+use Rattle.lsp_edit.specs.Edited.{ArePieces, Applied, PlainData, edit_of, edited_text, edited_bytes, next_number}
 use Rattle.lsp_edit.proofs.Canonical.KeepsLemmas.{after_change_keeps}
 use Rattle.lsp_edit.proofs.Parts.CutLemmas.{text_of-new, part_ordered}
 use Rattle.lsp_edit.proofs.Parts.CutPartsLemmas.{cut_parts, parts_bytes}
@@ -89,7 +89,7 @@ one_more_some : (changes : ℕ) → next_number changes ≡ 0 → ⊥
 one_more_some changes e = omega arith
 
 -- what callers see of the fields
-abbrev pub seen : List ℕ → List Part → ℕ → Edited
+abbrev pub seen : List ℕ → List Part → ℕ → PlainData
 seen before parts changes = record { before = chars before; items = items_of (chars before) parts; changes = changes }
 
 -- The fields after a change.
@@ -238,15 +238,15 @@ module _ (units : ℕ → ℕ) (before : List ℕ) (parts : List Part) (len chan
         (replaced_few parts start stop new in_order_places.0)
         small
 
-pub room_told : (before : List ℕ) (parts : List Part) (len changes more : ℕ) (edited : Edited) → ArePieces before parts len changes → seen before parts changes ≡ edited → length (edited_bytes edited) + more ≤ 2147483648 → len + more ≤ 2147483648
+pub room_told : (before : List ℕ) (parts : List Part) (len changes more : ℕ) (edited : PlainData) → ArePieces before parts len changes → seen before parts changes ≡ edited → length (edited_bytes edited) + more ≤ 2147483648 → len + more ≤ 2147483648
 room_told before parts len changes more edited are is room =
     let n : len ≡ length (encode_utf8_all (text_of (chars before) (items_of (chars before) parts))) = are.long ∙ ap length (parts_bytes before (IsUtf8-from_is_utf8 before are.utf8) parts are.are) in
-    omega (arith, n, ap (λ (e : Edited). length (edited_bytes e)) is)
+    omega (arith, n, ap (λ (e : PlainData). length (edited_bytes e)) is)
 
 pub next_told : (units : ℕ → ℕ) (before : List ℕ) (parts : List Part) (changes : ℕ) (change : Edit) (next : List Part) (len : ℕ) → IsNext units before parts changes change next len
-    → (edited : Edited) → seen before parts changes ≡ edited → (made : List Part) → made ≡ next → (count : ℕ) → count ≡ next_number changes → Applied units edited change (seen before made count)
+    → (edited : PlainData) → seen before parts changes ≡ edited → (made : List Part) → made ≡ next → (count : ℕ) → count ≡ next_number changes → Applied units edited change (seen before made count)
 next_told units before parts changes change next len is edited view made same count counted =
-    subst (λ (e : Edited). Applied units e change (seen before made count)) view (record {
+    subst (λ (e : PlainData). Applied units e change (seen before made count)) view (record {
       changed = is.made ∙ ap (λ (ps : List Part). Ok (items_of (chars before) ps)) (sym same);
       same = refl;
       counted = counted;
@@ -257,7 +257,7 @@ pub next_holds : (units : ℕ → ℕ) (before : List ℕ) (parts : List Part) (
 next_holds units before parts changes change next len is made same count counted = rw (same, counted) is.are
 
 -- What was told of a range's places, told of the fields.
-module _ (units : ℕ → ℕ) (range : Range) (before : List ℕ) (parts : List Part) (len changes : ℕ) (are : ArePieces before parts len changes) (edited : Edited) (view : seen before parts changes ≡ edited) where
+module _ (units : ℕ → ℕ) (range : Range) (before : List ℕ) (parts : List Part) (len changes : ℕ) (are : ArePieces before parts len changes) (edited : PlainData) (view : seen before parts changes ≡ edited) where
   pub ends_seen : (start stop : ℕ) → IsPlaces (Ok (start, stop)) (places_at edited.changes (edited_text edited) (ends_of units (edited_text edited) range)) → AreEnds units (text_of (chars before) (items_of (chars before) parts)) range start stop
   ends_seen start stop error =
       ⊎_elim
@@ -300,5 +300,5 @@ pub edit_is : (change : Change) (range : Option Range) (bytes : List ℕ) → ch
 edit_is change range bytes ranged same = λ i. record { range = sym ranged i; text = chars (same i) }
 
 -- what callers see keeps each CRLF of the old text whole
-pub keeps_seen : (before : List ℕ) (parts : List Part) (len changes : ℕ) (edited : Edited) → ArePieces before parts len changes → seen before parts changes ≡ edited → Keeps edited.before 0 edited.items
-keeps_seen before parts len changes edited are view = subst (λ (e : Edited). Keeps e.before 0 e.items) view are.keeps
+pub keeps_seen : (before : List ℕ) (parts : List Part) (len changes : ℕ) (edited : PlainData) → ArePieces before parts len changes → seen before parts changes ≡ edited → Keeps edited.before 0 edited.items
+keeps_seen before parts len changes edited are view = subst (λ (e : PlainData). Keeps e.before 0 e.items) view are.keeps

@@ -11,7 +11,7 @@ use Rattle.lsp_edit.specs.Items.{Item, Old, plain, text_of}
 use Rattle.lsp_edit.specs.Parts.{Part, OldPart, index_of, items_in, items_of, bytes_of, AreParts, NoneTouch}
 use Rattle.lsp_edit.specs.inside.Parts.{whole_parts}
 use Rattle.lsp_edit.specs.Keeps.{Keeps}
-use Rattle.lsp_edit.specs.Edited.{ArePieces, Edited, edited_text, edited_bytes}
+use Rattle.lsp_edit.specs.Edited.{ArePieces, PlainData, edited_text, edited_bytes}
 use Rattle.lsp_edit.specs.Faults.{places_at, ends_of}
 use Rattle.lsp_edit.specs.inside.Faults.{IsPlaces}
 use Rattle.lsp_edit.specs.declared.fault.EditFault.{EditFault}
@@ -90,15 +90,15 @@ pub fresh_chars : (before : List ℕ) (parts : List Part) (len changes : ℕ) �
 fresh_chars before parts len changes are none = sym (ap (text_of (chars before)) (are.fresh none) ∙ plain_text (chars before))
 
 -- What a call told of the fields, told of what callers see.
-pub places_told : (units : ℕ → ℕ) (range : Range) (answer : Result (ℕ × ℕ) EditFault) (edited : Edited) (text : List ℕ) (changes : ℕ) → edited.changes ≡ changes → edited_text edited ≡ text
+pub places_told : (units : ℕ → ℕ) (range : Range) (answer : Result (ℕ × ℕ) EditFault) (edited : PlainData) (text : List ℕ) (changes : ℕ) → edited.changes ≡ changes → edited_text edited ≡ text
     → answer ≡ places_at changes text (ends_of units text range) → IsPlaces answer (places_at edited.changes (edited_text edited) (ends_of units (edited_text edited) range))
 places_told units range answer edited text changes count same e =
     inr (e ∙ ap₂ (λ (n : ℕ) (t : List ℕ). places_at n t (ends_of units t range)) (sym count) (sym same))
 
 -- The bytes of a text before any change.
-pub first_bytes : (before : List ℕ) (edited : Edited) → IsUtf8 before → edited ≡ record { before = chars before; items = plain (chars before); changes = 0 } → length (edited_bytes edited) ≡ length before
-first_bytes before edited utf8 is = ap (λ (e : Edited). length (edited_bytes e)) is ∙ ap length (ap encode_utf8_all (plain_text (chars before)) ∙ encodes-chars before utf8)
+pub first_bytes : (before : List ℕ) (edited : PlainData) → IsUtf8 before → edited ≡ record { before = chars before; items = plain (chars before); changes = 0 } → length (edited_bytes edited) ≡ length before
+first_bytes before edited utf8 is = ap (λ (e : PlainData). length (edited_bytes e)) is ∙ ap length (ap encode_utf8_all (plain_text (chars before)) ∙ encodes-chars before utf8)
 
 -- A text with these bytes is the text as it is now.
-pub edited_chars : (edited : Edited) (bytes : List ℕ) → IsUtf8 bytes → bytes ≡ edited_bytes edited → chars bytes ≡ edited_text edited
+pub edited_chars : (edited : PlainData) (bytes : List ℕ) → IsUtf8 bytes → bytes ≡ edited_bytes edited → chars bytes ≡ edited_text edited
 edited_chars edited bytes utf8 is = sym (chars_from_encodes (edited_text edited) bytes utf8 (sym is))

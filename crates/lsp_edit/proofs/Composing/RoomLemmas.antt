@@ -12,7 +12,7 @@ use Rattle.lsp_edit.specs.declared.fault.EditFault.{EditFault}
 use Rattle.lsp_edit.specs.Items.{Item, New, character_of, text_of}
 use Rattle.lsp_edit.specs.Batch.{Edit, Fault, Reversed, replaced, changed_in, after_change, after_changes, continue_with}
 use Rattle.lsp_edit.specs.Faults.{IsFaultOfChange, IsFaultOfChanges, fault_at}
-use Rattle.lsp_edit.specs.Edited.{Applied, Edited, edit_of, edited_bytes}
+use Rattle.lsp_edit.specs.Edited.{Applied, PlainData, edit_of, edited_bytes}
 use Rattle.lsp_edit.proofs.Parts.CutLemmas.{text_of-new}
 use Rattle.lsp_edit.proofs.Composing.AppliedLemmas.{bytes_split}
 
@@ -59,20 +59,20 @@ abbrev pub texts_len : List Change → ℕ
 texts_len changes = sum_by (λ change. string_len change.text) changes
 
 -- How far a batch was applied: what is left gives its meaning, and there is room for it.
-pub record Applying (units : ℕ → ℕ) (before : List ℕ) (meant : Result (List Item) (ℕ × Fault)) (done : ℕ) (rest : List Change) (edited : Edited) : Type 0 where
+pub record Applying (units : ℕ → ℕ) (before : List ℕ) (meant : Result (List Item) (ℕ × Fault)) (done : ℕ) (rest : List Change) (edited : PlainData) : Type 0 where
   pub left : after_changes units before edited.changes edited.items (map edit_of rest) ≡ meant
   pub same : edited.before ≡ before
   pub counted : edited.changes ≡ done
   pub room : length (edited_bytes edited) + texts_len rest ≤ 2147483648
 
-module _ (units : ℕ → ℕ) (before : List ℕ) (meant : Result (List Item) (ℕ × Fault)) (done : ℕ) (change : Change) (rest more : List Change) (edited : Edited) (is : rest ≡ change ∷ more) (applying : Applying units before meant done rest edited) where
+module _ (units : ℕ → ℕ) (before : List ℕ) (meant : Result (List Item) (ℕ × Fault)) (done : ℕ) (change : Change) (rest more : List Change) (edited : PlainData) (is : rest ≡ change ∷ more) (applying : Applying units before meant done rest edited) where
   left_here : continue_with (λ next. after_changes units before (suc edited.changes) next (map edit_of more)) edited.changes (after_change units before edited.items (edit_of change)) ≡ meant
   left_here = rw is at applying.left
 
   pub room_here : length (edited_bytes edited) + string_len change.text ≤ 2147483648
   room_here = omega (arith, applying.room, ap texts_len is, sum_by-cons (λ (c : Change). string_len c.text) change more)
 
-  pub applying_on : (next : Edited) → done < 18446744073709551615 → Applied units edited (edit_of change) next → Applying units before meant (done + 1) more next
+  pub applying_on : (next : PlainData) → done < 18446744073709551615 → Applied units edited (edit_of change) next → Applying units before meant (done + 1) more next
   applying_on next small applied =
       let made : after_change units before edited.items (edit_of change) ≡ Ok next.items = ap (λ (b : List ℕ). after_change units b edited.items (edit_of change)) (sym applying.same) ∙ applied.changed in
       let l : after_changes units before (suc edited.changes) next.items (map edit_of more) ≡ meant = rw made at left_here in

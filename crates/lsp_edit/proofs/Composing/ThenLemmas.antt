@@ -7,7 +7,7 @@ use Rattle.lsp_edit.specs.Compose.{then_items}
 use Rattle.lsp_edit.specs.Keeps.{Keeps}
 use Rattle.lsp_edit.specs.Parts.{Part, items_of, bytes_of, AreParts, NoneTouch, Ascend}
 use Rattle.lsp_edit.specs.inside.Parts.{through_parts, AreThrough}
-use Rattle.lsp_edit.specs.Edited.{ArePieces, Edited, both_counts, edited_text}
+use Rattle.lsp_edit.specs.Edited.{ArePieces, PlainData, both_counts, edited_text}
 use Rattle.lsp_edit.proofs.Batches.ComposeLemmas.{text_of-then, then-plain, then_keeps}
 use Rattle.lsp_edit.proofs.Parts.CutPartsLemmas.{parts_bytes}
 use Rattle.lsp_edit.proofs.Composing.EditedLemmas.{index_first}
@@ -29,11 +29,11 @@ pub record AreOver (before : List ℕ) (parts : List Part) (len changes : ℕ) (
   pub over : chars mid ≡ text_of (chars before) (items_of (chars before) parts)
 
 pub over_seen : (before : List ℕ) (parts : List Part) (len changes : ℕ) (mid : List ℕ) (more : List Part) (more_len more_changes : ℕ) → ArePieces before parts len changes → ArePieces mid more more_len more_changes
-    → (first second : Edited) → seen before parts changes ≡ first → seen mid more more_changes ≡ second → second.before ≡ edited_text first → AreOver before parts len changes mid more more_len more_changes
+    → (first second : PlainData) → seen before parts changes ≡ first → seen mid more more_changes ≡ second → second.before ≡ edited_text first → AreOver before parts len changes mid more more_len more_changes
 over_seen before parts len changes mid more more_len more_changes are were first second view other over = record {
   are = are;
   were = were;
-  over = ap (λ (e : Edited). e.before) other ∙ (over ∙ sym (ap edited_text view));
+  over = ap (λ (e : PlainData). e.before) other ∙ (over ∙ sym (ap edited_text view));
 }
 
 module _ (before : List ℕ) (parts : List Part) (len changes : ℕ) (mid : List ℕ) (more : List Part) (more_len more_changes : ℕ) (both : AreOver before parts len changes mid more more_len more_changes) where
@@ -87,7 +87,7 @@ module _ (before : List ℕ) (parts : List Part) (len changes : ℕ) (mid : List
       fresh = λ e. ap (λ (ps : List Part). items_of (chars before) ps) is ∙ fresh (omega (arith, counted)) (omega (arith, counted));
     }
 
-    pub then_told : (first second : Edited) → seen before parts changes ≡ first → seen mid more more_changes ≡ second
+    pub then_told : (first second : PlainData) → seen before parts changes ≡ first → seen mid more more_changes ≡ second
         → seen before made count ≡ record { before = first.before; items = then_items first.items second.items; changes = both_counts first.changes second.changes }
     then_told first second view other =
         let e : items_of (chars before) made ≡ then_items (items_of (chars before) parts) (items_of (chars mid) more) = ap (λ (ps : List Part). items_of (chars before) ps) is ∙ error.0 in

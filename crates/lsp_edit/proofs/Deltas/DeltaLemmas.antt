@@ -15,7 +15,7 @@ use Rattle.lsp_edit.specs.Batch.{Edit, Fault, meaning}
 use Rattle.lsp_edit.specs.Compose.{then_items}
 use Rattle.lsp_edit.specs.Deltas.{AllOver, delta_parts, IsOver, items_over, owned_part, owned_parts}
 use Rattle.lsp_edit.specs.inside.Deltas.{AreSameItems, IsDelta}
-use Rattle.lsp_edit.specs.Edited.{Edited, Means, before_bytes}
+use Rattle.lsp_edit.specs.Edited.{PlainData, Means, before_bytes}
 use Rattle.lsp_edit.specs.Indexed.{bytes_left, text_within}
 use Rattle.lsp_edit.specs.Joined.{IsJoined, IsReached, JoinedData, joined_text}
 use Rattle.lsp_edit.specs.Keeps.{Keeps}
@@ -97,7 +97,7 @@ same_ends whole done text same = subst (λ (ps : List Part). AreSameItems (done 
 
 -- ---- what a batch makes of a text
 
-pub delta_is : (reached : List ℕ) (meant : Result (List Item) (ℕ × Fault)) (count : ℕ) (edited : Edited) (parts owned : List Part) → IsUtf8 reached → Means (chars reached) meant count edited
+pub delta_is : (reached : List ℕ) (meant : Result (List Item) (ℕ × Fault)) (count : ℕ) (edited : PlainData) (parts owned : List Part) → IsUtf8 reached → Means (chars reached) meant count edited
     → items_of edited.before parts ≡ edited.items → AreParts (before_bytes edited) parts → AreSameItems owned parts → IsDelta meant reached owned
 delta_is reached meant count edited parts owned utf8 means items are same =
     let bytes : before_bytes edited ≡ reached = ap encode_utf8_all means.same ∙ encodes-chars reached utf8 in

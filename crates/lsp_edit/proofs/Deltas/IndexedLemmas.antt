@@ -6,13 +6,13 @@ use Rattle.lsp_edit.specs.declared.indexed.TextFault.TheVariants.{TooLong}
 use Rattle.lsp_edit.specs.Items.{Item}
 use Rattle.lsp_edit.specs.Batch.{Edit, Fault, meaning}
 use Rattle.lsp_edit.specs.Canonical.{canonical}
-use Rattle.lsp_edit.specs.Edited.{Edited, Means, edited_bytes}
+use Rattle.lsp_edit.specs.Edited.{PlainData, Means, edited_bytes}
 use Rattle.lsp_edit.specs.Indexed.{IsCanonicalBatch, bytes_left, text_within}
 use Rattle.lsp_text.specs.declared.encoding.Encoding.{Encoding}
 use Rattle.lsp_text.specs.Units.{units_in}
 use Rattle.lsp_edit.proofs.Batches.LawLemmas.{canonical_law, units_some}
 
-module _ (before : List ℕ) (meant : Result (List Item) (ℕ × Fault)) (changes max_len : ℕ) (edited : Edited) (is : Means (chars before) meant changes edited) where
+module _ (before : List ℕ) (meant : Result (List Item) (ℕ × Fault)) (changes max_len : ℕ) (edited : PlainData) (is : Means (chars before) meant changes edited) where
   pub left_is : edited_bytes edited ≡ bytes_left before edited.items
   left_is = ap (λ (old : List ℕ). edited_bytes (record edited { before = old })) is.same
 

@@ -4,12 +4,12 @@ use Rattle.std.specs.Prelude.{false}
 use Rattle.lsp_frame.specs.Frame.{IsHopeless}
 use Rattle.lsp_frame.specs.Faults.{IsDecided, place_after}
 use Rattle.lsp_frame.specs.declared.fault.FrameFault.{FrameFault}
-use Rattle.lsp_frame.specs.Stream.{Framing, IsFrame, IsPart, AreFrames}
+use Rattle.lsp_frame.specs.Stream.{FramerData, IsFrame, IsPart, AreFrames}
 
 -- A framer has released the frames of a stream with these bodies, and has buffered one more or a
 -- part of one.
 pub record IsHolding (max_body : ℕ) (stream : List ℕ) (bodies : List (List ℕ))
-    (framer : Framing) : Type 0 where
+    (framer : FramerData) : Type 0 where
   pub framed : AreFrames max_body stream bodies framer.buffered
   pub place : framer.place ≡ place_after 0 (length stream - length framer.buffered)
   pub sound : framer.failed ≡ false
@@ -18,7 +18,7 @@ pub record IsHolding (max_body : ℕ) (stream : List ℕ) (bodies : List (List �
 
 -- The same, and the buffered bytes are no whole frame.
 pub record HasTaken (max_body : ℕ) (stream : List ℕ) (bodies : List (List ℕ))
-    (framer : Framing) : Type 0 where
+    (framer : FramerData) : Type 0 where
   pub holding : IsHolding max_body stream bodies framer
   pub none : IsFrame max_body framer.buffered → ⊥
 

@@ -86,7 +86,7 @@ call_next : (setting : Setting) (w : World) (said : ClientMessage) (result : Res
 call_next setting w said (Ok sending) = one_more w said
 call_next setting w said (Err refusal) = refl
 
-delivery_next : (setting : Setting) (w : World) (d : client.DeliveredData OutgoingData) (s : client.State) → IsNextHistory setting w (turn_of_delivery w (record { delivered = d; state = s }))
+delivery_next : (setting : Setting) (w : World) (d : client.DeliveredData OutgoingData) (s : client.ClientData) → IsNextHistory setting w (turn_of_delivery w (record { delivered = d; state = s }))
 delivery_next setting w (client.sends m) s = one_more w (lifecycle m)
 delivery_next setting w client.noted s = none_more w
 delivery_next setting w client.ignored s = none_more w

@@ -35,7 +35,7 @@ pub no_delivery : {A E : Type 0} (e : EventData) (sent replies : List (List ℕ)
 no_delivery e sent replies (Ok x) is = tt
 no_delivery e sent replies (Err x) is = ((λ same. absurd (subst IsCall same is)), λ same. absurd (subst IsCall same is))
 
-module _ (s : server.State) (c new : client.State) (q next : List (Vec ℕ Global)) (b : List (List ℕ)) where
+module _ (s : server.ServerData) (c new : client.ClientData) (q next : List (Vec ℕ Global)) (b : List (List ℕ)) where
   sent_is : (r : Result Sending ClientFault) (bytes : Vec ℕ Global) → IsSent r bytes.items new → next ≡ q ++ bytes ∷ [] → IsCallStep (both_ends c s (frames q) b) r Sent (both_ends new s (frames next) b)
   sent_is (Ok sending) bytes sends pushed =
       (refl, λ i. both_ends (sends.1 i) s ((ap frames pushed ∙ (map-append (λ (f : Vec ℕ Global). f.items) q (bytes ∷ []) ∙ ap (λ (f : List ℕ). frames q ++ f ∷ []) sends.0)) i) b)

@@ -2,7 +2,7 @@
 use Rattle.std.proofs.Common.{◌≡◌, Bool, true, false, true≢false, not, IsTrue, [], nat_le, sym}
 use Rattle.std.specs.Prelude.{◌&&◌, ◌||◌}
 use Rattle.std.proofs.lemmas.Bool.{and_parts, leb-true}
-use Rattle.lsp_frame.specs.Limits.{Bounds, AreInRange}
+use Rattle.lsp_frame.specs.Limits.{LimitsData, AreInRange}
 use Rattle.lsp_message.specs.declared.agreement.Offers.{Offers}
 use Rattle.lsp_server.specs.declared.config.Config.{Config}
 use Rattle.lsp_store.specs.Limits.{AreWithin}
@@ -15,7 +15,7 @@ lenient_from : (small great : Bool) → (not small || great) ≡ true → IsTrue
 lenient_from true great e is = e
 lenient_from false great e is = absurd (true≢false (sym is))
 
-pub within_from : (small great : Bounds) → are_within small great ≡ true → AreWithin small great
+pub within_from : (small great : LimitsData) → are_within small great ≡ true → AreWithin small great
 within_from small great e =
     let four : Bool = nat_le small.max_body great.max_body && nat_le small.max_text great.max_text && nat_le small.max_docs great.max_docs && nat_le small.max_changes great.max_changes in
     let all = and_parts four (not small.lenient || great.lenient) e in
@@ -30,7 +30,7 @@ within_from small great e =
       lenient = lenient_from small.lenient great.lenient all.1;
     }
 
-pub sound_from : (limits : Bounds) (offers : Offers) (config : Config) → AreInRange limits → AreInRange config.limits → are_within limits config.limits ≡ true → is_utf16 config.choice ≡ true
+pub sound_from : (limits : LimitsData) (offers : Offers) (config : Config) → AreInRange limits → AreInRange config.limits → are_within limits config.limits ≡ true → is_utf16 config.choice ≡ true
     → IsFitting (record { limits = limits; offers = offers; config = config })
 sound_from limits offers config ranges great within choice = record { ranges = ranges; great = great; within = within_from limits config.limits within; choice = choice }
 

@@ -110,12 +110,12 @@ at_next old new event (Ok a) steps = λ setting events sound at. (steps setting 
 at_next old new event (Err e) steps = tt
 
 -- what is left of a delivery that ran out of memory
-pub same_at_server : {A E : Type 0} (c : client.State) (s t : server.State) (q p b d : List (List ℕ)) (result : Result A E) → OnErr result ((t ≡ s) × (p ≡ q) × (d ≡ b))
+pub same_at_server : {A E : Type 0} (c : client.ClientData) (s t : server.ServerData) (q p b d : List (List ℕ)) (result : Result A E) → OnErr result ((t ≡ s) × (p ≡ q) × (d ≡ b))
     → OnErr result (both_ends c t p d ≡ both_ends c s q b)
 same_at_server c s t q p b d (Ok a) same = tt
 same_at_server c s t q p b d (Err e) same = λ i. record { client = c; server = same.0 i; to_server = same.1 i; to_client = same.2 i }
 
-pub same_at_client : {A E : Type 0} (s : server.State) (c k : client.State) (q p b d : List (List ℕ)) (result : Result A E) → OnErr result ((k ≡ c) × (p ≡ q) × (d ≡ b))
+pub same_at_client : {A E : Type 0} (s : server.ServerData) (c k : client.ClientData) (q p b d : List (List ℕ)) (result : Result A E) → OnErr result ((k ≡ c) × (p ≡ q) × (d ≡ b))
     → OnErr result (both_ends k s d p ≡ both_ends c s b q)
 same_at_client s c k q p b d (Ok a) same = tt
 same_at_client s c k q p b d (Err e) same = λ i. record { client = same.0 i; server = s; to_server = same.2 i; to_client = same.1 i }

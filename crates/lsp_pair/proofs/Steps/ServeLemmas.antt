@@ -1,7 +1,7 @@
 -- A delivery to the server, over plain values.
 use Rattle.std.proofs.Common.{ℕ, ◌≡◌, ◌≢◌, ◌<◌, Bool, true, false, List, [], ◌∷◌, ◌++◌, length, map, get_or, Vec, refl, sym, ap, ◌∙◌, subst, arith}
 use Rattle.std.specs.declared.alloc.Global.{Global}
-use Rattle.lsp_frame.specs.Limits.{Bounds}
+use Rattle.lsp_frame.specs.Limits.{LimitsData}
 use Rattle.lsp_frame.specs.Frame.{IsFrameOf}
 use Rattle.lsp_message.specs.Message.{reading}
 use Rattle.lsp_message.specs.Outgoing.{OutgoingData}
@@ -45,7 +45,7 @@ pub some_wait : (items : List (Vec ℕ Global)) → 0 < length items → frames 
 some_wait [] some = absurd (omega arith)
 some_wait (x ∷ xs) some = λ none. absurd (omega (arith, ap length none))
 
-pub serve_is : (c : client.State) (s new : server.State) (limits : Bounds) (items rest : List (Vec ℕ Global)) (back next : List (List ℕ)) (first : Vec ℕ Global) (body buffered : List ℕ)
+pub serve_is : (c : client.ClientData) (s new : server.ServerData) (limits : LimitsData) (items rest : List (Vec ℕ Global)) (back next : List (List ℕ)) (first : Vec ℕ Global) (body buffered : List ℕ)
     (given : AnswerData Sent) (result : Did)
     → items ≡ first ∷ rest → IsFrameOf limits.max_body buffered body → buffered ≡ first.items → limits ≡ s.config.limits → s.phase ≢ Ended
     → given ≡ as_sent (server.step s (reading body)).answer → new ≡ (server.step s (reading body)).state
@@ -54,7 +54,7 @@ pub serve_is : (c : client.State) (s new : server.State) (limits : Bounds) (item
 serve_is c s new limits items rest back next first body buffered given result out is_frame_of is same lives answers state did pushed =
     rw out (record {
       body = body;
-      framed = subst (λ (l : Bounds). IsFrameOf l.max_body first.items body) same (subst (λ (b : List ℕ). IsFrameOf limits.max_body b body) is is_frame_of);
+      framed = subst (λ (l : LimitsData). IsFrameOf l.max_body first.items body) same (subst (λ (b : List ℕ). IsFrameOf limits.max_body b body) is is_frame_of);
       has_not_ended = lives;
       happens = ap Server (did ∙ (ap did_of_sent answers ∙ did_same (server.step s (reading body)).answer));
       leaves = λ i. record {
@@ -79,12 +79,12 @@ bytes_same client.noted = refl
 bytes_same client.ignored = refl
 bytes_same (client.bad_server reason) = refl
 
-listening : (b : Bool) → b ≡ true → (s : client.State) (body : List ℕ) (given : client.DeliveredData (List ℕ)) (new : client.State) → seen.IsDelivered (client.if_listening b s (reading body)) given new
+listening : (b : Bool) → b ≡ true → (s : client.ClientData) (body : List ℕ) (given : client.DeliveredData (List ℕ)) (new : client.ClientData) → seen.IsDelivered (client.if_listening b s (reading body)) given new
     → (given ≡ seen.as_sent (client.delivery_of s (reading body)).delivered) × (new ≡ (client.delivery_of s (reading body)).state)
 listening true e s body given new h = h
 listening false e s body given new h = absurd h
 
-pub hear_is : (s : server.State) (c new : client.State) (limits : Bounds) (items rest : List (Vec ℕ Global)) (there next : List (List ℕ)) (first : Vec ℕ Global) (body buffered : List ℕ)
+pub hear_is : (s : server.ServerData) (c new : client.ClientData) (limits : LimitsData) (items rest : List (Vec ℕ Global)) (there next : List (List ℕ)) (first : Vec ℕ Global) (body buffered : List ℕ)
     (given : client.DeliveredData (List ℕ)) (result : Heard)
     → items ≡ first ∷ rest → IsFrameOf limits.max_body buffered body → buffered ≡ first.items → limits ≡ c.limits → client.is_listening c.phase ≡ true
     → seen.IsDelivered (client.delivery_result c (reading body)) given new
@@ -94,7 +94,7 @@ hear_is s c new limits items rest there next first body buffered given result ou
     let h = listening (client.is_listening c.phase) is_listening c body given new hears in
     rw out (record {
       body = body;
-      framed = subst (λ (l : Bounds). IsFrameOf l.max_body first.items body) same (subst (λ (b : List ℕ). IsFrameOf limits.max_body b body) is is_frame_of);
+      framed = subst (λ (l : LimitsData). IsFrameOf l.max_body first.items body) same (subst (λ (b : List ℕ). IsFrameOf limits.max_body b body) is is_frame_of);
       is_listening = is_listening;
       happens = ap Client (did ∙ (ap heard_of h.0 ∙ heard_same (client.delivery_of c (reading body)).delivered));
       leaves = λ i. record {

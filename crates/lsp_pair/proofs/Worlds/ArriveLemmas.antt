@@ -18,7 +18,7 @@ use Rattle.lsp_server.specs.declared.phase.Phase.TheVariants.{New, Running, Down
 use Rattle.lsp_server.specs.Answer as answer
 use Rattle.lsp_server.specs.Incoming as incoming
 use Rattle.lsp_server.specs.Step as server
-use Rattle.lsp_server.specs.Step.{State, Step, step_on, step_in, step, begins}
+use Rattle.lsp_server.specs.Step.{ServerData, Step, step_on, step_in, step, begins}
 use Rattle.lsp_client.specs.Step.{sent_body}
 use Rattle.lsp_pair.specs.declared.event.Happened.TheVariants.{Server}
 use Rattle.lsp_pair.specs.Events.{Setting, did_of, replies_in}
@@ -78,16 +78,16 @@ advance setting w shape next said rest done at e busy client agreed phase encodi
 -- ---- messages beside commands
 
 -- a server with another phase and encoding
-abbrev server_with : Setting → World → Phase → Option Encoding → State
+abbrev server_with : Setting → World → Phase → Option Encoding → ServerData
 server_with setting w phase encoding = record (server_of setting w) { phase = phase; encoding = encoding }
 
 known : (setting : Setting) (w : World) (shape : Shape) → AtShape setting w shape → server_of setting w ≡ server_with setting w (server_at shape) (encoding_at setting shape)
 known setting w shape at = λ i. record (server_of setting w) { phase = at.server_is i; encoding = at.encoding_is i }
 
-life_written : (s : State) (m : OutgoingData) → IsProper m → step s (reading (body_of m)) ≡ step_on s (incoming_of_message (lifecycle m))
+life_written : (s : ServerData) (m : OutgoingData) → IsProper m → step s (reading (body_of m)) ≡ step_on s (incoming_of_message (lifecycle m))
 life_written s m proper = ap (step s) (reading-body_of m proper)
 
-begins_given : (s : State) (offers : Offers) → step_in New s (incoming_of_message (lifecycle (outgoing.initialize offers))) ≡ begins s (whole (pos 1)) offers
+begins_given : (s : ServerData) (offers : Offers) → step_in New s (incoming_of_message (lifecycle (outgoing.initialize offers))) ≡ begins s (whole (pos 1)) offers
 begins_given s offers = ap (λ o. step_in New s (incoming.initialize (whole (pos 1)) o)) (is_read_back (outgoing.initialize offers) tt)
 
 least : (setting : Setting) (n : ℕ) → IsFitting setting → n ≤ 4096 → n ≤ setting.limits.max_body

@@ -22,7 +22,7 @@ use Rattle.lsp_server.proofs.LawLemmas.{offered_if}
 use Rattle.lsp_client.specs.declared.phase.Phase.{Phase}
 use Rattle.lsp_client.specs.declared.phase.Phase.TheVariants.{Closed}
 use Rattle.lsp_client.specs.Step as client
-use Rattle.lsp_client.specs.Step.{State, Delivery, delivery_of, begin_if_synced, begin_as_announced, begin_in, response_delivery, is_listening}
+use Rattle.lsp_client.specs.Step.{ClientData, Delivery, delivery_of, begin_if_synced, begin_as_announced, begin_in, response_delivery, is_listening}
 use Rattle.lsp_pair.specs.declared.event.Happened.TheVariants.{Client}
 use Rattle.lsp_pair.specs.Events.{Setting, heard_of, messages_in}
 use Rattle.lsp_pair.specs.Pair.{IsFitting, is_utf16}
@@ -86,11 +86,11 @@ offered_is (Fixed Utf16) offers e = refl
 offered_is (Fixed Utf32) offers e = absurd (let bad : false ≡ true = e in cc)
 offered_is (Negotiated prefer) offers e = offered_if prefer offers (is_offered offers prefer) refl
 
-agrees_on : (s : State) (encoding : Encoding) (sync : ChangeForm) → is_offered s.offers encoding ≡ true → begin_if_synced s true (announced_kind sync) (Some encoding) ≡ begin_in s encoding (announced_kind sync)
+agrees_on : (s : ClientData) (encoding : Encoding) (sync : ChangeForm) → is_offered s.offers encoding ≡ true → begin_if_synced s true (announced_kind sync) (Some encoding) ≡ begin_in s encoding (announced_kind sync)
 agrees_on s encoding Incremental e = rw e refl
 agrees_on s encoding Full e = rw e refl
 
-begins_given : (s : State) (encoding : Encoding) (sync : ChangeForm) → is_offered s.offers encoding ≡ true
+begins_given : (s : ClientData) (encoding : Encoding) (sync : ChangeForm) → is_offered s.offers encoding ≡ true
     → begin_as_announced s (announced_of (initialize_value encoding (announced_kind sync))) ≡ begin_in s encoding (announced_kind sync)
 begins_given s encoding sync e = ap (begin_as_announced s) (is_read_back (first_result encoding (announced_kind sync)) (record { sfits = omega arith })) ∙ agrees_on s encoding sync e
 
@@ -101,7 +101,7 @@ module _ (setting : Setting) (sound : IsFitting setting) (w : World) where
   answered_returns : AtShape setting w answered → Returns setting w (first_result (the_encoding setting) (the_kind setting)) []
   answered_returns at =
       let e : waiting_back w ≡ first_result (the_encoding setting) (the_kind setting) ∷ [] = at.here in
-      let s : State = client_of setting w in
+      let s : ClientData = client_of setting w in
       let m : OutgoingData = first_result (the_encoding setting) (the_kind setting) in
       let delivery_is : Delivery = begin_in s (the_encoding setting) (the_kind setting) in
       let answer : delivery_of s (message (sent m)) ≡ delivery_is =
@@ -120,7 +120,7 @@ module _ (setting : Setting) (sound : IsFitting setting) (w : World) where
   down_returns : AtShape setting w down → Returns setting w last_result []
   down_returns at =
       let e : waiting_back w ≡ last_result ∷ [] = at.here in
-      let s : State = client_of setting w in
+      let s : ClientData = client_of setting w in
       let delivery_is : Delivery = record { delivered = client.noted; state = record s { phase = Closed } } in
       let answer : delivery_of s (message (sent last_result)) ≡ delivery_is = ap (λ (p : Phase). response_delivery p s (Some (whole (pos 2))) (outcome last_result)) at.client_is in
       record {

@@ -4,7 +4,7 @@ use Rattle.std.specs.Str.{chars}
 use Rattle.std.proofs.lemmas.Bool.{cases_Bool, ltb-false}
 use Rattle.std.proofs.lemmas.List.Elements.{All-nil, All-cons}
 use Rattle.std.proofs.lemmas.Str.{encodes-chars, scalars-chars}
-use Rattle.lsp_frame.specs.Limits.{Bounds, AreInRange}
+use Rattle.lsp_frame.specs.Limits.{LimitsData, AreInRange}
 use Rattle.lsp_text.specs.declared.encoding.Encoding.{Encoding}
 use Rattle.lsp_text.specs.Units.{units_in}
 use Rattle.lsp_edit.specs.Items.{Item}
@@ -31,7 +31,7 @@ use Rattle.lsp_server.specs.declared.phase.Phase.{Phase}
 use Rattle.lsp_server.specs.declared.phase.Phase.TheVariants.{Running}
 use Rattle.lsp_server.specs.Answer as answer
 use Rattle.lsp_server.specs.Incoming as incoming
-use Rattle.lsp_server.specs.Step.{State, Step, edit_from_data, obeyed, obeys, step_on, step, step_in, session_encoding}
+use Rattle.lsp_server.specs.Step.{ServerData, Step, edit_from_data, obeyed, obeys, step_on, step, step_in, session_encoding}
 use Rattle.lsp_server.proofs.EditLemmas.{edits_back}
 use Rattle.lsp_client.specs.Step.{sent_batch, sent_body, order_refusal}
 use Rattle.lsp_pair.specs.laws.World.{commands, incoming_of_message, IsProperEdits}
@@ -44,27 +44,27 @@ IsProperCommand encoding (changes uri version other batch) = IsProperEdits uri v
 IsProperCommand encoding (closes uri) = IsUtf8 uri
 
 -- A command that a client says, whose table was this: its texts are texts, it counts in this encoding, and it was accepted.
-pub record IsSaid (limits : Bounds) (encoding : Encoding) (kind : SyncKind) (table : List DocumentItem) (command : Command) : Type 0 where
+pub record IsSaid (limits : LimitsData) (encoding : Encoding) (kind : SyncKind) (table : List DocumentItem) (command : Command) : Type 0 where
   pub proper : IsProperCommand encoding command
   pub may : order_refusal limits kind table command ≡ None
 
-pub may_command : (limits : Bounds) (kind : SyncKind) (table : List DocumentItem) (command : Command) → order_refusal limits kind table command ≡ None → command_refusal limits table command ≡ None
+pub may_command : (limits : LimitsData) (kind : SyncKind) (table : List DocumentItem) (command : Command) → order_refusal limits kind table command ≡ None → command_refusal limits table command ≡ None
 may_command limits kind table command e = first_none (command_refusal limits table command) (body_refusal limits (sent_body kind table command)) e
 
-body_short : (limits : Bounds) (body : List ℕ) → body_refusal limits body ≡ None → length body ≤ limits.max_body
+body_short : (limits : LimitsData) (body : List ℕ) → body_refusal limits body ≡ None → length body ≤ limits.max_body
 body_short limits body e =
     ⊎_elim (λ (above : nat_lt limits.max_body (length body) ≡ true). absurd (let bad : Some (body_too_long (length body)) ≡ None = rw above at e in cc))
     (λ (within : nat_lt limits.max_body (length body) ≡ false). ltb-false limits.max_body (length body) within)
     (cases_Bool (nat_lt limits.max_body (length body)))
 
-pub sent_short : (limits : Bounds) (kind : SyncKind) (table : List DocumentItem) (command : Command) → order_refusal limits kind table command ≡ None → length (sent_body kind table command) ≤ limits.max_body
+pub sent_short : (limits : LimitsData) (kind : SyncKind) (table : List DocumentItem) (command : Command) → order_refusal limits kind table command ≡ None → length (sent_body kind table command) ≤ limits.max_body
 sent_short limits kind table command e =
     body_short limits (sent_body kind table command) (later_none (command_refusal limits table command) (body_refusal limits (sent_body kind table command)) e)
 
 -- ---- the batch that is sent
 
 -- what is true of the batch that is sent in place of one that was accepted
-pub record IsSentBatch (small great : Bounds) (encoding : Encoding) (table : List DocumentItem) (uri : List ℕ) (version : ℤ) (batch other_batch : List Edit) : Type 0 where
+pub record IsSentBatch (small great : LimitsData) (encoding : Encoding) (table : List DocumentItem) (uri : List ℕ) (version : ℤ) (batch other_batch : List Edit) : Type 0 where
   pub done : IsReplacedBy great (units_in encoding) table uri version batch other_batch
   pub texts : AreTexts other_batch
   pub proper_message : IsProper (change_message uri version other_batch)
@@ -77,7 +77,7 @@ whole_proper uri version bytes u v b =
       changes = All-cons IsProperEdit (record { range = None; text = encode_utf8_all (chars bytes) }) [] (record { range = tt; text = subst IsUtf8 (sym (encodes-chars bytes b)) b }) (All-nil IsProperEdit);
     }
 
-module _ (small great : Bounds) (encoding : Encoding) (table : List DocumentItem) (uri : List ℕ) (version : ℤ) (batch : List Edit) (ranges : AreInRange small) (within : AreWithin small great)
+module _ (small great : LimitsData) (encoding : Encoding) (table : List DocumentItem) (uri : List ℕ) (version : ℤ) (batch : List Edit) (ranges : AreInRange small) (within : AreWithin small great)
     (kept : AllWithin small table) (edits : IsProperEdits uri version batch) (may : change_refusal small (units_in encoding) table uri version batch ≡ None) where
   parts : MayChange small (units_in encoding) table uri version batch
   parts = change_parts small (units_in encoding) table uri version batch may
@@ -128,26 +128,26 @@ module _ (small great : Bounds) (encoding : Encoding) (table : List DocumentItem
 -- ---- what a server does at a command
 
 -- a server whose session is running, with these limits, this encoding and this table
-pub record IsServing (great : Bounds) (encoding : Encoding) (table : List DocumentItem) (s : State) : Type 0 where
+pub record IsServing (great : LimitsData) (encoding : Encoding) (table : List DocumentItem) (s : ServerData) : Type 0 where
   pub limits_are : s.config.limits ≡ great
   pub running : s.phase ≡ Running
   pub counts : s.encoding ≡ Some encoding
   pub table_is : s.table ≡ table
 
 -- it did the command
-abbrev pub done_by : State → List DocumentItem → Step
+abbrev pub done_by : ServerData → List DocumentItem → Step
 done_by s next = record { answer = answer.changed; state = record s { table = next } }
 
-obeys_done : (s : State) (command : Command) → command_refusal s.config.limits s.table command ≡ None → obeys s command ≡ done_by s (table_after s.table command)
+obeys_done : (s : ServerData) (command : Command) → command_refusal s.config.limits s.table command ≡ None → obeys s command ≡ done_by s (table_after s.table command)
 obeys_done s command may = ap (λ (r : Option Refusal). obeyed s (unless_refused r (table_after s.table command))) may
 
-run_open : (s : State) (p : DocumentItem) → s.phase ≡ Running → step_on s (incoming.did_open (Some p)) ≡ obeys s (opens p)
+run_open : (s : ServerData) (p : DocumentItem) → s.phase ≡ Running → step_on s (incoming.did_open (Some p)) ≡ obeys s (opens p)
 run_open s p running = ap (λ (phase : Phase). step_in phase s (incoming.did_open (Some p))) running
 
-run_change : (s : State) (p : ChangeData) → s.phase ≡ Running → step_on s (incoming.did_change (Some p)) ≡ obeys s (changes p.uri p.version (session_encoding s) (map edit_from_data p.changes))
+run_change : (s : ServerData) (p : ChangeData) → s.phase ≡ Running → step_on s (incoming.did_change (Some p)) ≡ obeys s (changes p.uri p.version (session_encoding s) (map edit_from_data p.changes))
 run_change s p running = ap (λ (phase : Phase). step_in phase s (incoming.did_change (Some p))) running
 
-run_close : (s : State) (p : CloseData) → s.phase ≡ Running → step_on s (incoming.did_close (Some p)) ≡ obeys s (closes p.uri)
+run_close : (s : ServerData) (p : CloseData) → s.phase ≡ Running → step_on s (incoming.did_close (Some p)) ≡ obeys s (closes p.uri)
 run_close s p running = ap (λ (phase : Phase). step_in phase s (incoming.did_close (Some p))) running
 
 -- ---- what is read
@@ -164,14 +164,14 @@ read_close p is = ap incoming.incoming_of (reading-body_of (did_close p) is) ∙
 -- ---- a command that was said is done
 
 -- the message as it is written, and as the caller gave it, leave the same
-pub record IsServedAs (s : State) (kind : SyncKind) (command : Command) : Type 0 where
+pub record IsServedAs (s : ServerData) (kind : SyncKind) (command : Command) : Type 0 where
   pub written : step s (reading (sent_body kind s.table command)) ≡ done_by s (table_after s.table command)
   pub given : step_on s (incoming_of_message (commands command)) ≡ done_by s (table_after s.table command)
 
-module _ (small great : Bounds) (encoding : Encoding) (kind : SyncKind) (s : State) (ranges : AreInRange small) (within : AreWithin small great)
+module _ (small great : LimitsData) (encoding : Encoding) (kind : SyncKind) (s : ServerData) (ranges : AreInRange small) (within : AreWithin small great)
     (limits_are : s.config.limits ≡ great) (running : s.phase ≡ Running) (counts : s.encoding ≡ Some encoding) (kept : AllWithin small s.table) where
   accepted_here : (command : Command) → command_refusal great s.table command ≡ None → command_refusal s.config.limits s.table command ≡ None
-  accepted_here command e = ap (λ (limits : Bounds). command_refusal limits s.table command) limits_are ∙ e
+  accepted_here command e = ap (λ (limits : LimitsData). command_refusal limits s.table command) limits_are ∙ e
 
   encoding_is : session_encoding s ≡ encoding
   encoding_is = rw counts refl

@@ -64,7 +64,7 @@ beginning =
     }
 
 -- The client of a world. Its table is that of the commands that it sent.
-abbrev pub client_of : Setting → World → client.State
+abbrev pub client_of : Setting → World → client.ClientData
 client_of setting w =
     record {
       limits = setting.limits;
@@ -75,7 +75,7 @@ client_of setting w =
     }
 
 -- The server of a world. Its table is that of the commands that were delivered.
-abbrev pub server_of : Setting → World → server.State
+abbrev pub server_of : Setting → World → server.ServerData
 server_of setting w =
     record {
       config = setting.config;
@@ -105,7 +105,7 @@ turn_of_call w sent (Ok sending) =
 turn_of_call w sent (Err fault) = record { happened = Refused fault; world = w }
 
 -- The message of an accepted call, by the call and what was sent.
-abbrev pub message_of_call : client.State → Call → OutgoingData → ClientMessage
+abbrev pub message_of_call : client.ClientData → Call → OutgoingData → ClientMessage
 message_of_call s (orders order) m =
     commands (client.command_of (client.agreement s).encoding order)
 message_of_call s call m = lifecycle m

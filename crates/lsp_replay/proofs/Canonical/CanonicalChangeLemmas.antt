@@ -23,7 +23,7 @@ use Rattle.lsp_store.proofs.Messages.MessageLemmas.{is_read}
 use Rattle.lsp_store.proofs.Messages.ScalarLemmas.{canonical_texts}
 use Rattle.lsp_store.proofs.SquashLemmas.{squash_accepted}
 use Rattle.lsp_server.specs.Incoming.{incoming_of, did_change}
-use Rattle.lsp_server.specs.Step.{State, edit_from_data, session_encoding}
+use Rattle.lsp_server.specs.Step.{ServerData, edit_from_data, session_encoding}
 use Rattle.lsp_server.proofs.EditLemmas.{edits_back}
 use Rattle.lsp_replay.specs.Commands.{canonical_change_body}
 use Rattle.lsp_replay.specs.inside.Joining.{refusal_of, server_after}
@@ -32,7 +32,7 @@ use Rattle.lsp_replay.proofs.Records.PutLemmas.{put, change_puts}
 use Rattle.lsp_replay.proofs.Canonical.SettledLemmas.{asks_back}
 
 -- what a document's URI, version and text must be
-pub record IsProperAt (t : State) (uri : List ℕ) (version : ℤ) (entry : DocumentItem) (batch : List Edit) (items : List Item) : Type 0 where
+pub record IsProperAt (t : ServerData) (uri : List ℕ) (version : ℤ) (entry : DocumentItem) (batch : List Edit) (items : List Item) : Type 0 where
   pub found : entry_at t.table uri ≡ Some entry
   pub utf8 : IsUtf8 entry.text
   pub received : length entry.text ≤ t.config.limits.max_text
@@ -45,13 +45,13 @@ pub record IsProperAt (t : State) (uri : List ℕ) (version : ℤ) (entry : Docu
   pub few : nat_lt t.config.limits.max_changes (length (canonical (units_in (session_encoding t)) (chars entry.text) items)) ≡ false
 
 -- the batch, and the change that asks for it
-abbrev pub canonical_at : State → DocumentItem → List Item → List Edit
+abbrev pub canonical_at : ServerData → DocumentItem → List Item → List Edit
 canonical_at t entry items = canonical (units_in (session_encoding t)) (chars entry.text) items
 
-abbrev pub canonical_change : State → List ℕ → ℤ → DocumentItem → List Item → ChangeData
+abbrev pub canonical_change : ServerData → List ℕ → ℤ → DocumentItem → List Item → ChangeData
 canonical_change t uri version entry items = record { uri = uri; version = version; changes = map written_edit (canonical_at t entry items) }
 
-pub record IsCanonicalChange (t : State) (uri : List ℕ) (version : ℤ) (entry : DocumentItem) (items : List Item) : Type 0 where
+pub record IsCanonicalChange (t : ServerData) (uri : List ℕ) (version : ℤ) (entry : DocumentItem) (items : List Item) : Type 0 where
   pub asks : incoming_of (reading (change_body uri version (canonical_at t entry items))) ≡ did_change (Some (canonical_change t uri version entry items))
   pub may : refusal_of t (canonical_change t uri version entry items) ≡ None
   pub leaves : server_after t (canonical_change t uri version entry items) ≡ record t { table = put t.table uri version (bytes_left entry.text items) }
@@ -59,7 +59,7 @@ pub record IsCanonicalChange (t : State) (uri : List ℕ) (version : ℤ) (entry
   pub joins : (squash : SquashData) → squash.encoding ≡ session_encoding t → text_of (chars squash.text) squash.items ≡ chars entry.text
       → joined_by (canonical_change t uri version entry items) squash ≡ record squash { items = then_items squash.items items; version = version }
 
-module _ (t : State) (uri : List ℕ) (version : ℤ) (entry : DocumentItem) (batch : List Edit) (items : List Item) (ranges : AreInRange t.config.limits) (at : IsProperAt t uri version entry batch items) where
+module _ (t : ServerData) (uri : List ℕ) (version : ℤ) (entry : DocumentItem) (batch : List Edit) (items : List Item) (ranges : AreInRange t.config.limits) (at : IsProperAt t uri version entry batch items) where
   units : ℕ → ℕ
   units = units_in (session_encoding t)
 

@@ -10,7 +10,7 @@ use Rattle.lsp_message.specs.Agreement.{announced_of}
 use Rattle.lsp_message.specs.Message.{IdData, reading}
 use Rattle.lsp_message.specs.Params.{DocumentItem, ChangeData}
 use Rattle.lsp_edit.specs.Edited as given
-use Rattle.lsp_frame.specs.Limits.{Bounds}
+use Rattle.lsp_frame.specs.Limits.{LimitsData}
 use Rattle.lsp_message.specs.Seen.{edit_view}
 use Rattle.lsp_edit.specs.declared.change.Change.{Change}
 use Rattle.lsp_store.specs.declared.fault.StoreFault.{StoreFault}
@@ -22,7 +22,7 @@ use Rattle.lsp_server.specs.declared.phase.Phase.{Phase}
 use Rattle.lsp_server.specs.declared.phase.Phase.TheVariants.{New, Running, Down, Ended}
 use Rattle.lsp_server.specs.Answer.{AnswerData, Sent, changed, as_sent}
 use Rattle.lsp_server.specs.Incoming.{did_change}
-use Rattle.lsp_server.specs.Step.{State, edit_from_data, session_encoding, obeyed, change_command, step_in}
+use Rattle.lsp_server.specs.Step.{ServerData, edit_from_data, session_encoding, obeyed, change_command, step_in}
 use Rattle.lsp_replay.specs.Session.{Session, Verdict, answered, recorded, bad, Judged, judged, judge_incoming, hear_for, heard, settle_by, settle_in, result_for}
 use Rattle.lsp_replay.specs.Commands.{canonical_if, written, writes, ends}
 use Rattle.lsp_log.specs.declared.record.Version.{Version}
@@ -33,7 +33,7 @@ use Rattle.lsp_frame.specs.Frame.{frame}
 use Rattle.lsp_stream.specs.declared.fault.EngineFault.TheVariants as fault
 
 -- a record that isn't answered has no canonical message
-none_unless_answered : (server : State) (change : Option ChangeData) (verdict : Verdict) → (verdict ≡ recorded) ⊎ (verdict ≡ bad)
+none_unless_answered : (server : ServerData) (change : Option ChangeData) (verdict : Verdict) → (verdict ≡ recorded) ⊎ (verdict ≡ bad)
     → canonical_if server change verdict ≡ None
 none_unless_answered server None verdict way = refl
 none_unless_answered server (Some p) verdict (inl e) = rw e refl
@@ -56,17 +56,17 @@ heard_for s None body = inl refl
 heard_for s (Some id) body = was_heard s (result_for id (reading body))
 
 -- A server's record has no canonical message.
-pub heard_has_none : (server : State) (change : Option ChangeData) (s : Session) (expected : Option IdData) (body : List ℕ)
+pub heard_has_none : (server : ServerData) (change : Option ChangeData) (s : Session) (expected : Option IdData) (body : List ℕ)
     → canonical_if server change (hear_for s expected body).verdict ≡ None
 heard_has_none server change s expected body = none_unless_answered server change (hear_for s expected body).verdict (heard_for s expected body)
 
 -- ---- a change that is answered by `changed` was not refused
 
-obeyed_changed : (s : State) (refusal : Option Refusal) (next : List DocumentItem) → as_sent (obeyed s (unless_refused refusal next)).answer ≡ changed → refusal ≡ None
+obeyed_changed : (s : ServerData) (refusal : Option Refusal) (next : List DocumentItem) → as_sent (obeyed s (unless_refused refusal next)).answer ≡ changed → refusal ≡ None
 obeyed_changed s None next e = refl
 obeyed_changed s (Some refusal) next e = cc
 
-step_changed : (phase : Phase) (s : State) (p : ChangeData) → as_sent (step_in phase s (did_change (Some p))).answer ≡ changed
+step_changed : (phase : Phase) (s : ServerData) (p : ChangeData) → as_sent (step_in phase s (did_change (Some p))).answer ≡ changed
     → change_refusal s.config.limits (units_in (session_encoding s)) s.table p.uri p.version (map edit_from_data p.changes) ≡ None
 step_changed Running s p e =
     obeyed_changed s (command_refusal s.config.limits s.table (change_command s p)) (table_after s.table (change_command s p)) e
@@ -124,11 +124,11 @@ over_some : (over : Bool) (len : ℕ) (fault : StoreFault) → option_map fault_
 over_some true len fault e = (refl, cc)
 over_some false len fault e = cc
 
-pub within : (limits : Bounds) (refusal : Option Refusal) (body : List ℕ) → refusal ≡ None → else_refused refusal (body_refusal limits body) ≡ None → length body ≤ limits.max_body
+pub within : (limits : LimitsData) (refusal : Option Refusal) (body : List ℕ) → refusal ≡ None → else_refused refusal (body_refusal limits body) ≡ None → length body ≤ limits.max_body
 within limits None body none e = ltb-false limits.max_body (length body) (over_none (nat_lt limits.max_body (length body)) (length body) e)
 within limits (Some refusal) body none e = cc
 
-pub over : (limits : Bounds) (refusal : Option Refusal) (body : List ℕ) (fault : StoreFault) → refusal ≡ None → fault ≢ NoMemory
+pub over : (limits : LimitsData) (refusal : Option Refusal) (body : List ℕ) (fault : StoreFault) → refusal ≡ None → fault ≢ NoMemory
     → IsRefusal (else_refused refusal (body_refusal limits body)) fault → (limits.max_body < length body) × (fault ≡ BodyTooLong (length body))
 over limits (Some refusal) body fault none other error = cc
 over limits None body fault none other (inl e) = absurd (other e)

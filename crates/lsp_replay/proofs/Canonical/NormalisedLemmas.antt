@@ -4,7 +4,7 @@ use Rattle.std.specs.Prelude.{if◌then◌else◌, Result, Err}
 use Rattle.std.proofs.lemmas.Bool.{ltb-false}
 use Rattle.lsp_frame.specs.Faults.{place_after}
 use Rattle.lsp_frame.specs.Frame.{frame, IsFrameOf}
-use Rattle.lsp_frame.specs.Limits.{Bounds, AreInRange}
+use Rattle.lsp_frame.specs.Limits.{LimitsData, AreInRange}
 use Rattle.lsp_frame.proofs.WrittenLemmas.{written_is_frame}
 use Rattle.lsp_replay.specs.declared.outcome.Outcome.{Outcome}
 use Rattle.lsp_stream.specs.declared.fault.EngineFault.{EngineFault}
@@ -57,7 +57,7 @@ canonical_record at r None = record { head = placed at r.head; raw = r.raw; body
 canonical_record at r (Some body) = record { head = placed at r.head; raw = frame body; body = body }
 
 -- It is judged as the record, and the same is written of both.
-pub record IsWrittenAs (limits : Bounds) (at : ℕ) (s : Session) (r q : Record) : Type 0 where
+pub record IsWrittenAs (limits : LimitsData) (at : ℕ) (s : Session) (r q : Record) : Type 0 where
   pub is_frame_of : IsFrameOf limits.max_body q.raw q.body
   pub place : q.head.place ≡ place_after 0 at
   pub side : q.head.side ≡ r.head.side
@@ -69,7 +69,7 @@ pub record IsWrittenAs (limits : Bounds) (at : ℕ) (s : Session) (r q : Record)
   pub error : replaying.record_output s r (judge s r) ≡ writes []
   pub told_again : replaying.record_output s q (judge s r) ≡ writes []
 
-module _ (limits : Bounds) (ranges : AreInRange limits) where
+module _ (limits : LimitsData) (ranges : AreInRange limits) where
   module _ (at : ℕ) (s : Session) (r : Record) (received : IsHeldState limits s.server) (is_frame_of : IsFrameOf limits.max_body r.raw r.body)
       (passing : Passes (judge s r).verdict) where
     pub kept : canonical_of_record s r.body (judge s r).verdict ≡ None → IsWrittenAs limits at s r (canonical_record at r None)
@@ -101,7 +101,7 @@ module _ (limits : Bounds) (ranges : AreInRange limits) where
     changed body some e =
         let short : nat_lt s.server.config.limits.max_body (length body) ≡ false =
         fits body (ap (λ n. (written s.server.config.limits.max_body r (front_of r.head) n).end) (sym some) ∙ e) in
-        let small : length body ≤ limits.max_body = subst (λ (l : Bounds). length body ≤ l.max_body) received.limit (ltb-false s.server.config.limits.max_body (length body) short) in
+        let small : length body ≤ limits.max_body = subst (λ (l : LimitsData). length body ≤ l.max_body) received.limit (ltb-false s.server.config.limits.max_body (length body) short) in
         let twice = judged_again limits ranges s r.head r.body body received some small in
         record {
           is_frame_of = written_is_frame limits.max_body body small (omega (arith, small, ranges.greatest_body));
@@ -206,13 +206,13 @@ module _ (limits : Bounds) (ranges : AreInRange limits) where
 
 -- ---- the bytes
 
-due_same : (limits : Bounds) (ranges : AreInRange limits) (at : ℕ) (version : Version) (s : Session) (rs : List Record) → is_line_due version (normal_from limits ranges at version s rs) ≡ is_line_due version rs
+due_same : (limits : LimitsData) (ranges : AreInRange limits) (at : ℕ) (version : Version) (s : Session) (rs : List Record) → is_line_due version (normal_from limits ranges at version s rs) ≡ is_line_due version rs
 due_same limits ranges at One s [] = refl
 due_same limits ranges at One s (r ∷ rs) = refl
 due_same limits ranges at Two s [] = refl
 due_same limits ranges at Two s (r ∷ rs) = refl
 
-all_is : (limits : Bounds) (ranges : AreInRange limits) (version : Version) (rs : List Record) (bytes : List ℕ) → ((rs ≡ []) → bytes ≡ [])
+all_is : (limits : LimitsData) (ranges : AreInRange limits) (version : Version) (rs : List Record) (bytes : List ℕ) → ((rs ≡ []) → bytes ≡ [])
     → (front_if limits ranges (is_line_due version []) rs ++ bytes) ++ line_if (is_line_due version rs) ≡ line_of version ++ bytes
 all_is limits ranges One [] bytes none = append-nil bytes
 all_is limits ranges One (r ∷ rs) bytes none = append-nil bytes
@@ -224,7 +224,7 @@ pub version_is : (max_body : ℕ) (version : Version) (rs : List Record) (bytes 
 version_is max_body One rs bytes are is = λ wanted more e. is_version_one max_body 0 false rs are wanted more (sym is ∙ e)
 version_is max_body Two rs bytes are is = (refl, (together Two rs [], is))
 
-none_together : (limits : Bounds) (ranges : AreInRange limits) (at : ℕ) (version : Version) (s : Session) (rs : List Record) → rs ≡ [] → together version (normal_from limits ranges at version s rs) [] ≡ []
+none_together : (limits : LimitsData) (ranges : AreInRange limits) (at : ℕ) (version : Version) (s : Session) (rs : List Record) → rs ≡ [] → together version (normal_from limits ranges at version s rs) [] ≡ []
 none_together limits ranges at version s [] e = refl
 none_together limits ranges at version s (r ∷ rs) e = absurd (let lengths = ap length e in cc)
 

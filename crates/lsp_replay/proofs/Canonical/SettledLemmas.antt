@@ -3,7 +3,7 @@ use Rattle.std.proofs.Common.{◌≡◌, ℕ, ℤ, ◌≤◌, List, [], ◌∷�
 use Rattle.std.specs.Prelude.{Ok}
 use Rattle.std.specs.Str.{chars}
 use Rattle.std.proofs.lemmas.Str.{scalars-chars}
-use Rattle.lsp_frame.specs.Limits.{Bounds, AreInRange}
+use Rattle.lsp_frame.specs.Limits.{LimitsData, AreInRange}
 use Rattle.lsp_frame.proofs.LawLemmas.{injective_law}
 use Rattle.lsp_text.specs.Units.{units_in}
 use Rattle.lsp_text.specs.declared.encoding.Encoding.{Encoding}
@@ -25,7 +25,7 @@ use Rattle.lsp_store.proofs.LawLemmas.{within_at}
 use Rattle.lsp_server.specs.declared.phase.Phase.{Phase}
 use Rattle.lsp_server.specs.declared.phase.Phase.TheVariants.{New, Running, Down, Ended}
 use Rattle.lsp_server.specs.Incoming.{did_change, incoming_of}
-use Rattle.lsp_server.specs.Step.{State, step_in, step_on, obeyed, edit_from_data, session_encoding}
+use Rattle.lsp_server.specs.Step.{ServerData, step_in, step_on, obeyed, edit_from_data, session_encoding}
 use Rattle.lsp_server.proofs.EditLemmas.{edits_back}
 use Rattle.lsp_replay.specs.Commands.{canonical_change_body}
 use Rattle.lsp_replay.proofs.Canonical.CanonicalLogLemmas.{within}
@@ -34,7 +34,7 @@ use Rattle.lsp_replay.proofs.Records.StateLemmas.{IsHeldState}
 
 -- ---- refusals
 
-open_one : (limits : Bounds) (units : ℕ → ℕ) (table : List DocumentItem) (uri : List ℕ) (version : ℤ) (batch : List Edit) → change_refusal limits units table uri version batch ≡ None
+open_one : (limits : LimitsData) (units : ℕ → ℕ) (table : List DocumentItem) (uri : List ℕ) (version : ℤ) (batch : List Edit) → change_refusal limits units table uri version batch ≡ None
     → (entry : DocumentItem) × (entry_at table uri ≡ Some entry)
 open_one limits units table uri version batch e = by (entry_at table uri) refl e
   where
@@ -51,13 +51,13 @@ asks_back uri version batch read = ap incoming_of read.as_sent ∙ ap did_change
 
 -- ---- the change that a canonical message asks for
 
-pub record IsSettledChange (server : State) (p : ChangeData) : Type 0 where
+pub record IsSettledChange (server : ServerData) (p : ChangeData) : Type 0 where
   pub again : ChangeData
   pub asks : incoming_of (reading (canonical_change_body server p)) ≡ did_change (Some again)
   pub same_step : step_on server (did_change (Some again)) ≡ step_on server (did_change (Some p))
   pub same_body : canonical_change_body server again ≡ canonical_change_body server p
 
-same_change : (server : State) (p again : ChangeData) (phase : Phase)
+same_change : (server : ServerData) (p again : ChangeData) (phase : Phase)
     → change_refusal server.config.limits (units_in (session_encoding server)) server.table p.uri p.version (map edit_from_data p.changes) ≡ None
     → change_refusal server.config.limits (units_in (session_encoding server)) server.table again.uri again.version (map edit_from_data again.changes) ≡ None
     → after_change (units_in (session_encoding server)) server.table again.uri again.version (map edit_from_data again.changes)
@@ -71,7 +71,7 @@ same_change server p again Running may also same =
     ∙ ap (λ t. obeyed server (unless_refused None t)) same
     ∙ sym (ap (λ r. obeyed server (unless_refused r (after_change (units_in (session_encoding server)) server.table p.uri p.version (map edit_from_data p.changes)))) may)
 
-module _ (server : State) (p : ChangeData) (ranges : AreInRange server.config.limits) (received : IsHeldState server.config.limits server) (proper : IsProperAsked p)
+module _ (server : ServerData) (p : ChangeData) (ranges : AreInRange server.config.limits) (received : IsHeldState server.config.limits server) (proper : IsProperAsked p)
     (may : change_refusal server.config.limits (units_in (session_encoding server)) server.table p.uri p.version (map edit_from_data p.changes) ≡ None)
     (fits : length (canonical_change_body server p) ≤ server.config.limits.max_body) where
   abbrev encoding : Encoding

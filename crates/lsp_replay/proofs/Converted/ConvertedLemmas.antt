@@ -16,7 +16,7 @@ use Rattle.lsp_server.specs.declared.phase.Phase.TheVariants.{New, Running, Down
 use Rattle.lsp_server.specs.Answer.{AnswerData, Sent, reply, changed, dropped, ignored, already_ended, refused, exits, as_sent}
 use Rattle.lsp_server.specs.Choice.{chosen, announced_kind}
 use Rattle.lsp_server.specs.Incoming.{IncomingData, not_json, not_a_message, response, initialize, shutdown, other_request, exit, did_open, did_change, did_close, other_notification}
-use Rattle.lsp_server.specs.Step.{State, step_in, step_on, begins, with_encoding}
+use Rattle.lsp_server.specs.Step.{ServerData, step_in, step_on, begins, with_encoding}
 use Rattle.lsp_log.specs.declared.record.Version.{Version}
 use Rattle.lsp_log.specs.declared.record.Version.TheVariants.{One, Two}
 use Rattle.lsp_stream.specs.Ports.{one_more}
@@ -90,7 +90,7 @@ abbrev pub waits : Phase → IncomingData → Option IdData
 waits phase m = if is_new phase then expected_of Two m None else None
 
 -- the session behind a client's record, in the log of version 1 and in that of version 2
-abbrev pub next_of : Session → State → AnswerData Sent → Session
+abbrev pub next_of : Session → ServerData → AnswerData Sent → Session
 next_of s server answer = record s {
   server = server;
   expected = None;
@@ -99,7 +99,7 @@ next_of s server answer = record s {
   refusals = count_if (is_refused answer) s.refusals;
 }
 
-abbrev pub rest_after : Session → ℕ → State → AnswerData Sent → Option IdData → Session
+abbrev pub rest_after : Session → ℕ → ServerData → AnswerData Sent → Option IdData → Session
 rest_after s n server answer expected = record {
   server = server;
   expected = expected;
@@ -108,14 +108,14 @@ rest_after s n server answer expected = record {
   refusals = count_if (is_refused answer) s.refusals;
 }
 
-abbrev pub FollowsStep : Session → ℕ → Phase → State → IncomingData → Type 0
+abbrev pub FollowsStep : Session → ℕ → Phase → ServerData → IncomingData → Type 0
 FollowsStep s n phase server m = Follows (rest_after s n (step_in phase server m).state (as_sent (step_in phase server m).answer) (waits phase m)) (step_in phase server m).answer
 
-begun : (s : Session) (n : ℕ) (server : State) (id : IdData) (offers : Offers) → IsProperId id → FollowsStep s n New server (initialize id (Some offers))
+begun : (s : Session) (n : ℕ) (server : ServerData) (id : IdData) (offers : Offers) → IsProperId id → FollowsStep s n New server (initialize id (Some offers))
 begun s n server id offers proper =
     hears_result (rest_after s n (begins server id offers).state (as_sent (begins server id offers).answer) (Some id)) id (chosen server.config.choice offers) (announced_kind server.config.sync) proper
 
-pub follows_step : (s : Session) (n : ℕ) (phase : Phase) (server : State) (m : IncomingData) → IsProperIncoming m → FollowsStep s n phase server m
+pub follows_step : (s : Session) (n : ℕ) (phase : Phase) (server : ServerData) (m : IncomingData) → IsProperIncoming m → FollowsStep s n phase server m
 follows_step s n New server (initialize id (Some offers)) proper = begun s n server id offers proper
 follows_step s n New server (initialize id None) proper = refl
 follows_step s n New server not_json proper = refl

@@ -4,13 +4,13 @@ use Rattle.std.specs.Prelude.{if◌then◌else◌, Err}
 use Rattle.std.proofs.lemmas.Bool.{ne_eqb}
 use Rattle.lsp_frame.specs.Faults.{place_after}
 use Rattle.lsp_frame.specs.Frame.{frame}
-use Rattle.lsp_frame.specs.Limits.{Bounds, AreInRange}
+use Rattle.lsp_frame.specs.Limits.{LimitsData, AreInRange}
 use Rattle.lsp_frame.proofs.WrittenLemmas.{written_is_frame}
 use Rattle.lsp_message.specs.Message.{IdData, reading}
 use Rattle.lsp_message.specs.Outgoing.{OutgoingData, body_of}
 use Rattle.lsp_server.specs.Answer.{AnswerData, Sent, reply, changed, dropped, ignored, already_ended, refused, exits, as_sent, sent}
 use Rattle.lsp_server.specs.Incoming.{incoming_of}
-use Rattle.lsp_server.specs.Step.{State, step_on}
+use Rattle.lsp_server.specs.Step.{ServerData, step_on}
 use Rattle.lsp_stream.specs.declared.fault.EngineFault.TheVariants.{BadLog}
 use Rattle.lsp_log.specs.declared.record.Version.{Version}
 use Rattle.lsp_log.specs.declared.record.Version.TheVariants.{One, Two}
@@ -74,7 +74,7 @@ good_gives r bad g e = let wrong : Some (Err (BadLog r.head.place)) ≡ None = e
 judged_client : (s : Session) (r : Record) → r.head.version ≡ One → r.head.side ≡ Client → judge s r ≡ counted (judge_incoming s One (incoming_of (reading r.body)))
 judged_client s r one side = ap (λ v. counted (judge_from s v r.head.side r.body)) one ∙ ap (λ k. counted (judge_from s One k r.body)) side
 
-module _ (limits : Bounds) (ranges : AreInRange limits) where
+module _ (limits : LimitsData) (ranges : AreInRange limits) where
   -- The records that are written of some, the first at a place, and what is told of them in the other session.
   record AreConverted (at : ℕ) (due : Bool) (s t : Session) (rs : List Record) : Type 0 where
     qs : List Record
@@ -87,7 +87,7 @@ module _ (limits : Bounds) (ranges : AreInRange limits) where
     unfolding client_at
     first_is = record { is_frame_of = is.is_frame_of; side = λ e. refl; of_version = refl; placed = refl; due = refl }
 
-    plain : (server : State) (answer : AnswerData Sent) (e : Option IdData) → reply_record (answered answer) ≡ [] → judge s r ≡ judged (answered answer) (next_of s server answer)
+    plain : (server : ServerData) (answer : AnswerData Sent) (e : Option IdData) → reply_record (answered answer) ≡ [] → judge s r ≡ judged (answered answer) (next_of s server answer)
         → judge t (client_at at due r) ≡ judged (answered answer) (rest_after s n server answer e) → e ≡ None
         → ((later m : ℕ) → AreConverted later false (next_of s server answer) (twin (next_of s server answer) m) rs) → AreConverted at due s t (r ∷ rs)
     unfolding client_at
@@ -112,7 +112,7 @@ module _ (limits : Bounds) (ranges : AreInRange limits) where
               ∙ ap (written_first []) m.same ∙ sym error;
         }
 
-    replied : (server : State) (o : OutgoingData) (e : Option IdData) → length (body_of o) ≤ limits.max_body
+    replied : (server : ServerData) (o : OutgoingData) (e : Option IdData) → length (body_of o) ≤ limits.max_body
         → judge s r ≡ judged (answered (reply (sent o))) (next_of s server (reply (sent o)))
         → judge t (client_at at due r) ≡ judged (answered (reply (sent o))) (rest_after s n server (reply (sent o)) e) → Follows (rest_after s n server (reply (sent o)) e) (reply o)
         → ((later m : ℕ) → AreConverted later false (next_of s server (reply (sent o))) (twin (next_of s server (reply (sent o))) m) rs) → AreConverted at due s t (r ∷ rs)
@@ -156,7 +156,7 @@ module _ (limits : Bounds) (ranges : AreInRange limits) where
         refl_or_not : Two ≡ One → Server ≡ Client
         refl_or_not x = absurd (cc)
 
-    extend : (server : State) (answer : AnswerData OutgoingData) (e : Option IdData) → IsReplyWithin limits.max_body (answered (as_sent answer))
+    extend : (server : ServerData) (answer : AnswerData OutgoingData) (e : Option IdData) → IsReplyWithin limits.max_body (answered (as_sent answer))
         → judge s r ≡ judged (answered (as_sent answer)) (next_of s server (as_sent answer))
         → judge t (client_at at due r) ≡ judged (answered (as_sent answer)) (rest_after s n server (as_sent answer) e) → Follows (rest_after s n server (as_sent answer) e) answer
         → ((later m : ℕ) → AreConverted later false (next_of s server (as_sent answer)) (twin (next_of s server (as_sent answer)) m) rs) → AreConverted at due s t (r ∷ rs)
@@ -214,7 +214,7 @@ all_two : (rs : List Record) (out last bytes : List ℕ) → out ≡ front_if tr
 all_two [] out last bytes e f none = ap (λ z. z ++ last) (e ∙ none refl) ∙ f ∙ sym (append-nil version_line) ∙ ap (λ z. version_line ++ z) (sym (none refl))
 all_two (r ∷ rs) out last bytes e f none = ap (λ z. out ++ z) f ∙ append-nil out ∙ e
 
-none_out : (limits : Bounds) (ranges : AreInRange limits) (at : ℕ) (due : Bool) (s t : Session) (rs : List Record) (w : AreConverted limits ranges at due s t rs) → rs ≡ [] → together Two w.qs [] ≡ []
+none_out : (limits : LimitsData) (ranges : AreInRange limits) (at : ℕ) (due : Bool) (s t : Session) (rs : List Record) (w : AreConverted limits ranges at due s t rs) → rs ≡ [] → together Two w.qs [] ≡ []
 none_out limits ranges at due s t [] w e = sym w.out
 none_out limits ranges at due s t (r ∷ rs) w e = absurd (let lengths = ap length e in cc)
 

@@ -8,7 +8,7 @@ use Rattle.lsp_server.specs.declared.phase.Phase.{Phase}
 use Rattle.lsp_server.specs.declared.phase.Phase.TheVariants.{New, Running, Down, Ended}
 use Rattle.lsp_server.specs.Answer.{AnswerData, Sent, reply, changed, dropped, ignored, already_ended, refused, exits}
 use Rattle.lsp_server.specs.Incoming.{incoming_of, did_change}
-use Rattle.lsp_server.specs.Step.{State}
+use Rattle.lsp_server.specs.Step.{ServerData}
 use Rattle.lsp_log.specs.declared.record.Version.{Version}
 use Rattle.lsp_log.specs.declared.record.Side.{Side}
 use Rattle.lsp_log.specs.declared.record.Side.TheVariants.{Client, Server}
@@ -28,13 +28,13 @@ use Rattle.lsp_replay.proofs.Records.NumberedLemmas.{IsAlike, numbered}
 
 -- ---- a record that doesn't end the run is an accepted change within the limit, or is written as it is
 
-abbrev pub IsOtherKind : State → Option ChangeData → Verdict → Type 0
+abbrev pub IsOtherKind : ServerData → Option ChangeData → Verdict → Type 0
 IsOtherKind server change verdict = (verdict ≢ bad) × (canonical_if server change verdict ≡ None)
 
-abbrev pub IsChangeKind : State → Option ChangeData → Verdict → Type 0
+abbrev pub IsChangeKind : ServerData → Option ChangeData → Verdict → Type 0
 IsChangeKind server change verdict = (p : ChangeData) × (change ≡ Some p) × (verdict ≡ answered changed) × (length (canonical_change_body server p) ≤ server.config.limits.max_body)
 
-abbrev IsKind : State → Option ChangeData → Verdict → Type 0
+abbrev IsKind : ServerData → Option ChangeData → Verdict → Type 0
 IsKind server change verdict = IsOtherKind server change verdict ⊎ IsChangeKind server change verdict
 
 not_bad : (answer : AnswerData Sent) → answered answer ≢ bad
@@ -43,7 +43,7 @@ not_bad answer e = cc
 not_recorded : recorded ≢ bad
 not_recorded e = cc
 
-pub kind_of : (server : State) (r : Record) (front : List ℕ) (run : Option Run) (change : Option ChangeData) (verdict : Verdict) → (step_if server r front run change verdict).end ≡ None → IsKind server change verdict
+pub kind_of : (server : ServerData) (r : Record) (front : List ℕ) (run : Option Run) (change : Option ChangeData) (verdict : Verdict) → (step_if server r front run change verdict).end ≡ None → IsKind server change verdict
 kind_of server r front run None bad e = absurd (let wrong : Some (Err (BadLog r.head.place)) ≡ None = e in cc)
 kind_of server r front run (Some p) bad e = absurd (let wrong : Some (Err (BadLog r.head.place)) ≡ None = e in cc)
 kind_of server r front run None recorded e = inl (not_recorded, refl)
@@ -63,7 +63,7 @@ kind_of server r front run (Some p) (answered changed) e =
     short false f = refl
 
 -- neither is bad
-pub not_bad_of : (server : State) (r : Record) (front : List ℕ) (run : Option Run) (change : Option ChangeData) (verdict : Verdict) → (step_if server r front run change verdict).end ≡ None → verdict ≢ bad
+pub not_bad_of : (server : ServerData) (r : Record) (front : List ℕ) (run : Option Run) (change : Option ChangeData) (verdict : Verdict) → (step_if server r front run change verdict).end ≡ None → verdict ≢ bad
 not_bad_of server r front run None bad e = absurd (let wrong : Some (Err (BadLog r.head.place)) ≡ None = e in cc)
 not_bad_of server r front run (Some p) bad e = absurd (let wrong : Some (Err (BadLog r.head.place)) ≡ None = e in cc)
 not_bad_of server r front run change recorded e = not_recorded

@@ -3,7 +3,7 @@
 use Rattle.std.proofs.Common.{◌≡◌, ℕ, ◌≤◌, Bool, true, false, List, length, Option, Some, None, refl, sym, ap, ◌∙◌, subst, arith}
 use Rattle.std.specs.Prelude.{if◌then◌else◌}
 use Rattle.serde_json.specs.Data.{Data}
-use Rattle.lsp_frame.specs.Limits.{Bounds, AreInRange}
+use Rattle.lsp_frame.specs.Limits.{LimitsData, AreInRange}
 use Rattle.lsp_text.specs.declared.encoding.Encoding.{Encoding}
 use Rattle.lsp_message.specs.declared.agreement.Announced.{Announced}
 use Rattle.lsp_message.specs.Agreement.{announced_of}
@@ -11,7 +11,7 @@ use Rattle.lsp_message.specs.Message.{IdData, reading}
 use Rattle.lsp_message.specs.Params.{ChangeData}
 use Rattle.lsp_server.specs.Answer.{AnswerData, Sent, reply, changed, dropped, ignored, already_ended, refused, exits, as_sent}
 use Rattle.lsp_server.specs.Incoming.{IncomingData, not_json, not_a_message, response, initialize, shutdown, other_request, exit, did_open, did_change, did_close, other_notification, incoming_of}
-use Rattle.lsp_server.specs.Step.{State, Step, step_on, with_encoding}
+use Rattle.lsp_server.specs.Step.{ServerData, Step, step_on, with_encoding}
 use Rattle.lsp_log.specs.declared.record.Version.{Version}
 use Rattle.lsp_log.specs.declared.record.Version.TheVariants.{One, Two}
 use Rattle.lsp_log.specs.declared.record.Side.{Side}
@@ -54,30 +54,30 @@ module _ (P : Judged → Type 0) (s : Session) where
       both P (is_ended s.server.phase) (judged bad s) (if is_early s m then judged bad s else handled s version m (step_on s.server m).state (as_sent (step_on s.server m).answer)) refuses
       (both P (is_early s m) (judged bad s) (handled s version m (step_on s.server m).state (as_sent (step_on s.server m).answer)) refuses goes)
 
-from_held : (limits : Bounds) (s : Session) (version : Version) (side : Side) (body : List ℕ) → IsHeldState limits s.server → IsHeldState limits (judge_from s version side body).session.server
+from_held : (limits : LimitsData) (s : Session) (version : Version) (side : Side) (body : List ℕ) → IsHeldState limits s.server → IsHeldState limits (judge_from s version side body).session.server
 from_held limits s version Client body received =
     of_incoming (λ (j : Judged). IsHeldState limits j.session.server) s version (incoming_of (reading body)) received (step_on_held limits s.server (incoming_of (reading body)) (asked_proper body) received)
 from_held limits s version Server body received =
     of_heard (λ (j : Judged). IsHeldState limits j.session.server) s received received (λ encoding. record { limit = received.limit; table = received.table }) s.expected body
 
-pub judged_held : (limits : Bounds) (s : Session) (r : Record) → IsHeldState limits s.server → IsHeldState limits (judge s r).session.server
+pub judged_held : (limits : LimitsData) (s : Session) (r : Record) → IsHeldState limits s.server → IsHeldState limits (judge s r).session.server
 judged_held limits s r received = from_held limits s r.head.version r.head.side r.body received
 
 -- ---- the record of an accepted change
 
-record IsNormalCase (server : State) (m : IncomingData) (verdict : Verdict) (body : List ℕ) : Type 0 where
+record IsNormalCase (server : ServerData) (m : IncomingData) (verdict : Verdict) (body : List ℕ) : Type 0 where
   change : ChangeData
   asks : m ≡ did_change (Some change)
   error : verdict ≡ answered changed
   is : body ≡ canonical_change_body server change
 
-abbrev CaseOf : State → Option ChangeData → Verdict → List ℕ → Type 0
+abbrev CaseOf : ServerData → Option ChangeData → Verdict → List ℕ → Type 0
 CaseOf server change verdict body = (p : ChangeData) × (change ≡ Some p) × (verdict ≡ answered changed) × (body ≡ canonical_change_body server p)
 
-none_some : (server : State) (change : Option ChangeData) (verdict : Verdict) (body : List ℕ) → None ≡ Some body → CaseOf server change verdict body
+none_some : (server : ServerData) (change : Option ChangeData) (verdict : Verdict) (body : List ℕ) → None ≡ Some body → CaseOf server change verdict body
 none_some server change verdict body e = absurd (cc)
 
-by_change : (server : State) (change : Option ChangeData) (verdict : Verdict) (body : List ℕ) → canonical_if server change verdict ≡ Some body → CaseOf server change verdict body
+by_change : (server : ServerData) (change : Option ChangeData) (verdict : Verdict) (body : List ℕ) → canonical_if server change verdict ≡ Some body → CaseOf server change verdict body
 by_change server None verdict body e = none_some server None verdict body e
 by_change server (Some p) (answered changed) body e = let some : Some (canonical_change_body server p) ≡ Some body = e in let is : canonical_change_body server p ≡ body = cc in (p, refl, refl, sym is)
 by_change server (Some p) (answered (reply m)) body e = none_some server (Some p) (answered (reply m)) body e
@@ -105,7 +105,7 @@ asks_change (did_open params) p e = no_change (did_open params) p e
 asks_change (did_close params) p e = no_change (did_close params) p e
 asks_change (other_notification method) p e = no_change (other_notification method) p e
 
-case_of : (server : State) (m : IncomingData) (verdict : Verdict) (body : List ℕ) → canonical_if server (change_in m) verdict ≡ Some body → IsNormalCase server m verdict body
+case_of : (server : ServerData) (m : IncomingData) (verdict : Verdict) (body : List ℕ) → canonical_if server (change_in m) verdict ≡ Some body → IsNormalCase server m verdict body
 case_of server m verdict body e =
     let found = by_change server (change_in m) verdict body e in
     record { change = found.0; asks = asks_change m found.0 found.1; error = found.2; is = found.3 }
@@ -116,7 +116,7 @@ expects_same : (version : Version) (params : Option ChangeData) (expected : Opti
 expects_same One params expected = refl
 expects_same Two params expected = refl
 
-handled_same : (s : Session) (version : Version) (params others : Option ChangeData) (server : State) (answer : AnswerData Sent)
+handled_same : (s : Session) (version : Version) (params others : Option ChangeData) (server : ServerData) (answer : AnswerData Sent)
     → handled s version (did_change params) server answer ≡ handled s version (did_change others) server answer
 handled_same s version params others server answer =
     ap (λ (e : Option IdData). judged (answered answer) (record s {
@@ -138,7 +138,7 @@ abbrev IsJudgedAgain : Session → Version → Side → List ℕ → List ℕ �
 IsJudgedAgain s version side body again =
     (judge_from s version side again ≡ judge_from s version side body) × (canonical_if s.server (change_in (incoming_of (reading again))) (judge_from s version side body).verdict ≡ Some again)
 
-module _ (limits : Bounds) (ranges : AreInRange limits) where
+module _ (limits : LimitsData) (ranges : AreInRange limits) where
   again_client : (s : Session) (version : Version) (body again : List ℕ) → IsHeldState limits s.server
       → canonical_if s.server (change_in (incoming_of (reading body))) (judge_from s version Client body).verdict ≡ Some again → length again ≤ limits.max_body → IsJudgedAgain s version Client body again
   again_client s version body again received canonical_log fits =
@@ -148,8 +148,8 @@ module _ (limits : Bounds) (ranges : AreInRange limits) where
       let proper : IsProperIncoming (did_change (Some p)) = subst IsProperIncoming c.asks (asked_proper body) in
       let error : (judge_incoming s version (did_change (Some p))).verdict ≡ answered changed = ap (λ (x : IncomingData). (judge_incoming s version x).verdict) (sym c.asks) ∙ c.error in
       let here : AreInRange s.server.config.limits = subst AreInRange (sym received.limit) ranges in
-      let own : IsHeldState s.server.config.limits s.server = subst (λ (l : Bounds). IsHeldState l s.server) (sym received.limit) received in
-      let short : length (canonical_change_body s.server p) ≤ s.server.config.limits.max_body = omega (arith, fits, ap length c.is, ap (λ (l : Bounds). l.max_body) received.limit) in
+      let own : IsHeldState s.server.config.limits s.server = subst (λ (l : LimitsData). IsHeldState l s.server) (sym received.limit) received in
+      let short : length (canonical_change_body s.server p) ≤ s.server.config.limits.max_body = omega (arith, fits, ap length c.is, ap (λ (l : LimitsData). l.max_body) received.limit) in
       let set : IsSettledChange s.server p = settled_change s.server p here own proper (accepted s version p error) short in
       let asks : incoming_of (reading again) ≡ did_change (Some set.again) = ap (λ b. incoming_of (reading b)) c.is ∙ set.asks in (
         ap (judge_incoming s version) asks ∙ again_incoming s version p set.again set.same_step ∙ ap (judge_incoming s version) (sym c.asks),

@@ -2,7 +2,7 @@
 use Rattle.std.proofs.Common.{◌≡◌, ℕ, ℤ, ◌≤◌, Bool, true, false, List, [], ◌∷◌, map, length, Option, Some, None, refl, ⊎_elim}
 use Rattle.std.specs.Prelude.{⊤, if◌then◌else◌, nat_lt, nat_le}
 use Rattle.std.proofs.lemmas.Bool.{ltb-false}
-use Rattle.lsp_frame.specs.Limits.{Bounds}
+use Rattle.lsp_frame.specs.Limits.{LimitsData}
 use Rattle.lsp_text.specs.Units.{units_in}
 use Rattle.lsp_message.specs.Params.{DocumentItem, ChangeData}
 use Rattle.lsp_store.specs.Table.{Refusal, already_open, too_many_documents, text_too_long, after_close, is_taken, open_refusal, change_refusal, close_refusal, unless_refused}
@@ -11,13 +11,13 @@ use Rattle.lsp_store.proofs.LawLemmas.{within_end, within_change, within_close}
 use Rattle.lsp_server.specs.declared.phase.Phase.{Phase}
 use Rattle.lsp_server.specs.declared.phase.Phase.TheVariants.{New, Running, Down, Ended}
 use Rattle.lsp_server.specs.Incoming.{IncomingData, not_json, not_a_message, response, initialize, shutdown, other_request, exit, did_open, did_change, did_close, other_notification}
-use Rattle.lsp_server.specs.Step.{State, step_in, step_on, obeyed, edit_from_data, session_encoding}
+use Rattle.lsp_server.specs.Step.{ServerData, step_in, step_on, obeyed, edit_from_data, session_encoding}
 use Rattle.lsp_replay.proofs.Records.ReadLemmas.{OnSome}
 use Rattle.lsp_replay.proofs.Records.AskedLemmas.{IsProperAsked, IsTextOpened, IsProperIncoming}
 
 -- ---- commands
 
-opened_short : (limits : Bounds) (table : List DocumentItem) (entry : DocumentItem) → open_refusal limits table entry ≡ None → length entry.text ≤ limits.max_text
+opened_short : (limits : LimitsData) (table : List DocumentItem) (entry : DocumentItem) → open_refusal limits table entry ≡ None → length entry.text ≤ limits.max_text
 opened_short limits table entry e = by (is_taken limits table entry.uri) (nat_le limits.max_docs (length (after_close table entry.uri))) (nat_lt limits.max_text (length entry.text)) e (ltb-false limits.max_text (length entry.text))
   where
     by : (a b c : Bool) → (if a then Some already_open else if b then Some too_many_documents else if c then Some text_too_long else None) ≡ None
@@ -30,15 +30,15 @@ opened_short limits table entry e = by (is_taken limits table entry.uri) (nat_le
 -- ---- a server
 
 -- the limits that a server keeps, and what it holds within them
-pub record IsHeldState (limits : Bounds) (s : State) : Type 0 where
+pub record IsHeldState (limits : LimitsData) (s : ServerData) : Type 0 where
   pub limit : s.config.limits ≡ limits
   pub table : AllWithin limits s.table
 
-obeyed_held : (limits : Bounds) (s : State) (refusal : Option Refusal) (next : List DocumentItem) → IsHeldState limits s → (refusal ≡ None → AllWithin limits next) → IsHeldState limits (obeyed s (unless_refused refusal next)).state
+obeyed_held : (limits : LimitsData) (s : ServerData) (refusal : Option Refusal) (next : List DocumentItem) → IsHeldState limits s → (refusal ≡ None → AllWithin limits next) → IsHeldState limits (obeyed s (unless_refused refusal next)).state
 obeyed_held limits s None next received buffer = record { limit = received.limit; table = buffer refl }
 obeyed_held limits s (Some refusal) next received buffer = received
 
-open_step : (limits : Bounds) (s : State) (params : Option DocumentItem) → OnSome IsTextOpened params → IsHeldState limits s → IsHeldState limits (step_in Running s (did_open params)).state
+open_step : (limits : LimitsData) (s : ServerData) (params : Option DocumentItem) → OnSome IsTextOpened params → IsHeldState limits s → IsHeldState limits (step_in Running s (did_open params)).state
 open_step limits s None proper received = received
 open_step limits s (Some p) proper received =
     obeyed_held limits s (open_refusal s.config.limits s.table p) _ received
@@ -46,7 +46,7 @@ open_step limits s (Some p) proper received =
     let none : open_refusal limits s.table p ≡ None = rw received.limit at e in
     within_end limits s.table _ received.table (record { utf8 = proper; short = opened_short limits s.table p none }))
 
-change_step : (limits : Bounds) (s : State) (params : Option ChangeData) → OnSome IsProperAsked params → IsHeldState limits s → IsHeldState limits (step_in Running s (did_change params)).state
+change_step : (limits : LimitsData) (s : ServerData) (params : Option ChangeData) → OnSome IsProperAsked params → IsHeldState limits s → IsHeldState limits (step_in Running s (did_change params)).state
 change_step limits s None proper received = received
 change_step limits s (Some p) proper received =
     obeyed_held limits s (change_refusal s.config.limits (units_in (session_encoding s)) s.table p.uri p.version (map edit_from_data p.changes)) _ received
@@ -55,7 +55,7 @@ change_step limits s (Some p) proper received =
     within_change limits (units_in (session_encoding s)) s.table p.uri p.version (map edit_from_data p.changes) proper.texts received.table none)
 
 -- A step keeps it.
-step_held : (limits : Bounds) (phase : Phase) (s : State) (m : IncomingData) → IsProperIncoming m → IsHeldState limits s → IsHeldState limits (step_in phase s m).state
+step_held : (limits : LimitsData) (phase : Phase) (s : ServerData) (m : IncomingData) → IsProperIncoming m → IsHeldState limits s → IsHeldState limits (step_in phase s m).state
 step_held limits Ended s m proper received = received
 step_held limits New s not_json proper received = received
 step_held limits New s (not_a_message id) proper received = received
@@ -93,5 +93,5 @@ step_held limits Down s (did_change params) proper received = received
 step_held limits Down s (did_close params) proper received = received
 step_held limits Down s (other_notification method) proper received = received
 
-pub step_on_held : (limits : Bounds) (s : State) (m : IncomingData) → IsProperIncoming m → IsHeldState limits s → IsHeldState limits (step_on s m).state
+pub step_on_held : (limits : LimitsData) (s : ServerData) (m : IncomingData) → IsProperIncoming m → IsHeldState limits s → IsHeldState limits (step_on s m).state
 step_on_held limits s m proper received = step_held limits s.phase s m proper received

@@ -11,7 +11,7 @@ use Rattle.lsp_server.specs.Answer.{as_sent}
 use Rattle.lsp_server.specs.declared.phase.Phase.{Phase}
 use Rattle.lsp_server.specs.declared.phase.Phase.TheVariants.{New, Running, Down, Ended}
 use Rattle.lsp_server.specs.Incoming.{IncomingData, incoming_of, not_json, not_a_message, response, initialize, shutdown, other_request, exit, did_open, did_change, did_close, other_notification}
-use Rattle.lsp_server.specs.Step.{State, Step, step_in, step_on, obeyed, edit_from_data, session_encoding}
+use Rattle.lsp_server.specs.Step.{ServerData, Step, step_in, step_on, obeyed, edit_from_data, session_encoding}
 use Rattle.lsp_log.specs.declared.record.Side.{Side}
 use Rattle.lsp_log.specs.declared.record.Side.TheVariants.{Client, Server}
 use Rattle.lsp_log.specs.declared.record.Version.{Version}
@@ -59,15 +59,15 @@ same_open table entry uri other = same_last (after_close table entry.uri) entry 
 abbrev Touches : List ℕ → Side → IncomingData → Step → Bool
 Touches uri side m step = is_changed (answered (as_sent step.answer)) && is_document uri (uri_of side m)
 
-abbrev Keeps : List ℕ → State → IncomingData → Step → Type 0
+abbrev Keeps : List ℕ → ServerData → IncomingData → Step → Type 0
 Keeps uri s m step = Touches uri Client m step ≡ false → entry_at step.state.table uri ≡ entry_at s.table uri
 
-obeyed_keeps : (uri : List ℕ) (s : State) (m : IncomingData) (refusal : Option Refusal) (next : List DocumentItem) → (is_document uri (uri_of Client m) ≡ false → entry_at next uri ≡ entry_at s.table uri)
+obeyed_keeps : (uri : List ℕ) (s : ServerData) (m : IncomingData) (refusal : Option Refusal) (next : List DocumentItem) → (is_document uri (uri_of Client m) ≡ false → entry_at next uri ≡ entry_at s.table uri)
     → Keeps uri s m (obeyed s (unless_refused refusal next))
 obeyed_keeps uri s m None next keeps other = keeps other
 obeyed_keeps uri s m (Some refusal) next keeps other = refl
 
-step_keeps : (phase : Phase) (uri : List ℕ) (s : State) (m : IncomingData) → Keeps uri s m (step_in phase s m)
+step_keeps : (phase : Phase) (uri : List ℕ) (s : ServerData) (m : IncomingData) → Keeps uri s m (step_in phase s m)
 step_keeps Ended uri s m other = refl
 step_keeps New uri s not_json other = refl
 step_keeps New uri s (not_a_message id) other = refl

@@ -28,7 +28,7 @@ use Rattle.lsp_server.specs.Answer.{as_sent, changed, refused}
 use Rattle.lsp_server.specs.Incoming.{did_change, incoming_of}
 use Rattle.lsp_server.specs.Planned.{IsAnswered, IsPlanOfChange, IsPlannedAs, after_commit, store_of}
 use Rattle.lsp_server.specs.Seen.{answer_view}
-use Rattle.lsp_server.specs.Step.{State, edit_from_data, session_encoding, step_on}
+use Rattle.lsp_server.specs.Step.{ServerData, edit_from_data, session_encoding, step_on}
 use Rattle.lsp_stream.specs.Ports.{one_more}
 use Rattle.lsp_replay.specs.declared.session.joining.Writing.{Writing}
 use Rattle.lsp_replay.specs.declared.session.writing.Appended.{Appended}
@@ -45,10 +45,10 @@ use Rattle.lsp_replay.proofs.Squash.JoiningLemmas.{begun_open, change_open, chan
 
 -- ---- what a running server answers to a change
 
-step_accepted : (server : State) (p : ChangeData) → server.phase ≡ Running → refusal_of server p ≡ None → (step_on server (did_change (Some p))).answer ≡ changed
+step_accepted : (server : ServerData) (p : ChangeData) → server.phase ≡ Running → refusal_of server p ≡ None → (step_on server (did_change (Some p))).answer ≡ changed
 step_accepted server p running may = rw (running, may) refl
 
-step_refused : (server : State) (p : ChangeData) → server.phase ≡ Running → (refusal : Refusal) → refusal_of server p ≡ Some refusal → (step_on server (did_change (Some p))).answer ≡ refused (Store (fault_of refusal))
+step_refused : (server : ServerData) (p : ChangeData) → server.phase ≡ Running → (refusal : Refusal) → refusal_of server p ≡ Some refusal → (step_on server (did_change (Some p))).answer ≡ refused (Store (fault_of refusal))
 step_refused server p running refusal is = rw (running, is) refl
 
 is_changed : (a : Answer) → answer_view a ≡ changed → a ≡ Changed
@@ -60,13 +60,13 @@ is_changed (Refused refusal) e = absurd (cc)
 is_changed (Exit status) e = absurd (cc)
 
 -- An answer in place of a plan is a refusal.
-pub answered_some : (server : State) (p : ChangeData) → server.phase ≡ Running → (a : Answer) → IsAnswered server (step_on server (did_change (Some p))) a → refusal_of server p ≢ None
+pub answered_some : (server : ServerData) (p : ChangeData) → server.phase ≡ Running → (a : Answer) → IsAnswered server (step_on server (did_change (Some p))) a → refusal_of server p ≢ None
 answered_some server p running a why = λ (none : refusal_of server p ≡ None). why.not_changed (is_changed a (why.answer ∙ ap as_sent (step_accepted server p running none)))
 
 -- What the server planned, as a session sees its server.
-module _ (inside server : State) (same : inside ≡ server) (p : ChangeData) (planned : PlannedChange) (by : IsPlannedAs inside p planned) where
+module _ (inside server : ServerData) (same : inside ≡ server) (p : ChangeData) (planned : PlannedChange) (by : IsPlannedAs inside p planned) where
   planned_at : (found : PlannedChange) → planned ≡ found → IsPlannedAs server p found
-  planned_at found is = subst (λ (s : State). IsPlannedAs s p found) same (subst (λ (x : PlannedChange). IsPlannedAs inside p x) is by)
+  planned_at found is = subst (λ (s : ServerData). IsPlannedAs s p found) same (subst (λ (x : PlannedChange). IsPlannedAs inside p x) is by)
 
   pub accepted_at : (plan : Plan) → planned ≡ Accepted plan → IsPlanOfChange server p plan
   accepted_at plan is = (planned_at (Accepted plan) is).1
@@ -86,7 +86,7 @@ module _ (s : Session) (p : ChangeData) (running : s.server.phase ≡ Running) (
         ∙ sym (done_session s version p running known q.accepted));
   }
 
-  pub committed : (plan : Plan) → IsPlanOfChange s.server p plan → (verdict : Verdict) → verdict ≡ answered changed → (t : Session) → t ≡ s → (server : State) → server ≡ after_commit t.server plan
+  pub committed : (plan : Plan) → IsPlanOfChange s.server p plan → (verdict : Verdict) → verdict ≡ answered changed → (t : Session) → t ≡ s → (server : ServerData) → server ≡ after_commit t.server plan
       → (records : ℕ) → records ≡ one_more t.records → (messages : ℕ) → messages ≡ one_more t.messages → IsChangeTaken s p verdict (record t { server = server; records = records; messages = messages })
   committed plan q verdict answer t same server server_is records records_is messages messages_is =
       rw answer (committed_in plan q (record t { server = server; records = records; messages = messages }) (rw (server_is, records_is, messages_is, same) refl))
@@ -126,7 +126,7 @@ refused_none : (r : Option Refusal) (body : List ℕ) → r ≢ None → body_un
 refused_none None body some = absurd (some refl)
 refused_none (Some refusal) body some = refl
 
-pub refused_written : (server : State) (p : ChangeData) → refusal_of server p ≢ None → (old new : List ℕ) → IsAppended server.config.limits.max_body (change_body_if server p) None old new
+pub refused_written : (server : ServerData) (p : ChangeData) → refusal_of server p ≢ None → (old new : List ℕ) → IsAppended server.config.limits.max_body (change_body_if server p) None old new
 refused_written server p some old new =
     subst (λ (b : Option (List ℕ)). IsAppended server.config.limits.max_body b None old new) (sym (refused_none (refusal_of server p) (canonical_change_body server p) some)) refl
 
@@ -245,7 +245,7 @@ on_same store plan a b = let both : Some a.entry ≡ Some b.entry = sym a.at ∙
 reached_on : (squash : SquashData) (store : StoreData) (plan : Plan) (a b : IsPlanOn store plan) → HasReached squash a.entry → HasReached squash b.entry
 reached_on squash store plan a b at = subst (HasReached squash) (on_same store plan a b) at
 
-module _ (server : State) (p : ChangeData) (plan : Plan) (q : IsPlanOfChange server p plan) where
+module _ (server : ServerData) (p : ChangeData) (plan : Plan) (q : IsPlanOfChange server p plan) where
   pub plan_body_if : change_body_if server p ≡ Some (canonical_change_body server p)
   plan_body_if = rw q.accepted refl
 

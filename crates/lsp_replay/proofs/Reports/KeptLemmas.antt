@@ -15,7 +15,7 @@ use Rattle.lsp_server.specs.Answer.{as_sent}
 use Rattle.lsp_server.specs.declared.phase.Phase.{Phase}
 use Rattle.lsp_server.specs.declared.phase.Phase.TheVariants.{New, Running, Down, Ended}
 use Rattle.lsp_server.specs.Incoming.{IncomingData, not_json, not_a_message, response, initialize, shutdown, other_request, exit, did_open, did_change, did_close, other_notification}
-use Rattle.lsp_server.specs.Step.{State, step_in, step_on, obeyed, edit_from_data, session_encoding}
+use Rattle.lsp_server.specs.Step.{ServerData, step_in, step_on, obeyed, edit_from_data, session_encoding}
 use Rattle.lsp_log.specs.declared.record.Version.{Version}
 use Rattle.lsp_replay.specs.Session.{Session, bad, judged, counted, handled, is_ended, is_early, judge_incoming, settle_in, settle_by, heard, hear_for, result_for}
 use Rattle.lsp_replay.specs.Parts.{last_text, last_text_in}
@@ -77,7 +77,7 @@ stays_open table entry uri = by (bytes_eq entry.uri uri) refl
         absurd (last_found (after_close table entry.uri) entry uri ((bytes_eq-Decides uri entry.uri).1 (sym ((bytes_eq-Decides entry.uri uri).0 is))) e)
     by false differ e = stays_closed table entry.uri uri differ (stays_last (after_close table entry.uri) entry uri e)
 
-obeyed_stays : (s : State) (refusal : Option Refusal) (next : List DocumentItem) (uri : List ℕ) → Stays s.table next uri → Stays s.table (obeyed s (unless_refused refusal next)).state.table uri
+obeyed_stays : (s : ServerData) (refusal : Option Refusal) (next : List DocumentItem) (uri : List ℕ) → Stays s.table next uri → Stays s.table (obeyed s (unless_refused refusal next)).state.table uri
 obeyed_stays s None next uri stays e = stays e
 obeyed_stays s (Some refusal) next uri stays e = e
 
@@ -104,11 +104,11 @@ same_table table uri (did_close None) = inr (refl, λ e. e)
 same_table table uri (did_close (Some p)) = close_same table uri p (bytes_eq p.uri uri) refl
 same_table table uri (other_notification method) = inr (refl, λ e. e)
 
-close_kept : (s : State) (uri : List ℕ) (p : CloseData) (b : Bool) → bytes_eq p.uri uri ≡ b → Keeps s.table uri (did_close (Some p)) (step_in Running s (did_close (Some p))).state.table
+close_kept : (s : ServerData) (uri : List ℕ) (p : CloseData) (b : Bool) → bytes_eq p.uri uri ≡ b → Keeps s.table uri (did_close (Some p)) (step_in Running s (did_close (Some p))).state.table
 close_kept s uri p true is = inl (rw is refl)
 close_kept s uri p false is = inr (rw is refl, obeyed_stays s (close_refusal s.table p.uri) _ uri (stays_closed s.table p.uri uri is))
 
-step_kept : (phase : Phase) (s : State) (uri : List ℕ) (m : IncomingData) → Keeps s.table uri m (step_in phase s m).state.table
+step_kept : (phase : Phase) (s : ServerData) (uri : List ℕ) (m : IncomingData) → Keeps s.table uri m (step_in phase s m).state.table
 step_kept Ended s uri m = same_table s.table uri m
 step_kept New s uri not_json = same_table s.table uri not_json
 step_kept New s uri (not_a_message id) = same_table s.table uri (not_a_message id)

@@ -4,7 +4,7 @@ use Rattle.std.specs.Prelude.{⊤, if◌then◌else◌, nat_lt, Result, Ok, Err}
 use Rattle.std.proofs.lemmas.Bool.{cases_Bool}
 use Rattle.std.proofs.lemmas.Slice.Eq.{bytes_eq-Decides}
 use Rattle.std.specs.Str.{chars}
-use Rattle.lsp_frame.specs.Limits.{Bounds}
+use Rattle.lsp_frame.specs.Limits.{LimitsData}
 use Rattle.lsp_text.specs.Units.{units_in}
 use Rattle.lsp_text.specs.declared.encoding.Encoding.{Encoding}
 use Rattle.lsp_edit.specs.Batch.{Edit, Fault, meaning}
@@ -22,7 +22,7 @@ use Rattle.lsp_server.specs.Answer.{changed}
 use Rattle.lsp_server.specs.declared.phase.Phase.{Phase}
 use Rattle.lsp_server.specs.declared.phase.Phase.TheVariants.{New, Running, Down, Ended}
 use Rattle.lsp_server.specs.Incoming.{did_change}
-use Rattle.lsp_server.specs.Step.{State, edit_from_data, session_encoding}
+use Rattle.lsp_server.specs.Step.{ServerData, edit_from_data, session_encoding}
 use Rattle.lsp_log.specs.declared.record.Version.{Version}
 use Rattle.lsp_replay.specs.declared.session.joining.Writing.{Writing}
 use Rattle.lsp_replay.specs.declared.session.joining.Writing.TheVariants.{AsItIs, TooLong, Continues, Begins}
@@ -41,11 +41,11 @@ if_not : (b : Bool) (x y : Option Refusal) → IsNotTooLong x → IsNotTooLong y
 if_not true x y p q = p
 if_not false x y p q = q
 
-meaning_not : (limits : Bounds) (text : List ℕ) (meant : Result (List Item) (ℕ × Fault)) → IsNotTooLong (meaning_refusal limits text meant)
+meaning_not : (limits : LimitsData) (text : List ℕ) (meant : Result (List Item) (ℕ × Fault)) → IsNotTooLong (meaning_refusal limits text meant)
 meaning_not limits text (Err fault) = tt
 meaning_not limits text (Ok items) = if_not _ (Some text_too_long) None tt tt
 
-on_not : (limits : Bounds) (units : ℕ → ℕ) (found : Option DocumentItem) (version : ℤ) (batch : List Edit) → IsNotTooLong (refusal_on limits units found version batch)
+on_not : (limits : LimitsData) (units : ℕ → ℕ) (found : Option DocumentItem) (version : ℤ) (batch : List Edit) → IsNotTooLong (refusal_on limits units found version batch)
 on_not limits units None version batch = tt
 on_not limits units (Some entry) version batch =
     if_not (is_stale limits version entry.version) (Some (stale_version entry.version))
@@ -68,7 +68,7 @@ refused_not (Some refusal) body len not (inr e) = absurd (other refusal not e)
     other (stale_version held) not e = cc
     other (edit number why) not e = cc
 
-pub too_long_accepted : (limits : Bounds) (units : ℕ → ℕ) (table : List DocumentItem) (uri : List ℕ) (version : ℤ) (batch : List Edit) (body : Option Refusal) (len : ℕ)
+pub too_long_accepted : (limits : LimitsData) (units : ℕ → ℕ) (table : List DocumentItem) (uri : List ℕ) (version : ℤ) (batch : List Edit) (body : Option Refusal) (len : ℕ)
     → IsRefusal (else_refused (change_refusal limits units table uri version batch) body) (BodyTooLong len) → change_refusal limits units table uri version batch ≡ None
 too_long_accepted limits units table uri version batch body len error =
     refused_not (change_refusal limits units table uri version batch) body len (on_not limits units (entry_at table uri) version batch) error
@@ -104,8 +104,8 @@ pub change_open : (s : Session) (version : Version) (run : Option SquashData) (p
     → IsOpenAfter (judge_incoming s version (did_change (Some p))).session.server w
 change_open s version run p (AsItIs ended) running none is = tt
 change_open s version run p TooLong running none is = tt
-change_open s version run p (Continues canonical batches) running none is = subst (λ (server : State). IsOpenIn server batches) (sym (running_leaves s version p running none is.0)) is.3
-change_open s version run p (Begins canonical ended batches) running none is = subst (λ (server : State). IsOpenIn server batches) (sym (running_leaves s version p running none is.0)) is.5
+change_open s version run p (Continues canonical batches) running none is = subst (λ (server : ServerData). IsOpenIn server batches) (sym (running_leaves s version p running none is.0)) is.3
+change_open s version run p (Begins canonical ended batches) running none is = subst (λ (server : ServerData). IsOpenIn server batches) (sym (running_leaves s version p running none is.0)) is.5
 
 -- URIs that aren't equal
 pub not_same : (a b : List ℕ) → b ≢ a → bytes_eq a b ≡ false
@@ -150,7 +150,7 @@ uri_at (first ∷ table) uri entry found =
     (λ (not : bytes_eq uri first.uri ≡ false). uri_at table uri entry (rw not at found))
     (cases_Bool (bytes_eq uri first.uri))
 
-module _ (server : State) (p : ChangeData) (entry : DocumentItem) (found : entry_at server.table p.uri ≡ Some entry) where
+module _ (server : ServerData) (p : ChangeData) (entry : DocumentItem) (found : entry_at server.table p.uri ≡ Some entry) where
   -- the document that is open then
   left : (squash next : SquashData) → squash.uri ≡ p.uri → squash.limits ≡ server.config.limits → squash.encoding ≡ session_encoding server
       → IsSquashAfter squash p.version (map edit_from_data p.changes) next → HasReached next (changed_entry (units_in squash.encoding) entry p.version (map edit_from_data p.changes)) → IsOpenIn (server_after server p) next
@@ -182,6 +182,6 @@ module _ (server : State) (p : ChangeData) (entry : DocumentItem) (found : entry
   accepts may = rw found at may
 
 -- the open document of a run is the one that is found
-pub same_entry : (server : State) (squash : SquashData) (uri : List ℕ) (entry : DocumentItem) → (at : IsOpenIn server squash) → uri ≡ squash.uri → entry_at server.table uri ≡ Some entry → at.entry ≡ entry
+pub same_entry : (server : ServerData) (squash : SquashData) (uri : List ℕ) (entry : DocumentItem) → (at : IsOpenIn server squash) → uri ≡ squash.uri → entry_at server.table uri ≡ Some entry → at.entry ≡ entry
 same_entry server squash uri entry at same found =
     let both : Some at.entry ≡ Some entry = sym at.is_open ∙ ap (λ (u : List ℕ). entry_at server.table u) (sym same) ∙ found in cc

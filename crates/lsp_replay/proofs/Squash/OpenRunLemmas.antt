@@ -21,7 +21,7 @@ use Rattle.lsp_store.specs.Squash.{SquashData, items_meant, squash_batch, squash
 use Rattle.lsp_store.proofs.Messages.MessageLemmas.{Accepts, accepted_parts}
 use Rattle.lsp_store.proofs.Messages.ScalarLemmas.{scalar-meaning, scalar-text}
 use Rattle.lsp_store.specs.laws.Tables.{IsWithin}
-use Rattle.lsp_server.specs.Step.{State, edit_from_data, session_encoding}
+use Rattle.lsp_server.specs.Step.{ServerData, edit_from_data, session_encoding}
 use Rattle.lsp_replay.specs.inside.Joining.{refusal_of, server_after}
 use Rattle.lsp_replay.specs.Squashed.{joined_by}
 use Rattle.lsp_replay.proofs.Records.AskedLemmas.{IsProperAsked}
@@ -34,7 +34,7 @@ abbrev pub with_items : SquashData → List Item → ℤ → SquashData
 with_items squash items version = record squash { items = items; version = version }
 
 -- Batches on a document of a server led to the server as it is now.
-pub record IsOpenFrom (t : State) (squash : SquashData) (now : State) : Type 0 where
+pub record IsOpenFrom (t : ServerData) (squash : SquashData) (now : ServerData) : Type 0 where
   pub entry : DocumentItem
   pub found : entry_at t.table squash.uri ≡ Some entry
   pub received : IsWithin t.config.limits entry
@@ -68,7 +68,7 @@ left_chars units text batch items utf8 texts means =
 
 -- ---- a change begins a run
 
-module _ (t : State) (p : ChangeData) (entry : DocumentItem) (found : entry_at t.table p.uri ≡ Some entry) (received : IsWithin t.config.limits entry) (proper : IsProperAsked p) (may : refusal_of t p ≡ None) where
+module _ (t : ServerData) (p : ChangeData) (entry : DocumentItem) (found : entry_at t.table p.uri ≡ Some entry) (received : IsWithin t.config.limits entry) (proper : IsProperAsked p) (may : refusal_of t p ≡ None) where
   begun_accepts : Accepts t.config.limits (units_in (session_encoding t)) entry p.version (map edit_from_data p.changes)
   begun_accepts = accepted_parts t.config.limits (units_in (session_encoding t)) entry p.version (map edit_from_data p.changes) (rw found at may)
 
@@ -120,14 +120,14 @@ newer_still : (lenient : Bool) (a b c : ℤ) → (not lenient && int_le a b) ≡
 newer_still true a b c over more = refl
 newer_still false a b c over more = newer_yet a b c over more
 
-module _ (t : State) (squash : SquashData) (now : State) (from : IsOpenFrom t squash now) (p : ChangeData) (same : bytes_eq p.uri squash.uri ≡ true) (proper : IsProperAsked p) (may : refusal_of now p ≡ None) where
+module _ (t : ServerData) (squash : SquashData) (now : ServerData) (from : IsOpenFrom t squash now) (p : ChangeData) (same : bytes_eq p.uri squash.uri ≡ true) (proper : IsProperAsked p) (may : refusal_of now p ≡ None) where
   abbrev reached_text : List ℕ
   reached_text = bytes_left from.entry.text squash.items
 
   abbrev reached_now : DocumentItem
   reached_now = record from.entry { version = squash.version; text = reached_text }
 
-  abbrev next : State
+  abbrev next : ServerData
   next = record t { table = put t.table squash.uri squash.version reached_text }
 
   uri_is : p.uri ≡ squash.uri
@@ -137,7 +137,7 @@ module _ (t : State) (squash : SquashData) (now : State) (from : IsOpenFrom t sq
   found_now = ap (entry_at next.table) uri_is ∙ put_at t.table squash.uri squash.version reached_text from.entry from.found
 
   may_now : refusal_of next p ≡ None
-  may_now = subst (λ (s : State). refusal_of s p ≡ None) from.now_is may
+  may_now = subst (λ (s : ServerData). refusal_of s p ≡ None) from.now_is may
 
   accepts_now : Accepts t.config.limits (units_in (session_encoding t)) reached_now p.version (map edit_from_data p.changes)
   accepts_now = accepted_parts t.config.limits (units_in (session_encoding t)) reached_now p.version (map edit_from_data p.changes) (rw found_now at may_now)
@@ -178,7 +178,7 @@ module _ (t : State) (squash : SquashData) (now : State) (from : IsOpenFrom t sq
     uri = from.uri;
     version = proper.version;
     now_is =
-        ap (λ (s : State). server_after s p) from.now_is
+        ap (λ (s : ServerData). server_after s p) from.now_is
         ∙ ap (λ (table : List DocumentItem). record t { table = table })
         (change_puts (units_in (session_encoding t)) next.table p.uri p.version (map edit_from_data p.changes) reached_now found_now
         ∙ ap (λ m. put next.table p.uri p.version (meant_text reached_text m)) accepts_now.means
@@ -189,7 +189,7 @@ module _ (t : State) (squash : SquashData) (now : State) (from : IsOpenFrom t sq
 
 -- ---- the document that is open now
 
-module _ (t : State) (squash : SquashData) (now : State) (from : IsOpenFrom t squash now) where
+module _ (t : ServerData) (squash : SquashData) (now : ServerData) (from : IsOpenFrom t squash now) where
   pub same_encoding : squash.encoding ≡ session_encoding now
   same_encoding = ap (λ (k : SquashData). k.encoding) from.is ∙ sym (ap session_encoding from.now_is)
 
@@ -197,7 +197,7 @@ module _ (t : State) (squash : SquashData) (now : State) (from : IsOpenFrom t sq
   same_text uri entry same found =
       let reached : List ℕ = bytes_left from.entry.text squash.items in
       let both : Some (record from.entry { version = squash.version; text = reached }) ≡ Some entry =
-      sym (put_at t.table squash.uri squash.version reached from.entry from.found) ∙ sym (ap (λ (s : State). entry_at s.table squash.uri) from.now_is) ∙ ap (entry_at now.table) (sym same) ∙ found in
+      sym (put_at t.table squash.uri squash.version reached from.entry from.found) ∙ sym (ap (λ (s : ServerData). entry_at s.table squash.uri) from.now_is) ∙ ap (entry_at now.table) (sym same) ∙ found in
       let one : record from.entry { version = squash.version; text = reached } ≡ entry = cc in
       ap (λ (k : SquashData). text_of (chars k.text) squash.items) from.is
       ∙ sym (left_chars (units_in (session_encoding t)) from.entry.text from.batch squash.items from.received.utf8 from.texts from.means)
@@ -205,7 +205,7 @@ module _ (t : State) (squash : SquashData) (now : State) (from : IsOpenFrom t sq
 
 -- ---- all batches of a run as one message
 
-module _ (t : State) (squash : SquashData) (now : State) (from : IsOpenFrom t squash now) (ranges : AreInRange t.config.limits) (few : nat_lt t.config.limits.max_changes (length (squash_batch squash)) ≡ false) where
+module _ (t : ServerData) (squash : SquashData) (now : ServerData) (from : IsOpenFrom t squash now) (ranges : AreInRange t.config.limits) (few : nat_lt t.config.limits.max_changes (length (squash_batch squash)) ≡ false) where
   pub one_batch : squash_batch squash ≡ canonical (units_in (session_encoding t)) (chars from.entry.text) squash.items
   one_batch = ap squash_batch from.is
 

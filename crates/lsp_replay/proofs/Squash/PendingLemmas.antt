@@ -5,7 +5,7 @@ use Rattle.std.specs.Str.{chars}
 use Rattle.std.proofs.lemmas.Bool.{ltb-false}
 use Rattle.lsp_frame.specs.Faults.{place_after}
 use Rattle.lsp_frame.specs.Frame.{frame}
-use Rattle.lsp_frame.specs.Limits.{Bounds, AreInRange}
+use Rattle.lsp_frame.specs.Limits.{LimitsData, AreInRange}
 use Rattle.lsp_frame.proofs.WrittenLemmas.{written_is_frame}
 use Rattle.lsp_text.specs.Units.{units_in}
 use Rattle.lsp_edit.proofs.Composing.EditedLemmas.{plain_text}
@@ -17,7 +17,7 @@ use Rattle.lsp_store.specs.Table.{Refusal, entry_at}
 use Rattle.lsp_server.specs.declared.phase.Phase.TheVariants.{Running}
 use Rattle.lsp_server.specs.Incoming.{incoming_of}
 use Rattle.lsp_server.specs.Answer.{changed}
-use Rattle.lsp_server.specs.Step.{State, edit_from_data, session_encoding}
+use Rattle.lsp_server.specs.Step.{ServerData, edit_from_data, session_encoding}
 use Rattle.lsp_log.specs.declared.record.Version.{Version}
 use Rattle.lsp_log.specs.declared.record.Side.TheVariants.{Client}
 use Rattle.lsp_log.specs.Log.{Record, IsRecord, AreRecords, together, record_bytes, mark_of}
@@ -124,7 +124,7 @@ none_after max_body at version due s t like = refl
 
 -- ---- the run ends
 
-module _ (limits : Bounds) (ranges : AreInRange limits) (at : ℕ) (version : Version) (due : Bool) (s : Session) (run : Run) (t : Session) (before : Option Run) (limit : t.server.config.limits ≡ limits)
+module _ (limits : LimitsData) (ranges : AreInRange limits) (at : ℕ) (version : Version) (due : Bool) (s : Session) (run : Run) (t : Session) (before : Option Run) (limit : t.server.config.limits ≡ limits)
     (p : IsPending limits.max_body at version due s run t before) where
   in_singles : (refusal : Refusal) → squash_refusal run.squash ≡ Some refusal → IsEnded limits.max_body at version due s (Some run) t before
   in_singles refusal is = record {
@@ -157,7 +157,7 @@ module _ (limits : Bounds) (ranges : AreInRange limits) (at : ℕ) (version : Ve
     same_limits = ap (λ (k : SquashData). k.limits) p.from.is
 
     few : nat_lt t.server.config.limits.max_changes (length (squash_batch run.squash)) ≡ false
-    few = subst (λ (l : Bounds). nat_lt l.max_changes (length (squash_batch run.squash)) ≡ false) same_limits both.0
+    few = subst (λ (l : LimitsData). nat_lt l.max_changes (length (squash_batch run.squash)) ≡ false) same_limits both.0
 
     abbrev entry : DocumentItem
     entry = p.from.entry
@@ -178,10 +178,10 @@ module _ (limits : Bounds) (ranges : AreInRange limits) (at : ℕ) (version : Ve
     own = message.own ∙ sym body_is
 
     within : length body ≤ limits.max_body
-    within = subst (λ (l : Bounds). length body ≤ l.max_body) (same_limits ∙ limit) (ltb-false run.squash.limits.max_body (length body) both.1)
+    within = subst (λ (l : LimitsData). length body ≤ l.max_body) (same_limits ∙ limit) (ltb-false run.squash.limits.max_body (length body) both.1)
 
     short : length (canonical_change_body t.server change) ≤ t.server.config.limits.max_body
-    short = subst (λ (l : Bounds). length (canonical_change_body t.server change) ≤ l.max_body) (sym limit) (subst (λ (b : List ℕ). length b ≤ limits.max_body) (sym own) within)
+    short = subst (λ (l : LimitsData). length (canonical_change_body t.server change) ≤ l.max_body) (sym limit) (subst (λ (b : List ℕ). length b ≤ limits.max_body) (sym own) within)
 
     -- its one record
     abbrev one : Record
@@ -227,7 +227,7 @@ module _ (limits : Bounds) (ranges : AreInRange limits) (at : ℕ) (version : Ve
       last_run = Some one_run;
       like =
           alike_both (record t { server = s.server }) s (judge t one).session p.like
-          (subst (λ (server : State). IsAlike (record t { server = server }) (judge t one).session) leaves done.leaves);
+          (subst (λ (server : ServerData). IsAlike (record t { server = server }) (judge t one).session) leaves done.leaves);
       some = λ _. tt;
       same_bytes = same_end;
       apart = λ uri apart. ap (λ (k : SquashData). bytes_eq uri k.uri) joins ∙ apart;
@@ -281,7 +281,7 @@ pub record IsBegunRun (max_body at : ℕ) (version : Version) (due : Bool) (s : 
   pub writes : squash_step s run r (judge s r) ≡ record { out = end_bytes run; end = None; run = Some next }
   pub pending : IsPending max_body at version due (judge s r).session next t before
 
-module _ (limits : Bounds) (ranges : AreInRange limits) (at : ℕ) (version : Version) (due : Bool) (s : Session) (run : Option Run) (t : Session) (before : Option Run) (r : Record) (p : ChangeData)
+module _ (limits : LimitsData) (ranges : AreInRange limits) (at : ℕ) (version : Version) (due : Bool) (s : Session) (run : Option Run) (t : Session) (before : Option Run) (r : Record) (p : ChangeData)
     (like : IsAlike s t) (of_version : r.head.version ≡ version) (apart_in : IsApart run p.uri) (apart : IsApart before p.uri) (received : IsHeldState limits s.server)
     (a : IsAccepted s r p) (fits : length (canonical_change_body s.server p) ≤ s.server.config.limits.max_body) (same_due : r.head.line_due ≡ due) where
   there : t.server ≡ s.server
@@ -290,7 +290,7 @@ module _ (limits : Bounds) (ranges : AreInRange limits) (at : ℕ) (version : Ve
   single : IsSingle limits.max_body at version due t p (single_record at t r p)
   single =
       is_single limits ranges at version due t r p (subst (IsHeldState limits) (sym there) received) (as_accepted s t r p like a)
-      (subst (λ (server : State). length (canonical_change_body server p) ≤ server.config.limits.max_body) (sym there) fits) of_version same_due
+      (subst (λ (server : ServerData). length (canonical_change_body server p) ≤ server.config.limits.max_body) (sym there) fits) of_version same_due
 
   abbrev q : Record
   q = single_record at t r p
@@ -308,7 +308,7 @@ module _ (limits : Bounds) (ranges : AreInRange limits) (at : ℕ) (version : Ve
   its_entry = may_in.entry
 
   found_out : entry_at t.server.table single.again.uri ≡ Some its_entry
-  found_out = ap (entry_at t.server.table) single.same_uri ∙ ap (λ (server : State). entry_at server.table p.uri) there ∙ may_in.is_open
+  found_out = ap (entry_at t.server.table) single.same_uri ∙ ap (λ (server : ServerData). entry_at server.table p.uri) there ∙ may_in.is_open
 
   step_in : squash_step s run r (judge s r) ≡ record { out = end_bytes run; end = None; run = Some (run_at s r p its_entry) }
   step_in = begun_step s run r p a done_in fits its_entry may_in.is_open apart_in
@@ -327,20 +327,20 @@ module _ (limits : Bounds) (ranges : AreInRange limits) (at : ℕ) (version : Ve
   same_squash =
       single.joins (squash_of t.server.config.limits (session_encoding t.server) its_entry) refl
       (λ entry found.
-      let both : Some its_entry ≡ Some entry = sym may_in.is_open ∙ sym (ap (λ (server : State). entry_at server.table p.uri) there) ∙ found in
+      let both : Some its_entry ≡ Some entry = sym may_in.is_open ∙ sym (ap (λ (server : ServerData). entry_at server.table p.uri) there) ∙ found in
       let one : its_entry ≡ entry = cc in
       plain_text (chars its_entry.text) ∙ ap (λ (e : DocumentItem). chars e.text) one)
-      ∙ ap (λ (server : State). joined_by p (squash_of server.config.limits (session_encoding server) its_entry)) there
+      ∙ ap (λ (server : ServerData). joined_by p (squash_of server.config.limits (session_encoding server) its_entry)) there
 
   same_run : run_at t q single.again its_entry ≡ run_at s r p its_entry
   same_run = λ i. record {
     front = (front_out ∙ sym front_in) i;
-    singles = (ap₂ (λ (f b : List ℕ). f ++ frame b) (front_out ∙ sym front_in) (single.own ∙ ap (λ (server : State). canonical_change_body server p) there)) i;
+    singles = (ap₂ (λ (f b : List ℕ). f ++ frame b) (front_out ∙ sym front_in) (single.own ∙ ap (λ (server : ServerData). canonical_change_body server p) there)) i;
     squash = same_squash i;
   }
 
   leaves_out : server_after t.server single.again ≡ (judge s r).session.server
-  leaves_out = single.leaves ∙ ap (λ (server : State). server_after server p) there ∙ sym (ap (λ (u : Session). u.server) done_in.leaves.2)
+  leaves_out = single.leaves ∙ ap (λ (server : ServerData). server_after server p) there ∙ sym (ap (λ (u : Session). u.server) done_in.leaves.2)
 
   from_here : IsOpenFrom t.server (run_at s r p its_entry).squash (judge s r).session.server
   from_here =
@@ -349,8 +349,8 @@ module _ (limits : Bounds) (ranges : AreInRange limits) (at : ℕ) (version : Ve
       (begins_from t.server single.again its_entry found_out entry_held (proper_change q single.again single.accepted.asks) single.accepted.may))
     where
       entry_held : IsWithin t.server.config.limits its_entry
-      entry_held = subst (λ (server : State). IsWithin server.config.limits its_entry) (sym there)
-          (subst (λ (l : Bounds). IsWithin l its_entry) (sym received.limit) (within_at limits s.server.table p.uri its_entry received.table may_in.is_open))
+      entry_held = subst (λ (server : ServerData). IsWithin server.config.limits its_entry) (sym there)
+          (subst (λ (l : LimitsData). IsWithin l its_entry) (sym received.limit) (within_at limits s.server.table p.uri its_entry received.table may_in.is_open))
 
   pub begun_run : IsBegunRun limits.max_body at version due s run r t before
   begun_run = record {
@@ -358,7 +358,7 @@ module _ (limits : Bounds) (ranges : AreInRange limits) (at : ℕ) (version : Ve
     writes = step_in;
     pending = record {
       from = from_here;
-      running = ap (λ (server : State). server.phase) there ∙ a.running;
+      running = ap (λ (server : ServerData). server.phase) there ∙ a.running;
       waits = ap (λ (u : Session). u.expected) like.2 ∙ a.waits;
       like = after_alike s t p (judge s r).session like done_in.leaves;
       apart = subst (IsApart before) (sym (uri_at s.server.table p.uri its_entry may_in.is_open)) apart;
@@ -369,7 +369,7 @@ module _ (limits : Bounds) (ranges : AreInRange limits) (at : ℕ) (version : Ve
       singles =
           ap (λ f. f ++ frame (canonical_change_body s.server p)) front_in ∙ append_assoc (line_if due) (mark_of version Client) (frame (canonical_change_body s.server p))
           ∙ ap (λ z. line_if due ++ z)
-          (ap₂ (λ (side : Side) (b : List ℕ). mark_of version side ++ frame b) (sym a.side) (ap (λ (server : State). canonical_change_body server p) (sym there)) ∙ sym (append-nil (record_bytes version q)));
+          (ap₂ (λ (side : Side) (b : List ℕ). mark_of version side ++ frame b) (sym a.side) (ap (λ (server : ServerData). canonical_change_body server p) (sym there)) ∙ sym (append-nil (record_bytes version q)));
       last = (judge t q).session;
       last_like = alike_both (session_after s p) (judge s r).session (judge t q).session done_in.leaves out_like;
       run_output = λ more. step_on t before q more (end_bytes before) (Some (run_at s r p its_entry)) (step_out ∙ ap (λ o. record { out = end_bytes before; end = None; run = Some o }) same_run);
@@ -378,7 +378,7 @@ module _ (limits : Bounds) (ranges : AreInRange limits) (at : ℕ) (version : Ve
   }
     where
       out_like : IsAlike (session_after s p) (judge t q).session
-      out_like = after_out s t p single.again (judge t q).session like (single.leaves ∙ ap (λ (server : State). server_after server p) there) done_out.leaves
+      out_like = after_out s t p single.again (judge t q).session like (single.leaves ∙ ap (λ (server : ServerData). server_after server p) there) done_out.leaves
 
 -- ---- a change goes on with the run
 
@@ -387,7 +387,7 @@ pub record IsLongerRun (max_body at : ℕ) (version : Version) (due : Bool) (s :
   pub writes : squash_step s (Some run) r (judge s r) ≡ record { out = []; end = None; run = Some next }
   pub pending : IsPending max_body at version due (judge s r).session next t before
 
-module _ (limits : Bounds) (ranges : AreInRange limits) (at : ℕ) (version : Version) (due : Bool) (s : Session) (run : Run) (t : Session) (before : Option Run) (r : Record) (p : ChangeData)
+module _ (limits : LimitsData) (ranges : AreInRange limits) (at : ℕ) (version : Version) (due : Bool) (s : Session) (run : Run) (t : Session) (before : Option Run) (r : Record) (p : ChangeData)
     (open_run : IsPending limits.max_body at version due s run t before) (of_version : r.head.version ≡ version) (same : bytes_eq p.uri run.squash.uri ≡ true) (received : IsHeldState limits s.server)
     (a : IsAccepted s r p) (fits : length (canonical_change_body s.server p) ≤ s.server.config.limits.max_body) (not_due : r.head.line_due ≡ false) where
   abbrev last : Session
@@ -402,7 +402,7 @@ module _ (limits : Bounds) (ranges : AreInRange limits) (at : ℕ) (version : Ve
   another : IsSingle limits.max_body place version false last p (single_record place last r p)
   another =
       is_single limits ranges place version false last r p (subst (IsHeldState limits) (sym equal) received) (as_accepted s last r p open_run.last_like a)
-      (subst (λ (server : State). length (canonical_change_body server p) ≤ server.config.limits.max_body) (sym equal) fits) of_version not_due
+      (subst (λ (server : ServerData). length (canonical_change_body server p) ≤ server.config.limits.max_body) (sym equal) fits) of_version not_due
 
   abbrev more_q : Record
   more_q = single_record place last r p
@@ -433,7 +433,7 @@ module _ (limits : Bounds) (ranges : AreInRange limits) (at : ℕ) (version : Ve
   joins_same : joined_by another.again run.squash ≡ joined_by p run.squash
   joins_same =
       another.joins run.squash (same_encoding t.server run.squash s.server open_run.from ∙ ap session_encoding (sym equal))
-      (λ entry found. same_text t.server run.squash s.server open_run.from p.uri entry uri_is (ap (λ (server : State). entry_at server.table p.uri) (sym equal) ∙ found))
+      (λ entry found. same_text t.server run.squash s.server open_run.from p.uri entry uri_is (ap (λ (server : ServerData). entry_at server.table p.uri) (sym equal) ∙ found))
 
   gives_last : squash_step last (Some run) more_q (judge last more_q) ≡ record { out = []; end = None; run = Some next_run }
   gives_last =
@@ -441,7 +441,7 @@ module _ (limits : Bounds) (ranges : AreInRange limits) (at : ℕ) (version : Ve
       ∙ (λ i. record { out = []; end = None; run = Some (record run { singles = run.singles ++ single_is i; squash = joins_same i }) })
     where
       single_is : front_of more_q.head ++ frame (canonical_change_body last.server another.again) ≡ front_of r.head ++ frame (canonical_change_body s.server p)
-      single_is = ap₂ (λ (f b : List ℕ). f ++ frame b) (front_last ∙ sym front_here) (another.own ∙ ap (λ (server : State). canonical_change_body server p) equal)
+      single_is = ap₂ (λ (f b : List ℕ). f ++ frame b) (front_last ∙ sym front_here) (another.own ∙ ap (λ (server : ServerData). canonical_change_body server p) equal)
 
   next_is : server_after s.server p ≡ (judge s r).session.server
   next_is = sym (ap (λ (u : Session). u.server) done_here.leaves.2)
@@ -456,7 +456,7 @@ module _ (limits : Bounds) (ranges : AreInRange limits) (at : ℕ) (version : Ve
 
   pushed : run.singles ++ (front_of r.head ++ frame (canonical_change_body s.server p)) ≡ first_line due (open_run.ss ++ more_q ∷ []) ++ together version (open_run.ss ++ more_q ∷ []) []
   pushed =
-      ap₂ (λ (x y : List ℕ). x ++ y) open_run.singles (ap₂ (λ (f b : List ℕ). f ++ frame b) front_here (ap (λ (server : State). canonical_change_body server p) (sym equal)))
+      ap₂ (λ (x y : List ℕ). x ++ y) open_run.singles (ap₂ (λ (f b : List ℕ). f ++ frame b) front_here (ap (λ (server : ServerData). canonical_change_body server p) (sym equal)))
       ∙ append_assoc (first_line due open_run.ss) (together version open_run.ss []) (mark_of version Client ++ frame (canonical_change_body last.server p))
       ∙ ap₂ (λ (x y : List ℕ). x ++ y) (sym (same_line open_run.ss more_q open_run.some))
       (ap (λ side. together version open_run.ss [] ++ (mark_of version side ++ frame (canonical_change_body last.server p))) (sym a.side)
@@ -490,7 +490,7 @@ module _ (limits : Bounds) (ranges : AreInRange limits) (at : ℕ) (version : Ve
       last = (judge last more_q).session;
       last_like =
           alike_both (session_after s p) (judge s r).session (judge last more_q).session done_here.leaves
-          (after_out s last p another.again (judge last more_q).session open_run.last_like (another.leaves ∙ ap (λ (server : State). server_after server p) equal) done_last.leaves);
+          (after_out s last p another.again (judge last more_q).session open_run.last_like (another.leaves ∙ ap (λ (server : ServerData). server_after server p) equal) done_last.leaves);
       run_output = λ more.
           ap (squashed_in t before) (append_assoc open_run.ss (more_q ∷ []) more) ∙ open_run.run_output (more_q ∷ more)
           ∙ ap (written_first (end_bytes before)) (step_on last (Some run) more_q more [] (Some next_run) gives_last);

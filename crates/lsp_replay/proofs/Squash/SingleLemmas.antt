@@ -4,7 +4,7 @@ use Rattle.std.specs.Str.{chars}
 use Rattle.std.proofs.lemmas.Bool.{le-ltb}
 use Rattle.lsp_frame.specs.Faults.{place_after}
 use Rattle.lsp_frame.specs.Frame.{frame}
-use Rattle.lsp_frame.specs.Limits.{Bounds, AreInRange}
+use Rattle.lsp_frame.specs.Limits.{LimitsData, AreInRange}
 use Rattle.lsp_frame.proofs.WrittenLemmas.{written_is_frame}
 use Rattle.lsp_text.specs.Units.{units_in}
 use Rattle.lsp_edit.specs.Compose.{then_items}
@@ -51,7 +51,7 @@ pub record IsSingle (max_body at : ℕ) (version : Version) (due : Bool) (s : Se
 abbrev pub single_record : ℕ → Session → Record → ChangeData → Record
 single_record at s r p = record { head = record r.head { place = place_after 0 at }; raw = frame (canonical_change_body s.server p); body = canonical_change_body s.server p }
 
-module _ (limits : Bounds) (ranges : AreInRange limits) (at : ℕ) (version : Version) (due : Bool) (s : Session) (r : Record) (p : ChangeData) (received : IsHeldState limits s.server)
+module _ (limits : LimitsData) (ranges : AreInRange limits) (at : ℕ) (version : Version) (due : Bool) (s : Session) (r : Record) (p : ChangeData) (received : IsHeldState limits s.server)
     (a : IsAccepted s r p) (fits : length (canonical_change_body s.server p) ≤ s.server.config.limits.max_body) (of_version : r.head.version ≡ version) (same_due : r.head.line_due ≡ due) where
   may : MayChange s.server.config.limits (units_in (session_encoding s.server)) s.server.table p.uri p.version (map edit_from_data p.changes)
   may = change_parts s.server.config.limits (units_in (session_encoding s.server)) s.server.table p.uri p.version (map edit_from_data p.changes) a.may
@@ -74,7 +74,7 @@ module _ (limits : Bounds) (ranges : AreInRange limits) (at : ℕ) (version : Ve
       record {
         found = may.is_open;
         utf8 = entry_held.utf8;
-        received = subst (λ (l : Bounds). length entry.text ≤ l.max_text) (sym received.limit) entry_held.short;
+        received = subst (λ (l : LimitsData). length entry.text ≤ l.max_text) (sym received.limit) entry_held.short;
         uri_utf8 = proper.uri;
         version_fits = proper.version;
         means = accepts.means;
@@ -97,7 +97,7 @@ module _ (limits : Bounds) (ranges : AreInRange limits) (at : ℕ) (version : Ve
   own = message.own ∙ sym body_is
 
   within : length (canonical_change_body s.server p) ≤ limits.max_body
-  within = subst (λ (l : Bounds). length (canonical_change_body s.server p) ≤ l.max_body) received.limit fits
+  within = subst (λ (l : LimitsData). length (canonical_change_body s.server p) ≤ l.max_body) received.limit fits
 
   meant : (squash : SquashData) → squash.encoding ≡ session_encoding s.server → text_of (chars squash.text) squash.items ≡ chars entry.text
       → joined_by p squash ≡ record squash { items = then_items squash.items accepts.items; version = p.version }

@@ -5,7 +5,7 @@ use Rattle.lsp_message.specs.Message.{reading}
 use Rattle.lsp_message.specs.Params.{ChangeData}
 use Rattle.lsp_server.specs.Answer.{reply, changed, dropped, ignored, refused, exits, already_ended}
 use Rattle.lsp_server.specs.Incoming.{incoming_of}
-use Rattle.lsp_server.specs.Step.{State}
+use Rattle.lsp_server.specs.Step.{ServerData}
 use Rattle.lsp_replay.specs.declared.outcome.Outcome.{Outcome}
 use Rattle.lsp_stream.specs.declared.fault.EngineFault.{EngineFault}
 use Rattle.lsp_log.specs.Log.{Record}
@@ -15,15 +15,15 @@ use Rattle.lsp_replay.specs.Session.{Session, Verdict, answered, recorded, bad, 
 use Rattle.lsp_replay.specs.laws.Written.{StopsAlike}
 use Rattle.lsp_replay.specs.Squashed.{Run, change_output, squash_step, squashed_in, step_if}
 
-abbrev single : State → Record → List ℕ → Option ChangeData → Verdict → RecordOutput
+abbrev single : ServerData → Record → List ℕ → Option ChangeData → Verdict → RecordOutput
 single server r front change v = unless_bad r v (written server.config.limits.max_body r front (canonical_if server change v))
 
-change_end : (server : State) (p : ChangeData) (front bytes : List ℕ) (run : Option Run) → (change_output server p front bytes run).end ≡ None
+change_end : (server : ServerData) (p : ChangeData) (front bytes : List ℕ) (run : Option Run) → (change_output server p front bytes run).end ≡ None
 change_end server p front bytes None = refl
 change_end server p front bytes (Some run) =
     ⊎_elim (λ (is : bytes_eq p.uri run.squash.uri ≡ true). rw is refl) (λ (not : bytes_eq p.uri run.squash.uri ≡ false). rw not refl) (cases_Bool (bytes_eq p.uri run.squash.uri))
 
-step_end : (server : State) (r : Record) (front : List ℕ) (run : Option Run) (change : Option ChangeData) (v : Verdict) → (step_if server r front run change v).end ≡ (single server r front change v).end
+step_end : (server : ServerData) (r : Record) (front : List ℕ) (run : Option Run) (change : Option ChangeData) (v : Verdict) → (step_if server r front run change v).end ≡ (single server r front change v).end
 step_end server r front run None bad = refl
 step_end server r front run (Some p) bad = refl
 step_end server r front run None recorded = refl

@@ -2,12 +2,12 @@
 use Rattle.std.proofs.Common.{◌≡◌, ◌≢◌, ℕ, ◌+◌, Bool, true, false, List, [], ◌∷◌, ◌++◌, length, Option, Some, None, refl, sym, ap, ◌∙◌, subst, append-nil, bytes_eq, ⊎_elim}
 use Rattle.std.specs.Prelude.{Result}
 use Rattle.std.proofs.lemmas.Bool.{cases_Bool}
-use Rattle.lsp_frame.specs.Limits.{Bounds, AreInRange}
+use Rattle.lsp_frame.specs.Limits.{LimitsData, AreInRange}
 use Rattle.lsp_message.specs.Message.{reading}
 use Rattle.lsp_message.specs.Params.{ChangeData}
 use Rattle.lsp_server.specs.Answer.{changed}
 use Rattle.lsp_server.specs.Incoming.{incoming_of}
-use Rattle.lsp_server.specs.Step.{State}
+use Rattle.lsp_server.specs.Step.{ServerData}
 use Rattle.lsp_log.specs.declared.record.Version.{Version}
 use Rattle.lsp_log.specs.declared.record.Version.TheVariants.{One, Two}
 use Rattle.lsp_log.specs.Log.{Record, Log, IsRecord, AreRecords, together, record_bytes, mark_of, line_of, version_line, is_line_due}
@@ -38,7 +38,7 @@ record AllEnded (max_body at : ℕ) (version : Version) (due due_in : Bool) (s :
   ended : IsEnded max_body at version due s run t before
   same_due : due_in ≡ due_after due ended.us
 
-module _ (limits : Bounds) (ranges : AreInRange limits) where
+module _ (limits : LimitsData) (ranges : AreInRange limits) where
   all_ended : (at : ℕ) (version : Version) (due due_in : Bool) (s : Session) (run : Option Run) (t : Session) (before : Option Run) → IsHeldState limits t.server
       → IsAfter limits.max_body at version due due_in s run t before → AllEnded limits.max_body at version due due_in s run t before
   all_ended at version due due_in s None t before received is =
@@ -89,7 +89,7 @@ module _ (limits : Bounds) (ranges : AreInRange limits) where
 
       none_last : canonical_if e.last.server (change_in (incoming_of (reading r.body))) (judge e.last r).verdict ≡ None
       none_last =
-          ap (λ (server : State). canonical_if server (change_in (incoming_of (reading r.body))) (judge e.last r).verdict) (same_server s e.last e.like)
+          ap (λ (server : ServerData). canonical_if server (change_in (incoming_of (reading r.body))) (judge e.last r).verdict) (same_server s e.last e.like)
           ∙ ap (canonical_if s.server (change_in (incoming_of (reading r.body)))) alike.0 ∙ kind.1
 
       gives_other : squash_step s run r (judge s r) ≡ other_step r (front_of r.head) run

@@ -5,7 +5,7 @@ use Rattle.lsp_frame.specs.Frame.{frame}
 use Rattle.lsp_message.specs.Params.{ChangeData}
 use Rattle.lsp_store.specs.Squash.{SquashData}
 use Rattle.lsp_server.specs.Answer.{reply, changed, dropped, ignored, already_ended, refused, exits}
-use Rattle.lsp_server.specs.Step.{State}
+use Rattle.lsp_server.specs.Step.{ServerData}
 use Rattle.lsp_log.specs.Log.{Record}
 use Rattle.lsp_stream.specs.declared.fault.EngineFault.TheVariants.{BadLog, BodyTooLong}
 use Rattle.lsp_message.specs.Message.{reading}
@@ -19,7 +19,7 @@ use Rattle.lsp_replay.specs.inside.Squashed.{run_of}
 use Rattle.lsp_replay.specs.inside.Joining.{IsChange, IsLonger, IsOther, IsBegun}
 
 -- any record but an accepted change
-pub step_other : (server : State) (r : Record) (front : List ℕ) (run : Option Run) (change : Option ChangeData) (verdict : Verdict) → verdict ≢ bad → canonical_if server change verdict ≡ None
+pub step_other : (server : ServerData) (r : Record) (front : List ℕ) (run : Option Run) (change : Option ChangeData) (verdict : Verdict) → verdict ≢ bad → canonical_if server change verdict ≡ None
     → step_if server r front run change verdict ≡ other_step r front run
 step_other server r front run change bad not_bad none = absurd (not_bad refl)
 step_other server r front run None recorded not_bad none = refl
@@ -34,7 +34,7 @@ step_other server r front run (Some p) (answered (refused why)) not_bad none = r
 step_other server r front run (Some p) (answered (exits status)) not_bad none = refl
 
 -- an accepted change
-pub step_changed : (server : State) (r : Record) (front canonical : List ℕ) (run : Option Run) (change : Option ChangeData) (verdict : Verdict) → (is : IsChange server change verdict canonical)
+pub step_changed : (server : ServerData) (r : Record) (front canonical : List ℕ) (run : Option Run) (change : Option ChangeData) (verdict : Verdict) → (is : IsChange server change verdict canonical)
     → step_if server r front run change verdict ≡ change_output server is.params front (front ++ canonical) run
 step_changed server r front canonical run change verdict is =
     ap (λ (c : Option ChangeData). step_if server r front run c verdict) is.is
@@ -48,30 +48,30 @@ step_changed server r front canonical run change verdict is =
     short true e = absurd (let wrong : true ≡ false = e in cc)
     short false e = refl
 
-pub step_too_long : (server : State) (r : Record) (front : List ℕ) (run : Option Run) (change : Option ChangeData) (verdict : Verdict) (p : ChangeData) → change ≡ Some p → verdict ≡ answered changed
+pub step_too_long : (server : ServerData) (r : Record) (front : List ℕ) (run : Option Run) (change : Option ChangeData) (verdict : Verdict) (p : ChangeData) → change ≡ Some p → verdict ≡ answered changed
     → server.config.limits.max_body < length (canonical_change_body server p) → step_if server r front run change verdict ≡ faulty (BodyTooLong r.head.place)
 step_too_long server r front run change verdict p is accepted over =
     ap (λ (c : Option ChangeData). step_if server r front run c verdict) is
     ∙ ap (λ (v : Verdict). step_if server r front run (Some p) v) accepted
     ∙ rw (lt-ltb server.config.limits.max_body (length (canonical_change_body server p)) over) refl
 
-pub step_bad : (server : State) (r : Record) (front : List ℕ) (run : Option Run) (change : Option ChangeData) (verdict : Verdict) → verdict ≡ bad
+pub step_bad : (server : ServerData) (r : Record) (front : List ℕ) (run : Option Run) (change : Option ChangeData) (verdict : Verdict) → verdict ≡ bad
     → step_if server r front run change verdict ≡ faulty (BadLog r.head.place)
 step_bad server r front run None verdict e = rw e refl
 step_bad server r front run (Some p) verdict e = rw e refl
 
 -- it goes on with the open run
-pub gives_longer : (server : State) (p : ChangeData) (front single old_front singles : List ℕ) (run : Option SquashData) (batches : SquashData) → IsLonger run p batches
+pub gives_longer : (server : ServerData) (p : ChangeData) (front single old_front singles : List ℕ) (run : Option SquashData) (batches : SquashData) → IsLonger run p batches
     → change_output server p front single (run_of old_front singles run) ≡ record { out = []; end = None; run = run_of old_front (singles ++ single) (Some batches) }
 gives_longer server p front single old_front singles run batches is =
     ap (λ (o : Option SquashData). change_output server p front single (run_of old_front singles o)) is.open_one
     ∙ rw is.same (ap (λ (b : SquashData). record { out = []; end = None; run = Some (record { front = old_front; singles = singles ++ single; squash = b }) }) (sym is.joined))
 
 -- it begins a run
-begun_is : (server : State) (p : ChangeData) (front single : List ℕ) (batches : SquashData) → IsBegun server p batches → begun server p front single ≡ run_of front single (Some batches)
+begun_is : (server : ServerData) (p : ChangeData) (front single : List ℕ) (batches : SquashData) → IsBegun server p batches → begun server p front single ≡ run_of front single (Some batches)
 begun_is server p front single batches is = rw is.is_open (ap (λ (b : SquashData). Some (record { front = front; singles = single; squash = b })) (sym is.joined))
 
-pub gives_begun : (server : State) (p : ChangeData) (front single old_front singles : List ℕ) (run : Option SquashData) (batches : SquashData) → IsOther run p → IsBegun server p batches
+pub gives_begun : (server : ServerData) (p : ChangeData) (front single old_front singles : List ℕ) (run : Option SquashData) (batches : SquashData) → IsOther run p → IsBegun server p batches
     → change_output server p front single (run_of old_front singles run) ≡ record { out = end_bytes (run_of old_front singles run); end = None; run = run_of front single (Some batches) }
 gives_begun server p front single old_front singles None batches other is = ap (λ (o : Option Run). record { out = []; end = None; run = o }) (begun_is server p front single batches is)
 gives_begun server p front single old_front singles (Some squash) batches other is =

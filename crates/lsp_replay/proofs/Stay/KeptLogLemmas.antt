@@ -8,7 +8,7 @@ use Rattle.lsp_message.specs.Message.{reading}
 use Rattle.lsp_message.specs.Params.{ChangeData}
 use Rattle.lsp_server.specs.Answer.{AnswerData, Sent}
 use Rattle.lsp_server.specs.Incoming.{incoming_of}
-use Rattle.lsp_server.specs.Step.{State}
+use Rattle.lsp_server.specs.Step.{ServerData}
 use Rattle.lsp_stream.specs.declared.fault.EngineFault.{EngineFault}
 use Rattle.lsp_stream.specs.declared.fault.EngineFault.TheVariants.{BadLog, BodyTooLong}
 use Rattle.lsp_log.specs.declared.record.Version.{Version}
@@ -42,7 +42,7 @@ kept_false s c r rs e = rw e refl
 -- ---- what a record gives
 
 -- It depends on the server and on the verdict.
-abbrev single : State → Record → Verdict → RecordOutput
+abbrev single : ServerData → Record → Verdict → RecordOutput
 single server r v = unless_bad r v (written server.config.limits.max_body r (front_of r.head) (canonical_if server (change_in (incoming_of (reading r.body))) v))
 
 -- The line of version 2 doesn't decide how a record ends the run.
@@ -54,7 +54,7 @@ written_end max_body r front other (Some body) = by (nat_lt max_body (length bod
     by true = refl
     by false = refl
 
-line_end : (server : State) (c : Selection) (r : Record) (v : Verdict) → (single server (with_line c r) v).end ≡ (single server r v).end
+line_end : (server : ServerData) (c : Selection) (r : Record) (v : Verdict) → (single server (with_line c r) v).end ≡ (single server r v).end
 line_end server c r bad = refl
 line_end server c r recorded = written_end server.config.limits.max_body r (front_of (with_line c r).head) (front_of r.head) (canonical_if server (change_in (incoming_of (reading r.body))) recorded)
 line_end server c r (answered a) = written_end server.config.limits.max_body r (front_of (with_line c r).head) (front_of r.head) (canonical_if server (change_in (incoming_of (reading r.body))) (answered a))
@@ -64,7 +64,7 @@ line_end server c r (answered a) = written_end server.config.limits.max_body r (
 written_none : (max_body : ℕ) (r : Record) (front : List ℕ) (c : Option (List ℕ)) → c ≡ None → (written max_body r front c).end ≡ None
 written_none max_body r front c e = ap (λ o. (written max_body r front o).end) e
 
-single_none : (server : State) (r : Record) (v : Verdict) → v ≢ bad → canonical_if server (change_in (incoming_of (reading r.body))) v ≡ None → (single server r v).end ≡ None
+single_none : (server : ServerData) (r : Record) (v : Verdict) → v ≢ bad → canonical_if server (change_in (incoming_of (reading r.body))) v ≡ None → (single server r v).end ≡ None
 single_none server r bad not_bad none = absurd (not_bad refl)
 single_none server r recorded not_bad none = written_none server.config.limits.max_body r (front_of r.head) _ none
 single_none server r (answered a) not_bad none = written_none server.config.limits.max_body r (front_of r.head) _ none
@@ -87,7 +87,7 @@ kept_stop s t c (r ∷ rs) like =
 
     same_end : (single t.server (with_line c r) (judge t r).verdict).end ≡ (single s.server r (judge s r).verdict).end
     same_end =
-        line_end t.server c r (judge t r).verdict ∙ ap (λ (server : State). (single server r (judge t r).verdict).end) there
+        line_end t.server c r (judge t r).verdict ∙ ap (λ (server : ServerData). (single server r (judge t r).verdict).end) there
         ∙ ap (λ (v : Verdict). (single s.server r v).end) same
 
     by : (b : Bool) → record_stays t c.waiting r.head.side r.body ≡ b
@@ -194,7 +194,7 @@ located_written max_body at r front (Some body) e = by (nat_lt max_body (length 
     by true f = absurd (let wrong : Some (Err (BodyTooLong r.head.place)) ≡ None = f in cc)
     by false f = refl
 
-located_single : (server : State) (at : ℕ) (r : Record) (v : Verdict) → (single server r v).end ≡ None → single server (located at r) v ≡ single server r v
+located_single : (server : ServerData) (at : ℕ) (r : Record) (v : Verdict) → (single server r v).end ≡ None → single server (located at r) v ≡ single server r v
 located_single server at r bad e = absurd (let wrong : Some (Err (BadLog r.head.place)) ≡ None = e in cc)
 located_single server at r recorded e = located_written server.config.limits.max_body at r (front_of r.head) (canonical_if server (change_in (incoming_of (reading r.body))) recorded) e
 located_single server at r (answered a) e = located_written server.config.limits.max_body at r (front_of r.head) (canonical_if server (change_in (incoming_of (reading r.body))) (answered a)) e

@@ -10,7 +10,7 @@ use Rattle.lsp_server.specs.declared.phase.Phase.{Phase}
 use Rattle.lsp_server.specs.declared.phase.Phase.TheVariants.{New, Running, Down, Ended}
 use Rattle.lsp_server.specs.Answer.{AnswerData, Sent, reply, dropped, ignored, as_sent}
 use Rattle.lsp_server.specs.Incoming.{IncomingData, not_json, not_a_message, response, initialize, shutdown, other_request, exit, did_open, did_change, did_close, other_notification, incoming_of}
-use Rattle.lsp_server.specs.Step.{State, Step, stays, step_in, step_on}
+use Rattle.lsp_server.specs.Step.{ServerData, Step, stays, step_in, step_on}
 use Rattle.lsp_stream.specs.Ports.{one_more}
 use Rattle.lsp_log.specs.declared.record.Version.{Version}
 use Rattle.lsp_log.specs.declared.record.Version.TheVariants.{One, Two}
@@ -31,7 +31,7 @@ pub record IsHarmless (s : Session) (change : Option ChangeData) (j : Judged) : 
 -- ---- a client's message
 
 -- A step that answers and changes nothing, and isn't a refusal.
-record IsIdle (phase : Phase) (server : State) (m : IncomingData) : Type 0 where
+record IsIdle (phase : Phase) (server : ServerData) (m : IncomingData) : Type 0 where
   goes_on : is_ended phase ≡ false
   answer : AnswerData OutgoingData
   step : step_in phase server m ≡ stays server answer
@@ -40,7 +40,7 @@ record IsIdle (phase : Phase) (server : State) (m : IncomingData) : Type 0 where
   nothing : change_in m ≡ None
   expects : (version : Version) (expected : Option IdData) → expected_of version m expected ≡ expected
 
-module _ (server : State) where
+module _ (server : ServerData) where
   expects_response : (id : Option IdData) (version : Version) (expected : Option IdData) → expected_of version (response id) expected ≡ expected
   expects_response id One expected = refl
   expects_response id Two expected = refl
@@ -174,7 +174,7 @@ neither false b e = refl
 not_recorded : recorded ≢ bad
 not_recorded e = cc
 
-none_recorded : (server : State) (change : Option ChangeData) → canonical_if server change recorded ≡ None
+none_recorded : (server : ServerData) (change : Option ChangeData) → canonical_if server change recorded ≡ None
 none_recorded server None = refl
 none_recorded server (Some p) = refl
 

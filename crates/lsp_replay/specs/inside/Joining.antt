@@ -7,7 +7,7 @@ use Rattle.lsp_store.specs.Squash.{SquashData, HasReached, squash_of}
 use Rattle.lsp_store.specs.Table.{Refusal, after_change, change_refusal, entry_at}
 use Rattle.lsp_text.specs.Units.{units_in}
 use Rattle.lsp_server.specs.Answer.{changed}
-use Rattle.lsp_server.specs.Step.{State, edit_from_data, session_encoding}
+use Rattle.lsp_server.specs.Step.{ServerData, edit_from_data, session_encoding}
 use Rattle.lsp_replay.specs.declared.session.joining.Writing.{Writing}
 use Rattle.lsp_replay.specs.declared.session.joining.Writing.TheVariants.{AsItIs, TooLong, Continues, Begins}
 use Rattle.lsp_replay.specs.Commands.{canonical_if, canonical_change_body}
@@ -16,7 +16,7 @@ use Rattle.lsp_replay.specs.Squashed.{joined_by}
 
 -- The batches of a run lead to the document that is open now, with the server's limits and
 -- encoding.
-pub record IsOpenIn (server : State) (squash : SquashData) : Type 0 where
+pub record IsOpenIn (server : ServerData) (squash : SquashData) : Type 0 where
   pub entry : DocumentItem
   pub is_open : entry_at server.table squash.uri ≡ Some entry
   pub reached : HasReached squash entry
@@ -24,20 +24,20 @@ pub record IsOpenIn (server : State) (squash : SquashData) : Type 0 where
   pub encoding : squash.encoding ≡ session_encoding server
 
 -- No batches are open, or they lead to the document that is open now.
-abbrev pub MayBeOpenIn : State → Option SquashData → Type 0
+abbrev pub MayBeOpenIn : ServerData → Option SquashData → Type 0
 MayBeOpenIn server None = ⊤
 MayBeOpenIn server (Some squash) = IsOpenIn server squash
 
 -- ---- a change that a running server receives
 
 -- Why a running server refuses a change, if it does.
-abbrev pub refusal_of : State → ChangeData → Option Refusal
+abbrev pub refusal_of : ServerData → ChangeData → Option Refusal
 refusal_of server p
     = change_refusal server.config.limits (units_in (session_encoding server)) server.table p.uri
     p.version (map edit_from_data p.changes)
 
 -- The server after the change.
-abbrev pub server_after : State → ChangeData → State
+abbrev pub server_after : ServerData → ChangeData → ServerData
 server_after server p
     = record server {
       table
@@ -50,18 +50,18 @@ abbrev pub body_unless : Option Refusal → List ℕ → Option (List ℕ)
 body_unless None body = Some body
 body_unless (Some refusal) body = None
 
-abbrev pub change_body_if : State → ChangeData → Option (List ℕ)
+abbrev pub change_body_if : ServerData → ChangeData → Option (List ℕ)
 change_body_if server p = body_unless (refusal_of server p) (canonical_change_body server p)
 
 -- ---- a record
 
 -- The canonical body of a change is within the limit, and this is its frame.
-pub record IsFramed (server : State) (p : ChangeData) (canonical : List ℕ) : Type 0 where
+pub record IsFramed (server : ServerData) (p : ChangeData) (canonical : List ℕ) : Type 0 where
   pub is : canonical ≡ frame (canonical_change_body server p)
   pub within : length (canonical_change_body server p) ≤ server.config.limits.max_body
 
 -- A record is an accepted change with this canonical frame.
-pub record IsChange (server : State) (change : Option ChangeData) (verdict : Verdict)
+pub record IsChange (server : ServerData) (change : Option ChangeData) (verdict : Verdict)
     (canonical : List ℕ) : Type 0 where
   pub params : ChangeData
   pub is : change ≡ Some params
@@ -81,13 +81,13 @@ IsOther None p = ⊤
 IsOther (Some squash) p = bytes_eq p.uri squash.uri ≡ false
 
 -- These batches begin with a change of a document that is open.
-pub record IsBegun (server : State) (p : ChangeData) (batches : SquashData) : Type 0 where
+pub record IsBegun (server : ServerData) (p : ChangeData) (batches : SquashData) : Type 0 where
   pub entry : DocumentItem
   pub is_open : entry_at server.table p.uri ≡ Some entry
   pub joined : batches ≡ joined_by p (squash_of server.config.limits (session_encoding server) entry)
 
 -- How a record is written: as it is, as part of the open run, or as the first of a new one.
-abbrev pub IsWriting : State → Option SquashData → Option ChangeData → Verdict → Writing → Type 0
+abbrev pub IsWriting : ServerData → Option SquashData → Option ChangeData → Verdict → Writing → Type 0
 IsWriting server run change verdict (AsItIs ended) = (canonical_if server change verdict ≡ None)
     × (ended ≡ run)
 IsWriting server run change verdict TooLong =
@@ -100,7 +100,7 @@ IsWriting server run change verdict (Begins canonical ended batches) =
     × IsBegun server is.params batches
 
 -- The batches that are open afterwards lead to the document that is open then.
-abbrev pub IsOpenAfter : State → Writing → Type 0
+abbrev pub IsOpenAfter : ServerData → Writing → Type 0
 IsOpenAfter server (AsItIs ended) = ⊤
 IsOpenAfter server TooLong = ⊤
 IsOpenAfter server (Continues canonical batches) = IsOpenIn server batches
@@ -109,7 +109,7 @@ IsOpenAfter server (Begins canonical ended batches) = IsOpenIn server batches
 -- ---- the same of a change that a running server receives
 
 -- How a change is written, by whether the server refuses it.
-abbrev pub IsChangeWriting : State → Option SquashData → ChangeData → Writing → Type 0
+abbrev pub IsChangeWriting : ServerData → Option SquashData → ChangeData → Writing → Type 0
 IsChangeWriting server run p (AsItIs ended) = (refusal_of server p ≢ None) × (ended ≡ run)
 IsChangeWriting server run p TooLong = (refusal_of server p ≡ None)
     × (server.config.limits.max_body < length (canonical_change_body server p))

@@ -3,7 +3,7 @@ use Rattle.std.specs.Prelude.{ℕ, ◌≡◌, Bool, false, ◌||◌, List, Optio
 use Rattle.std.specs.String.{string_bytes}
 use Rattle.lsp_message.specs.Message.{Reading, reading}
 use Rattle.lsp_server.specs.Incoming.{incoming_of}
-use Rattle.lsp_server.specs.Step.{State}
+use Rattle.lsp_server.specs.Step.{ServerData}
 use Rattle.lsp_log.specs.declared.record.Head.{Head}
 use Rattle.lsp_log.specs.declared.record.Side.TheVariants.{Client}
 use Rattle.lsp_replay.specs.declared.session.Verdict as declared
@@ -27,7 +27,7 @@ abbrev pub is_change_read : BodyData → Bool
 is_change_read (from_client version m) = is_change m
 is_change_read (from_server body) = false
 
-pub record IsAbout (s : State) (ranged : Bool) (body : Reading) (read : BodyData) (about : About) :
+pub record IsAbout (s : ServerData) (ranged : Bool) (body : Reading) (read : BodyData) (about : About) :
     Type 0 where
   pub uri : option_map string_bytes about.uri ≡ uri_read read
   pub is_change : about.is_change ≡ is_change_read read

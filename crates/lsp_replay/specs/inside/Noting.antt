@@ -2,7 +2,7 @@
 use Rattle.std.specs.Prelude.{ℕ, Bool, List, [], Option}
 use Rattle.lsp_text.specs.Units.{units_in}
 use Rattle.lsp_message.specs.Message.{MessageData, Reading, message}
-use Rattle.lsp_server.specs.Step.{State}
+use Rattle.lsp_server.specs.Step.{ServerData}
 use Rattle.lsp_replay.specs.declared.notes.Note.{Note}
 use Rattle.lsp_replay.specs.declared.notes.changes.Terms.{Terms}
 use Rattle.lsp_replay.specs.Notes as spec
@@ -21,6 +21,6 @@ abbrev pub lengths_in_message : MessageData → List (Option ℕ)
 lengths_in_message m = lengths_of (message m)
 
 -- By what was read of a body. A server's record has no notes.
-abbrev pub notes_on_read : State → Bool → Reading → BodyData → List Note
+abbrev pub notes_on_read : ServerData → Bool → Reading → BodyData → List Note
 notes_on_read s ranged body (from_client version m) = notes_on s ranged body m
 notes_on_read s ranged body (from_server bytes) = []

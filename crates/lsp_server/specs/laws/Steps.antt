@@ -11,7 +11,7 @@ use Rattle.lsp_server.specs.declared.phase.Phase.{Phase}
 use Rattle.lsp_server.specs.declared.phase.Phase.TheVariants.{New, Running, Down, Ended}
 use Rattle.lsp_server.specs.Answer.{AnswerData, reply, changed, dropped, ignored, already_ended, refused, exits}
 use Rattle.lsp_server.specs.Choice.{chosen}
-use Rattle.lsp_server.specs.Step.{State, step}
+use Rattle.lsp_server.specs.Step.{ServerData, step}
 
 -- The id of a reply.
 abbrev pub id_of : OutgoingData → Option IdData
@@ -27,19 +27,19 @@ RepliesTo id answer = (m : OutgoingData) × (answer ≡ reply m) × (id_of m ≡
 -- Each request has one reply, with its id (Request Message, Response Message).
 abbrev pub RequestLaw : Type 0
 RequestLaw =
-    (s : State) (id : IdData) (method : List ℕ) (params : Option Data) → s.phase ≢ Ended
+    (s : ServerData) (id : IdData) (method : List ℕ) (params : Option Data) → s.phase ≢ Ended
     → RepliesTo id (step s (message (request id method params))).answer
 
 -- A notification has no reply (Notification Message).
 abbrev pub NotificationLaw : Type 0
 NotificationLaw =
-    (s : State) (method : List ℕ) (params : Option Data) (m : OutgoingData)
+    (s : ServerData) (method : List ℕ) (params : Option Data) (m : OutgoingData)
     → (step s (message (notification method params))).answer ≢ reply m
 
 -- A response has no reply.
 abbrev pub ResponseLaw : Type 0
 ResponseLaw =
-    (s : State) (id : Option IdData) (outcome : OutcomeData) (m : OutgoingData)
+    (s : ServerData) (id : Option IdData) (outcome : OutcomeData) (m : OutgoingData)
     → (step s (message (response id outcome))).answer ≢ reply m
 
 -- The order of the phases, from `initialize` to `exit`.
@@ -51,15 +51,15 @@ way_of Ended = 3
 
 -- A session never returns to an earlier phase.
 abbrev pub ForwardLaw : Type 0
-ForwardLaw = (s : State) (body : Reading) → way_of s.phase ≤ way_of (step s body).state.phase
+ForwardLaw = (s : ServerData) (body : Reading) → way_of s.phase ≤ way_of (step s body).state.phase
 
 -- The configuration of a server stays.
 abbrev pub ConfigLaw : Type 0
-ConfigLaw = (s : State) (body : Reading) → (step s body).state.config ≡ s.config
+ConfigLaw = (s : ServerData) (body : Reading) → (step s body).state.config ≡ s.config
 
 -- Only a document notification that is answered as a change changes the open documents.
 abbrev pub DocumentsLaw : Type 0
-DocumentsLaw = (s : State) (body : Reading) → (step s body).answer ≢ changed →
+DocumentsLaw = (s : ServerData) (body : Reading) → (step s body).answer ≢ changed →
     (step s body).state.table ≡ s.table
 
 -- An answer after which nothing has changed: an error response, dropped, ignored, refused, or no
@@ -76,7 +76,7 @@ IsRefusal (exits status) = ⊥
 
 -- What is refused, dropped or ignored changes nothing.
 abbrev pub RefusalLaw : Type 0
-RefusalLaw = (s : State) (body : Reading) → IsRefusal (step s body).answer → (step s body).state ≡ s
+RefusalLaw = (s : ServerData) (body : Reading) → IsRefusal (step s body).answer → (step s body).state ≡ s
 
 -- An encoding that is negotiated was offered (PositionEncodingKind).
 abbrev pub OfferedLaw : Type 0

@@ -8,7 +8,7 @@ use Rattle.std.specs.Int.{w32}
 use Rattle.std.specs.Str.{chars}
 use Rattle.lsp_frame.specs.Encode.{IsEncodeFault}
 use Rattle.lsp_frame.specs.Frame.{frame}
-use Rattle.lsp_frame.specs.Limits.{Bounds}
+use Rattle.lsp_frame.specs.Limits.{LimitsData}
 use Rattle.lsp_frame.specs.declared.written.EncodeFault.{EncodeFault}
 use Rattle.lsp_frame.specs.declared.written.EncodeFault.TheVariants as encode
 use Rattle.lsp_text.specs.laws.Units.{utf8_bounds, utf16_bounds, utf32_bounds}
@@ -60,11 +60,11 @@ pub body_begun : (old new uri : List ℕ) (version error : ℤ) (changes : List 
 body_begun old new uri version error changes none is same =
     body_pushed old new uri version error changes is same ∙ ap (λ front. front ++ change_body uri version (map edit_of changes)) none
 
-pub encode_refused : (limits : Bounds) (body : List ℕ) (fault : EncodeFault) → IsEncodeFault limits.max_body (length body) fault → IsRefusal (body_refusal limits body) (store_fault_of_encode fault)
+pub encode_refused : (limits : LimitsData) (body : List ℕ) (fault : EncodeFault) → IsEncodeFault limits.max_body (length body) fault → IsRefusal (body_refusal limits body) (store_fault_of_encode fault)
 encode_refused limits body (encode.BodyTooLong error) is = inr (rw (lt-ltb limits.max_body (length body) is.0, is.1) refl)
 encode_refused limits body encode.NoMemory is = inl refl
 
-pub body_within : (limits : Bounds) (body : List ℕ) → length body ≤ limits.max_body → body_refusal limits body ≡ None
+pub body_within : (limits : LimitsData) (body : List ℕ) → length body ≤ limits.max_body → body_refusal limits body ≡ None
 body_within limits body within = rw (le-ltb limits.max_body (length body) within) refl
 
 -- the texts of changes hold scalar values
@@ -109,7 +109,7 @@ first_told (Some refusal) later fault error = error
 first_told None later fault error = ⊎_elim (λ (e : fault ≡ NoMemory). inl e) (λ (e : None ≡ Some fault). absurd (cc)) error
 
 -- What an accepted batch means on a document.
-pub record Accepts (limits : Bounds) (units : ℕ → ℕ) (entry : DocumentItem) (version : ℤ) (batch : List Edit) : Type 0 where
+pub record Accepts (limits : LimitsData) (units : ℕ → ℕ) (entry : DocumentItem) (version : ℤ) (batch : List Edit) : Type 0 where
   pub newer : is_stale limits version entry.version ≡ false
   pub few : length batch ≤ limits.max_changes
   pub fits : batch_bytes batch ≤ greatest_batch
@@ -117,14 +117,14 @@ pub record Accepts (limits : Bounds) (units : ℕ → ℕ) (entry : DocumentItem
   pub means : meaning units (chars entry.text) batch ≡ Ok items
   pub short : length (bytes_left entry.text items) ≤ limits.max_text
 
-meaning_parts : (limits : Bounds) (text : List ℕ) (meant : Result (List Item) (ℕ × Fault)) → meaning_refusal limits text meant ≡ None → (items : List Item) × (meant ≡ Ok items) × (length (bytes_left text items) ≤ limits.max_text)
+meaning_parts : (limits : LimitsData) (text : List ℕ) (meant : Result (List Item) (ℕ × Fault)) → meaning_refusal limits text meant ≡ None → (items : List Item) × (meant ≡ Ok items) × (length (bytes_left text items) ≤ limits.max_text)
 meaning_parts limits text (Err fault) e = let bad : Some (edit fault.0 fault.1) ≡ None = e in absurd (cc)
 meaning_parts limits text (Ok items) e =
     ⊎_elim (λ (above : nat_lt limits.max_text (length (bytes_left text items)) ≡ true). let bad : Some text_too_long ≡ None = rw above at e in absurd (cc))
     (λ (within : nat_lt limits.max_text (length (bytes_left text items)) ≡ false). (items, refl, ltb-false limits.max_text (length (bytes_left text items)) within))
     (cases_Bool (nat_lt limits.max_text (length (bytes_left text items))))
 
-pub accepted_parts : (limits : Bounds) (units : ℕ → ℕ) (entry : DocumentItem) (version : ℤ) (batch : List Edit) → entry_refusal limits units entry version batch ≡ None → Accepts limits units entry version batch
+pub accepted_parts : (limits : LimitsData) (units : ℕ → ℕ) (entry : DocumentItem) (version : ℤ) (batch : List Edit) → entry_refusal limits units entry version batch ≡ None → Accepts limits units entry version batch
 accepted_parts limits units entry version batch e =
     ⊎_elim (λ (stale : is_stale limits version entry.version ≡ true). let bad : Some (stale_version entry.version) ≡ None = rw stale at e in absurd (cc)) by (cases_Bool (is_stale limits version entry.version))
   where
@@ -146,12 +146,12 @@ accepted_parts limits units entry version batch e =
         (cases_Bool (nat_lt limits.max_changes (length batch) || nat_lt greatest_batch (batch_bytes batch)))
 
 -- Of an accepted batch only its meaning could be refused.
-pub accepted_left : (limits : Bounds) (units : ℕ → ℕ) (entry : DocumentItem) (version : ℤ) (batch : List Edit) → entry_refusal limits units entry version batch ≡ None → IsLeftToMeaning limits entry version batch
+pub accepted_left : (limits : LimitsData) (units : ℕ → ℕ) (entry : DocumentItem) (version : ℤ) (batch : List Edit) → entry_refusal limits units entry version batch ≡ None → IsLeftToMeaning limits entry version batch
 accepted_left limits units entry version batch is = λ u.
     let a = accepted_parts limits units entry version batch is in
     refused_meaning limits u entry version batch a.newer (or_from _ _ (le-ltb limits.max_changes (length batch) a.few) (le-ltb greatest_batch (batch_bytes batch) a.fits))
 
-pub accepted_from : (limits : Bounds) (units : ℕ → ℕ) (entry : DocumentItem) (version : ℤ) (batch : List Edit) → Accepts limits units entry version batch → entry_refusal limits units entry version batch ≡ None
+pub accepted_from : (limits : LimitsData) (units : ℕ → ℕ) (entry : DocumentItem) (version : ℤ) (batch : List Edit) → Accepts limits units entry version batch → entry_refusal limits units entry version batch ≡ None
 accepted_from limits units entry version batch a =
     let few : (nat_lt limits.max_changes (length batch) || nat_lt greatest_batch (batch_bytes batch)) ≡ false = or_from _ _ (le-ltb limits.max_changes (length batch) a.few) (le-ltb greatest_batch (batch_bytes batch) a.fits) in
     rw (a.newer, few, a.means, le-ltb limits.max_text (length (bytes_left entry.text a.items)) a.short) refl
@@ -170,7 +170,7 @@ leaves_same units (first ∷ table) uri version batch other entry found same =
 
 -- ---- the canonical message
 
-module _ (limits : Bounds) (encoding : Encoding) (table : List DocumentItem) (uri : List ℕ) (version : ℤ) (entry : DocumentItem) (is_open : entry_at table uri ≡ Some entry)
+module _ (limits : LimitsData) (encoding : Encoding) (table : List DocumentItem) (uri : List ℕ) (version : ℤ) (entry : DocumentItem) (is_open : entry_at table uri ≡ Some entry)
     (laws : (batch : List Edit) (items : List Item) → meaning (units_in encoding) (chars entry.text) batch ≡ Ok items → IsCanonical (units_in encoding) (chars entry.text) batch items) where
   pub batch_at : (batch : List Edit) (items : List Item) → meaning (units_in encoding) (chars entry.text) batch ≡ Ok items → canonical_batch (units_in encoding) table uri batch ≡ canonical (units_in encoding) (chars entry.text) items
   batch_at batch items means = rw (is_open, means) refl

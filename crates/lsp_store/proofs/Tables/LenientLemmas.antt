@@ -1,6 +1,6 @@
 -- What strict limits refuse and lenient ones don't.
 use Rattle.std.proofs.Common.{◌≡◌, ℕ, ℤ, Bool, true, false, true≢false, not, ◌&&◌, IsTrue, int_le, List, is_some, refl, sym}
-use Rattle.lsp_frame.specs.Limits.{Bounds}
+use Rattle.lsp_frame.specs.Limits.{LimitsData}
 use Rattle.lsp_message.specs.Params.{DocumentItem}
 use Rattle.lsp_store.specs.Table.{entry_at, is_stale, is_taken}
 
@@ -10,7 +10,7 @@ still_false small true found more e = refl
 still_false false false found more e = e
 still_false true false found more e = absurd (true≢false (sym (more refl)))
 
-module _ (small great : Bounds) (more : IsTrue small.lenient → IsTrue great.lenient) where
+module _ (small great : LimitsData) (more : IsTrue small.lenient → IsTrue great.lenient) where
   pub still_new : (version current : ℤ) → is_stale small version current ≡ false → is_stale great version current ≡ false
   still_new version current e = still_false small.lenient great.lenient (int_le version current) more e
 

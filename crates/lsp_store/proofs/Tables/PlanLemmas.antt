@@ -8,7 +8,7 @@ use Rattle.std.specs.Map.{lookup, lookup_key}
 use Rattle.std.specs.Str.{chars}
 use Rattle.std.specs.declared.alloc.Global.{Global}
 use Rattle.ordered_map.specs.Entries.{set_value_at}
-use Rattle.lsp_frame.specs.Limits.{Bounds}
+use Rattle.lsp_frame.specs.Limits.{LimitsData}
 use Rattle.lsp_text.specs.declared.encoding.Encoding.{Encoding}
 use Rattle.lsp_text.specs.Units.{units_in}
 use Rattle.lsp_edit.specs.declared.delta.Delta.{Delta}
@@ -131,7 +131,7 @@ module _ (units : ℕ → ℕ) (uri : List ℕ) (version : ℤ) (batch : List Ed
 
 -- ---- a plan
 
-module _ (limits : Bounds) (es : List (String Global × Stored)) (kept : StoreData) (view : seen limits es ≡ kept) where
+module _ (limits : LimitsData) (es : List (String Global × Stored)) (kept : StoreData) (view : seen limits es ≡ kept) where
   module _ (uri : List ℕ) (version given : ℤ) (given_is : given ≡ version) (encoding : Encoding) (batch : List Edit) (index : ℕ) (key : String Global) (stored : Stored) (delta : Delta) where
     pub plan_is : Some index ≡ position (at_uri uri) (map (λ e. e.0) es) → Some key ≡ lookup_key (at_uri uri) es → Some stored ≡ lookup (at_uri uri) es → slice_get es index ≡ Some (key, stored)
         → ((u : List ℕ) → entry_refusal limits (units_in encoding) (entry_under u stored) version batch ≡ None) → IsDeltaOf (units_in encoding) limits.max_text stored.text batch delta → limits.max_text ≤ 1073741824
@@ -226,9 +226,9 @@ module _ (kept : StoreData) (uri : List ℕ) (version : ℤ) (encoding : Encodin
         ap (λ (u : List ℕ). change_body u given answered) (sym key_is ∙ entry_uri kept.table uri q.on.entry q.is_open)
         ∙ (ap (λ (v : ℤ). change_body uri v answered) (given_is ∙ q.version_is) ∙ ap (λ (b : List Edit). change_body uri version b) (planned_is ∙ sym batch_there))
 
-  module _ (limits : Bounds) (limits_is : limits ≡ kept.limits) (body : List ℕ) (body_is : body ≡ canonical_body (units_in encoding) kept.table uri version batch) where
+  module _ (limits : LimitsData) (limits_is : limits ≡ kept.limits) (body : List ℕ) (body_is : body ≡ canonical_body (units_in encoding) kept.table uri version batch) where
     body_refused : body_refusal limits body ≡ body_refusal kept.limits (canonical_body (units_in encoding) kept.table uri version batch)
-    body_refused = ap (λ (l : Bounds). body_refusal l body) limits_is ∙ ap (body_refusal kept.limits) body_is
+    body_refused = ap (λ (l : LimitsData). body_refusal l body) limits_is ∙ ap (body_refusal kept.limits) body_is
 
     message_is : message_refusal kept.limits (units_in encoding) kept.table uri version batch ≡ body_refusal limits body
     message_is =

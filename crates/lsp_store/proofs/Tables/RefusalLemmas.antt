@@ -5,7 +5,7 @@ use Rattle.std.proofs.lemmas.List.{length-map}
 use Rattle.std.proofs.lemmas.List.Sums.{sum_by-cons}
 use Rattle.std.proofs.lemmas.Str.{IsUtf8-string_bytes, encodes-chars}
 use Rattle.std.specs.Str.{chars}
-use Rattle.lsp_frame.specs.Limits.{Bounds}
+use Rattle.lsp_frame.specs.Limits.{LimitsData}
 use Rattle.lsp_edit.specs.declared.change.Change.{Change}
 use Rattle.lsp_edit.specs.declared.indexed.TextFault.{TextFault}
 use Rattle.lsp_edit.specs.declared.indexed.TextFault.TheVariants as text
@@ -27,23 +27,23 @@ batch_bytes-changes (c ∷ cs) =
     ∙ (ap (λ n. n + batch_bytes (map edit_of cs)) (ap length (encodes-chars (string_bytes c.text) (IsUtf8-string_bytes c.text)) ∙ sym c.text.bytes.ok.0)
     ∙ (ap (λ n. string_len c.text + n) (batch_bytes-changes cs) ∙ sym (sum_by-cons (λ (c : Change). string_len c.text) c cs)))
 
-module _ (limits : Bounds) (units : ℕ → ℕ) (entry : DocumentItem) (version : ℤ) (batch : List Edit) (newer : is_stale limits version entry.version ≡ false) where
+module _ (limits : LimitsData) (units : ℕ → ℕ) (entry : DocumentItem) (version : ℤ) (batch : List Edit) (newer : is_stale limits version entry.version ≡ false) where
   pub refused_many : (nat_lt limits.max_changes (length batch) || nat_lt greatest_batch (batch_bytes batch)) ≡ true → entry_refusal limits units entry version batch ≡ Some too_many_changes
   refused_many many = rw (newer, many) refl
 
   pub refused_meaning : (nat_lt limits.max_changes (length batch) || nat_lt greatest_batch (batch_bytes batch)) ≡ false → entry_refusal limits units entry version batch ≡ meaning_refusal limits entry.text (meaning units (chars entry.text) batch)
   refused_meaning few = rw (newer, few) refl
 
-pub stale_refused : (limits : Bounds) (units : ℕ → ℕ) (entry : DocumentItem) (version given held : ℤ) (batch : List Edit) → given ≡ version → held ≡ entry.version → is_stale limits given entry.version ≡ true
+pub stale_refused : (limits : LimitsData) (units : ℕ → ℕ) (entry : DocumentItem) (version given held : ℤ) (batch : List Edit) → given ≡ version → held ≡ entry.version → is_stale limits given entry.version ≡ true
     → option_map fault_of (entry_refusal limits units entry version batch) ≡ Some (StaleVersion held)
 stale_refused limits units entry version given held batch same current stale = rw (rw same at stale, current) refl
 
 -- ---- the same, of the changes that a call was given
 
-abbrev too_much : Bounds → List Edit → Bool
+abbrev too_much : LimitsData → List Edit → Bool
 too_much limits batch = nat_lt limits.max_changes (length batch) || nat_lt greatest_batch (batch_bytes batch)
 
-module _ (limits : Bounds) (changes : List Change) where
+module _ (limits : LimitsData) (changes : List Change) where
   many_told : limits.max_changes < length changes → too_much limits (map edit_of changes) ≡ true
   many_told many = or_left _ _ (lt-ltb limits.max_changes (length (map edit_of changes)) (omega (arith, many, length-map changes edit_of)))
 
@@ -74,7 +74,7 @@ module _ (limits : Bounds) (changes : List Change) where
 
 -- ---- what a batch means on a text, within the limit
 
-module _ (limits : Bounds) (before : List ℕ) where
+module _ (limits : LimitsData) (before : List ℕ) where
   pub meaning_accepted : (meant : Result (List Item) (ℕ × Fault)) (bytes : List ℕ) → text_within limits.max_text before meant ≡ Ok bytes → (meaning_refusal limits before meant ≡ None) × (meant_text before meant ≡ bytes)
   meaning_accepted (Err fault) bytes is = let bad : ◌≡◌ {A = Result (List ℕ) TextFault} (Err (text.Edit (fault_at fault.0 fault.1))) (Ok bytes) = is in absurd (cc)
   meaning_accepted (Ok items) bytes is =

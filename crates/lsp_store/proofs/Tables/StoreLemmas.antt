@@ -5,7 +5,7 @@ use Rattle.std.proofs.lemmas.List.{length-append, length-map}
 use Rattle.std.proofs.lemmas.Option.{slice_get-map}
 use Rattle.std.specs.Map.{lookup, lookup_key, set_value, remove_entry}
 use Rattle.std.specs.declared.alloc.Global.{Global}
-use Rattle.lsp_frame.specs.Limits.{Bounds}
+use Rattle.lsp_frame.specs.Limits.{LimitsData}
 use Rattle.lsp_text.specs.declared.encoding.Encoding.{Encoding}
 use Rattle.lsp_text.specs.Units.{units_in}
 use Rattle.lsp_edit.specs.Batch.{Edit}
@@ -19,12 +19,12 @@ use Rattle.lsp_store.specs.Opened.{MayTakeMemory, StoreData, Takes, IsRefused, e
 use Rattle.lsp_store.proofs.Tables.TableLemmas.{at_uri, entry_at-lookup, is_some-entry_at, entry_found, table-opened, others_all, others_but_one, table-set_value, set_value-found, table-remove_entry}
 
 -- what callers see of the fields
-abbrev pub seen : Bounds → List (String Global × Stored) → StoreData
+abbrev pub seen : LimitsData → List (String Global × Stored) → StoreData
 seen limits es = record { limits = limits; table = map entry_of es }
 
 -- ---- whether a document may be opened
 
-module _ (limits : Bounds) (table : List DocumentItem) (entry : DocumentItem) where
+module _ (limits : LimitsData) (table : List DocumentItem) (entry : DocumentItem) where
   pub taken_refused : is_taken limits table entry.uri ≡ true → option_map fault_of (open_refusal limits table entry) ≡ Some AlreadyOpen
   taken_refused taken = rw taken refl
 
@@ -39,7 +39,7 @@ module _ (limits : Bounds) (table : List DocumentItem) (entry : DocumentItem) wh
       pub open_accepted : length entry.text ≤ limits.max_text → open_refusal limits table entry ≡ None
       open_accepted short = rw (free, lt-leb limits.max_docs (length (after_close table entry.uri)) few, le-ltb limits.max_text (length entry.text) short) refl
 
-module _ (limits : Bounds) (es : List (String Global × Stored)) (kept : StoreData) (view : seen limits es ≡ kept) where
+module _ (limits : LimitsData) (es : List (String Global × Stored)) (kept : StoreData) (view : seen limits es ≡ kept) where
   -- ---- looking a document up
 
   pub get_found : (uri : List ℕ) (key : String Global) (stored : Stored) → Some key ≡ lookup_key (at_uri uri) es → Some stored ≡ lookup (at_uri uri) es → Some (entry_under (string_bytes key) stored) ≡ entry_at kept.table uri

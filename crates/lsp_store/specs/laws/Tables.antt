@@ -1,6 +1,6 @@
 -- What holds of the table of documents after any commands.
 use Rattle.std.specs.Prelude.{ℕ, ℤ, ◌≡◌, ◌≤◌, List, [], ◌∷◌, ◌++◌, length, IsUtf8, None, ⊤}
-use Rattle.lsp_frame.specs.Limits.{Bounds, AreInRange}
+use Rattle.lsp_frame.specs.Limits.{LimitsData, AreInRange}
 use Rattle.lsp_text.specs.declared.encoding.Encoding.{Encoding}
 use Rattle.lsp_text.specs.Units.{units_in}
 use Rattle.lsp_edit.specs.Batch.{Edit}
@@ -12,13 +12,13 @@ use Rattle.lsp_store.specs.Limits.{AreWithin}
 -- Greater limits refuse no command that smaller ones accept.
 abbrev pub GreaterLimitsLaw : Type 0
 GreaterLimitsLaw =
-    (small great : Bounds) (table : List DocumentItem) (command : Command) → AreWithin small great
+    (small great : LimitsData) (table : List DocumentItem) (command : Command) → AreWithin small great
     → command_refusal small table command ≡ None → command_refusal great table command ≡ None
 
 -- ---- what may be sent instead of a batch
 
 -- Another batch is accepted within these limits, and has the result of the batch.
-pub record IsReplacedBy (limits : Bounds) (units : ℕ → ℕ) (table : List DocumentItem) (uri : List ℕ)
+pub record IsReplacedBy (limits : LimitsData) (units : ℕ → ℕ) (table : List DocumentItem) (uri : List ℕ)
     (version : ℤ) (batch other : List Edit) : Type 0 where
   pub accepted : change_refusal limits units table uri version other ≡ None
   pub leaves : after_change units table uri version other
@@ -27,7 +27,7 @@ pub record IsReplacedBy (limits : Bounds) (units : ℕ → ℕ) (table : List Do
 -- The canonical batch of an accepted batch does the same, within greater limits too.
 abbrev pub CanonicalBatchLaw : Type 0
 CanonicalBatchLaw =
-    (small great : Bounds) (encoding : Encoding) (table : List DocumentItem) (uri : List ℕ)
+    (small great : LimitsData) (encoding : Encoding) (table : List DocumentItem) (uri : List ℕ)
     (version : ℤ) (batch : List Edit) → AreInRange small → AreWithin small great
     → change_refusal small (units_in encoding) table uri version batch ≡ None
     → IsReplacedBy great (units_in encoding) table uri version batch
@@ -36,12 +36,12 @@ CanonicalBatchLaw =
 -- ---- the documents of a table
 
 -- A document's text is UTF-8 and within the limit.
-pub record IsWithin (limits : Bounds) (entry : DocumentItem) : Type 0 where
+pub record IsWithin (limits : LimitsData) (entry : DocumentItem) : Type 0 where
   pub utf8 : IsUtf8 entry.text
   pub short : length entry.text ≤ limits.max_text
 
 -- Each document of a table is within the limits.
-abbrev pub AllWithin : Bounds → List DocumentItem → Type 0
+abbrev pub AllWithin : LimitsData → List DocumentItem → Type 0
 AllWithin limits [] = ⊤
 AllWithin limits (entry ∷ table) = IsWithin limits entry × AllWithin limits table
 
@@ -54,7 +54,7 @@ HasTexts (closes uri) = ⊤
 -- An accepted command keeps all documents, and their number, within the limits.
 abbrev pub WithinLaw : Type 0
 WithinLaw =
-    (limits : Bounds) (table : List DocumentItem) (command : Command) → AllWithin limits table
+    (limits : LimitsData) (table : List DocumentItem) (command : Command) → AllWithin limits table
     → length table ≤ limits.max_docs → HasTexts command →
     command_refusal limits table command ≡ None
     → AllWithin limits (table_after table command)
@@ -63,7 +63,7 @@ WithinLaw =
 -- The whole text after a batch does the same as the batch, within greater limits too.
 abbrev pub WholeTextLaw : Type 0
 WholeTextLaw =
-    (small great : Bounds) (encoding : Encoding) (table : List DocumentItem) (uri : List ℕ)
+    (small great : LimitsData) (encoding : Encoding) (table : List DocumentItem) (uri : List ℕ)
     (version : ℤ) (batch : List Edit) → AreInRange small → AreWithin small great
     → AllWithin small table → AreTexts batch
     → change_refusal small (units_in encoding) table uri version batch ≡ None
@@ -78,13 +78,13 @@ AreUnique (entry ∷ table) = (entry_at table entry.uri ≡ None) × AreUnique t
 -- An accepted command keeps the URIs unique.
 abbrev pub UniqueLaw : Type 0
 UniqueLaw =
-    (limits : Bounds) (table : List DocumentItem) (command : Command) → AreUnique table
+    (limits : LimitsData) (table : List DocumentItem) (command : Command) → AreUnique table
     → command_refusal limits table command ≡ None → AreUnique (table_after table command)
 
 -- ---- the table of a list of commands
 
 -- Commands are accepted on a table, one after another, and their texts are texts.
-abbrev pub AreAccepted : Bounds → List DocumentItem → List Command → Type 0
+abbrev pub AreAccepted : LimitsData → List DocumentItem → List Command → Type 0
 AreAccepted limits table [] = ⊤
 AreAccepted limits table (command ∷ commands) =
     HasTexts command × (command_refusal limits table command ≡ None)
@@ -92,7 +92,7 @@ AreAccepted limits table (command ∷ commands) =
 
 -- A table has no URI twice, at most the allowed number of documents, and each text is within its
 -- limit.
-pub record IsInOrder (limits : Bounds) (table : List DocumentItem) : Type 0 where
+pub record IsInOrder (limits : LimitsData) (table : List DocumentItem) : Type 0 where
   pub unique : AreUnique table
   pub many : length table ≤ limits.max_docs
   pub texts : AllWithin limits table
@@ -100,7 +100,7 @@ pub record IsInOrder (limits : Bounds) (table : List DocumentItem) : Type 0 wher
 -- The table of every list of accepted commands is in order.
 abbrev pub TableLaw : Type 0
 TableLaw =
-    (limits : Bounds) (commands : List Command) → AreAccepted limits [] commands
+    (limits : LimitsData) (commands : List Command) → AreAccepted limits [] commands
     → IsInOrder limits (table_of commands)
 
 -- The table after one more command.

@@ -1,7 +1,7 @@
--- What only proofs and private contracts use of `Gapped`.
+-- What only proofs and private contracts use of `GapData`.
 use Rattle.std.specs.Prelude.{ℕ, ◌≡◌, ◌-◌, ◌<◌, ◌≤◌, ◌==◌, ◌||◌, true, List, ◌++◌, length, take, drop, slice_index}
 use Rattle.lsp_text.specs.TextLines.{line_feed, carriage_return}
-use Rattle.lsp_text.specs.Gapped.{Gapped, without_gap}
+use Rattle.lsp_text.specs.Gapped.{GapData, without_gap}
 
 -- Each start is at most `end`.
 abbrev pub AreWithin : ℕ → List ℕ → Type 0
@@ -15,7 +15,7 @@ HasNoEnd bytes =
 
 -- Bytes can be written over those from `start` to `stop` while the gap and all line starts stay as
 -- they are: they are as many, the gap isn't inside those, and no line ends in either.
-pub record IsInPlace (bytes : Gapped) (start stop : ℕ) (new : List ℕ) : Type 0 where
+pub record IsInPlace (bytes : GapData) (start stop : ℕ) (new : List ℕ) : Type 0 where
   pub len : length new ≡ stop - start
   pub whole : length bytes.front < stop → length bytes.front ≤ start
   pub old_end : HasNoEnd (take (stop - start) (drop start (without_gap bytes)))

@@ -19,9 +19,9 @@ pub struct GapBytes {
 
 impl Model for GapBytes {
     ghost use Rattle.std.specs.Prelude.{◌≤◌, length, take, drop};
-    ghost use Rattle.lsp_text.specs.Gapped.{Gapped};
+    ghost use Rattle.lsp_text.specs.Gapped.{GapData};
 
-    ghost Value = { Gapped };
+    ghost Value = { GapData };
 
     ghost view = { λ bytes.
         record {

@@ -24,9 +24,9 @@ pub struct GapStarts {
 
 impl Model for GapStarts {
     ghost use Rattle.std.specs.Prelude.{◌≤◌, length, take, drop};
-    ghost use Rattle.lsp_text.specs.Gapped.{Gapped};
+    ghost use Rattle.lsp_text.specs.Gapped.{GapData};
 
-    ghost Value = { Gapped };
+    ghost Value = { GapData };
 
     ghost view = { λ starts.
         record {

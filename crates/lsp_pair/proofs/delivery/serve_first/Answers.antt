@@ -3,7 +3,7 @@ use Rattle.lsp_frame.specs.Stream.{IsFrame}
 use Rattle.lsp_frame.specs.Frame.{IsFrameOf}
 use Rattle.lsp_server.specs.declared.phase.Phase.TheVariants.{Ended}
 use Rattle.lsp_store.specs.Opened.{StoreData}
-use Rattle.lsp_frame.specs.Limits.{Bounds}
+use Rattle.lsp_frame.specs.Limits.{LimitsData}
 use Rattle.std.proofs.Common.{subst, sym, ℕ}
 use Rattle.lsp_pair.specs.Seen.{frames}
 use Rattle.lsp_pair.specs.inside.Ends.{frames_in_answer}
@@ -18,7 +18,7 @@ unreachable-requires c =
     let limits : c.in_ok-framer.framer.limits ≡ c.args.server.now.config.limits = c.in_ok-framer.ensures.2 ∙ (c.limits.ensures ∙ ap (λ (d : StoreData). d.limits) c.store.ensures) in
     let kept = c.in_ok-framer.ensures.0 ∙ c.deref.ensures.value in
     c.in_default-body.ensures c.in_ok-framer.ensures.1 whole.0.body
-    (subst (λ (l : Bounds). IsFrameOf l.max_body c.in_ok-framer.framer.buffered whole.0.body) (sym limits)
+    (subst (λ (l : LimitsData). IsFrameOf l.max_body c.in_ok-framer.framer.buffered whole.0.body) (sym limits)
     (subst (λ (b : List ℕ). IsFrameOf c.args.server.now.config.limits.max_body b whole.0.body) (sym kept) whole.0.is_frame_of))
 
 pub returns-clause-step : goal.returns-clause-step

@@ -1,6 +1,6 @@
 use Rattle.std.proofs.Common.{◌∙◌, ap, sym, ◌≡◌, Err}
 use Rattle.std.proofs.lemmas.Result.{err_from_is_err_and}
-use Rattle.lsp_client.specs.Step.{State, closes}
+use Rattle.lsp_client.specs.Step.{ClientData, closes}
 use Rattle.lsp_client.proofs.SentLemmas.{order_fault}
 use Rattle.lsp_store.specs.declared.fault.StoreFault.TheVariants as store_faults
 use Rattle.lsp_client.specs.declared.fault.ClientFault.TheVariants.{NoMemory}
@@ -12,7 +12,7 @@ pub returns-in_err-send_close-in-Ready-clause-error : goal.returns-in_err-send_c
 returns-in_err-send_close-in-Ready-clause-error c =
     let p = err_from_is_err_and c.from_residual.result c.from_residual.ensures.1 in
     rw (p.1, p.2)
-    (order_fault c.args.self.now (closes c.args.uri.now) c.in_err-send_close-in-Ready.field-0.0 (sym (ap (λ (x : State). x.phase) c.self.view_is) ∙ c.in-Ready.is) c.in_err-send_close-in-Ready.ensures.error)
+    (order_fault c.args.self.now (closes c.args.uri.now) c.in_err-send_close-in-Ready.field-0.0 (sym (ap (λ (x : ClientData). x.phase) c.self.view_is) ∙ c.in-Ready.is) c.in_err-send_close-in-Ready.ensures.error)
 
 pub returns-in_err-send_close-in-Ready-clause-memory : goal.returns-in_err-send_close-in-Ready-clause-memory
 returns-in_err-send_close-in-Ready-clause-memory c = λ e.
@@ -23,4 +23,4 @@ returns-in_err-send_close-in-Ready-clause-memory c = λ e.
     let given : client_fault c.in_err-send_close-in-Ready.field-0.0 ≡ NoMemory = cc in
     let fault : c.in_err-send_close-in-Ready.field-0.0 ≡ store_faults.NoMemory = client_no_memory c.in_err-send_close-in-Ready.field-0.0 given in
     let no_memory : c.send_close.result ≡ Err store_faults.NoMemory = cc in
-    (sym (ap (λ (x : State). x.phase) c.self.view_is) ∙ c.in-Ready.is, (c.send_close.ensures.memory no_memory))
+    (sym (ap (λ (x : ClientData). x.phase) c.self.view_is) ∙ c.in-Ready.is, (c.send_close.ensures.memory no_memory))

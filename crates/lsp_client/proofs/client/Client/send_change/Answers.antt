@@ -3,7 +3,7 @@ use Rattle.std.proofs.lemmas.Int.{to_z-of_z}
 use Rattle.std.proofs.lemmas.Result.{err_from_is_err_and}
 use Rattle.lsp_edit.specs.Edited.{edit_of}
 use Rattle.lsp_store.specs.Table as documents
-use Rattle.lsp_client.specs.Step.{State, agreement}
+use Rattle.lsp_client.specs.Step.{ClientData, agreement}
 use Rattle.lsp_client.proofs.OrderLemmas.{refused_first}
 use Rattle.lsp_client.proofs.SentLemmas.{order_sent, change_refused, change_within, change_framed}
 use Rattle.lsp_store.specs.declared.fault.StoreFault.TheVariants as store_faults
@@ -11,30 +11,30 @@ use Rattle.lsp_client.proofs.client.Client.send_change.Goals as goal
 
 pub returns-in_err-plan-clause-error : goal.returns-in_err-plan-clause-error
 returns-in_err-plan-clause-error c =
-    let s : State = c.args.self.now in
+    let s : ClientData = c.args.self.now in
     let version : to_z w32 (of_z w32 c.args.version) ≡ c.args.version = to_z-of_z w32 c.args.version (search rules) in
     let p = err_from_is_err_and c.from_residual.result c.from_residual.ensures.1 in
     rw (p.1, p.2)
     (change_refused c.self.inside.store.limits c.self.inside.store.table s c.agreement-encoding.result c.args.uri.now c.args.version (map edit_of c.args.changes.now) c.in_err-plan.field-0.0
-    (ap (λ (x : State). x.limits) c.self.view_is) (ap (λ (x : State). x.table) c.self.view_is) c.agreement-encoding.ensures c.requires
+    (ap (λ (x : ClientData). x.limits) c.self.view_is) (ap (λ (x : ClientData). x.table) c.self.view_is) c.agreement-encoding.ensures c.requires
     (refused_first _ _ _ (rw version at c.in_err-plan.ensures.error)))
 
 pub returns-in_err-frame-clause-error : goal.returns-in_err-frame-clause-error
 returns-in_err-frame-clause-error c =
-    let s : State = c.args.self.now in
+    let s : ClientData = c.args.self.now in
     let version : to_z w32 (of_z w32 c.args.version) ≡ c.args.version = to_z-of_z w32 c.args.version (search rules) in
     let p = err_from_is_err_and c.from_residual-in_err-frame.result c.from_residual-in_err-frame.ensures.1 in
     rw (p.1, p.2)
     (change_refused c.self.inside.store.limits c.self.inside.store.table s c.agreement-encoding.result c.args.uri.now c.args.version (map edit_of c.args.changes.now) c.in_err-frame.field-0.0
-    (ap (λ (x : State). x.limits) c.self.view_is) (ap (λ (x : State). x.table) c.self.view_is) c.agreement-encoding.ensures c.requires
+    (ap (λ (x : ClientData). x.limits) c.self.view_is) (ap (λ (x : ClientData). x.table) c.self.view_is) c.agreement-encoding.ensures c.requires
     (c.in_err-frame.ensures.error c.args.uri.now c.args.version c.agreement-encoding.result.encoding (map edit_of c.args.changes.now) (rw version at c.in_ok-plan.ensures.planned)))
 
 pub returns-clause-ok : goal.returns-clause-ok
 returns-clause-ok c =
-    let s : State = c.args.self.now in
+    let s : ClientData = c.args.self.now in
     let version : to_z w32 (of_z w32 c.args.version) ≡ c.args.version = to_z-of_z w32 c.args.version (search rules) in
-    let limits = ap (λ (x : State). x.limits) c.self.view_is in
-    let table = ap (λ (x : State). x.table) c.self.view_is in
+    let limits = ap (λ (x : ClientData). x.limits) c.self.view_is in
+    let table = ap (λ (x : ClientData). x.table) c.self.view_is in
     let planned = rw version at c.in_ok-plan.ensures.planned in
     let framed = c.in_ok-frame.ensures.framed c.args.uri.now c.args.version c.agreement-encoding.result.encoding (map edit_of c.args.changes.now) planned in
     let taken = c.in_ok-apply.ensures.taken c.args.uri.now c.args.version c.agreement-encoding.result.encoding (map edit_of c.args.changes.now) planned in
@@ -48,8 +48,8 @@ returns-clause-ok c =
 pub returns-in_err-plan-clause-memory : goal.returns-in_err-plan-clause-memory
 returns-in_err-plan-clause-memory c = λ e.
     let version : to_z w32 (of_z w32 c.args.version) ≡ c.args.version = to_z-of_z w32 c.args.version (search rules) in
-    let limits = ap (λ (x : State). x.limits) c.self.view_is in
-    let table = ap (λ (x : State). x.table) c.self.view_is in
+    let limits = ap (λ (x : ClientData). x.limits) c.self.view_is in
+    let table = ap (λ (x : ClientData). x.table) c.self.view_is in
     let p = err_from_is_err_and c.from_residual.result c.from_residual.ensures.1 in
     let converted = p.1 in
     let same = p.2 in
@@ -60,15 +60,15 @@ returns-in_err-plan-clause-memory c = λ e.
 pub returns-in_err-frame-clause-memory : goal.returns-in_err-frame-clause-memory
 returns-in_err-frame-clause-memory c = λ e.
     let version : to_z w32 (of_z w32 c.args.version) ≡ c.args.version = to_z-of_z w32 c.args.version (search rules) in
-    let limits = ap (λ (x : State). x.limits) c.self.view_is in
-    let table = ap (λ (x : State). x.table) c.self.view_is in
+    let limits = ap (λ (x : ClientData). x.limits) c.self.view_is in
+    let table = ap (λ (x : ClientData). x.table) c.self.view_is in
     let left = c.in_ok-plan.ensures.planned.left in
     rw (version, limits, table) at left
 
 pub returns-in_err-apply-clause-memory : goal.returns-in_err-apply-clause-memory
 returns-in_err-apply-clause-memory c = λ e.
     let version : to_z w32 (of_z w32 c.args.version) ≡ c.args.version = to_z-of_z w32 c.args.version (search rules) in
-    let limits = ap (λ (x : State). x.limits) c.self.view_is in
-    let table = ap (λ (x : State). x.table) c.self.view_is in
+    let limits = ap (λ (x : ClientData). x.limits) c.self.view_is in
+    let table = ap (λ (x : ClientData). x.table) c.self.view_is in
     let left = c.in_ok-plan.ensures.planned.left in
     rw (version, limits, table) at left

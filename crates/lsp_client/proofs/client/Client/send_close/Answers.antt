@@ -3,16 +3,16 @@ use Rattle.std.proofs.lemmas.Result.{err_from_is_err_and}
 use Rattle.lsp_frame.specs.Frame.{frame}
 use Rattle.lsp_store.specs.Table as documents
 use Rattle.lsp_store.specs.Table.{entry_at, command_refusal}
-use Rattle.lsp_client.specs.Step.{State, agreement}
+use Rattle.lsp_client.specs.Step.{ClientData, agreement}
 use Rattle.lsp_client.proofs.SentLemmas.{order_sent, close_sent, long_refused, body_within, may_close}
 use Rattle.lsp_client.proofs.client.Client.send_close.Goals as goal
 
 pub returns-in_err-frame-clause-error : goal.returns-in_err-frame-clause-error
 returns-in_err-frame-clause-error c =
-    let s : State = c.args.self.now in
-    let limits : c.limits.result ≡ s.limits = c.limits.ensures ∙ ap (λ (x : State). x.limits) c.self.view_is in
+    let s : ClientData = c.args.self.now in
+    let limits : c.limits.result ≡ s.limits = c.limits.ensures ∙ ap (λ (x : ClientData). x.limits) c.self.view_is in
     let may : command_refusal s.limits s.table (documents.closes c.args.uri.now) ≡ None =
-    may_close s.limits s.table c.args.uri.now c.in-Some.field-0 (sym c.in-Some.is ∙ c.get.ensures ∙ ap (λ (x : State). entry_at x.table c.args.uri.now) c.self.view_is) in
+    may_close s.limits s.table c.args.uri.now c.in-Some.field-0 (sym c.in-Some.is ∙ c.get.ensures ∙ ap (λ (x : ClientData). entry_at x.table c.args.uri.now) c.self.view_is) in
     let p = err_from_is_err_and c.from_residual-in_err-frame.result c.from_residual-in_err-frame.ensures.1 in
     rw (p.1, p.2)
     (long_refused c.limits.result s (agreement s).kind (documents.closes c.args.uri.now) _ c.in_err-frame.field-0.0 limits may
@@ -20,8 +20,8 @@ returns-in_err-frame-clause-error c =
 
 pub returns-clause-ok : goal.returns-clause-ok
 returns-clause-ok c =
-    let s : State = c.args.self.now in
-    let limits : c.limits.result ≡ s.limits = c.limits.ensures ∙ ap (λ (x : State). x.limits) c.self.view_is in
+    let s : ClientData = c.args.self.now in
+    let limits : c.limits.result ≡ s.limits = c.limits.ensures ∙ ap (λ (x : ClientData). x.limits) c.self.view_is in
     let body = close_sent (agreement s).kind s.table _ c.args.uri.now c.in_ok-from_str.ensures.ok in
     order_sent c.self.inside.offers c.self.inside.phase c.self.inside.agreed c.self.inside.store c.close.new.self s (agreement s).kind (documents.closes c.args.uri.now) _
     c.self.view_is c.in_ok-close.ensures.taken
@@ -30,15 +30,15 @@ returns-clause-ok c =
 
 pub returns-in_err-from_str-clause-memory : goal.returns-in_err-from_str-clause-memory
 returns-in_err-from_str-clause-memory c = λ e.
-    let s : State = c.args.self.now in
-    may_close s.limits s.table c.args.uri.now c.in-Some.field-0 (sym c.in-Some.is ∙ c.get.ensures ∙ ap (λ (x : State). entry_at x.table c.args.uri.now) c.self.view_is)
+    let s : ClientData = c.args.self.now in
+    may_close s.limits s.table c.args.uri.now c.in-Some.field-0 (sym c.in-Some.is ∙ c.get.ensures ∙ ap (λ (x : ClientData). entry_at x.table c.args.uri.now) c.self.view_is)
 
 pub returns-in_err-frame-clause-memory : goal.returns-in_err-frame-clause-memory
 returns-in_err-frame-clause-memory c = λ e.
-    let s : State = c.args.self.now in
-    may_close s.limits s.table c.args.uri.now c.in-Some.field-0 (sym c.in-Some.is ∙ c.get.ensures ∙ ap (λ (x : State). entry_at x.table c.args.uri.now) c.self.view_is)
+    let s : ClientData = c.args.self.now in
+    may_close s.limits s.table c.args.uri.now c.in-Some.field-0 (sym c.in-Some.is ∙ c.get.ensures ∙ ap (λ (x : ClientData). entry_at x.table c.args.uri.now) c.self.view_is)
 
 pub returns-in_err-close-clause-memory : goal.returns-in_err-close-clause-memory
 returns-in_err-close-clause-memory c = λ e.
-    let s : State = c.args.self.now in
-    may_close s.limits s.table c.args.uri.now c.in-Some.field-0 (sym c.in-Some.is ∙ c.get.ensures ∙ ap (λ (x : State). entry_at x.table c.args.uri.now) c.self.view_is)
+    let s : ClientData = c.args.self.now in
+    may_close s.limits s.table c.args.uri.now c.in-Some.field-0 (sym c.in-Some.is ∙ c.get.ensures ∙ ap (λ (x : ClientData). entry_at x.table c.args.uri.now) c.self.view_is)

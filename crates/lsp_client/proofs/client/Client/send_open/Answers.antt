@@ -7,7 +7,7 @@ use Rattle.lsp_message.specs.declared.params.OpenParams.{OpenParams}
 use Rattle.lsp_store.specs.Opened.{Takes}
 use Rattle.lsp_store.specs.Table as documents
 use Rattle.lsp_store.specs.Table.{Command, command_refusal}
-use Rattle.lsp_client.specs.Step.{State, agreement}
+use Rattle.lsp_client.specs.Step.{ClientData, agreement}
 use Rattle.lsp_client.proofs.OrderLemmas.{refused_first, some_same}
 use Rattle.lsp_client.proofs.SentLemmas.{order_sent, open_sent, long_refused, body_within}
 use Rattle.lsp_store.specs.declared.fault.StoreFault.TheVariants as store_faults
@@ -15,33 +15,33 @@ use Rattle.lsp_client.proofs.client.Client.send_open.Goals as goal
 
 pub returns-in_err-may_open-clause-error : goal.returns-in_err-may_open-clause-error
 returns-in_err-may_open-clause-error c =
-    let s : State = c.args.self.now in
+    let s : ClientData = c.args.self.now in
     let entry : DocumentItem = record { uri = string_bytes c.args.uri; language = string_bytes c.args.language; version = c.args.version; text = string_bytes c.args.text } in
     let p = err_from_is_err_and c.from_residual.result c.from_residual.ensures.1 in
     rw (p.1, p.2)
     (refused_first (command_refusal s.limits s.table (documents.opens entry)) _ _
-    (inr (rw (c.deref.ensures, c.deref-2.ensures, ap (λ (x : State). x.limits) c.self.view_is, ap (λ (x : State). x.table) c.self.view_is) at (c.in_err-may_open.ensures.error entry.language entry.version))))
+    (inr (rw (c.deref.ensures, c.deref-2.ensures, ap (λ (x : ClientData). x.limits) c.self.view_is, ap (λ (x : ClientData). x.table) c.self.view_is) at (c.in_err-may_open.ensures.error entry.language entry.version))))
 
 pub returns-in_err-frame-clause-error : goal.returns-in_err-frame-clause-error
 returns-in_err-frame-clause-error c =
-    let s : State = c.args.self.now in
+    let s : ClientData = c.args.self.now in
     let version : to_z w32 (of_z w32 c.args.version) ≡ c.args.version = to_z-of_z w32 c.args.version (search rules) in
     let params : DocumentItem = record { uri = string_bytes c.args.uri; language = string_bytes c.args.language; version = c.args.version; text = string_bytes c.args.text } in
     let command : Command = documents.opens params in
-    let limits : c.limits.result ≡ s.limits = c.limits.ensures ∙ ap (λ (x : State). x.limits) c.self.view_is in
+    let limits : c.limits.result ≡ s.limits = c.limits.ensures ∙ ap (λ (x : ClientData). x.limits) c.self.view_is in
     let may : command_refusal s.limits s.table command ≡ None =
-    rw (c.deref.ensures, c.deref-2.ensures, ap (λ (x : State). x.limits) c.self.view_is, ap (λ (x : State). x.table) c.self.view_is) at (c.in_ok-may_open.ensures.may params.language params.version) in
+    rw (c.deref.ensures, c.deref-2.ensures, ap (λ (x : ClientData). x.limits) c.self.view_is, ap (λ (x : ClientData). x.table) c.self.view_is) at (c.in_ok-may_open.ensures.may params.language params.version) in
     let p = err_from_is_err_and c.from_residual-in_err-frame.result c.from_residual-in_err-frame.ensures.1 in
     rw (p.1, p.2)
     (long_refused c.limits.result s (agreement s).kind command _ c.in_err-frame.field-0.0 limits may (open_sent (agreement s).kind s.table params) (rw version at c.in_err-frame.ensures.error))
 
 pub returns-clause-ok : goal.returns-clause-ok
 returns-clause-ok c =
-    let s : State = c.args.self.now in
+    let s : ClientData = c.args.self.now in
     let version : to_z w32 (of_z w32 c.args.version) ≡ c.args.version = to_z-of_z w32 c.args.version (search rules) in
     let params : DocumentItem = record { uri = string_bytes c.args.uri; language = string_bytes c.args.language; version = c.args.version; text = string_bytes c.args.text } in
     let command : Command = documents.opens params in
-    let limits : c.limits.result ≡ s.limits = c.limits.ensures ∙ ap (λ (x : State). x.limits) c.self.view_is in
+    let limits : c.limits.result ≡ s.limits = c.limits.ensures ∙ ap (λ (x : ClientData). x.limits) c.self.view_is in
     let body = open_sent (agreement s).kind s.table params in
     let is = some_same _ _ (sym c.in-Some.is ∙ c.open_params.ensures _ refl) in
     let uri : string_bytes c.in-Some.params.uri ≡ string_bytes c.args.uri = ap (λ (p : OpenParams). string_bytes p.uri) is in
@@ -65,8 +65,8 @@ returns-in_err-may_open-clause-memory c = λ e.
 
 pub returns-in_err-frame-clause-memory : goal.returns-in_err-frame-clause-memory
 returns-in_err-frame-clause-memory c = λ e.
-    rw (c.deref.ensures, c.deref-2.ensures, ap (λ (x : State). x.limits) c.self.view_is, ap (λ (x : State). x.table) c.self.view_is) at (c.in_ok-may_open.ensures.may (string_bytes c.args.language) c.args.version)
+    rw (c.deref.ensures, c.deref-2.ensures, ap (λ (x : ClientData). x.limits) c.self.view_is, ap (λ (x : ClientData). x.table) c.self.view_is) at (c.in_ok-may_open.ensures.may (string_bytes c.args.language) c.args.version)
 
 pub returns-in_err-open-clause-memory : goal.returns-in_err-open-clause-memory
 returns-in_err-open-clause-memory c = λ e.
-    rw (c.deref.ensures, c.deref-2.ensures, ap (λ (x : State). x.limits) c.self.view_is, ap (λ (x : State). x.table) c.self.view_is) at (c.in_ok-may_open.ensures.may (string_bytes c.args.language) c.args.version)
+    rw (c.deref.ensures, c.deref-2.ensures, ap (λ (x : ClientData). x.limits) c.self.view_is, ap (λ (x : ClientData). x.table) c.self.view_is) at (c.in_ok-may_open.ensures.may (string_bytes c.args.language) c.args.version)

@@ -5,7 +5,7 @@ use Rattle.lsp_frame.specs.Frame.{frame}
 use Rattle.lsp_edit.specs.Edited.{edit_of}
 use Rattle.lsp_store.specs.Table as documents
 use Rattle.lsp_store.specs.Table.{Command, command_refusal}
-use Rattle.lsp_client.specs.Step.{State, agreement}
+use Rattle.lsp_client.specs.Step.{ClientData, agreement}
 use Rattle.lsp_client.specs.inside.Orders.{whole_change}
 use Rattle.lsp_client.proofs.OrderLemmas.{refused_first}
 use Rattle.lsp_client.proofs.WholeLemmas.{planned_whole}
@@ -16,17 +16,17 @@ use Rattle.lsp_client.proofs.client.Client.send_whole.Goals as goal
 pub returns-in_err-plan-clause-error : goal.returns-in_err-plan-clause-error
 returns-in_err-plan-clause-error c =
     let version : to_z w32 (of_z w32 c.args.version) ≡ c.args.version = to_z-of_z w32 c.args.version (search rules) in
-    let limits = ap (λ (x : State). x.limits) c.self.view_is in
-    let table = ap (λ (x : State). x.table) c.self.view_is in
+    let limits = ap (λ (x : ClientData). x.limits) c.self.view_is in
+    let table = ap (λ (x : ClientData). x.table) c.self.view_is in
     let p = err_from_is_err_and c.from_residual.result c.from_residual.ensures.1 in
     rw (p.1, p.2) (refused_first _ _ _ (rw (version, c.agreement-encoding.ensures, limits, table) at c.in_err-plan.ensures.error))
 
 pub returns-in_err-frame-clause-error : goal.returns-in_err-frame-clause-error
 returns-in_err-frame-clause-error c =
-    let s : State = c.args.self.now in
+    let s : ClientData = c.args.self.now in
     let version : to_z w32 (of_z w32 c.args.version) ≡ c.args.version = to_z-of_z w32 c.args.version (search rules) in
-    let limits = ap (λ (x : State). x.limits) c.self.view_is in
-    let table = ap (λ (x : State). x.table) c.self.view_is in
+    let limits = ap (λ (x : ClientData). x.limits) c.self.view_is in
+    let table = ap (λ (x : ClientData). x.table) c.self.view_is in
     let command : Command = documents.changes c.args.uri.now c.args.version (agreement s).encoding (map edit_of c.args.changes.now) in
     let planned = rw version at c.in_ok-plan.ensures.planned in
     let may : command_refusal s.limits s.table command ≡ None = rw (c.agreement-encoding.ensures, limits, table) at planned.accepted in
@@ -38,10 +38,10 @@ returns-in_err-frame-clause-error c =
 
 pub returns-clause-ok : goal.returns-clause-ok
 returns-clause-ok c =
-    let s : State = c.args.self.now in
+    let s : ClientData = c.args.self.now in
     let version : to_z w32 (of_z w32 c.args.version) ≡ c.args.version = to_z-of_z w32 c.args.version (search rules) in
-    let limits = ap (λ (x : State). x.limits) c.self.view_is in
-    let table = ap (λ (x : State). x.table) c.self.view_is in
+    let limits = ap (λ (x : ClientData). x.limits) c.self.view_is in
+    let table = ap (λ (x : ClientData). x.table) c.self.view_is in
     let command : Command = documents.changes c.args.uri.now c.args.version (agreement s).encoding (map edit_of c.args.changes.now) in
     let planned = rw version at c.in_ok-plan.ensures.planned in
     let left = planned_whole _ _ _ _ _ _ planned _ (c.in_ok-text.ensures planned.on) in
@@ -56,8 +56,8 @@ returns-clause-ok c =
 pub returns-in_err-plan-clause-memory : goal.returns-in_err-plan-clause-memory
 returns-in_err-plan-clause-memory c = λ e.
     let version : to_z w32 (of_z w32 c.args.version) ≡ c.args.version = to_z-of_z w32 c.args.version (search rules) in
-    let limits = ap (λ (x : State). x.limits) c.self.view_is in
-    let table = ap (λ (x : State). x.table) c.self.view_is in
+    let limits = ap (λ (x : ClientData). x.limits) c.self.view_is in
+    let table = ap (λ (x : ClientData). x.table) c.self.view_is in
     let p = err_from_is_err_and c.from_residual.result c.from_residual.ensures.1 in
     let converted = p.1 in
     let same = p.2 in
@@ -68,23 +68,23 @@ returns-in_err-plan-clause-memory c = λ e.
 pub returns-in_err-text-clause-memory : goal.returns-in_err-text-clause-memory
 returns-in_err-text-clause-memory c = λ e.
     let version : to_z w32 (of_z w32 c.args.version) ≡ c.args.version = to_z-of_z w32 c.args.version (search rules) in
-    let limits = ap (λ (x : State). x.limits) c.self.view_is in
-    let table = ap (λ (x : State). x.table) c.self.view_is in
+    let limits = ap (λ (x : ClientData). x.limits) c.self.view_is in
+    let table = ap (λ (x : ClientData). x.table) c.self.view_is in
     let left = c.in_ok-plan.ensures.planned.left in
     rw (version, limits, table) at left
 
 pub returns-in_err-frame-clause-memory : goal.returns-in_err-frame-clause-memory
 returns-in_err-frame-clause-memory c = λ e.
     let version : to_z w32 (of_z w32 c.args.version) ≡ c.args.version = to_z-of_z w32 c.args.version (search rules) in
-    let limits = ap (λ (x : State). x.limits) c.self.view_is in
-    let table = ap (λ (x : State). x.table) c.self.view_is in
+    let limits = ap (λ (x : ClientData). x.limits) c.self.view_is in
+    let table = ap (λ (x : ClientData). x.table) c.self.view_is in
     let left = c.in_ok-plan.ensures.planned.left in
     rw (version, limits, table) at left
 
 pub returns-in_err-apply-clause-memory : goal.returns-in_err-apply-clause-memory
 returns-in_err-apply-clause-memory c = λ e.
     let version : to_z w32 (of_z w32 c.args.version) ≡ c.args.version = to_z-of_z w32 c.args.version (search rules) in
-    let limits = ap (λ (x : State). x.limits) c.self.view_is in
-    let table = ap (λ (x : State). x.table) c.self.view_is in
+    let limits = ap (λ (x : ClientData). x.limits) c.self.view_is in
+    let table = ap (λ (x : ClientData). x.table) c.self.view_is in
     let left = c.in_ok-plan.ensures.planned.left in
     rw (version, limits, table) at left

@@ -3,7 +3,7 @@ use Rattle.std.specs.Str.{chars}
 use Rattle.std.proofs.lemmas.List.{length-map}
 use Rattle.std.proofs.lemmas.Result.{err_from_is_err_and}
 use Rattle.lsp_text.specs.Units.{units_in}
-use Rattle.lsp_edit.specs.Edited.{Edited}
+use Rattle.lsp_edit.specs.Edited.{PlainData}
 use Rattle.lsp_edit.specs.Plain.{item_of, items_in_order}
 use Rattle.lsp_edit.proofs.Composing.AppliedLemmas.{fault_told}
 use Rattle.lsp_edit.proofs.Composing.EditedLemmas.{edited_chars, places_told}
@@ -16,7 +16,7 @@ returns-in_err-start c =
     rw (p.1, p.2)
     (fault_told (units_in c.args.encoding) c.args.self.now.before c.args.self.now.items c.args.text.now c.args.range c.args.self.now.changes _
     (places_told (units_in c.args.encoding) c.args.range _ c.args.self.now (chars c.deref.result.now) c.self.inside.changes
-    (sym (ap (λ (e : Edited). e.changes) c.self.view_is))
+    (sym (ap (λ (e : PlainData). e.changes) c.self.view_is))
     (sym (edited_chars c.args.self.now c.deref.result.now c.deref.utf8 (c.deref.ensures ∙ c.in_ok-now.ensures)))
     (places_on c.self.inside.changes (units_in c.args.encoding) c.args.range _ _ _ c.in_ok-before.ensures c.in_err-start.ensures)))
 
@@ -39,14 +39,14 @@ put_between-requires-clause-within c =
     let r : AreFound (units_in c.args.encoding) c.args.self.now.before c.args.self.now.items c.args.range c.deref.result.now c.in_ok-start.start c.in_ok-start.stop
     = found (units_in c.args.encoding) c.args.self.now c.args.range c.self.inside.changes c.in_ok-start.start c.in_ok-start.stop c.deref.result.now c.deref.utf8 (c.deref.ensures ∙ c.in_ok-now.ensures) (places_on c.self.inside.changes (units_in c.args.encoding) c.args.range _ _ _ c.in_ok-before.ensures c.in_ok-start.ensures) in
     let high : c.in_ok-high.high ≡ r.ends.high = c.in_ok-high.ensures ∙ (ap (λ (bytes : List ℕ). length (chars (take c.in_ok-start.stop bytes))) (c.deref-3.ensures ∙ sym c.deref.ensures) ∙ r.high) in
-    omega (arith, r.within, ap length c.deref-4.ensures.value, length-map c.self.inside.items.items item_of, ap (λ (e : Edited). length e.items) c.self.view_is)
+    omega (arith, r.within, ap length c.deref-4.ensures.value, length-map c.self.inside.items.items item_of, ap (λ (e : PlainData). length e.items) c.self.view_is)
 
 pub returns : goal.returns
 returns c =
     let r : AreFound (units_in c.args.encoding) c.args.self.now.before c.args.self.now.items c.args.range c.deref.result.now c.in_ok-start.start c.in_ok-start.stop
     = found (units_in c.args.encoding) c.args.self.now c.args.range c.self.inside.changes c.in_ok-start.start c.in_ok-start.stop c.deref.result.now c.deref.utf8 (c.deref.ensures ∙ c.in_ok-now.ensures) (places_on c.self.inside.changes (units_in c.args.encoding) c.args.range _ _ _ c.in_ok-before.ensures c.in_ok-start.ensures) in
     range_put (units_in c.args.encoding) c.args.self.now.before c.args.self.now.items _ _ c.args.text.now c.args.range c.in_ok-start.start c.in_ok-start.stop c.in_ok-low.low c.in_ok-high.high r.ends
-    (ap items_in_order c.deref-4.ensures.value ∙ ap (λ (e : Edited). e.items) c.self.view_is)
+    (ap items_in_order c.deref-4.ensures.value ∙ ap (λ (e : PlainData). e.items) c.self.view_is)
     (c.in_ok-low.ensures ∙ (ap (λ (bytes : List ℕ). length (chars (take c.in_ok-start.start bytes))) (c.deref-2.ensures ∙ sym c.deref.ensures) ∙ r.low))
     (c.in_ok-high.ensures ∙ (ap (λ (bytes : List ℕ). length (chars (take c.in_ok-start.stop bytes))) (c.deref-3.ensures ∙ sym c.deref.ensures) ∙ r.high))
     c.in_ok-put_between.ensures

@@ -1,5 +1,5 @@
 use Rattle.std.proofs.Common.{◌≡◌, ◌∙◌, ℕ, List, ap, sym, subst, append-nil}
-use Rattle.lsp_text.specs.Gapped.{Gapped, IsGapText, without_gap}
+use Rattle.lsp_text.specs.Gapped.{GapData, IsGapText, without_gap}
 use Rattle.lsp_text.proofs.Gaps.GapTextLemmas.{gap_begun}
 use Rattle.lsp_text.proofs.gap_text.GapText.new.Goals as goal
 
@@ -9,4 +9,4 @@ invariant_of-result c =
     = ap without_gap c.in_ok-bytes.ensures ∙ (append-nil c.as_bytes.result.now ∙ c.as_bytes.ensures.value) in
     subst (λ (bytes : List ℕ). IsGapText bytes c.new-starts.result.front c.new-starts.result.back) (sym whole)
     (gap_begun c.args.text.now c.args.lines c.new-starts.result.front c.new-starts.result.back c.utf8.text c.requires.indexed
-    (ap (λ (starts : Gapped). starts.front) c.new-starts.ensures ∙ c.into_starts.ensures) (ap (λ (starts : Gapped). starts.back) c.new-starts.ensures))
+    (ap (λ (starts : GapData). starts.front) c.new-starts.ensures ∙ c.into_starts.ensures) (ap (λ (starts : GapData). starts.back) c.new-starts.ensures))
