@@ -1,6 +1,6 @@
 //! Positions as they are counted from a block on, which may begin inside a line.
 ghost use Rattle.std.specs.Prelude.{◌≡◌, ◌+◌, ◌<◌, ◌^◌, length, slice_index};
-ghost use Rattle.lsp_text.specs.Starts.{AreStarts, IsLineOf};
+ghost use Rattle.lsp_text.specs.Starts.{AreStarts, IsLineOf as IsBlockOf};
 ghost use Rattle.lsp_buffer.specs.Blocks.{carried};
 ghost use Rattle.lsp_buffer.specs.inside.Seams.{AreMarks, IsAtOrAfter, mark, marks_of, position_after, position_from};
 
@@ -51,7 +51,7 @@ impl Starts for Marks<'_> {
 /// Returns the last block that begins at a position or before it. Costs a binary search.
 pub fn block_at(lines: &[u32], heads: &[u32], position: Position) -> usize
     requires { AreMarks lines.now heads.now }
-    ensures { IsLineOf (marks_of lines.now heads.now) (mark position.line position.character)
+    ensures { IsBlockOf (marks_of lines.now heads.now) (mark position.line position.character)
         result }
 {
     let mut marks = Marks {

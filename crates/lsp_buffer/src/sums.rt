@@ -1,6 +1,6 @@
 //! What comes before each block, kept as sums: the first byte of each block, and its first line.
 ghost use Rattle.std.specs.Prelude.{◌≡◌, ◌+◌, ◌-◌, ◌++◌, ◌≤◌, ◌<◌, ◌^◌, ℕ, IfOk, OnOk, length, map, take, drop, sum, slice_index, vec_len};
-ghost use Rattle.lsp_text.specs.Starts.{AreStarts, IsLineOf};
+ghost use Rattle.lsp_text.specs.Starts.{AreStarts, IsLineOf as IsBlockOf};
 ghost use Rattle.lsp_buffer.specs.Blocks.{ends_of, sums_from};
 
 use crate::block::Block;
@@ -35,7 +35,7 @@ impl Starts for Sums<'_> {
 /// Returns the last block whose sum is at most a number. Costs a binary search.
 pub fn block_of(sums: &[u32], number: usize) -> usize
     requires { AreStarts sums.now }
-    ensures { IsLineOf sums.now number result }
+    ensures { IsBlockOf sums.now number result }
 {
     let mut looks = Sums {
         sums,
@@ -86,7 +86,7 @@ pub fn line_blocks(lines: &[u32], first: usize) -> usize
     requires starts { AreStarts lines.now }
     requires within { first < length lines.now }
     ensures some { 0 < result }
-    ensures last { IsLineOf lines.now (slice_index lines.now first) (first + result - 1) }
+    ensures last { IsBlockOf lines.now (slice_index lines.now first) (first + result - 1) }
 {
     block_of(lines, lines[first] as usize) + 1 - first
 }

@@ -11,7 +11,7 @@ pub mod Indexed
 pub mod TextEdits
 pub mod Joined
 pub mod Once
-pub mod Deltas
 pub mod Plain
 pub mod inside
 pub mod laws
+pub mod Layers

@@ -1,10 +1,10 @@
 -- Definitions that only private contracts speak of.
 pub mod Gaps
 pub mod TextBatch
-pub mod Deltas
 pub mod Faults
 pub mod Joined
 pub mod OldLines
 pub mod OldText
 pub mod Parts
 pub mod Plain
+pub mod Layers

@@ -5,15 +5,15 @@ ghost use Rattle.std.specs.List.{replace_range};
 ghost use Rattle.std.specs.Str.{chars};
 ghost use Rattle.lsp_text.specs.Units.{units_in};
 ghost use Rattle.lsp_edit.specs.Canonical.{canonical};
-ghost use Rattle.lsp_edit.specs.Deltas.{delta_parts};
-ghost use Rattle.lsp_edit.specs.inside.Deltas.{IsDelta};
+ghost use Rattle.lsp_edit.specs.Layers.{layer_parts};
+ghost use Rattle.lsp_edit.specs.inside.Layers.{IsLayer};
 ghost use Rattle.lsp_edit.specs.Edited.{edit_of};
 ghost use Rattle.lsp_edit.specs.Items.{Item};
 ghost use Rattle.lsp_edit.specs.Once.{IsOn, IsPut, bytes_after, encoding_of, meant_by, put_items};
 
 use crate::change::Change;
 use crate::indexed::IndexedText;
-use crate::joined::delta::Delta as Layer;
+use crate::joined::layer::Layer;
 use crate::pieces::canonical::canonical_of;
 use crate::pieces::spans::Spans;
 use lsp_text::Encoding;
@@ -113,8 +113,8 @@ impl<'a> Delta<'a> {
         new: &str,
     ) -> Result<Layer, AllocError>
         requires put { IsPut (units_in _encoding) text.now start stop new.now }
-        ensures { IfOk result (λ layer. IsDelta (Ok (put_items text.now start stop new.now))
-            text.now (delta_parts layer)) }
+        ensures { IfOk result (λ layer. IsLayer (Ok (put_items text.now start stop new.now))
+            text.now (layer_parts layer)) }
     {
         let mut spans = Spans::whole(alloc, &text.as_old());
         spans.replace(alloc, start, stop, new)?;
@@ -145,8 +145,8 @@ impl<'a> Delta<'a> {
     /// three spans, and a copy of its new text. Any other batch is composed.
     pub(crate) fn layer(&self, alloc: Global, text: &IndexedText) -> Result<Layer, AllocError>
         requires on { IsOn text.now self.now }
-        ensures { IfOk result (λ layer. IsDelta (meant_by text.now self.now) text.now
-            (delta_parts layer)) }
+        ensures { IfOk result (λ layer. IsLayer (meant_by text.now self.now) text.now
+            (layer_parts layer)) }
     {
         match self {
             Delta::Put {

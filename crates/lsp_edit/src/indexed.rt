@@ -7,9 +7,9 @@ ghost use Rattle.lsp_text.specs.Units.{units_in};
 ghost use Rattle.lsp_text.specs.declared.position.Range.{Range};
 ghost use Rattle.lsp_edit.specs.declared.indexed.TextFault.TheVariants.{TooLong, NoMemory};
 ghost use Rattle.lsp_edit.specs.Batch.{meaning};
-ghost use Rattle.lsp_edit.specs.Deltas.{delta_parts};
+ghost use Rattle.lsp_edit.specs.Layers.{layer_parts};
 ghost use Rattle.lsp_edit.specs.Once.{IsDeltaOf, IsOn, bytes_after};
-ghost use Rattle.lsp_edit.specs.inside.Deltas.{IsDelta};
+ghost use Rattle.lsp_edit.specs.inside.Layers.{IsLayer};
 ghost use Rattle.lsp_edit.specs.Edited.{Means, edit_of, edited_bytes};
 ghost use Rattle.lsp_edit.specs.Indexed.{IsCanonicalBatch, alone, text_fault_of, text_within};
 ghost use Rattle.lsp_edit.specs.TextEdits.{IsBatchOfEdits, IsEditsFault};
@@ -21,7 +21,7 @@ use crate::composed::{MAX_OLD_TEXT, compose_old};
 use crate::delta::Delta;
 use crate::ends::ends;
 use crate::fault::EditFault;
-use crate::joined::delta::Delta as Layer;
+use crate::joined::layer::Layer;
 use crate::joined::{Joined, RUN};
 use crate::old_text::OldText;
 use crate::pieces::canonical::canonical_of;
@@ -388,9 +388,9 @@ impl IndexedText {
     ) -> Result<Layer, TextFault>
         requires size { length self.now ≤ MAX_OLD_TEXT }
         requires fits { sum_by (λ change. string_len change.text) changes.now ≤ MAX_NEW_TEXT }
-        ensures ok { IfOk result (λ delta. IsDelta
+        ensures ok { IfOk result (λ delta. IsLayer
             (meaning (units_in encoding) (chars self.now) (map edit_of changes.now)) self.now
-            (delta_parts delta)) }
+            (layer_parts delta)) }
         ensures within { OnOk result (IsOk (text_within max_len self.now
             (meaning (units_in encoding) (chars self.now) (map edit_of changes.now)))) }
         ensures error { IfErr result (λ fault. (fault ≡ NoMemory)

@@ -13,13 +13,13 @@ ghost use Rattle.lsp_edit.specs.Joined.{IsJoined, IsReached};
 ghost use Rattle.lsp_edit.specs.Once.{IsOn, meant_by};
 ghost use Rattle.lsp_edit.specs.inside.Joined.{IsWhole};
 
-pub(crate) mod delta;
+pub(crate) mod layer;
 
 use crate::change::{Change, MAX_NEW_TEXT};
 use crate::composed::MAX_OLD_TEXT;
 use crate::delta::Delta;
 use crate::indexed::{IndexedText, TextFault};
-use crate::joined::delta::Delta as Layer;
+use crate::joined::layer::Layer;
 use crate::pieces::MAX_TEXT;
 use crate::pieces::canonical::canonical_of;
 use crate::pieces::spans::Spans;
@@ -33,19 +33,19 @@ pub(crate) const RUN: usize = 1024;
 
 /// Batches of changes on a text, one after another, and their result as one.
 ///
-/// It keeps the text before them, and deltas, each over the text that the one before it leaves. Two
+/// It keeps the text before them, and layers, each over the text that the one before it leaves. Two
 /// neighbours of the same rank are joined, as a binary counter carries its digits. So each of k
 /// batches takes part in some log k joins.
 #[derive(Debug, Drop)]
 pub struct Joined {
     before: IndexedText,
-    deltas: Vec<Layer>,
+    layers: Vec<Layer>,
 }
 
 impl Model for Joined {
     ghost use Rattle.std.specs.Prelude.{map};
     ghost use Rattle.std.specs.Str.{chars};
-    ghost use Rattle.lsp_edit.specs.Deltas.{AllOver, delta_parts, items_over};
+    ghost use Rattle.lsp_edit.specs.Layers.{AllOver, layer_parts, items_over};
     ghost use Rattle.lsp_edit.specs.Items.{plain};
     ghost use Rattle.lsp_edit.specs.Joined.{JoinedData};
 
@@ -54,12 +54,12 @@ impl Model for Joined {
     ghost view = { λ joined. record {
       before = joined.before;
       items = items_over (chars joined.before) (plain (chars joined.before))
-          (map delta_parts joined.deltas.items);
+          (map layer_parts joined.layers.items);
     } };
 
     ghost invariant = { λ joined.
         AllOver (chars joined.before) (plain (chars joined.before))
-        (map delta_parts joined.deltas.items) };
+        (map layer_parts joined.layers.items) };
 }
 
 impl Joined {
@@ -95,7 +95,7 @@ impl Joined {
     {
         Joined {
             before,
-            deltas: Vec::new(alloc),
+            layers: Vec::new(alloc),
         }
     }
 
@@ -127,30 +127,30 @@ impl Joined {
         Ok(joined)
     }
 
-    /// Joins the last two deltas, if they have the same rank. Returns whether they had.
+    /// Joins the last two layers, if they have the same rank. Returns whether they had.
     fn join_last(&mut self) -> Result<bool, AllocError>
         ensures { self.new ≡ self.old }
     {
-        let len = self.deltas.len();
+        let len = self.layers.len();
         if len < 2 {
             return Ok(false);
         }
-        let first = &self.deltas[len - 2];
-        let second = &self.deltas[len - 1];
+        let first = &self.layers[len - 2];
+        let second = &self.layers[len - 1];
         if first.rank != second.rank {
             return Ok(false);
         }
-        let both = first.then(*self.deltas.allocator(), second)?;
-        self.deltas.truncate(len - 2);
-        self.deltas.push_reserved(both);
+        let both = first.then(*self.layers.allocator(), second)?;
+        self.layers.truncate(len - 2);
+        self.layers.push_reserved(both);
         Ok(true)
     }
 
-    /// Joins the last two deltas again and again, while they have the same rank.
+    /// Joins the last two layers again and again, while they have the same rank.
     fn join(&mut self) -> Result<(), AllocError>
         ensures { self.new ≡ self.old }
     {
-        for _ in 0..self.deltas.len() {
+        for _ in 0..self.layers.len() {
             if !self.join_last()? {
                 return Ok(());
             }
@@ -206,9 +206,9 @@ impl Joined {
         ensures unchanged { OnErr result (self.new ≡ self.old) }
     {
         self.join()?;
-        let layer = delta.layer(*self.deltas.allocator(), reached)?;
-        self.deltas.reserve(1)?;
-        self.deltas.push_reserved(layer);
+        let layer = delta.layer(*self.layers.allocator(), reached)?;
+        self.layers.reserve(1)?;
+        self.layers.push_reserved(layer);
         Ok(())
     }
 
@@ -239,28 +239,28 @@ impl Joined {
     {
         self.join()?;
         let delta = reached.delta(encoding, changes, max_len)?;
-        let next = delta.layer(*self.deltas.allocator(), reached)?;
-        self.deltas.reserve(1)?;
+        let next = delta.layer(*self.layers.allocator(), reached)?;
+        self.layers.reserve(1)?;
         reached.apply(delta)?;
-        self.deltas.push_reserved(next);
+        self.layers.push_reserved(next);
         Ok(())
     }
 
     /// Returns the canonical batch of all batches. It has one change for each changed gap between
     /// kept characters of the text before them, from the last gap to the first.
     ///
-    /// Fails only if it is out of memory. Costs a walk over the spans for some log k deltas of k
+    /// Fails only if it is out of memory. Costs a walk over the spans for some log k layers of k
     /// batches, and one exact position for each end of a changed gap.
     pub fn canonical(&self, encoding: Encoding) -> Result<Vec<Change>, AllocError>
         ensures { IfOk result (λ changes. map edit_of changes.items
             ≡ canonical (units_in encoding) (chars self.now.before) self.now.items) }
     {
-        let alloc = *self.deltas.allocator();
+        let alloc = *self.layers.allocator();
         let text = self.before.as_old();
         let whole = Spans::whole(alloc, &text);
         let mut spans = Vec::from_slice(alloc, whole.as_slice())?;
-        for delta in &self.deltas {
-            let next = delta.borrowed(alloc)?;
+        for layer in &self.layers {
+            let next = layer.borrowed(alloc)?;
             spans = spans_through(alloc, &spans, &next)?;
         }
         canonical_of(alloc, &text, &spans, encoding)

@@ -13,7 +13,7 @@
 //!   and its length are read from it.
 //! - `change`, `fault`: a change as the protocol writes it, the limit on the texts of a batch, and
 //!   why a change has no result.
-//! - `joined`: `Joined`, many batches, one after another, as one. `delta` is a part of it.
+//! - `joined`: `Joined`, many batches, one after another, as one. A `layer` is one of them.
 //! - `text_edits`: edits whose ranges all count in one old text, as formatters and `applyEdits`
 //!   send them.
 //! - `laws`: what follows from the definitions of a batch and its canonical batch alone.

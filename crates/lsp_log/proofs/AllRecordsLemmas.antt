@@ -133,11 +133,11 @@ module _ (decision : DecisionLaw) where
         | inr ends ↦ record { records = []; rest = bytes; is = refl; each = tt; ends = ends }
       ]
 
-  all_behind : (reading : LogRules) (input : List ℕ) (version : Version) → IsVersion reading.versions version input → (reading.only_one ≡ true → version ≡ One) → (rest : List ℕ)
-      → input ≡ line_of version ++ rest → AllRecords reading input
-  all_behind reading input version known accepted rest is =
-      let all : AllFrom reading.max_body version (length (line_of version)) (is_line_due version []) rest
-      = all_within (length rest) reading.max_body (length (line_of version)) version (is_line_due version []) rest (omega arith) in
+  all_behind : (log_rules : LogRules) (input : List ℕ) (version : Version) → IsVersion log_rules.versions version input → (log_rules.only_one ≡ true → version ≡ One) → (rest : List ℕ)
+      → input ≡ line_of version ++ rest → AllRecords log_rules input
+  all_behind log_rules input version known accepted rest is =
+      let all : AllFrom log_rules.max_body version (length (line_of version)) (is_line_due version []) rest
+      = all_within (length rest) log_rules.max_body (length (line_of version)) version (is_line_due version []) rest (omega arith) in
       record {
         log = record { version = version; records = all.records; rest = all.rest };
         reads = record {
@@ -149,11 +149,11 @@ module _ (decision : DecisionLaw) where
         none = all.ends;
       }
 
-  all_of_version : (reading : LogRules) (input : List ℕ) (version : Version) → IsVersion reading.versions version input → (reading.only_one ≡ true → version ≡ One) → AllRecords reading input
-  all_of_version reading input One known accepted = all_behind reading input One known accepted input refl
-  all_of_version reading input Two known accepted = all_behind reading input Two known accepted known.1.0 known.1.1
+  all_of_version : (log_rules : LogRules) (input : List ℕ) (version : Version) → IsVersion log_rules.versions version input → (log_rules.only_one ≡ true → version ≡ One) → AllRecords log_rules input
+  all_of_version log_rules input One known accepted = all_behind log_rules input One known accepted input refl
+  all_of_version log_rules input Two known accepted = all_behind log_rules input Two known accepted known.1.0 known.1.1
 
   pub all_records_law : AllRecordsLaw
-  all_records_law reading input allowed =
-      let found = version_decided reading.versions input in
-      all_of_version reading input found.0 found.1 (λ only_one. same_version reading.versions found.0 One input found.1 (allowed only_one))
+  all_records_law log_rules input allowed =
+      let found = version_decided log_rules.versions input in
+      all_of_version log_rules input found.0 found.1 (λ only_one. same_version log_rules.versions found.0 One input found.1 (allowed only_one))

@@ -16,9 +16,9 @@ together_len version (q ∷ rs) rest =
     omega (arith, together_len version rs rest, length-append (record_bytes version q) (together version rs rest), length-append (record_bytes version q) (together version rs []))
 
 -- how long the input is
-pub input_len : (reading : LogRules) (input : List ℕ) (log : Log) → IsReadAs reading input log
+pub input_len : (log_rules : LogRules) (input : List ℕ) (log : Log) → IsReadAs log_rules input log
     → length input ≡ length (line_of log.version) + length (together log.version log.records []) + length log.rest
-input_len reading input log reads =
+input_len log_rules input log reads =
     omega (arith, ap length reads.is, length-append (line_of log.version) (together log.version log.records log.rest), together_len log.version log.records log.rest)
 
 -- whether a record behind these has the line

@@ -80,33 +80,33 @@ none_after max_body version place due [] more rest end each is ends = none_more 
 none_after max_body version place due (r ∷ rs) more rest end each is ends = none_after max_body version (place + length (record_bytes version r)) false rs more rest end each.1 is ends
 
 pub first_of : FrontLaw → FirstLaw
-first_of front reading input log all reads also ends = record { more = f.more; all_are = f.all_are; same = same }
+first_of front log_rules input log all reads also ends = record { more = f.more; all_are = f.all_are; same = same }
   where
     version : log.version ≡ all.version
-    version = same_version reading.versions log.version all.version input reads.version also.version
+    version = same_version log_rules.versions log.version all.version input reads.version also.version
 
-    each : AreRecords reading.max_body log.version (length (line_of log.version)) (is_line_due log.version []) all.records
-    each = subst (λ (v : Version). AreRecords reading.max_body v (length (line_of v)) (is_line_due v []) all.records) (sym version) also.each
+    each : AreRecords log_rules.max_body log.version (length (line_of log.version)) (is_line_due log.version []) all.records
+    each = subst (λ (v : Version). AreRecords log_rules.max_body v (length (line_of v)) (is_line_due v []) all.records) (sym version) also.each
 
     is : input ≡ line_of log.version ++ together log.version all.records all.rest
     is = also.is ∙ ap (λ (v : Version). line_of v ++ together v all.records all.rest) (sym version)
 
-    end : IsEnd reading.max_body log.version all.rest
-    end = subst (λ (v : Version). IsEnd reading.max_body v all.rest) (sym version) ends
+    end : IsEnd log_rules.max_body log.version all.rest
+    end = subst (λ (v : Version). IsEnd log_rules.max_body v all.rest) (sym version) ends
 
     f : AreFirst log.version log.records all.records log.rest all.rest
     f =
-        first_records front reading.max_body log.version (length (line_of log.version)) (is_line_due log.version []) log.records all.records log.rest all.rest reads.each each
+        first_records front log_rules.max_body log.version (length (line_of log.version)) (is_line_due log.version []) log.records all.records log.rest all.rest reads.each each
         (append_cancel_left (line_of log.version) (together log.version log.records log.rest) (together log.version all.records all.rest) (sym reads.is ∙ is)) end
 
-    same : HasNoRecord reading.max_body log → log ≡ all
+    same : HasNoRecord log_rules.max_body log → log ≡ all
     same none =
-        let all_each : AreRecords reading.max_body log.version (length (line_of log.version)) (is_line_due log.version []) (log.records ++ f.more) =
-        subst (λ (rs : List Record). AreRecords reading.max_body log.version (length (line_of log.version)) (is_line_due log.version []) rs) f.all_are each in
-        let nothing : f.more ≡ [] = none_after reading.max_body log.version (length (line_of log.version)) (is_line_due log.version []) log.records f.more log.rest all.rest all_each f.rest_is none in
+        let all_each : AreRecords log_rules.max_body log.version (length (line_of log.version)) (is_line_due log.version []) (log.records ++ f.more) =
+        subst (λ (rs : List Record). AreRecords log_rules.max_body log.version (length (line_of log.version)) (is_line_due log.version []) rs) f.all_are each in
+        let nothing : f.more ≡ [] = none_after log_rules.max_body log.version (length (line_of log.version)) (is_line_due log.version []) log.records f.more log.rest all.rest all_each f.rest_is none in
         let records : log.records ≡ all.records = sym (f.all_are ∙ ap (λ (l : List Record). log.records ++ l) nothing ∙ append-nil log.records) in
         let rest : log.rest ≡ all.rest = f.rest_is ∙ ap (λ (l : List Record). together log.version l all.rest) nothing in
         λ i. record { version = version i; records = records i; rest = rest i }
 
 pub unique_law : FrontLaw → UniqueLaw
-unique_law front reading input log other reads ends also other_ends = (first_of front reading input log other reads also other_ends).same ends
+unique_law front log_rules input log other reads ends also other_ends = (first_of front log_rules input log other reads also other_ends).same ends

@@ -90,15 +90,15 @@ pub record Log : Type 0 where
 
 -- The input is the line of its version, these records, and then the rest. Its version isn't
 -- refused.
-pub record IsReadAs (reading : LogRules) (input : List ℕ) (log : Log) : Type 0 where
+pub record IsReadAs (log_rules : LogRules) (input : List ℕ) (log : Log) : Type 0 where
   -- the input is of this version
-  pub version : IsVersion reading.versions log.version input
+  pub version : IsVersion log_rules.versions log.version input
   -- that version isn't refused
-  pub accepted : reading.only_one ≡ true → log.version ≡ One
+  pub accepted : log_rules.only_one ≡ true → log.version ≡ One
   -- the line of the version, the records, and the rest
   pub is : input ≡ line_of log.version ++ together log.version log.records log.rest
   -- each record is a frame with its mark, at its byte offset
-  pub each : AreRecords reading.max_body log.version (length (line_of log.version))
+  pub each : AreRecords log_rules.max_body log.version (length (line_of log.version))
       (is_line_due log.version []) log.records
 
 -- The byte offset at which the rest begins.

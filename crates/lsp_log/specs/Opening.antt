@@ -16,6 +16,6 @@ IsBelowLine versions left_old left_new =
 
 -- What was read of an input has no fault so far: no complete record is left. The rest is empty or
 -- an incomplete record, or the input may still become the line of version 2.
-pub record IsUnfinished (reading : LogRules) (input : List ℕ) (log : Log) : Type 0 where
-  pub none : HasNoRecord reading.max_body log
-  pub undecided : IsUndecided reading.max_body log ⊎ ((reading.versions ≡ true) × IsLineFront input)
+pub record IsUnfinished (log_rules : LogRules) (input : List ℕ) (log : Log) : Type 0 where
+  pub none : HasNoRecord log_rules.max_body log
+  pub undecided : IsUndecided log_rules.max_body log ⊎ ((log_rules.versions ≡ true) × IsLineFront input)

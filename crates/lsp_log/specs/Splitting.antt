@@ -45,22 +45,22 @@ log_at s records more
 
 -- A splitter's state in an input: these records were released, and of the input only these bytes
 -- are still to come.
-pub record IsAfter (reading : LogRules) (input more : List ℕ) (records : List Record)
+pub record IsAfter (log_rules : LogRules) (input more : List ℕ) (records : List Record)
     (s : Splitter) : Type 0 where
-  pub reads : IsReadAs reading input (log_at s records more)
-  pub limit : s.framer.limits.max_body ≡ reading.max_body
+  pub reads : IsReadAs log_rules input (log_at s records more)
+  pub limit : s.framer.limits.max_body ≡ log_rules.max_body
   pub placed : s.place ≡ place_after 0 (length input - length (buffered_of s ++ more))
   pub framed : s.framer.place ≡ place_after 0 (length input - length (s.framer.buffered ++ more))
-  pub part : IsPart reading.max_body s.framer.buffered
-  pub one : HoldsOne reading.max_body s.framer.buffered
+  pub part : IsPart log_rules.max_body s.framer.buffered
+  pub one : HoldsOne log_rules.max_body s.framer.buffered
   pub side : IsSide s.version s.side
   pub due : s.line_due ≡ is_line_due s.version records
 
 -- The input at its start: the line of its version, and then these bytes.
-pub record IsOpen (reading : LogRules) (input : List ℕ) (version : Version)
+pub record IsOpen (log_rules : LogRules) (input : List ℕ) (version : Version)
     (more : List ℕ) : Type 0 where
-  pub known : IsVersion reading.versions version input
-  pub accepted : reading.only_one ≡ true → version ≡ One
+  pub known : IsVersion log_rules.versions version input
+  pub accepted : log_rules.only_one ≡ true → version ≡ One
   pub is : input ≡ line_of version ++ more
 
 -- Who wrote the record that is coming in.

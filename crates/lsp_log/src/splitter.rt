@@ -29,9 +29,9 @@ impl Splitter {
     pub fn new(alloc: Global, limits: Limits, version: Version) -> Splitter
         ensures ready { IsReady result }
         ensures version { result.version ≡ version }
-        ensures is_after { (reading : LogRules) (input more : List ℕ) →
-            reading.max_body ≡ limits.max_body → IsOpen reading input version more →
-            IsAfter reading input more [] result }
+        ensures is_after { (log_rules : LogRules) (input more : List ℕ) →
+            log_rules.max_body ≡ limits.max_body → IsOpen log_rules input version more →
+            IsAfter log_rules input more [] result }
     {
         let place = version.line().len() as u64;
         let mut framer = Framer::new(alloc, limits);
@@ -58,14 +58,14 @@ impl Splitter {
         ensures fed { OnOk result (IsFed self.new) }
         ensures version { self.new.version ≡ self.old.version }
         ensures is_after { IfOk result
-            (λ k. (reading : LogRules) (input : List ℕ) (records : List Record) →
-            IsAfter reading input piece.now records self.old →
-            IsAfter reading input (drop k piece.now) records self.new) }
+            (λ k. (log_rules : LogRules) (input : List ℕ) (records : List Record) →
+            IsAfter log_rules input piece.now records self.old →
+            IsAfter log_rules input (drop k piece.now) records self.new) }
         ensures kind { IfErr result IsSplitterFault }
         ensures error { IfErr result
-            (λ fault. (reading : LogRules) (input : List ℕ) (records : List Record) →
-            IsAfter reading input piece.now records self.old →
-            IsSplitFault reading.max_body input (log_at self.old records piece.now) fault) }
+            (λ fault. (log_rules : LogRules) (input : List ℕ) (records : List Record) →
+            IsAfter log_rules input piece.now records self.old →
+            IsSplitFault log_rules.max_body input (log_at self.old records piece.now) fault) }
     {
         if self.side.is_none() {
             return self.take_mark(piece);
@@ -82,14 +82,14 @@ impl Splitter {
         ensures fed { OnOk result (IsFed self.new) }
         ensures version { self.new.version ≡ self.old.version }
         ensures is_after { IfOk result
-            (λ k. (reading : LogRules) (input : List ℕ) (records : List Record) →
-            IsAfter reading input piece.now records self.old →
-            IsAfter reading input (drop k piece.now) records self.new) }
+            (λ k. (log_rules : LogRules) (input : List ℕ) (records : List Record) →
+            IsAfter log_rules input piece.now records self.old →
+            IsAfter log_rules input (drop k piece.now) records self.new) }
         ensures kind { IfErr result IsSplitterFault }
         ensures error { IfErr result
-            (λ fault. (reading : LogRules) (input : List ℕ) (records : List Record) →
-            IsAfter reading input piece.now records self.old →
-            IsSplitFault reading.max_body input (log_at self.old records piece.now) fault) }
+            (λ fault. (log_rules : LogRules) (input : List ℕ) (records : List Record) →
+            IsAfter log_rules input piece.now records self.old →
+            IsSplitFault log_rules.max_body input (log_at self.old records piece.now) fault) }
     {
         let Some(mark) = piece.first() else {
             return Ok(0);
@@ -120,10 +120,10 @@ impl Splitter {
         requires { IsFed self.old }
         ensures ready { IsReady self.new }
         ensures version { self.new.version ≡ self.old.version }
-        ensures is_after { (reading : LogRules) (input more body : List ℕ) (records : List Record) →
-            IsFrameOf reading.max_body self.old.framer.buffered body →
-            IsAfter reading input more records self.old →
-            IsAfter reading input more
+        ensures is_after { (log_rules : LogRules) (input more body : List ℕ) (records : List Record) →
+            IsFrameOf log_rules.max_body self.old.framer.buffered body →
+            IsAfter log_rules input more records self.old →
+            IsAfter log_rules input more
             (records ++ (record {
               head = head_of self.old;
               raw = self.old.framer.buffered;

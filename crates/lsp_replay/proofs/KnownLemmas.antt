@@ -136,8 +136,8 @@ lines_grow view known s (r ∷ rs) more =
     let next = known_after known s r.head r.body (judge s r) in
     grows_on given.out given.end _ _ (lines_grow view next (judge s r).session rs more)
 
-pub run_of_lines : FirstLaw → VersionLaw → (view : LineView) (known : Known) (s : Session) {reading : LogRules} {max_turns : ℕ} {before after : Ports} {result : Result Outcome EngineFault}
-    → IsLoopRun reading (lines_in view known s) false max_turns before after result → NoneCut false reading (lines_in view known s) before after result
-    → IsEngineRun (record { reading = reading; run_output = lines_in view known s; flushes = false; in_parts = false }) max_turns before after result
+pub run_of_lines : FirstLaw → VersionLaw → (view : LineView) (known : Known) (s : Session) {log_rules : LogRules} {max_turns : ℕ} {before after : Ports} {result : Result Outcome EngineFault}
+    → IsLoopRun log_rules (lines_in view known s) false max_turns before after result → NoneCut false log_rules (lines_in view known s) before after result
+    → IsEngineRun (record { log_rules = log_rules; run_output = lines_in view known s; flushes = false; in_parts = false }) max_turns before after result
 run_of_lines first version view known s run whole =
     run_of_course first version (lines_in view known s) (lines_settled view known s) (lines_grow view known s) false run whole

@@ -63,52 +63,52 @@ pub record ShortAtEnd (run_output : List Record → RunOutput) (unflushed : Bool
 -- read.
 abbrev pub IsShort : LogRules → (List Record → RunOutput) → PortState → List ℕ → Option (List ℕ) →
     Option (List ℕ) → Log → Type 0
-IsShort reading run_output state input received_old received_new all =
+IsShort log_rules run_output state input received_old received_new all =
     AppendsShort state.unflushed received_old received_new (run_output all.records).out
     ⊎ (((state.ended ≡ true) × ShortAtEnd run_output state.unflushed received_old received_new all)
-    ⊎ ((state.ended_before ≡ false → state.ended ≡ false) × IsUnfinished reading input all
+    ⊎ ((state.ended_before ≡ false → state.ended ≡ false) × IsUnfinished log_rules input all
     × Passed run_output received_old received_new all))
 
 -- What each fault says of the input and of the output.
 abbrev pub IsFaultReported : LogRules → (List Record → RunOutput) → PortState → List ℕ →
     Option (List ℕ) → Option (List ℕ) → Log → EngineFault → Type 0
-IsFaultReported reading run_output state input received_old received_new all Read
-    = IsUnfinished reading input all × Passed run_output received_old received_new all
-IsFaultReported reading run_output state input received_old received_new all Write
+IsFaultReported log_rules run_output state input received_old received_new all Read
+    = IsUnfinished log_rules input all × Passed run_output received_old received_new all
+IsFaultReported log_rules run_output state input received_old received_new all Write
     = IsFirstPart run_output state.ended received_old received_new all
-IsFaultReported reading run_output state input received_old received_new all (Frame fault) =
-    IsMalformed reading.max_body input fault all × Passed run_output received_old received_new all
-IsFaultReported reading run_output state input received_old received_new all (Truncated place) =
-    (state.ended ≡ true) × (place ≡ place_after 0 (length input)) × IsCut reading.max_body all
+IsFaultReported log_rules run_output state input received_old received_new all (Frame fault) =
+    IsMalformed log_rules.max_body input fault all × Passed run_output received_old received_new all
+IsFaultReported log_rules run_output state input received_old received_new all (Truncated place) =
+    (state.ended ≡ true) × (place ≡ place_after 0 (length input)) × IsCut log_rules.max_body all
     × Passed run_output received_old received_new all
-IsFaultReported reading run_output state input received_old received_new all (BodyTooLong place)
+IsFaultReported log_rules run_output state input received_old received_new all (BodyTooLong place)
     = EndedBy run_output received_old received_new (Err (BodyTooLong place)) all
-IsFaultReported reading run_output state input received_old received_new all NoMemory
+IsFaultReported log_rules run_output state input received_old received_new all NoMemory
     = IsFirstPart run_output state.ended received_old received_new all
-IsFaultReported reading run_output state input received_old received_new all TooManyTurns
-    = IsShort reading run_output state input received_old received_new all
-IsFaultReported reading run_output state input received_old received_new all (BadLog place) =
+IsFaultReported log_rules run_output state input received_old received_new all TooManyTurns
+    = IsShort log_rules run_output state input received_old received_new all
+IsFaultReported log_rules run_output state input received_old received_new all (BadLog place) =
     EndedBy run_output received_old received_new (Err (BadLog place)) all
     ⊎ (IsBadMark input place all × Passed run_output received_old received_new all)
 
 -- What each result says of the input and of the output.
 abbrev pub IsRunReport : LogRules → (List Record → RunOutput) → PortState → List ℕ →
     Option (List ℕ) → Option (List ℕ) → Log → Result Outcome EngineFault → Type 0
-IsRunReport reading run_output state input received_old received_new all (Ok outcome) =
+IsRunReport log_rules run_output state input received_old received_new all (Ok outcome) =
     EndedBy run_output received_old received_new (Ok outcome) all
     ⊎ ((state.ended ≡ true) × PassedEnd run_output received_old received_new outcome all)
-IsRunReport reading run_output state input received_old received_new all (Err fault)
-    = IsFaultReported reading run_output state input received_old received_new all fault
+IsRunReport log_rules run_output state input received_old received_new all (Err fault)
+    = IsFaultReported log_rules run_output state input received_old received_new all fault
 
 -- An engine ran. Whatever records are all that are complete in the bytes that it read, they decide
 -- its output and its result. An input of version 2, where that is refused, has no such records.
-pub record RanOver (reading : LogRules) (run_output : List Record → RunOutput) (state : PortState)
+pub record RanOver (log_rules : LogRules) (run_output : List Record → RunOutput) (state : PortState)
     (left_old left_new received_old received_new : Option (List ℕ))
     (result : Result Outcome EngineFault) : Type 0 where
   pub input : List ℕ
   pub read : Consumes left_old left_new input
-  pub reported : (all : Log) → IsReadAs reading input all → HasNoRecord reading.max_body all →
-      IsRunReport reading run_output state input received_old received_new all result
+  pub reported : (all : Log) → IsReadAs log_rules input all → HasNoRecord log_rules.max_body all →
+      IsRunReport log_rules run_output state input received_old received_new all result
   -- it is a bad log from its first byte on, and nothing is written
-  pub refused : reading.only_one ≡ true → IsVersion reading.versions Two input →
+  pub refused : log_rules.only_one ≡ true → IsVersion log_rules.versions Two input →
       (result ≡ Err (BadLog 0)) × Appends received_old received_new []

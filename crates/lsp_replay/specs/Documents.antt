@@ -134,7 +134,7 @@ documents settings records = output_of_kept (normalised settings) (kept settings
 abbrev pub documents_engine : Settings → Engine
 documents_engine settings
     = record {
-      reading = as_log settings;
+      log_rules = as_log settings;
       run_output = documents settings;
       flushes = false;
       in_parts = false;

@@ -11,10 +11,10 @@ use Rattle.lsp_replay.specs.RunOutput.{RunOutput}
 
 -- No record ended the run: the output of these records was written, and `IsRest` holds of what is
 -- left.
-pub record Reached (reading : LogRules) (run_output : List Record → RunOutput) (input : List ℕ)
+pub record Reached (log_rules : LogRules) (run_output : List Record → RunOutput) (input : List ℕ)
     (old new : Option (List ℕ)) (IsRest : Log → Type 0) : Type 0 where
   pub log : Log
-  pub reads : IsReadAs reading input log
+  pub reads : IsReadAs log_rules input log
   pub rest : IsRest log
   pub continues : (run_output log.records).stop ≡ None
   pub wrote : Appends old new (run_output log.records).out
@@ -39,11 +39,11 @@ state_of ended_before ended unflushed
 
 -- What was written is the output of some first records of what was read, each complete, and nothing
 -- more.
-pub record WroteRecords (reading : LogRules) (run_output : List Record → RunOutput)
+pub record WroteRecords (log_rules : LogRules) (run_output : List Record → RunOutput)
     (left_old left_new received_old received_new : Option (List ℕ)) : Type 0 where
   pub input : List ℕ
   pub read : Consumes left_old left_new input
-  pub reached : Reached reading run_output input received_old received_new (λ _. Unit {0})
+  pub reached : Reached log_rules run_output input received_old received_new (λ _. Unit {0})
 
 -- Which calls the reader and the writer had.
 pub record Called (reads_old reads_new writes_old writes_new allowed : ℕ)

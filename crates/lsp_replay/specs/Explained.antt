@@ -85,7 +85,7 @@ explained settings = lines_in explaining nothing_known (opened (log_config setti
 abbrev pub explain_engine : Settings → Engine
 explain_engine settings
     = record {
-      reading = as_log settings;
+      log_rules = as_log settings;
       run_output = explained settings;
       flushes = false;
       in_parts = false;

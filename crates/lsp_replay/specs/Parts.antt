@@ -112,7 +112,7 @@ part_report settings part = replayed_in part None (opened (log_config settings))
 abbrev pub part_engine : Settings → Part → Engine
 part_engine settings part
     = record {
-      reading = as_log settings;
+      log_rules = as_log settings;
       run_output = part_report settings (part_of part);
       flushes = false;
       in_parts = false;

@@ -18,7 +18,7 @@ use Rattle.lsp_replay.specs.AllRecords.{RanOver}
 -- An engine, as its contract names it.
 pub record Engine : Type 0 where
   -- how it reads its input
-  pub reading : LogRules
+  pub log_rules : LogRules
   -- its output for the records of an input, and for the input's end
   pub run_output : List Record → RunOutput
   -- Does it pass each output on before it reads on?
@@ -30,13 +30,13 @@ pub record Engine : Type 0 where
 pub record IsEngineRun (engine : Engine) (max_turns : ℕ) (before after : Ports)
     (result : Result Outcome EngineFault) : Type 0 where
   -- What was written and answered, by all records that are whole in the bytes that were read.
-  pub all_records : RanOver engine.reading engine.run_output
+  pub all_records : RanOver engine.log_rules engine.run_output
       (state_of before.reader.ended after.reader.ended (engine.flushes && not after.writer.flushed))
       before.reader.left after.reader.left before.writer.written after.writer.written result
   -- Where memory runs out, what was written is the output of records, each whole; `replay` may have
   -- written a part of its report.
   pub whole : engine.in_parts ≡ false → result ≡ Err NoMemory →
-      WroteRecords engine.reading engine.run_output before.reader.left after.reader.left
+      WroteRecords engine.log_rules engine.run_output before.reader.left after.reader.left
       before.writer.written after.writer.written
   -- Which calls were made.
   pub called : Called before.reader.calls after.reader.calls before.writer.calls after.writer.calls
@@ -56,7 +56,7 @@ pub record IsEngineRun (engine : Engine) (max_turns : ℕ) (before after : Ports
 abbrev pub serve_engine : Config → Engine
 serve_engine config
     = record {
-      reading = as_stream config;
+      log_rules = as_stream config;
       run_output = replies config;
       flushes = true;
       in_parts = false;
@@ -66,7 +66,7 @@ serve_engine config
 abbrev pub check_engine : Settings → Engine
 check_engine settings
     = record {
-      reading = as_log settings;
+      log_rules = as_log settings;
       run_output = verdicts settings;
       flushes = false;
       in_parts = false;
@@ -76,7 +76,7 @@ check_engine settings
 abbrev pub replay_engine : Settings → Engine
 replay_engine settings
     = record {
-      reading = as_log settings;
+      log_rules = as_log settings;
       run_output = report settings;
       flushes = false;
       in_parts = true;
@@ -86,7 +86,7 @@ replay_engine settings
 abbrev pub normalise_engine : Settings → Engine
 normalise_engine settings
     = record {
-      reading = as_log settings;
+      log_rules = as_log settings;
       run_output = normalised settings;
       flushes = false;
       in_parts = false;
@@ -96,7 +96,7 @@ normalise_engine settings
 abbrev pub convert_engine : Settings → Engine
 convert_engine settings
     = record {
-      reading = as_converted settings;
+      log_rules = as_converted settings;
       run_output = converted settings;
       flushes = false;
       in_parts = false;

@@ -174,7 +174,7 @@ traced settings details = lines_in (tracing details) nothing_known (opened (log_
 abbrev pub trace_engine : Settings → Details → Engine
 trace_engine settings details
     = record {
-      reading = as_log settings;
+      log_rules = as_log settings;
       run_output = traced settings details;
       flushes = false;
       in_parts = false;

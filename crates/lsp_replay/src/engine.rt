@@ -103,21 +103,21 @@ fn take_record<W: Sink, H: Handler>(
     ensures ready { OnOk result (IsReady splitter.new) }
     ensures version { splitter.new.version ≡ splitter.old.version }
     ensures progress { IfOk result
-        (λ end. (reading : LogRules) (run_output : List Record → RunOutput)
+        (λ end. (log_rules : LogRules) (run_output : List Record → RunOutput)
         (received : Option (List ℕ)) (input more : List ℕ) →
-        IsProgress reading run_output received input more splitter.old (H.run_output handler.old)
+        IsProgress log_rules run_output received input more splitter.old (H.run_output handler.old)
         (W.seen writer.old).written →
         MatchOption end
-        (IsProgress reading run_output received input more splitter.new (H.run_output handler.new)
+        (IsProgress log_rules run_output received input more splitter.new (H.run_output handler.new)
         (W.seen writer.new).written)
-        (λ outcome. Stopped reading run_output input received (W.seen writer.new).written
+        (λ outcome. Stopped log_rules run_output input received (W.seen writer.new).written
         (Ok outcome))) }
     ensures error { IfErr result
-        (λ fault. (reading : LogRules) (run_output : List Record → RunOutput)
+        (λ fault. (log_rules : LogRules) (run_output : List Record → RunOutput)
         (received : Option (List ℕ)) (input more : List ℕ) →
-        IsProgress reading run_output received input more splitter.old (H.run_output handler.old)
+        IsProgress log_rules run_output received input more splitter.old (H.run_output handler.old)
         (W.seen writer.old).written →
-        IsPieceFault reading run_output (H.FLUSHES && not (W.seen writer.new).flushed) input
+        IsPieceFault log_rules run_output (H.FLUSHES && not (W.seen writer.new).flushed) input
         received (W.seen writer.new).written fault) }
     ensures calls { WritesWithin turns.old.left turns.new.left
         (W.seen writer.old) (W.seen writer.new) result }
@@ -148,21 +148,21 @@ fn take_piece<W: Sink, H: Handler>(
     ensures ready { OnOk result (IsReady splitter.new) }
     ensures version { splitter.new.version ≡ splitter.old.version }
     ensures progress { IfOk result
-        (λ end. (reading : LogRules) (run_output : List Record → RunOutput)
+        (λ end. (log_rules : LogRules) (run_output : List Record → RunOutput)
         (received : Option (List ℕ)) (input : List ℕ) →
-        IsProgress reading run_output received input piece.now splitter.old
+        IsProgress log_rules run_output received input piece.now splitter.old
         (H.run_output handler.old) (W.seen writer.old).written →
         MatchOption end
-        (IsProgress reading run_output received input [] splitter.new (H.run_output handler.new)
+        (IsProgress log_rules run_output received input [] splitter.new (H.run_output handler.new)
         (W.seen writer.new).written)
-        (λ outcome. Stopped reading run_output input received (W.seen writer.new).written
+        (λ outcome. Stopped log_rules run_output input received (W.seen writer.new).written
         (Ok outcome))) }
     ensures error { IfErr result
-        (λ fault. (reading : LogRules) (run_output : List Record → RunOutput)
+        (λ fault. (log_rules : LogRules) (run_output : List Record → RunOutput)
         (received : Option (List ℕ)) (input : List ℕ) →
-        IsProgress reading run_output received input piece.now splitter.old
+        IsProgress log_rules run_output received input piece.now splitter.old
         (H.run_output handler.old) (W.seen writer.old).written →
-        IsPieceFault reading run_output (H.FLUSHES && not (W.seen writer.new).flushed) input
+        IsPieceFault log_rules run_output (H.FLUSHES && not (W.seen writer.new).flushed) input
         received (W.seen writer.new).written fault) }
     ensures calls { WritesWithin turns.old.left turns.new.left
         (W.seen writer.old) (W.seen writer.new) result }
@@ -228,24 +228,24 @@ fn finish_run<W: Sink, H: Handler>(
 ) -> Result<Outcome, EngineFault>
     requires { IsReady splitter.now }
     ensures at_end { IfOk result
-        (λ outcome. (reading : LogRules) (run_output : List Record → RunOutput)
+        (λ outcome. (log_rules : LogRules) (run_output : List Record → RunOutput)
         (received : Option (List ℕ)) (input : List ℕ) →
-        IsProgress reading run_output received input [] splitter.now (H.run_output handler.old)
+        IsProgress log_rules run_output received input [] splitter.now (H.run_output handler.old)
         (W.seen writer.old).written →
-        AtEnd reading run_output input received (W.seen writer.new).written outcome) }
+        AtEnd log_rules run_output input received (W.seen writer.new).written outcome) }
     ensures error { IfErr result
-        (λ fault. (reading : LogRules) (run_output : List Record → RunOutput)
+        (λ fault. (log_rules : LogRules) (run_output : List Record → RunOutput)
         (received : Option (List ℕ)) (input : List ℕ) →
-        IsProgress reading run_output received input [] splitter.now (H.run_output handler.old)
+        IsProgress log_rules run_output received input [] splitter.now (H.run_output handler.old)
         (W.seen writer.old).written →
-        IsEndFault reading run_output (H.FLUSHES && not (W.seen writer.new).flushed) input received
+        IsEndFault log_rules run_output (H.FLUSHES && not (W.seen writer.new).flushed) input received
         (W.seen writer.new).written place fault) }
     ensures whole { IfErr result (λ fault. fault ≡ EngineFault.NoMemory → H.parts handler.old ≡ 0 →
-        (reading : LogRules) (run_output : List Record → RunOutput)
+        (log_rules : LogRules) (run_output : List Record → RunOutput)
         (received : Option (List ℕ)) (input : List ℕ) →
-        IsProgress reading run_output received input [] splitter.now (H.run_output handler.old)
+        IsProgress log_rules run_output received input [] splitter.now (H.run_output handler.old)
         (W.seen writer.old).written →
-        Reached reading run_output input received (W.seen writer.new).written (λ _. Unit {0})) }
+        Reached log_rules run_output input received (W.seen writer.new).written (λ _. Unit {0})) }
     ensures not_read { IfErr result (λ fault. fault ≢ EngineFault.Read) }
     ensures calls { WritesWithin turns.old.left turns.new.left
         (W.seen writer.old) (W.seen writer.new) result }

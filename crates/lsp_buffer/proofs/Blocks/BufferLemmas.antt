@@ -5,7 +5,7 @@ use Rattle.std.specs.Str.{chars, IsUtf8}
 use Rattle.std.proofs.lemmas.Bool.{cases_lt}
 use Rattle.std.proofs.lemmas.List.{length-map, length-append, get_or_default, drop_all, take-map}
 use Rattle.std.proofs.lemmas.Str.{IsUtf8-from_is_utf8}
-use Rattle.lsp_text.specs.Starts.{AreStarts, IsLineOf}
+use Rattle.lsp_text.specs.Starts.{AreStarts, IsLineOf as IsBlockOf}
 use Rattle.lsp_text.specs.TextLines.{line_ends}
 use Rattle.lsp_buffer.specs.Blocks.{EndsClear, AreBlocks, IsBuffer, ends_of}
 use Rattle.lsp_buffer.proofs.Blocks.SumLemmas.{length-sums, sums_starts, sums_at, row_more}
@@ -88,7 +88,7 @@ module _ (blocks : List (List ℕ)) (starts lines : List ℕ) (is : IsBuffer blo
     none_after h = ap concat (drop_all (index + 1) blocks h)
 
     -- What is found for a place is in the block.
-    pub place_inside : (place : ℕ) → IsLineOf starts place index → (concat (drop (index + 1) blocks) ≡ []) ⊎ (place - length (concat (take index blocks)) < length block)
+    pub place_inside : (place : ℕ) → IsBlockOf starts place index → (concat (drop (index + 1) blocks) ≡ []) ⊎ (place - length (concat (take index blocks)) < length block)
     place_inside place found =
         ⊎_elim
         (λ (h : index + 1 < length blocks). inr (omega (arith, found.greatest (index + 1) (omega arith) (omega (arith, starts_count)), found.at_most, next_start h, start_is)))

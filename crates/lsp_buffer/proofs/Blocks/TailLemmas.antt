@@ -8,7 +8,7 @@ use Rattle.std.proofs.lemmas.List.Folds.{concat-append}
 use Rattle.std.proofs.lemmas.Str.{IsUtf8-from_is_utf8}
 use Rattle.lsp_text.specs.declared.encoding.Encoding.{Encoding}
 use Rattle.lsp_text.specs.declared.encoding.Encoding.TheVariants.{Utf8, Utf16, Utf32}
-use Rattle.lsp_text.specs.Starts.{AreStarts, IsLineOf}
+use Rattle.lsp_text.specs.Starts.{AreStarts, IsLineOf as IsBlockOf}
 use Rattle.lsp_text.specs.Units.{units_in}
 use Rattle.lsp_buffer.specs.Blocks.{AreBlocks, AreHeads, IsBuffer, ends_of, head_after, heads_from, sums_from}
 use Rattle.lsp_buffer.specs.inside.Seams.{WereHeads, WereSums, row_of, heads_end}
@@ -91,7 +91,7 @@ module _ (lines heads : List ℕ) (past line head : ℕ) (encoding : Encoding) (
   pub heads_size : length (drop past heads) ≡ length rest
   heads_size = ap length tail.heads_tail ∙ length-heads (units_in encoding) head rest
 
-  module _ (count : ℕ) (some : 0 < count) (last : IsLineOf lines (slice_index lines past) (past + count - 1)) where
+  module _ (count : ℕ) (some : 0 < count) (last : IsBlockOf lines (slice_index lines past) (past + count - 1)) where
     is_line : IsLine (units_in encoding) line rest (count - 1)
     is_line =
         let here : past + count - 1 ≡ past + (count - 1) = omega (arith, some) in

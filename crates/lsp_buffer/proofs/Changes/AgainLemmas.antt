@@ -6,7 +6,7 @@ use Rattle.std.proofs.lemmas.Bool.{cases_lt}
 use Rattle.std.proofs.lemmas.List.{length-append, length-drop, get_or_default, append_assoc, map-append}
 use Rattle.std.proofs.lemmas.List.Folds.{concat-append}
 use Rattle.std.proofs.lemmas.List.Sums.{sum_by-append}
-use Rattle.lsp_text.specs.Starts.{IsLineOf}
+use Rattle.lsp_text.specs.Starts.{IsLineOf as IsBlockOf}
 use Rattle.lsp_buffer.specs.Blocks.{EndsClear, AreBlocks, IsBuffer, ends_of, sums_from}
 use Rattle.lsp_buffer.specs.inside.Cuts.{AreFull}
 use Rattle.lsp_buffer.proofs.Blocks.BlockLemmas.{split, full_length, joined_blocks, blocks_some}
@@ -26,8 +26,8 @@ pub record IsAgain (blocks : List (List ℕ)) (starts lines : List ℕ) (first l
   pub block_is' : block' ≡ get_or blocks last block'
   pub from_is : from ≡ get_or starts first from
   pub from_is' : from' ≡ get_or starts last from'
-  pub at_first : IsLineOf starts start first
-  pub at_last : IsLineOf starts stop last
+  pub at_first : IsBlockOf starts start first
+  pub at_last : IsBlockOf starts stop last
   pub order : start ≤ stop
   pub at_start : IsCharBoundary (concat blocks) start
   pub at_end : IsCharBoundary (concat blocks) stop

@@ -3,7 +3,7 @@ use Rattle.std.proofs.Common.{ℕ, ◌≡◌, ◌+◌, ◌-◌, ◌<◌, ◌≤�
 use Rattle.std.specs.List.{concat, replace_range}
 use Rattle.std.specs.Str.{IsCharBoundary}
 use Rattle.std.proofs.lemmas.List.{get_or_default, drop_all, append_assoc}
-use Rattle.lsp_text.specs.Starts.{IsLineOf}
+use Rattle.lsp_text.specs.Starts.{IsLineOf as IsBlockOf}
 use Rattle.lsp_text.proofs.Positions.BoundaryLemmas.{boundary_from}
 use Rattle.lsp_buffer.specs.Blocks.{IsBuffer}
 use Rattle.lsp_buffer.proofs.Blocks.BufferLemmas.{starts_count, start_is, next_start, utf8_all}
@@ -14,7 +14,7 @@ pub record IsJoin (blocks : List (List ℕ)) (starts lines : List ℕ) (last : �
   pub is : IsBuffer blocks starts lines
   pub block_is : block ≡ get_or blocks last block
   pub from_is : from ≡ get_or starts last from
-  pub at_last : IsLineOf starts end last
+  pub at_last : IsBlockOf starts end last
   pub next_is : next ≡ get_or starts (last + 1) next
   pub more : last + 1 < length blocks
   pub at_end : IsCharBoundary (concat blocks) end

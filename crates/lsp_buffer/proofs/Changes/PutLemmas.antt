@@ -6,7 +6,7 @@ use Rattle.std.proofs.lemmas.List.{length-append, length-drop, length-map, lengt
 use Rattle.std.proofs.lemmas.List.Folds.{concat-append}
 use Rattle.std.proofs.lemmas.List.Sums.{sum_by-append, sum_by-cons}
 use Rattle.std.proofs.lemmas.Str.{IsUtf8-from_is_utf8, is_utf8-from_IsUtf8, IsUtf8-append, IsUtf8-take, IsUtf8-drop}
-use Rattle.lsp_text.specs.Starts.{IsLineOf}
+use Rattle.lsp_text.specs.Starts.{IsLineOf as IsBlockOf}
 use Rattle.lsp_buffer.specs.Blocks.{EndsClear, AreBlocks, IsBuffer, ends_of, sums_from}
 use Rattle.lsp_buffer.specs.inside.Cuts.{AreFull}
 use Rattle.lsp_buffer.proofs.Blocks.SumLemmas.{length-sums, sums_append, sums_put, sums_low}
@@ -76,8 +76,8 @@ pub record IsPut (blocks : List (List ℕ)) (starts lines : List ℕ) (index : �
   pub is : IsBuffer blocks starts lines
   pub block_is : block ≡ get_or blocks index block
   pub from_is : from ≡ get_or starts index from
-  pub first : IsLineOf starts start index
-  pub last : IsLineOf starts stop index
+  pub first : IsBlockOf starts start index
+  pub last : IsBlockOf starts stop index
   pub order : start ≤ stop
   pub at_start : IsCharBoundary (concat blocks) start
   pub at_end : IsCharBoundary (concat blocks) stop

@@ -11,7 +11,7 @@ use Rattle.lsp_text.specs.declared.encoding.Encoding.TheVariants.{Utf8, Utf16, U
 use Rattle.lsp_text.specs.Text.{place_of}
 use Rattle.lsp_text.specs.TextLines.{line_ends, line_at, line_start, splits_crlf}
 use Rattle.lsp_text.specs.LineStarts.{IsPlace}
-use Rattle.lsp_text.specs.Starts.{IsLineOf}
+use Rattle.lsp_text.specs.Starts.{IsLineOf as IsBlockOf}
 use Rattle.lsp_text.specs.Units.{units_in, units_between}
 use Rattle.lsp_text.specs.laws.Units.{utf8_bounds, utf16_bounds, utf32_bounds}
 use Rattle.lsp_text.specs.Positions.{exact_position, denoted}
@@ -53,10 +53,10 @@ module _ (blocks : List (List ℕ)) (starts lines bytes : List ℕ) (is : IsBuff
   bytes_size = omega (arith, ap length view, is.size)
 
   module _ (index : ℕ) (block : List ℕ) (block_is : block ≡ get_or blocks index block) where
-    pub found_place : (place from : ℕ) (shown : List ℕ) → shown ≡ starts → IsLineOf shown place index → from ≡ get_or starts index from →
+    pub found_place : (place from : ℕ) (shown : List ℕ) → shown ≡ starts → IsBlockOf shown place index → from ≡ get_or starts index from →
         IsPlaceFound bytes (concat (take index blocks)) block (concat (drop (index + 1) blocks)) place from
     found_place place from shown same found from_at =
-        let here : IsLineOf starts place index = subst (λ (xs : List ℕ). IsLineOf xs place index) same found in
+        let here : IsBlockOf starts place index = subst (λ (xs : List ℕ). IsBlockOf xs place index) same found in
         let within : index < length blocks = omega (arith, here.within, starts_count blocks starts lines is) in
         let at : slice_index starts index ≡ from = get_or_default starts index 0 from (omega (arith, here.within)) ∙ sym from_at in
         let start : slice_index starts index ≡ length (concat (take index blocks)) = start_is blocks starts lines is index block within block_is in
@@ -110,7 +110,7 @@ module _ (blocks : List (List ℕ)) (starts lines : List ℕ) (heads : Encoding 
         (end_append (units_in encoding) 0 (take index blocks) (block ∷ []) ∙
         ap (λ x. head_after (units_in encoding) x block) (sym (ap (λ xs. get_or xs index 0) (is.heads_are encoding) ∙ heads_at (units_in encoding) 0 blocks index within)))))
 
-    pub found_line : (p : Position) (first head from : ℕ) → p.character < 4294967296 → IsLineOf (marks_of lines (heads encoding)) (mark p.line p.character) index →
+    pub found_line : (p : Position) (first head from : ℕ) → p.character < 4294967296 → IsBlockOf (marks_of lines (heads encoding)) (mark p.line p.character) index →
         first ≡ get_or lines index first → head ≡ get_or (heads encoding) index head → from ≡ get_or starts index from →
         IsLineFound bytes (concat (take index blocks)) block (concat (drop (index + 1) blocks)) (units_in encoding) p first head from
     found_line p first head from few found first_at head_at from_at =
@@ -159,9 +159,9 @@ module _ (blocks : List (List ℕ)) (starts lines : List ℕ) (heads : Encoding 
             (cases_lt (index + 1) (length blocks))
 
   -- What the search was given, and what it found.
-  module _ (index place : ℕ) (shown_lines shown_heads : List ℕ) (same_lines : shown_lines ≡ lines) (same_heads : shown_heads ≡ heads encoding) (found : IsLineOf (marks_of shown_lines shown_heads) place index) where
-    found_marks : IsLineOf (marks_of lines (heads encoding)) place index
-    found_marks = subst (λ (hs : List ℕ). IsLineOf (marks_of lines hs) place index) same_heads (subst (λ (ls : List ℕ). IsLineOf (marks_of ls shown_heads) place index) same_lines found)
+  module _ (index place : ℕ) (shown_lines shown_heads : List ℕ) (same_lines : shown_lines ≡ lines) (same_heads : shown_heads ≡ heads encoding) (found : IsBlockOf (marks_of shown_lines shown_heads) place index) where
+    found_marks : IsBlockOf (marks_of lines (heads encoding)) place index
+    found_marks = subst (λ (hs : List ℕ). IsBlockOf (marks_of lines hs) place index) same_heads (subst (λ (ls : List ℕ). IsBlockOf (marks_of ls shown_heads) place index) same_lines found)
 
     pub shown_within : index < length blocks
     shown_within =
@@ -172,7 +172,7 @@ module _ (blocks : List (List ℕ)) (starts lines : List ℕ) (heads : Encoding 
         ap (λ hs. get_or hs index 0) same_heads ∙ get_or_default (heads encoding) index 0 (slice_index shown_heads index) (omega (arith, shown_within, heads_count))
 
   pub found_shown : (index : ℕ) (block : List ℕ) (p : Position) (first from : ℕ) (shown_lines shown_heads : List ℕ) → block ≡ get_or blocks index block → shown_lines ≡ lines → shown_heads ≡ heads encoding → p.character < 4294967296 →
-      IsLineOf (marks_of shown_lines shown_heads) (mark p.line p.character) index → first ≡ get_or lines index first → from ≡ get_or starts index from →
+      IsBlockOf (marks_of shown_lines shown_heads) (mark p.line p.character) index → first ≡ get_or lines index first → from ≡ get_or starts index from →
       IsLineFound bytes (concat (take index blocks)) block (concat (drop (index + 1) blocks)) (units_in encoding) p first (slice_index shown_heads index) from
   found_shown index block p first from shown_lines shown_heads block_is same_lines same_heads few found first_at from_at =
       found_line index block block_is (shown_within index (mark p.line p.character) shown_lines shown_heads same_lines same_heads found) p first (slice_index shown_heads index) from few

@@ -4,7 +4,7 @@ ghost use Rattle.std.specs.Prelude.{OnErr, length, take, drop, set, map, sum, ve
 ghost use Rattle.std.specs.Prelude.{string_bytes};
 ghost use Rattle.std.specs.List.{concat, replace_range};
 ghost use Rattle.std.specs.Str.{IsCharBoundary};
-ghost use Rattle.lsp_text.specs.Starts.{IsLineOf};
+ghost use Rattle.lsp_text.specs.Starts.{IsLineOf as IsBlockOf};
 ghost use Rattle.lsp_buffer.specs.inside.Seams.{row_of};
 ghost use Rattle.lsp_buffer.specs.Blocks.{AreBlocks, IsBuffer, IsTextBuffer, ends_of, sums_from};
 
@@ -100,8 +100,8 @@ fn put_inside(
     new: &str,
 ) -> Result<(), AllocError>
     requires are { IsBuffer blocks.old.items starts.old.items lines.old.items }
-    requires first { IsLineOf starts.old.items start index }
-    requires last { IsLineOf starts.old.items end index }
+    requires first { IsBlockOf starts.old.items start index }
+    requires last { IsBlockOf starts.old.items end index }
     requires order { start ≤ end }
     requires at_start { IsCharBoundary (concat blocks.old.items) start }
     requires at_end { IsCharBoundary (concat blocks.old.items) end }
@@ -136,8 +136,8 @@ pub fn replace_inside(
 ) -> Result<(), AllocError>
     requires are { IsTextBuffer blocks.old.items starts.old.items lines.old.items
         (row_of heads.old) }
-    requires first { IsLineOf starts.old.items start index }
-    requires last { IsLineOf starts.old.items end index }
+    requires first { IsBlockOf starts.old.items start index }
+    requires last { IsBlockOf starts.old.items end index }
     requires order { start ≤ end }
     requires at_start { IsCharBoundary (concat blocks.old.items) start }
     requires at_end { IsCharBoundary (concat blocks.old.items) end }
@@ -261,8 +261,8 @@ pub fn replace_across(
 ) -> Result<(), AllocError>
     requires are { IsTextBuffer blocks.old.items starts.old.items lines.old.items
         (row_of heads.old) }
-    requires first { IsLineOf starts.old.items start first }
-    requires last { IsLineOf starts.old.items end last }
+    requires first { IsBlockOf starts.old.items start first }
+    requires last { IsBlockOf starts.old.items end last }
     requires order { start ≤ end }
     requires at_start { IsCharBoundary (concat blocks.old.items) start }
     requires at_end { IsCharBoundary (concat blocks.old.items) end }
@@ -311,8 +311,8 @@ pub fn replace_joined(
 ) -> Result<(), AllocError>
     requires are { IsTextBuffer blocks.old.items starts.old.items lines.old.items
         (row_of heads.old) }
-    requires first { IsLineOf starts.old.items start first }
-    requires last { IsLineOf starts.old.items end last }
+    requires first { IsBlockOf starts.old.items start first }
+    requires last { IsBlockOf starts.old.items end last }
     requires next { last + 1 < vec_len blocks.old }
     requires order { start ≤ end }
     requires at_start { IsCharBoundary (concat blocks.old.items) start }

@@ -24,7 +24,7 @@ use Rattle.lsp_edit.specs.Keeps.{Keeps}
 use Rattle.lsp_edit.specs.Parts.{Part, AreParts, index_of, items_of, new_parts}
 use Rattle.lsp_edit.specs.TextEdits.{IsPlaced, ArePlaced, AreApart, old_parts, parts_left, AreLeftByEdits, fault_of, LiesNowhere, DoOverlap}
 use Rattle.lsp_edit.proofs.Composing.AppliedLemmas.{AreEnds, ends_told}
-use Rattle.lsp_edit.proofs.Deltas.DeltaLemmas.{are_both, items_both}
+use Rattle.lsp_edit.proofs.Deltas.LayerLemmas.{are_both, items_both}
 use Rattle.lsp_edit.proofs.Composing.EditedLemmas.{index_first}
 use Rattle.lsp_edit.proofs.Parts.IndexLemmas.{index_of-place, index_rises}
 use Rattle.lsp_edit.proofs.Canonical.KeepsLemmas.{keeps_from_lower, new_keeps}

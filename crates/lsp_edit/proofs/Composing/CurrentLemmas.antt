@@ -4,7 +4,7 @@ use Rattle.std.specs.Str.{IsUtf8}
 use Rattle.std.proofs.lemmas.Str.{IsUtf8-from_is_utf8}
 use Rattle.lsp_edit.specs.Edited.{ArePieces, IsCurrent}
 use Rattle.lsp_edit.specs.Parts.{Part, bytes_of}
-use Rattle.lsp_edit.proofs.Deltas.DeltaLemmas.{parts_utf8}
+use Rattle.lsp_edit.proofs.Deltas.LayerLemmas.{parts_utf8}
 
 pub current_is : (bytes : List ℕ) (made : Option (List ℕ)) (current : List ℕ) → IsCurrent bytes made → made ≡ Some current → current ≡ bytes
 current_is bytes made current is e = subst (IsCurrent bytes) e is

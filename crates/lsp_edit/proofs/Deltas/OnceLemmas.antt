@@ -15,7 +15,7 @@ use Rattle.lsp_edit.specs.declared.delta.Delta.TheVariants.{Put, Left}
 use Rattle.lsp_edit.specs.Once.{IsOn, IsPut, meant_by, put_items}
 use Rattle.lsp_text.specs.Units.{units_in}
 use Rattle.lsp_edit.specs.Parts.{AreParts, Part, items_of}
-use Rattle.lsp_edit.specs.inside.Deltas.{AreSameItems, IsDelta}
+use Rattle.lsp_edit.specs.inside.Layers.{AreSameItems, IsLayer}
 use Rattle.lsp_edit.specs.inside.Parts.{AreCut, AreOrdered, replaced_parts, whole_parts}
 use Rattle.lsp_edit.proofs.Composing.AppliedLemmas as applied
 use Rattle.lsp_edit.proofs.Composing.AppliedLemmas.{AreEnds, IsNext, ends_told}
@@ -111,7 +111,7 @@ module _ (units : ℕ → ℕ) (before : List ℕ) (start stop : ℕ) (new : Lis
   pub layer_ordered : AreOrdered (whole_parts before)
   layer_ordered = put_ordered
 
-  pub layer_is : (parts owned : List Part) → parts ≡ replaced_parts (whole_parts before) start stop new → AreSameItems owned parts → IsDelta (Ok (put_items before start stop new)) before owned
+  pub layer_is : (parts owned : List Part) → parts ≡ replaced_parts (whole_parts before) start stop new → AreSameItems owned parts → IsLayer (Ok (put_items before start stop new)) before owned
   layer_is parts owned made same =
       let kept : AreParts before owned × (items_of (chars before) owned ≡ items_of (chars before) parts) = same before (subst (AreParts before) (sym made) (put_are)) in
       record {

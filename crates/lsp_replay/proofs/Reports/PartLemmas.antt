@@ -70,8 +70,8 @@ part_grows part last s (r ∷ rs) more =
     let given = part_output part last r (judge s r) in
     grows_on given.out given.end _ _ (part_grows part (next_text part last (judge s r)) (judge s r).session rs more)
 
-pub run_of_part : FirstLaw → VersionLaw → (part : PartData) (last : Option (List ℕ)) (s : Session) {reading : LogRules} {max_turns : ℕ} {before after : Ports} {result : Result Outcome EngineFault}
-    → IsLoopRun reading (replayed_in part last s) false max_turns before after result → NoneCut false reading (replayed_in part last s) before after result
-    → IsEngineRun (record { reading = reading; run_output = replayed_in part last s; flushes = false; in_parts = false }) max_turns before after result
+pub run_of_part : FirstLaw → VersionLaw → (part : PartData) (last : Option (List ℕ)) (s : Session) {log_rules : LogRules} {max_turns : ℕ} {before after : Ports} {result : Result Outcome EngineFault}
+    → IsLoopRun log_rules (replayed_in part last s) false max_turns before after result → NoneCut false log_rules (replayed_in part last s) before after result
+    → IsEngineRun (record { log_rules = log_rules; run_output = replayed_in part last s; flushes = false; in_parts = false }) max_turns before after result
 run_of_part first version part last s run whole =
     run_of_course first version (replayed_in part last s) (part_settled part last s) (part_grows part last s) false run whole

@@ -28,13 +28,13 @@ pub record IsQuiet (now : List Record → RunOutput) : Type 0 where
   pub silent : (now []).out ≡ []
   pub unstopped : (now []).stop ≡ None
 
-module _ (reading : LogRules) (run_output : List Record → RunOutput) (received : Option (List ℕ)) (input : List ℕ) where
+module _ (log_rules : LogRules) (run_output : List Record → RunOutput) (received : Option (List ℕ)) (input : List ℕ) where
   -- the course of the records that were handled, and of more
   written_again : (a b : List ℕ) (c : RunOutput) → written_first a (written_first b c) ≡ written_first (a ++ b) c
   written_again a b c = ap (λ z. record c { out = z }) (sym (append_assoc a b c.out))
 
-  pub went_on : (more : List ℕ) (s n : Splitter) (now new : List Record → RunOutput) (received_now received_new : Option (List ℕ)) (r : Record) (w : IsProgress reading run_output received input more s now received_now)
-      → IsAfter reading input more (w.records ++ r ∷ []) n → Continues now new received_now received_new r → IsProgress reading run_output received input more n new received_new
+  pub went_on : (more : List ℕ) (s n : Splitter) (now new : List Record → RunOutput) (received_now received_new : Option (List ℕ)) (r : Record) (w : IsProgress log_rules run_output received input more s now received_now)
+      → IsAfter log_rules input more (w.records ++ r ∷ []) n → Continues now new received_now received_new r → IsProgress log_rules run_output received input more n new received_new
   went_on more s n now new received_now received_new r w is_after on = record {
     records = w.records ++ r ∷ [];
     is_after = is_after;
@@ -43,8 +43,8 @@ module _ (reading : LogRules) (run_output : List Record → RunOutput) (received
     wrote = Appends-trans received received_now received_new w.out on.out w.wrote on.wrote;
   }
 
-  pub went_to_end : (log : Log) (more : List ℕ) (s : Splitter) (now : List Record → RunOutput) (received_now received_new : Option (List ℕ)) (r : Record) (answer : Result Outcome EngineFault) (w : IsProgress reading run_output received input more s now received_now)
-      → IsReadAs reading input log → log.records ≡ w.records ++ r ∷ [] → Ends now received_now received_new r answer → Stopped reading run_output input received received_new answer
+  pub went_to_end : (log : Log) (more : List ℕ) (s : Splitter) (now : List Record → RunOutput) (received_now received_new : Option (List ℕ)) (r : Record) (answer : Result Outcome EngineFault) (w : IsProgress log_rules run_output received input more s now received_now)
+      → IsReadAs log_rules input log → log.records ≡ w.records ++ r ∷ [] → Ends now received_now received_new r answer → Stopped log_rules run_output input received received_new answer
   went_to_end log more s now received_now received_new r answer w reads is ends =
       let whole : run_output log.records ≡ written_first w.out (stopped ends.out answer) = ap run_output is ∙ w.outputs (r ∷ []) ∙ ap (written_first w.out) (ends.run_output []) in
       record {
@@ -55,8 +55,8 @@ module _ (reading : LogRules) (run_output : List Record → RunOutput) (received
       }
 
   -- nothing was written since
-  pub went_so_far : (more : List ℕ) (s : Splitter) (now : List Record → RunOutput) (received_now received_new : Option (List ℕ)) (IsRest : Log → Type 0) (w : IsProgress reading run_output received input more s now received_now)
-      → IsQuiet now → Appends received_now received_new [] → IsRest (log_at s w.records more) → Reached reading run_output input received received_new IsRest
+  pub went_so_far : (more : List ℕ) (s : Splitter) (now : List Record → RunOutput) (received_now received_new : Option (List ℕ)) (IsRest : Log → Type 0) (w : IsProgress log_rules run_output received input more s now received_now)
+      → IsQuiet now → Appends received_now received_new [] → IsRest (log_at s w.records more) → Reached log_rules run_output input received received_new IsRest
   went_so_far more s now received_now received_new IsRest w quiet nothing rest =
       let whole : run_output w.records ≡ written_first w.out (now []) = ap run_output (sym (append-nil w.records)) ∙ w.outputs [] in
       let out : (run_output w.records).out ≡ w.out ++ [] = ap (λ (c : RunOutput). c.out) whole ∙ ap (λ z. w.out ++ z) quiet.silent in
@@ -68,8 +68,8 @@ module _ (reading : LogRules) (run_output : List Record → RunOutput) (received
         wrote = subst (λ (z : List ℕ). Appends received received_new z) (sym out) (Appends-trans received received_now received_new w.out [] w.wrote nothing);
       }
 
-  broken_at : (log : Log) (more : List ℕ) (s : Splitter) (now : List Record → RunOutput) (received_now received_new : Option (List ℕ)) (r : Record) (w : IsProgress reading run_output received input more s now received_now)
-      → IsReadAs reading input log → log.records ≡ w.records ++ r ∷ [] → AppendsFront received_now received_new (now (r ∷ [])).out → Broken reading run_output input received received_new
+  broken_at : (log : Log) (more : List ℕ) (s : Splitter) (now : List Record → RunOutput) (received_now received_new : Option (List ℕ)) (r : Record) (w : IsProgress log_rules run_output received input more s now received_now)
+      → IsReadAs log_rules input log → log.records ≡ w.records ++ r ∷ [] → AppendsFront received_now received_new (now (r ∷ [])).out → Broken log_rules run_output input received received_new
   broken_at log more s now received_now received_new r w reads is cut =
       let whole : run_output log.records ≡ written_first w.out (now (r ∷ [])) = ap run_output is ∙ w.outputs (r ∷ []) in
       record {
@@ -78,8 +78,8 @@ module _ (reading : LogRules) (run_output : List Record → RunOutput) (received
         wrote = (w.out ++ cut.0, cut.1, ap (λ (c : RunOutput). c.out) whole ∙ ap (λ z. w.out ++ z) cut.2 ∙ sym (append_assoc w.out cut.0 cut.1), Appends-trans received received_now received_new w.out cut.0 w.wrote cut.3);
       }
 
-  short_at : (unflushed : Bool) (log : Log) (more : List ℕ) (s : Splitter) (now : List Record → RunOutput) (received_now received_new : Option (List ℕ)) (r : Record) (w : IsProgress reading run_output received input more s now received_now)
-      → IsReadAs reading input log → log.records ≡ w.records ++ r ∷ [] → AppendsShort unflushed received_now received_new (now (r ∷ [])).out → RanOut reading run_output unflushed input received received_new
+  short_at : (unflushed : Bool) (log : Log) (more : List ℕ) (s : Splitter) (now : List Record → RunOutput) (received_now received_new : Option (List ℕ)) (r : Record) (w : IsProgress log_rules run_output received input more s now received_now)
+      → IsReadAs log_rules input log → log.records ≡ w.records ++ r ∷ [] → AppendsShort unflushed received_now received_new (now (r ∷ [])).out → RanOut log_rules run_output unflushed input received received_new
   short_at unflushed log more s now received_now received_new r w reads is cut =
       let whole : run_output log.records ≡ written_first w.out (now (r ∷ [])) = ap run_output is ∙ w.outputs (r ∷ []) in
       record {
@@ -89,8 +89,8 @@ module _ (reading : LogRules) (run_output : List Record → RunOutput) (received
       }
 
   -- a fault at a record
-  pub record_fault : (unflushed : Bool) (log : Log) (more : List ℕ) (s : Splitter) (now : List Record → RunOutput) (received_now received_new : Option (List ℕ)) (r : Record) (fault : EngineFault) (w : IsProgress reading run_output received input more s now received_now)
-      → IsReadAs reading input log → log.records ≡ w.records ++ r ∷ [] → IsQuiet now → IsHandleFault now unflushed received_now received_new r fault → IsPieceFault reading run_output unflushed input received received_new fault
+  pub record_fault : (unflushed : Bool) (log : Log) (more : List ℕ) (s : Splitter) (now : List Record → RunOutput) (received_now received_new : Option (List ℕ)) (r : Record) (fault : EngineFault) (w : IsProgress log_rules run_output received input more s now received_now)
+      → IsReadAs log_rules input log → log.records ≡ w.records ++ r ∷ [] → IsQuiet now → IsHandleFault now unflushed received_now received_new r fault → IsPieceFault log_rules run_output unflushed input received received_new fault
   record_fault unflushed log more s now received_now received_new r Read w reads is quiet why = absurd why
   record_fault unflushed log more s now received_now received_new r Write w reads is quiet why = broken_at log more s now received_now received_new r w reads is why
   record_fault unflushed log more s now received_now received_new r (Frame fault) w reads is quiet why = absurd why
@@ -101,8 +101,8 @@ module _ (reading : LogRules) (run_output : List Record → RunOutput) (received
   record_fault unflushed log more s now received_now received_new r (BadLog place) w reads is quiet why = inl (went_to_end log more s now received_now received_new r (Err (BadLog place)) w reads is why)
 
   -- a fault in front of the next record
-  pub split_faults : (unflushed : Bool) (more : List ℕ) (s : Splitter) (now : List Record → RunOutput) (received_now received_new : Option (List ℕ)) (fault : EngineFault) (w : IsProgress reading run_output received input more s now received_now)
-      → IsQuiet now → Appends received_now received_new [] → IsSplitFault reading.max_body input (log_at s w.records more) fault → IsPieceFault reading run_output unflushed input received received_new fault
+  pub split_faults : (unflushed : Bool) (more : List ℕ) (s : Splitter) (now : List Record → RunOutput) (received_now received_new : Option (List ℕ)) (fault : EngineFault) (w : IsProgress log_rules run_output received input more s now received_now)
+      → IsQuiet now → Appends received_now received_new [] → IsSplitFault log_rules.max_body input (log_at s w.records more) fault → IsPieceFault log_rules run_output unflushed input received received_new fault
   split_faults unflushed more s now received_now received_new Read w quiet nothing why = absurd why
   split_faults unflushed more s now received_now received_new Write w quiet nothing why = absurd why
   split_faults unflushed more s now received_now received_new (Frame fault) w quiet nothing why = went_so_far more s now received_now received_new _ w quiet nothing why
@@ -116,58 +116,58 @@ module _ (reading : LogRules) (run_output : List Record → RunOutput) (received
   held_record : (s : Splitter) (head : Head) (raw body : List ℕ) → head ≡ head_of s → raw ≡ s.framer.buffered → record_at s body ≡ (record { head = head; raw = raw; body = body })
   held_record s head raw body e f = ap (λ (h : Head). record { head = h; raw = s.framer.buffered; body = body }) (sym e) ∙ ap (λ z. record { head = head; raw = z; body = body }) (sym f)
 
-  is_frame_here : (more : List ℕ) (s : Splitter) (now : List Record → RunOutput) (received_now : Option (List ℕ)) (body : List ℕ) → IsProgress reading run_output received input more s now received_now
-      → IsFrameOf s.framer.limits.max_body s.framer.buffered body → IsFrameOf reading.max_body s.framer.buffered body
+  is_frame_here : (more : List ℕ) (s : Splitter) (now : List Record → RunOutput) (received_now : Option (List ℕ)) (body : List ℕ) → IsProgress log_rules run_output received input more s now received_now
+      → IsFrameOf s.framer.limits.max_body s.framer.buffered body → IsFrameOf log_rules.max_body s.framer.buffered body
   is_frame_here more s now received_now body w is_frame_of = subst (λ (m : ℕ). IsFrameOf m s.framer.buffered body) w.is_after.limit is_frame_of
 
   pub taken_fault : (unflushed : Bool) → BufferedLaw → (more : List ℕ) (s : Splitter) (now : List Record → RunOutput) (received_now received_new : Option (List ℕ)) (head : Head) (raw body : List ℕ) (fault : EngineFault) → IsFed s
       → head ≡ head_of s → raw ≡ s.framer.buffered → IsFrameOf s.framer.limits.max_body s.framer.buffered body → IsQuiet now
       → IsHandleFault now unflushed received_now received_new (record { head = head; raw = raw; body = body }) fault
-      → IsProgress reading run_output received input more s now received_now → IsPieceFault reading run_output unflushed input received received_new fault
+      → IsProgress log_rules run_output received input more s now received_now → IsPieceFault log_rules run_output unflushed input received received_new fault
   taken_fault unflushed buffered_law more s now received_now received_new head raw body fault fed e f is_frame_of quiet why w =
-      let reads = buffered_law reading input more body w.records s fed is_frame_of w.is_after in
+      let reads = buffered_law log_rules input more body w.records s fed is_frame_of w.is_after in
       record_fault unflushed (record { version = s.version; records = w.records ++ record_at s body ∷ []; rest = more }) more s now received_now received_new (record_at s body) fault w reads refl quiet
       (subst (λ (r : Record). IsHandleFault now unflushed received_now received_new r fault) (sym (held_record s head raw body e f)) why)
 
-  handled_went : (more : List ℕ) (s n : Splitter) (now new : List Record → RunOutput) (received_now received_new : Option (List ℕ)) (r : Record) (answer : Option Outcome) (w : IsProgress reading run_output received input more s now received_now)
-      → IsAfter reading input more (w.records ++ r ∷ []) n → IsHandled now new received_now received_new r answer
-      → MatchOption answer (IsProgress reading run_output received input more n new received_new) (λ outcome. Stopped reading run_output input received received_new (Ok outcome))
+  handled_went : (more : List ℕ) (s n : Splitter) (now new : List Record → RunOutput) (received_now received_new : Option (List ℕ)) (r : Record) (answer : Option Outcome) (w : IsProgress log_rules run_output received input more s now received_now)
+      → IsAfter log_rules input more (w.records ++ r ∷ []) n → IsHandled now new received_now received_new r answer
+      → MatchOption answer (IsProgress log_rules run_output received input more n new received_new) (λ outcome. Stopped log_rules run_output input received received_new (Ok outcome))
   handled_went more s n now new received_now received_new r None w is_after handled = went_on more s n now new received_now received_new r w is_after handled
   handled_went more s n now new received_now received_new r (Some outcome) w is_after handled =
       went_to_end (log_at n (w.records ++ r ∷ []) more) more s now received_now received_new r (Ok outcome) w is_after.reads refl handled
 
   pub taken_went : (more : List ℕ) (s n : Splitter) (now new : List Record → RunOutput) (received_now received_new : Option (List ℕ)) (head : Head) (raw body : List ℕ) (answer : Option Outcome)
       → head ≡ head_of s → raw ≡ s.framer.buffered → IsFrameOf s.framer.limits.max_body s.framer.buffered body
-      → ((records : List Record) → IsFrameOf reading.max_body s.framer.buffered body → IsAfter reading input more records s → IsAfter reading input more (records ++ record_at s body ∷ []) n)
+      → ((records : List Record) → IsFrameOf log_rules.max_body s.framer.buffered body → IsAfter log_rules input more records s → IsAfter log_rules input more (records ++ record_at s body ∷ []) n)
       → IsHandled now new received_now received_new (record { head = head; raw = raw; body = body }) answer
-      → IsProgress reading run_output received input more s now received_now
-      → MatchOption answer (IsProgress reading run_output received input more n new received_new) (λ outcome. Stopped reading run_output input received received_new (Ok outcome))
+      → IsProgress log_rules run_output received input more s now received_now
+      → MatchOption answer (IsProgress log_rules run_output received input more n new received_new) (λ outcome. Stopped log_rules run_output input received received_new (Ok outcome))
   taken_went more s n now new received_now received_new head raw body answer e f is_frame_of next handled w =
       handled_went more s n now new received_now received_new (record_at s body) answer w (next w.records (is_frame_here more s now received_now body w is_frame_of) w.is_after)
       (subst (λ (r : Record). IsHandled now new received_now received_new r answer) (sym (held_record s head raw body e f)) handled)
 
   -- The bytes of a piece were taken.
   pub went_fed : (piece bytes : List ℕ) (at k : ℕ) (s n : Splitter) (now : List Record → RunOutput) (received_now : Option (List ℕ)) → at ≤ length piece → bytes ≡ take (length piece - at) (drop at piece)
-      → ((records : List Record) → IsAfter reading input bytes records s → IsAfter reading input (drop k bytes) records n)
-      → IsProgress reading run_output received input (drop at piece) s now received_now → IsProgress reading run_output received input (drop (at + k) piece) n now received_now
+      → ((records : List Record) → IsAfter log_rules input bytes records s → IsAfter log_rules input (drop k bytes) records n)
+      → IsProgress log_rules run_output received input (drop at piece) s now received_now → IsProgress log_rules run_output received input (drop (at + k) piece) n now received_now
   went_fed piece bytes at k s n now received_now within is fed w =
       let all : bytes ≡ drop at piece = is ∙ between_to_end piece at (length piece) (omega arith) in
-      let is_after : IsAfter reading input (drop k bytes) w.records n = fed w.records (subst (λ (z : List ℕ). IsAfter reading input z w.records s) (sym all) w.is_after) in
+      let is_after : IsAfter log_rules input (drop k bytes) w.records n = fed w.records (subst (λ (z : List ℕ). IsAfter log_rules input z w.records s) (sym all) w.is_after) in
       let rest : drop k bytes ≡ drop (at + k) piece = ap (drop k) all ∙ drop-drop k at piece in
       record {
         records = w.records;
-        is_after = subst (λ (z : List ℕ). IsAfter reading input z w.records n) rest is_after;
+        is_after = subst (λ (z : List ℕ). IsAfter log_rules input z w.records n) rest is_after;
         out = w.out;
         outputs = w.outputs;
         wrote = w.wrote;
       }
 
   pub fed_fault : (unflushed : Bool) (piece bytes : List ℕ) (at : ℕ) (s : Splitter) (now : List Record → RunOutput) (received_now received_new : Option (List ℕ)) (fault : EngineFault) → at ≤ length piece → bytes ≡ take (length piece - at) (drop at piece)
-      → ((records : List Record) → IsAfter reading input bytes records s → IsSplitFault reading.max_body input (log_at s records bytes) fault) → IsQuiet now → Appends received_now received_new []
-      → IsProgress reading run_output received input (drop at piece) s now received_now → IsPieceFault reading run_output unflushed input received received_new fault
+      → ((records : List Record) → IsAfter log_rules input bytes records s → IsSplitFault log_rules.max_body input (log_at s records bytes) fault) → IsQuiet now → Appends received_now received_new []
+      → IsProgress log_rules run_output received input (drop at piece) s now received_now → IsPieceFault log_rules run_output unflushed input received received_new fault
   fed_fault unflushed piece bytes at s now received_now received_new fault within is fed quiet nothing w =
       let all : bytes ≡ drop at piece = is ∙ between_to_end piece at (length piece) (omega arith) in
-      let here : IsProgress reading run_output received input bytes s now received_now = subst (λ (z : List ℕ). IsProgress reading run_output received input z s now received_now) (sym all) w in
+      let here : IsProgress log_rules run_output received input bytes s now received_now = subst (λ (z : List ℕ). IsProgress log_rules run_output received input z s now received_now) (sym all) w in
       split_faults unflushed bytes s now received_now received_new fault here quiet nothing (fed here.records here.is_after)
 
 -- ---- rests that no record begins
@@ -184,33 +184,33 @@ cut_only : (max_body : ℕ) (log : Log) → IsUndecided max_body log → (log.re
 cut_only max_body log (inl nothing) some = absurd (some nothing)
 cut_only max_body log (inr cut) some = cut
 
-module _ (reading : LogRules) (run_output : List Record → RunOutput) (received : Option (List ℕ)) (input : List ℕ) where
+module _ (log_rules : LogRules) (run_output : List Record → RunOutput) (received : Option (List ℕ)) (input : List ℕ) where
   pub went_cut : RestLaw → (s : Splitter) (now : List Record → RunOutput) (received_now : Option (List ℕ)) → IsReady s → IsQuiet now → (buffered_of s ≡ [] → ⊥)
-      → IsProgress reading run_output received input [] s now received_now → Reached reading run_output input received received_now (IsCut reading.max_body)
+      → IsProgress log_rules run_output received input [] s now received_now → Reached log_rules run_output input received received_now (IsCut log_rules.max_body)
   went_cut rest_law s now received_now ready quiet some w =
-      went_so_far reading run_output received input [] s now received_now received_now (IsCut reading.max_body) w quiet (Appends-nil received_now)
-      (cut_only reading.max_body (log_at s w.records []) (rest_law reading input w.records s ready w.is_after) (λ nothing. some (sym (append-nil (buffered_of s)) ∙ nothing)))
+      went_so_far log_rules run_output received input [] s now received_now received_now (IsCut log_rules.max_body) w quiet (Appends-nil received_now)
+      (cut_only log_rules.max_body (log_at s w.records []) (rest_law log_rules input w.records s ready w.is_after) (λ nothing. some (sym (append-nil (buffered_of s)) ∙ nothing)))
 
   pub went_read : RestLaw → (s : Splitter) (now : List Record → RunOutput) (received_now : Option (List ℕ)) → IsReady s → IsQuiet now
-      → IsProgress reading run_output received input [] s now received_now → Reached reading run_output input received received_now (IsUnfinished reading input)
+      → IsProgress log_rules run_output received input [] s now received_now → Reached log_rules run_output input received received_now (IsUnfinished log_rules input)
   went_read rest_law s now received_now ready quiet w =
-      let undecided = rest_law reading input w.records s ready w.is_after in
-      went_so_far reading run_output received input [] s now received_now received_now (IsUnfinished reading input) w quiet (Appends-nil received_now)
-      (record { none = no_record reading.max_body (log_at s w.records []) undecided; undecided = inl undecided })
+      let undecided = rest_law log_rules input w.records s ready w.is_after in
+      went_so_far log_rules run_output received input [] s now received_now received_now (IsUnfinished log_rules input) w quiet (Appends-nil received_now)
+      (record { none = no_record log_rules.max_body (log_at s w.records []) undecided; undecided = inl undecided })
 
   -- what the course of the records says of the end
-  went_whole : (s : Splitter) (now : List Record → RunOutput) (received_now : Option (List ℕ)) (w : IsProgress reading run_output received input [] s now received_now) → run_output w.records ≡ written_first w.out (now [])
+  went_whole : (s : Splitter) (now : List Record → RunOutput) (received_now : Option (List ℕ)) (w : IsProgress log_rules run_output received input [] s now received_now) → run_output w.records ≡ written_first w.out (now [])
   went_whole s now received_now w = ap run_output (sym (append-nil w.records)) ∙ w.outputs []
 
-  went_last : (s : Splitter) (now : List Record → RunOutput) (received_now : Option (List ℕ)) (w : IsProgress reading run_output received input [] s now received_now)
+  went_last : (s : Splitter) (now : List Record → RunOutput) (received_now : Option (List ℕ)) (w : IsProgress log_rules run_output received input [] s now received_now)
       → last_of run_output (log_at s w.records []) ≡ (now []).last s.line_due
   went_last s now received_now w = ap (λ (c : RunOutput). c.last (is_line_due s.version w.records)) (went_whole s now received_now w) ∙ ap (now []).last (sym w.is_after.due)
 
-  went_out : (s : Splitter) (now : List Record → RunOutput) (received_now : Option (List ℕ)) → IsQuiet now → (w : IsProgress reading run_output received input [] s now received_now) → (run_output w.records).out ≡ w.out
+  went_out : (s : Splitter) (now : List Record → RunOutput) (received_now : Option (List ℕ)) → IsQuiet now → (w : IsProgress log_rules run_output received input [] s now received_now) → (run_output w.records).out ≡ w.out
   went_out s now received_now quiet w = ap (λ (c : RunOutput). c.out) (went_whole s now received_now w) ∙ ap (λ z. w.out ++ z) quiet.silent ∙ append-nil w.out
 
   pub went_at_end : (s : Splitter) (now : List Record → RunOutput) (received_now received_new : Option (List ℕ)) (outcome : Outcome) → IsQuiet now → buffered_of s ≡ []
-      → Appends received_now received_new ((now []).last s.line_due) → outcome ≡ (now []).outcome → IsProgress reading run_output received input [] s now received_now → AtEnd reading run_output input received received_new outcome
+      → Appends received_now received_new ((now []).last s.line_due) → outcome ≡ (now []).outcome → IsProgress log_rules run_output received input [] s now received_now → AtEnd log_rules run_output input received received_new outcome
   went_at_end s now received_now received_new outcome quiet nothing wrote error w = record {
     log = log_at s w.records [];
     reads = w.is_after.reads;
@@ -223,7 +223,7 @@ module _ (reading : LogRules) (run_output : List Record → RunOutput) (received
   }
 
   broken_last : (s : Splitter) (now : List Record → RunOutput) (received_now received_new : Option (List ℕ)) → IsQuiet now → buffered_of s ≡ []
-      → AppendsFront received_now received_new ((now []).last s.line_due) → IsProgress reading run_output received input [] s now received_now → BrokenAtEnd reading run_output input received received_new
+      → AppendsFront received_now received_new ((now []).last s.line_due) → IsProgress log_rules run_output received input [] s now received_now → BrokenAtEnd log_rules run_output input received received_new
   broken_last s now received_now received_new quiet nothing cut w = record {
     log = log_at s w.records [];
     reads = w.is_after.reads;
@@ -236,7 +236,7 @@ module _ (reading : LogRules) (run_output : List Record → RunOutput) (received
   }
 
   short_last : (unflushed : Bool) (s : Splitter) (now : List Record → RunOutput) (received_now received_new : Option (List ℕ)) → IsQuiet now → buffered_of s ≡ []
-      → AppendsShort unflushed received_now received_new ((now []).last s.line_due) → IsProgress reading run_output received input [] s now received_now → RanOutAtEnd reading run_output unflushed input received received_new
+      → AppendsShort unflushed received_now received_new ((now []).last s.line_due) → IsProgress log_rules run_output received input [] s now received_now → RanOutAtEnd log_rules run_output unflushed input received received_new
   unfolding broken_last
   short_last unflushed s now received_now received_new quiet nothing cut w = record {
     broken = broken_last s now received_now received_new quiet nothing (cut.0, cut.1, cut.2, cut.3) w;
@@ -244,7 +244,7 @@ module _ (reading : LogRules) (run_output : List Record → RunOutput) (received
   }
 
   pub last_fault : (unflushed : Bool) (place : ℕ) (s : Splitter) (now : List Record → RunOutput) (received_now received_new : Option (List ℕ)) (fault : EngineFault) → IsQuiet now → buffered_of s ≡ []
-      → AppendsFront received_now received_new ((now []).last s.line_due) → (fault ≡ TooManyTurns → AppendsShort unflushed received_now received_new ((now []).last s.line_due)) → IsLastFault fault → IsProgress reading run_output received input [] s now received_now → IsEndFault reading run_output unflushed input received received_new place fault
+      → AppendsFront received_now received_new ((now []).last s.line_due) → (fault ≡ TooManyTurns → AppendsShort unflushed received_now received_new ((now []).last s.line_due)) → IsLastFault fault → IsProgress log_rules run_output received input [] s now received_now → IsEndFault log_rules run_output unflushed input received received_new place fault
   last_fault unflushed place s now received_now received_new Read quiet nothing cut short kind w = absurd kind
   last_fault unflushed place s now received_now received_new Write quiet nothing cut short kind w = broken_last s now received_now received_new quiet nothing cut w
   last_fault unflushed place s now received_now received_new (Frame fault) quiet nothing cut short kind w = absurd kind
@@ -256,8 +256,8 @@ module _ (reading : LogRules) (run_output : List Record → RunOutput) (received
 
   -- Nothing was written of what the end gives.
   pub went_whole_records : (s : Splitter) (now : List Record → RunOutput) (received_now received_new : Option (List ℕ)) → IsQuiet now → Appends received_now received_new []
-      → IsProgress reading run_output received input [] s now received_now → Reached reading run_output input received received_new (λ _. Unit {0})
-  went_whole_records s now received_now received_new quiet nothing w = went_so_far reading run_output received input [] s now received_now received_new (λ _. Unit {0}) w quiet nothing tt
+      → IsProgress log_rules run_output received input [] s now received_now → Reached log_rules run_output input received received_new (λ _. Unit {0})
+  went_whole_records s now received_now received_new quiet nothing w = went_so_far log_rules run_output received input [] s now received_now received_new (λ _. Unit {0}) w quiet nothing tt
 
 -- Bytes that are short of some bytes are short of more.
 pub still_short : (unflushed : Bool) (some more : List ℕ) → (0 < length some) ⊎ (unflushed ≡ true) → (0 < length (some ++ more)) ⊎ (unflushed ≡ true)

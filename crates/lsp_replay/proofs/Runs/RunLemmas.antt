@@ -71,22 +71,22 @@ unopened : (versions : Bool) (max_body : ℕ) (input : List ℕ) → IsLineFront
 unopened true max_body input front none = inr (refl, front)
 unopened false max_body input front none = inl (inl (none refl))
 
-module _ (reading : LogRules) (run_output : List Record → RunOutput) (left received : Option (List ℕ)) where
+module _ (log_rules : LogRules) (run_output : List Record → RunOutput) (left received : Option (List ℕ)) where
   -- at the start
   pub runs_at_start : (left_now : Option (List ℕ)) (ended : Bool) (len place size : ℕ) (buf : List ℕ) (s : Splitter) (version : Version) → len ≤ length buf → len < 2 ^ 64 → size ≡ length (line_of version) → place ≡ len → s.version ≡ version
       → Consumes left left_now (take len buf)
-      → ((more : List ℕ) → (ended ≡ true → more ≡ []) → IsVersion reading.versions version (take len buf ++ more))
+      → ((more : List ℕ) → (ended ≡ true → more ≡ []) → IsVersion log_rules.versions version (take len buf ++ more))
       → length (line_of version) ≤ len → take len buf ≡ line_of version ++ drop (length (line_of version)) (take len buf)
-      → (reading.only_one ≡ true → version ≡ One) → ((input more : List ℕ) → IsOpen reading input version more → IsAfter reading input more [] s)
-      → Runs reading run_output left received left_now ended place (take (len - size) (drop size buf)) s run_output received
+      → (log_rules.only_one ≡ true → version ≡ One) → ((input more : List ℕ) → IsOpen log_rules input version more → IsAfter log_rules input more [] s)
+      → Runs log_rules run_output left received left_now ended place (take (len - size) (drop size buf)) s run_output received
   runs_at_start left_now ended len place size buf s version within fits sized placed same read known short front accepted is_after =
       let all : length (take len buf) ≡ len = omega (arith, length-take len buf) in
       let sum : size + (len - size) ≡ len = omega (arith, sized, short) in
       let rest : drop size (take (size + (len - size)) buf) ≡ take (len - size) (drop size buf) = drop-take size (len - size) buf in
       let piece : drop (length (line_of version)) (take len buf) ≡ take (len - size) (drop size buf) =
       ap (λ n. drop n (take len buf)) (sym sized) ∙ ap (λ n. drop size (take n buf)) (sym sum) ∙ rest in
-      let whole : IsVersion reading.versions version (take len buf) =
-      subst (λ (z : List ℕ). IsVersion reading.versions version z) (append-nil (take len buf)) (known [] (λ _. refl)) in
+      let whole : IsVersion log_rules.versions version (take len buf) =
+      subst (λ (z : List ℕ). IsVersion log_rules.versions version z) (append-nil (take len buf)) (known [] (λ _. refl)) in
       record {
         input = take len buf;
         read = read;
@@ -98,30 +98,30 @@ module _ (reading : LogRules) (run_output : List Record → RunOutput) (left rec
           wrote = Appends-nil received;
         };
         placed = omega (arith, placed, all, fits);
-        sure = λ more last. subst (λ (v : Version). IsVersion reading.versions v (take len buf ++ more)) (sym same) (known more last);
+        sure = λ more last. subst (λ (v : Version). IsVersion log_rules.versions v (take len buf ++ more)) (sym same) (known more last);
       }
 
   -- a piece was taken
   pub runs_on : (left_now : Option (List ℕ)) (ended : Bool) (place : ℕ) (piece : List ℕ) (s n : Splitter) (now new : List Record → RunOutput) (received_now received_new : Option (List ℕ)) → n.version ≡ s.version
-      → ((input : List ℕ) → IsProgress reading run_output received input piece s now received_now → IsProgress reading run_output received input [] n new received_new)
-      → Runs reading run_output left received left_now ended place piece s now received_now → Runs reading run_output left received left_now ended place [] n new received_new
+      → ((input : List ℕ) → IsProgress log_rules run_output received input piece s now received_now → IsProgress log_rules run_output received input [] n new received_new)
+      → Runs log_rules run_output left received left_now ended place piece s now received_now → Runs log_rules run_output left received left_now ended place [] n new received_new
   runs_on left_now ended place piece s n now new received_now received_new same taken r = record {
     input = r.input;
     read = r.read;
     progress = taken r.input r.progress;
     placed = r.placed;
-    sure = λ more last. subst (λ (v : Version). IsVersion reading.versions v (r.input ++ more)) (sym same) (r.sure more last);
+    sure = λ more last. subst (λ (v : Version). IsVersion log_rules.versions v (r.input ++ more)) (sym same) (r.sure more last);
   }
 
   -- more was read
   pub runs_more : (left_now left_new : Option (List ℕ)) (ended ended_new : Bool) (place place_new n : ℕ) (piece : List ℕ) (s : Splitter) (now : List Record → RunOutput) (received_now : Option (List ℕ)) → ended ≡ false
       → length piece ≡ n → place_new ≡ min (place + n) (2 ^ 64 - 1) → Consumes left_now left_new piece
-      → Runs reading run_output left received left_now ended place [] s now received_now → Runs reading run_output left received left_new ended_new place_new piece s now received_now
+      → Runs log_rules run_output left received left_now ended place [] s now received_now → Runs log_rules run_output left received left_new ended_new place_new piece s now received_now
   runs_more left_now left_new ended ended_new place place_new n piece s now received_now open_still len placed read r =
       let w = r.progress in
       let at = w.is_after in
       let not_ended : (more : List ℕ) → ended ≡ true → more ≡ [] = λ more is. absurd (ended_not ended open_still is) in
-      let version : IsVersion reading.versions s.version (r.input ++ piece) = r.sure piece (not_ended piece) in
+      let version : IsVersion log_rules.versions s.version (r.input ++ piece) = r.sure piece (not_ended piece) in
       let sum : length (r.input ++ piece) ≡ length r.input + length piece = length-append r.input piece in
       let before : buffered_of s ++ [] ≡ buffered_of s = append-nil (buffered_of s) in
       record {
@@ -150,22 +150,22 @@ module _ (reading : LogRules) (run_output : List Record → RunOutput) (left rec
           wrote = w.wrote;
         };
         placed = omega (arith, placed, r.placed, sum, len);
-        sure = λ more last. subst (λ (z : List ℕ). IsVersion reading.versions s.version z) (sym (append_assoc r.input piece more)) (r.sure (piece ++ more) (not_ended (piece ++ more)));
+        sure = λ more last. subst (λ (z : List ℕ). IsVersion log_rules.versions s.version z) (sym (append_assoc r.input piece more)) (r.sure (piece ++ more) (not_ended (piece ++ more)));
       }
 
   -- The run ended.
   pub ran_stopped : (left_now : Option (List ℕ)) (ended : Bool) (state : PortState) (place : ℕ) (piece : List ℕ) (s : Splitter) (now : List Record → RunOutput) (received_now received_new : Option (List ℕ)) (outcome : Outcome)
-      → ((input : List ℕ) → IsProgress reading run_output received input piece s now received_now → Stopped reading run_output input received received_new (Ok outcome))
-      → Runs reading run_output left received left_now ended place piece s now received_now → Ran reading run_output state left left_now received received_new (Ok outcome)
+      → ((input : List ℕ) → IsProgress log_rules run_output received input piece s now received_now → Stopped log_rules run_output input received received_new (Ok outcome))
+      → Runs log_rules run_output left received left_now ended place piece s now received_now → Ran log_rules run_output state left left_now received received_new (Ok outcome)
   ran_stopped left_now ended state place piece s now received_now received_new outcome stops r = record { input = r.input; read = r.read; came = inl (stops r.input r.progress) }
 
   pub ran_to_end : (left_now : Option (List ℕ)) (ended : Bool) (state : PortState) (place : ℕ) (s : Splitter) (now : List Record → RunOutput) (received_now received_new : Option (List ℕ)) (outcome : Outcome) → state.ended ≡ true
-      → ((input : List ℕ) → IsProgress reading run_output received input [] s now received_now → AtEnd reading run_output input received received_new outcome)
-      → Runs reading run_output left received left_now ended place [] s now received_now → Ran reading run_output state left left_now received received_new (Ok outcome)
+      → ((input : List ℕ) → IsProgress log_rules run_output received input [] s now received_now → AtEnd log_rules run_output input received received_new outcome)
+      → Runs log_rules run_output left received left_now ended place [] s now received_now → Ran log_rules run_output state left left_now received received_new (Ok outcome)
   ran_to_end left_now ended state place s now received_now received_new outcome error ends r = record { input = r.input; read = r.read; came = inr (error, ends r.input r.progress) }
 
   -- It ended with a fault.
-  piece_fault : (state : PortState) (input : List ℕ) (received_new : Option (List ℕ)) (fault : EngineFault) → IsPieceFault reading run_output state.unflushed input received received_new fault → IsRunFault reading run_output state input received received_new fault
+  piece_fault : (state : PortState) (input : List ℕ) (received_new : Option (List ℕ)) (fault : EngineFault) → IsPieceFault log_rules run_output state.unflushed input received received_new fault → IsRunFault log_rules run_output state input received received_new fault
   piece_fault state input received_new Read why = absurd why
   piece_fault state input received_new Write why = inl why
   piece_fault state input received_new (Frame fault) why = why
@@ -177,13 +177,13 @@ module _ (reading : LogRules) (run_output : List Record → RunOutput) (left rec
   piece_fault state input received_new (BadLog place) (inr why) = inr (inl why)
 
   pub ran_into_fault : (left_now : Option (List ℕ)) (ended : Bool) (state : PortState) (place : ℕ) (piece : List ℕ) (s : Splitter) (now : List Record → RunOutput) (received_now received_new : Option (List ℕ)) (fault : EngineFault)
-      → ((input : List ℕ) → IsProgress reading run_output received input piece s now received_now → IsPieceFault reading run_output state.unflushed input received received_new fault)
-      → Runs reading run_output left received left_now ended place piece s now received_now → Ran reading run_output state left left_now received received_new (Err fault)
+      → ((input : List ℕ) → IsProgress log_rules run_output received input piece s now received_now → IsPieceFault log_rules run_output state.unflushed input received received_new fault)
+      → Runs log_rules run_output left received left_now ended place piece s now received_now → Ran log_rules run_output state left left_now received received_new (Err fault)
   ran_into_fault left_now ended state place piece s now received_now received_new fault fails r =
       record { input = r.input; read = r.read; came = piece_fault state r.input received_new fault (fails r.input r.progress) }
 
   end_fault : (state : PortState) (input : List ℕ) (place : ℕ) (received_new : Option (List ℕ)) (fault : EngineFault) → state.ended ≡ true → place ≡ place_after 0 (length input)
-      → IsEndFault reading run_output state.unflushed input received received_new place fault → IsRunFault reading run_output state input received received_new fault
+      → IsEndFault log_rules run_output state.unflushed input received received_new place fault → IsRunFault log_rules run_output state input received received_new fault
   end_fault state input place received_new Read error placed why = absurd why
   end_fault state input place received_new Write error placed why = inr (error, why)
   end_fault state input place received_new (Frame fault) error placed why = absurd why
@@ -194,42 +194,42 @@ module _ (reading : LogRules) (run_output : List Record → RunOutput) (left rec
   end_fault state input place received_new (BadLog at) error placed why = absurd why
 
   pub ran_into_end_fault : (left_now : Option (List ℕ)) (ended : Bool) (state : PortState) (place : ℕ) (s : Splitter) (now : List Record → RunOutput) (received_now received_new : Option (List ℕ)) (fault : EngineFault) → state.ended ≡ true
-      → ((input : List ℕ) → IsProgress reading run_output received input [] s now received_now → IsEndFault reading run_output state.unflushed input received received_new place fault)
-      → Runs reading run_output left received left_now ended place [] s now received_now → Ran reading run_output state left left_now received received_new (Err fault)
+      → ((input : List ℕ) → IsProgress log_rules run_output received input [] s now received_now → IsEndFault log_rules run_output state.unflushed input received received_new place fault)
+      → Runs log_rules run_output left received left_now ended place [] s now received_now → Ran log_rules run_output state left left_now received received_new (Err fault)
   ran_into_end_fault left_now ended state place s now received_now received_new fault error fails r =
       record { input = r.input; read = r.read; came = end_fault state r.input place received_new fault error r.placed (fails r.input r.progress) }
 
   -- No more could be read.
   read_fault : (state : PortState) (input : List ℕ) (received_new : Option (List ℕ)) (fault : EngineFault) → (fault ≡ Read) ⊎ (fault ≡ TooManyTurns)
-      → (fault ≡ TooManyTurns → state.ended_before ≡ false → state.ended ≡ false) → Reached reading run_output input received received_new (IsUnfinished reading input) → IsRunFault reading run_output state input received received_new fault
-  read_fault state input received_new fault (inl is) not_ended reached = subst (IsRunFault reading run_output state input received received_new) (sym is) reached
+      → (fault ≡ TooManyTurns → state.ended_before ≡ false → state.ended ≡ false) → Reached log_rules run_output input received received_new (IsUnfinished log_rules input) → IsRunFault log_rules run_output state input received received_new fault
+  read_fault state input received_new fault (inl is) not_ended reached = subst (IsRunFault log_rules run_output state input received received_new) (sym is) reached
   read_fault state input received_new fault (inr is) not_ended reached =
-      subst (IsRunFault reading run_output state input received received_new) (sym is)
+      subst (IsRunFault log_rules run_output state input received received_new) (sym is)
       (inr (inr (not_ended is, reached)))
 
   pub ran_unread : (left_now left_new : Option (List ℕ)) (ended : Bool) (state : PortState) (place : ℕ) (s : Splitter) (now : List Record → RunOutput) (received_now : Option (List ℕ)) (fault : EngineFault) → RestLaw → IsReady s → IsQuiet now
       → Keeps left_now left_new → (fault ≡ Read) ⊎ (fault ≡ TooManyTurns) → (fault ≡ TooManyTurns → state.ended_before ≡ false → state.ended ≡ false)
-      → Runs reading run_output left received left_now ended place [] s now received_now → Ran reading run_output state left left_new received received_now (Err fault)
+      → Runs log_rules run_output left received left_now ended place [] s now received_now → Ran log_rules run_output state left left_new received received_now (Err fault)
   ran_unread left_now left_new ended state place s now received_now fault rest_law ready quiet kept kind not_ended r = record {
     input = r.input;
     read = Consumes-kept left left_now left_new r.input r.read kept;
-    came = read_fault state r.input received_now fault kind not_ended (went_read reading run_output received r.input rest_law s now received_now ready quiet r.progress);
+    came = read_fault state r.input received_now fault kind not_ended (went_read log_rules run_output received r.input rest_law s now received_now ready quiet r.progress);
   }
 
   -- A log of version 2 was refused.
-  pub ran_refused : (left_now : Option (List ℕ)) (state : PortState) (fault : EngineFault) (input : List ℕ) (version : Version) → (fault ≡ BadLog 0) × (reading.only_one ≡ true) × (version ≡ Two)
-      → Consumes left left_now input → ((more : List ℕ) → more ≡ [] → IsVersion reading.versions version (input ++ more)) → Ran reading run_output state left left_now received received (Err fault)
+  pub ran_refused : (left_now : Option (List ℕ)) (state : PortState) (fault : EngineFault) (input : List ℕ) (version : Version) → (fault ≡ BadLog 0) × (log_rules.only_one ≡ true) × (version ≡ Two)
+      → Consumes left left_now input → ((more : List ℕ) → more ≡ [] → IsVersion log_rules.versions version (input ++ more)) → Ran log_rules run_output state left left_now received received (Err fault)
   ran_refused left_now state fault input version why read known =
-      let two : IsVersion reading.versions Two input = subst (λ (v : Version). IsVersion reading.versions v input) why.2 (subst (λ (z : List ℕ). IsVersion reading.versions version z) (append-nil input) (known [] refl)) in
+      let two : IsVersion log_rules.versions Two input = subst (λ (v : Version). IsVersion log_rules.versions v input) why.2 (subst (λ (z : List ℕ). IsVersion log_rules.versions version z) (append-nil input) (known [] refl)) in
       record {
         input = input;
         read = read;
-        came = subst (IsRunFault reading run_output state input received received) (sym why.0) (inr (inr (record { only_one = why.1; version = two; placed = refl; wrote = Appends-nil received })));
+        came = subst (IsRunFault log_rules run_output state input received received) (sym why.0) (inr (inr (record { only_one = why.1; version = two; placed = refl; wrote = Appends-nil received })));
       }
 
   -- Some first bytes of the line are no log of version 2, and begin no frame.
-  pub ran_unopened : (left_new : Option (List ℕ)) (state : PortState) (fault : EngineFault) → IsQuiet run_output → IsBelowLine reading.versions left left_new → (fault ≡ Read) ⊎ (fault ≡ TooManyTurns) → (fault ≡ TooManyTurns → state.ended_before ≡ false → state.ended ≡ false)
-      → Ran reading run_output state left left_new received received (Err fault)
+  pub ran_unopened : (left_new : Option (List ℕ)) (state : PortState) (fault : EngineFault) → IsQuiet run_output → IsBelowLine log_rules.versions left left_new → (fault ≡ Read) ⊎ (fault ≡ TooManyTurns) → (fault ≡ TooManyTurns → state.ended_before ≡ false → state.ended ≡ false)
+      → Ran log_rules run_output state left left_new received received (Err fault)
   ran_unopened left_new state fault quiet below kind not_ended = record {
     input = below.0;
     read = below.3;
@@ -242,8 +242,8 @@ module _ (reading : LogRules) (run_output : List Record → RunOutput) (left rec
         each = tt;
       };
       rest = record {
-        none = λ side raw body more is_frame_of e. no_frame_in_line reading.max_body below.0 raw body more below.1 is_frame_of e;
-        undecided = unopened reading.versions reading.max_body below.0 below.1 below.2;
+        none = λ side raw body more is_frame_of e. no_frame_in_line log_rules.max_body below.0 raw body more below.1 is_frame_of e;
+        undecided = unopened log_rules.versions log_rules.max_body below.0 below.1 below.2;
       };
       continues = quiet.unstopped;
       wrote = subst (λ (z : List ℕ). Appends received received z) (sym quiet.silent) (Appends-nil received);
@@ -253,26 +253,26 @@ module _ (reading : LogRules) (run_output : List Record → RunOutput) (left rec
   pub ran_finished : (left_now : Option (List ℕ)) (ended : Bool) (state : PortState) (place : ℕ) (s : Splitter) (now : List Record → RunOutput) (received_now received_new : Option (List ℕ)) (answer : Result Outcome EngineFault) → state.ended ≡ true
       → IfOk answer (λ outcome. (rules : LogRules) (at_first : List Record → RunOutput) (held_first : Option (List ℕ)) (input : List ℕ) → IsProgress rules at_first held_first input [] s now received_now → AtEnd rules at_first input held_first received_new outcome)
       → IfErr answer (λ fault. (rules : LogRules) (at_first : List Record → RunOutput) (held_first : Option (List ℕ)) (input : List ℕ) → IsProgress rules at_first held_first input [] s now received_now → IsEndFault rules at_first state.unflushed input held_first received_new place fault)
-      → Runs reading run_output left received left_now ended place [] s now received_now → Ran reading run_output state left left_now received received_new answer
-  ran_finished left_now ended state place s now received_now received_new (Ok outcome) error ends fails r = ran_to_end left_now ended state place s now received_now received_new outcome error (ends reading run_output received) r
-  ran_finished left_now ended state place s now received_now received_new (Err fault) error ends fails r = ran_into_end_fault left_now ended state place s now received_now received_new fault error (fails reading run_output received) r
+      → Runs log_rules run_output left received left_now ended place [] s now received_now → Ran log_rules run_output state left left_now received received_new answer
+  ran_finished left_now ended state place s now received_now received_new (Ok outcome) error ends fails r = ran_to_end left_now ended state place s now received_now received_new outcome error (ends log_rules run_output received) r
+  ran_finished left_now ended state place s now received_now received_new (Err fault) error ends fails r = ran_into_end_fault left_now ended state place s now received_now received_new fault error (fails log_rules run_output received) r
 
   -- Memory ran out at a record.
   pub piece_whole : (left_now : Option (List ℕ)) (ended : Bool) (place : ℕ) (piece : List ℕ) (s : Splitter) (now : List Record → RunOutput) (received_now received_new : Option (List ℕ)) (unflushed : Bool) (fault : EngineFault)
-      → ((input : List ℕ) → IsProgress reading run_output received input piece s now received_now → IsPieceFault reading run_output unflushed input received received_new fault)
-      → Runs reading run_output left received left_now ended place piece s now received_now → ◌≡◌ {A = Result Outcome EngineFault} (Err fault) (Err NoMemory) → WroteRecords reading run_output left left_now received received_new
+      → ((input : List ℕ) → IsProgress log_rules run_output received input piece s now received_now → IsPieceFault log_rules run_output unflushed input received received_new fault)
+      → Runs log_rules run_output left received left_now ended place piece s now received_now → ◌≡◌ {A = Result Outcome EngineFault} (Err fault) (Err NoMemory) → WroteRecords log_rules run_output left left_now received received_new
   piece_whole left_now ended place piece s now received_now received_new unflushed fault fails r is =
       let same : fault ≡ NoMemory = cc in
-      record { input = r.input; read = r.read; reached = subst (IsPieceFault reading run_output unflushed r.input received received_new) same (fails r.input r.progress) }
+      record { input = r.input; read = r.read; reached = subst (IsPieceFault log_rules run_output unflushed r.input received received_new) same (fails r.input r.progress) }
 
   -- And at the end of the input.
   pub end_whole : (left_now : Option (List ℕ)) (ended : Bool) (place : ℕ) (s : Splitter) (now : List Record → RunOutput) (received_now received_new : Option (List ℕ)) (Holds : Type 0) (answer : Result Outcome EngineFault)
       → IfErr answer (λ fault. fault ≡ NoMemory → Holds → (rules : LogRules) (at_first : List Record → RunOutput) (held_first : Option (List ℕ)) (input : List ℕ) → IsProgress rules at_first held_first input [] s now received_now → Reached rules at_first input held_first received_new (λ _. Unit {0}))
-      → Holds → Runs reading run_output left received left_now ended place [] s now received_now → answer ≡ Err NoMemory → WroteRecords reading run_output left left_now received received_new
+      → Holds → Runs log_rules run_output left received left_now ended place [] s now received_now → answer ≡ Err NoMemory → WroteRecords log_rules run_output left left_now received received_new
   end_whole left_now ended place s now received_now received_new Holds (Ok outcome) whole one r is = absurd (let two : ◌≡◌ {A = Result Outcome EngineFault} (Ok outcome) (Err NoMemory) = is in cc)
   end_whole left_now ended place s now received_now received_new Holds (Err fault) whole one r is =
       let same : fault ≡ NoMemory = cc in
-      record { input = r.input; read = r.read; reached = whole same one reading run_output received r.input r.progress }
+      record { input = r.input; read = r.read; reached = whole same one log_rules run_output received r.input r.progress }
 
 -- Which calls were made when a fault came.
 pub called_fault : (reads_old reads_new writes_old writes_new allowed turns : ℕ) (read_failed write_failed ended : Bool) (left : Option (List ℕ)) (fault : EngineFault) → BothSpend reads_old reads_new writes_old writes_new allowed turns
@@ -286,8 +286,8 @@ called_fault reads_old reads_new writes_old writes_new allowed turns read_failed
   at_end = λ other ended_now. at_end (λ is. other (ap Err is)) ended_now;
 }
 
-pub piece_not_read : (reading : LogRules) (run_output : List Record → RunOutput) (unflushed : Bool) (input : List ℕ) (old new : Option (List ℕ)) (fault : EngineFault) → IsPieceFault reading run_output unflushed input old new fault → fault ≡ Read → ⊥
-piece_not_read reading run_output unflushed input old new fault why is = subst (IsPieceFault reading run_output unflushed input old new) is why
+pub piece_not_read : (log_rules : LogRules) (run_output : List Record → RunOutput) (unflushed : Bool) (input : List ℕ) (old new : Option (List ℕ)) (fault : EngineFault) → IsPieceFault log_rules run_output unflushed input old new fault → fault ≡ Read → ⊥
+piece_not_read log_rules run_output unflushed input old new fault why is = subst (IsPieceFault log_rules run_output unflushed input old new) is why
 
 -- the calls of the writer
 pub both_writes : (reads_old reads_new writes_old writes_now writes_new allowed turns left : ℕ) → BothSpend reads_old reads_new writes_old writes_now allowed turns → Spends writes_now writes_new turns left

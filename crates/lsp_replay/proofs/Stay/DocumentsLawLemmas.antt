@@ -199,7 +199,7 @@ module _ (settings : Settings) (ranges : AreInRange settings.limits) (left_old l
 
 module _ (settings : Settings) (max_turns : ℕ) (before after : Ports) (result : Result Outcome EngineFault) where
   abbrev RunsAs : (List Record → RunOutput) → Type 0
-  RunsAs f = IsEngineRun (record { reading = as_log settings; run_output = f; flushes = false; in_parts = false }) max_turns before after result
+  RunsAs f = IsEngineRun (record { log_rules = as_log settings; run_output = f; flushes = false; in_parts = false }) max_turns before after result
 
   pub each_run : settings.squash ≡ false → IsEngineRun (each_documents_engine settings) max_turns before after result → IsEngineRun (documents_engine settings) max_turns before after result
   each_run squash run = as_each settings squash RunsAs run

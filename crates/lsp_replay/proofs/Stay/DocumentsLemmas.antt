@@ -294,14 +294,14 @@ module _ (s : Session) (c : Selection) (g : List Record → RunOutput) where
       let rest = grows_all (kept_in s c rs).records longer.0 in
       (rest.0, ap (λ (xs : List Record). (g xs).out) longer.1 ∙ rest.1)
 
-pub run_of_each_kept : FirstLaw → VersionLaw → (s : Session) (c : Selection) {reading : LogRules} {max_turns : ℕ} {before after : Ports} {result : Result Outcome EngineFault}
-    → IsLoopRun reading (each_of_kept s c) false max_turns before after result → NoneCut false reading (each_of_kept s c) before after result
-    → IsEngineRun (record { reading = reading; run_output = each_of_kept s c; flushes = false; in_parts = false }) max_turns before after result
+pub run_of_each_kept : FirstLaw → VersionLaw → (s : Session) (c : Selection) {log_rules : LogRules} {max_turns : ℕ} {before after : Ports} {result : Result Outcome EngineFault}
+    → IsLoopRun log_rules (each_of_kept s c) false max_turns before after result → NoneCut false log_rules (each_of_kept s c) before after result
+    → IsEngineRun (record { log_rules = log_rules; run_output = each_of_kept s c; flushes = false; in_parts = false }) max_turns before after result
 run_of_each_kept first version s c run whole =
     run_of_course first version (each_of_kept s c) (kept_settles s c (run_output_in normalising s) (settled normalising s) (each_even s)) (kept_grows s c (run_output_in normalising s) (grows normalising s)) false run whole
 
-pub run_of_squashed_kept : FirstLaw → VersionLaw → (q : Squashing) (c : Selection) {reading : LogRules} {max_turns : ℕ} {before after : Ports} {result : Result Outcome EngineFault}
-    → IsLoopRun reading (squashed_of_kept q c) false max_turns before after result → NoneCut false reading (squashed_of_kept q c) before after result
-    → IsEngineRun (record { reading = reading; run_output = squashed_of_kept q c; flushes = false; in_parts = false }) max_turns before after result
+pub run_of_squashed_kept : FirstLaw → VersionLaw → (q : Squashing) (c : Selection) {log_rules : LogRules} {max_turns : ℕ} {before after : Ports} {result : Result Outcome EngineFault}
+    → IsLoopRun log_rules (squashed_of_kept q c) false max_turns before after result → NoneCut false log_rules (squashed_of_kept q c) before after result
+    → IsEngineRun (record { log_rules = log_rules; run_output = squashed_of_kept q c; flushes = false; in_parts = false }) max_turns before after result
 run_of_squashed_kept first version q c run whole =
     run_of_course first version (squashed_of_kept q c) (kept_settles q.session c (squashed_in q.session q.run) (squashed_settled q.session q.run) (squash_even q.session q.run)) (kept_grows q.session c (squashed_in q.session q.run) (squashed_grows q.session q.run)) false run whole

@@ -20,7 +20,7 @@ squashed_of_kept q c rs = output_of_kept (squashed_in q.session q.run) (kept_in 
 abbrev pub each_documents_engine : Settings → Engine
 each_documents_engine settings
     = record {
-      reading = as_log settings;
+      log_rules = as_log settings;
       run_output = each_of_kept (opened (log_config settings)) nothing_selected;
       flushes = false;
       in_parts = false;
@@ -29,7 +29,7 @@ each_documents_engine settings
 abbrev pub squashed_documents_engine : Settings → Engine
 squashed_documents_engine settings
     = record {
-      reading = as_log settings;
+      log_rules = as_log settings;
       run_output
           = squashed_of_kept (record { session = opened (log_config settings); run = None })
           nothing_selected;

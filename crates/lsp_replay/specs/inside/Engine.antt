@@ -16,42 +16,42 @@ use Rattle.lsp_replay.specs.RunOutput.{RunOutput}
 use Rattle.lsp_replay.specs.Engine.{Called, NonePassedOver, PortState, Reached, last_of, state_of}
 
 -- A record ended the run: the output of the records up to it was written.
-pub record Stopped (reading : LogRules) (run_output : List Record → RunOutput) (input : List ℕ)
+pub record Stopped (log_rules : LogRules) (run_output : List Record → RunOutput) (input : List ℕ)
     (old new : Option (List ℕ)) (answer : Result Outcome EngineFault) : Type 0 where
   pub log : Log
-  pub reads : IsReadAs reading input log
+  pub reads : IsReadAs log_rules input log
   pub stops : (run_output log.records).stop ≡ Some answer
   pub wrote : Appends old new (run_output log.records).out
 
 -- A first part of the output of some records was written.
-pub record Broken (reading : LogRules) (run_output : List Record → RunOutput) (input : List ℕ)
+pub record Broken (log_rules : LogRules) (run_output : List Record → RunOutput) (input : List ℕ)
     (old new : Option (List ℕ)) : Type 0 where
   pub log : Log
-  pub reads : IsReadAs reading input log
+  pub reads : IsReadAs log_rules input log
   pub wrote : AppendsFront old new (run_output log.records).out
 
 -- The same if no turn was left: more was to be written, or what was written was to be passed on.
-pub record RanOut (reading : LogRules) (run_output : List Record → RunOutput) (unflushed : Bool)
+pub record RanOut (log_rules : LogRules) (run_output : List Record → RunOutput) (unflushed : Bool)
     (input : List ℕ) (old new : Option (List ℕ)) : Type 0 where
   pub log : Log
-  pub reads : IsReadAs reading input log
+  pub reads : IsReadAs log_rules input log
   pub wrote : AppendsShort unflushed old new (run_output log.records).out
 
 -- The input was records and nothing else: their output and that of the end were written.
-pub record AtEnd (reading : LogRules) (run_output : List Record → RunOutput) (input : List ℕ)
+pub record AtEnd (log_rules : LogRules) (run_output : List Record → RunOutput) (input : List ℕ)
     (old new : Option (List ℕ)) (outcome : Outcome) : Type 0 where
   pub log : Log
-  pub reads : IsReadAs reading input log
+  pub reads : IsReadAs log_rules input log
   pub whole : log.rest ≡ []
   pub continues : (run_output log.records).stop ≡ None
   pub reports : outcome ≡ (run_output log.records).outcome
   pub wrote : Appends old new ((run_output log.records).out ++ last_of run_output log)
 
 -- The same, with only a first part of the output at the end written.
-pub record BrokenAtEnd (reading : LogRules) (run_output : List Record → RunOutput) (input : List ℕ)
+pub record BrokenAtEnd (log_rules : LogRules) (run_output : List Record → RunOutput) (input : List ℕ)
     (old new : Option (List ℕ)) : Type 0 where
   pub log : Log
-  pub reads : IsReadAs reading input log
+  pub reads : IsReadAs log_rules input log
   pub whole : log.rest ≡ []
   pub continues : (run_output log.records).stop ≡ None
   pub first : List ℕ
@@ -60,62 +60,62 @@ pub record BrokenAtEnd (reading : LogRules) (run_output : List Record → RunOut
   pub wrote : Appends old new ((run_output log.records).out ++ first)
 
 -- The same if no turn was left: more was to be written, or what was written was to be passed on.
-pub record RanOutAtEnd (reading : LogRules) (run_output : List Record → RunOutput)
+pub record RanOutAtEnd (log_rules : LogRules) (run_output : List Record → RunOutput)
     (unflushed : Bool) (input : List ℕ) (old new : Option (List ℕ)) : Type 0 where
-  pub broken : BrokenAtEnd reading run_output input old new
+  pub broken : BrokenAtEnd log_rules run_output input old new
   pub short : (0 < length broken.others) ⊎ (unflushed ≡ true)
 
 -- Version 2 is refused, and the input is of it. Nothing was written.
-pub record RefusesInput (reading : LogRules) (input : List ℕ) (old new : Option (List ℕ))
+pub record RefusesInput (log_rules : LogRules) (input : List ℕ) (old new : Option (List ℕ))
     (place : ℕ) : Type 0 where
-  pub only_one : reading.only_one ≡ true
-  pub version : IsVersion reading.versions Two input
+  pub only_one : log_rules.only_one ≡ true
+  pub version : IsVersion log_rules.versions Two input
   pub placed : place ≡ 0
   pub wrote : Appends old new []
 
 -- The reader reported the end, and a fault came in writing the output at the end.
 abbrev pub BreaksAtEnd : LogRules → (List Record → RunOutput) → Bool → List ℕ → Option (List ℕ) →
     Option (List ℕ) → Type 0
-BreaksAtEnd reading run_output ended input old new = (ended ≡ true)
-    × BrokenAtEnd reading run_output input old new
+BreaksAtEnd log_rules run_output ended input old new = (ended ≡ true)
+    × BrokenAtEnd log_rules run_output input old new
 
 -- No turn was left and one more call was needed. Either more was to be written, or what was
 -- written was to be passed on. Or all of it was, the input has no fault so far, and more was to be
 -- read.
 abbrev pub TurnsRanOut : LogRules → (List Record → RunOutput) → PortState → List ℕ →
     Option (List ℕ) → Option (List ℕ) → Type 0
-TurnsRanOut reading run_output state input old new =
-    RanOut reading run_output state.unflushed input old new
-    ⊎ (((state.ended ≡ true) × RanOutAtEnd reading run_output state.unflushed input old new)
+TurnsRanOut log_rules run_output state input old new =
+    RanOut log_rules run_output state.unflushed input old new
+    ⊎ (((state.ended ≡ true) × RanOutAtEnd log_rules run_output state.unflushed input old new)
     ⊎ ((state.ended_before ≡ false → state.ended ≡ false)
-    × Reached reading run_output input old new (IsUnfinished reading input)))
+    × Reached log_rules run_output input old new (IsUnfinished log_rules input)))
 
 -- What is written when a fault comes, and what the fault says of the input.
 abbrev pub IsRunFault : LogRules → (List Record → RunOutput) → PortState → List ℕ →
     Option (List ℕ) → Option (List ℕ) → EngineFault → Type 0
-IsRunFault reading run_output state input old new Read
-    = Reached reading run_output input old new (IsUnfinished reading input)
-IsRunFault reading run_output state input old new Write = Broken reading run_output input old new
-    ⊎ BreaksAtEnd reading run_output state.ended input old new
-IsRunFault reading run_output state input old new (Frame fault)
-    = Reached reading run_output input old new (IsMalformed reading.max_body input fault)
-IsRunFault reading run_output state input old new (Truncated place) =
+IsRunFault log_rules run_output state input old new Read
+    = Reached log_rules run_output input old new (IsUnfinished log_rules input)
+IsRunFault log_rules run_output state input old new Write = Broken log_rules run_output input old new
+    ⊎ BreaksAtEnd log_rules run_output state.ended input old new
+IsRunFault log_rules run_output state input old new (Frame fault)
+    = Reached log_rules run_output input old new (IsMalformed log_rules.max_body input fault)
+IsRunFault log_rules run_output state input old new (Truncated place) =
     (state.ended ≡ true) × (place ≡ place_after 0 (length input))
-    × Reached reading run_output input old new (IsCut reading.max_body)
-IsRunFault reading run_output state input old new (BodyTooLong place)
-    = Stopped reading run_output input old new (Err (BodyTooLong place))
-IsRunFault reading run_output state input old new NoMemory =
-    Reached reading run_output input old new (λ _. Unit {0})
-    ⊎ BreaksAtEnd reading run_output state.ended input old new
-IsRunFault reading run_output state input old new TooManyTurns
-    = TurnsRanOut reading run_output state input old new
-IsRunFault reading run_output state input old new (BadLog place) =
-    Stopped reading run_output input old new (Err (BadLog place))
-    ⊎ (Reached reading run_output input old new (IsBadMark input place)
-    ⊎ RefusesInput reading input old new place)
+    × Reached log_rules run_output input old new (IsCut log_rules.max_body)
+IsRunFault log_rules run_output state input old new (BodyTooLong place)
+    = Stopped log_rules run_output input old new (Err (BodyTooLong place))
+IsRunFault log_rules run_output state input old new NoMemory =
+    Reached log_rules run_output input old new (λ _. Unit {0})
+    ⊎ BreaksAtEnd log_rules run_output state.ended input old new
+IsRunFault log_rules run_output state input old new TooManyTurns
+    = TurnsRanOut log_rules run_output state input old new
+IsRunFault log_rules run_output state input old new (BadLog place) =
+    Stopped log_rules run_output input old new (Err (BadLog place))
+    ⊎ (Reached log_rules run_output input old new (IsBadMark input place)
+    ⊎ RefusesInput log_rules input old new place)
 
 -- An engine ran: its output and its result are those of `run_output` for the bytes that it read.
-pub record Ran (reading : LogRules) (run_output : List Record → RunOutput) (state : PortState)
+pub record Ran (log_rules : LogRules) (run_output : List Record → RunOutput) (state : PortState)
     (left_old left_new received_old received_new : Option (List ℕ))
     (result : Result Outcome EngineFault) : Type 0 where
   -- the bytes that were read
@@ -123,30 +123,30 @@ pub record Ran (reading : LogRules) (run_output : List Record → RunOutput) (st
   pub read : Consumes left_old left_new input
   -- the output and the result, as a function of those bytes
   pub came : MatchResult result
-      (λ outcome. Stopped reading run_output input received_old received_new (Ok outcome)
+      (λ outcome. Stopped log_rules run_output input received_old received_new (Ok outcome)
       ⊎ ((state.ended ≡ true)
-      × AtEnd reading run_output input received_old received_new outcome))
-      (IsRunFault reading run_output state input received_old received_new)
+      × AtEnd log_rules run_output input received_old received_new outcome))
+      (IsRunFault log_rules run_output state input received_old received_new)
 
 -- What is written when a fault comes before the end of the input, and what the fault says of the
 -- input. Here no read fails, and no input is cut.
 abbrev pub IsPieceFault : LogRules → (List Record → RunOutput) → Bool → List ℕ → Option (List ℕ) →
     Option (List ℕ) → EngineFault → Type 0
-IsPieceFault reading run_output unflushed input old new Read = ⊥
-IsPieceFault reading run_output unflushed input old new Write
-    = Broken reading run_output input old new
-IsPieceFault reading run_output unflushed input old new (Frame fault)
-    = Reached reading run_output input old new (IsMalformed reading.max_body input fault)
-IsPieceFault reading run_output unflushed input old new (Truncated place) = ⊥
-IsPieceFault reading run_output unflushed input old new (BodyTooLong place)
-    = Stopped reading run_output input old new (Err (BodyTooLong place))
-IsPieceFault reading run_output unflushed input old new NoMemory
-    = Reached reading run_output input old new (λ _. Unit {0})
-IsPieceFault reading run_output unflushed input old new TooManyTurns
-    = RanOut reading run_output unflushed input old new
-IsPieceFault reading run_output unflushed input old new (BadLog place) =
-    Stopped reading run_output input old new (Err (BadLog place))
-    ⊎ Reached reading run_output input old new (IsBadMark input place)
+IsPieceFault log_rules run_output unflushed input old new Read = ⊥
+IsPieceFault log_rules run_output unflushed input old new Write
+    = Broken log_rules run_output input old new
+IsPieceFault log_rules run_output unflushed input old new (Frame fault)
+    = Reached log_rules run_output input old new (IsMalformed log_rules.max_body input fault)
+IsPieceFault log_rules run_output unflushed input old new (Truncated place) = ⊥
+IsPieceFault log_rules run_output unflushed input old new (BodyTooLong place)
+    = Stopped log_rules run_output input old new (Err (BodyTooLong place))
+IsPieceFault log_rules run_output unflushed input old new NoMemory
+    = Reached log_rules run_output input old new (λ _. Unit {0})
+IsPieceFault log_rules run_output unflushed input old new TooManyTurns
+    = RanOut log_rules run_output unflushed input old new
+IsPieceFault log_rules run_output unflushed input old new (BadLog place) =
+    Stopped log_rules run_output input old new (Err (BadLog place))
+    ⊎ Reached log_rules run_output input old new (IsBadMark input place)
 
 -- how the loop reads an input, by its rules
 abbrev pub reading_by : InputRules → LogRules
@@ -158,10 +158,10 @@ reading_by rules
     }
 
 -- The loop of the engines ran between a reader and a writer.
-pub record IsLoopRun (reading : LogRules) (run_output : List Record → RunOutput) (flushes : Bool)
+pub record IsLoopRun (log_rules : LogRules) (run_output : List Record → RunOutput) (flushes : Bool)
     (max_turns : ℕ) (before after : Ports) (result : Result Outcome EngineFault) : Type 0 where
   -- What was written and answered.
-  pub ran : Ran reading run_output
+  pub ran : Ran log_rules run_output
       (state_of before.reader.ended after.reader.ended (flushes && not after.writer.flushed))
       before.reader.left after.reader.left before.writer.written after.writer.written result
   -- Which calls were made.

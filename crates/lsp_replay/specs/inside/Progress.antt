@@ -54,11 +54,11 @@ IsHandleFault old unflushed received_old received_new r (BadLog place)
 -- The progress since a start. The records of the input were handled and their output written, up to
 -- the bytes `more` that are still to come. `run_output` and `received` are of the start,
 -- `run_output_now` and `received_now` of now.
-pub record IsProgress (reading : LogRules) (run_output : List Record → RunOutput)
+pub record IsProgress (log_rules : LogRules) (run_output : List Record → RunOutput)
     (received : Option (List ℕ)) (input more : List ℕ) (s : Splitter)
     (run_output_now : List Record → RunOutput) (received_now : Option (List ℕ)) : Type 0 where
   pub records : List Record
-  pub is_after : IsAfter reading input more records s
+  pub is_after : IsAfter log_rules input more records s
   pub out : List ℕ
   pub outputs : (others : List Record) →
       run_output (records ++ others) ≡ written_first out (run_output_now others)
@@ -66,16 +66,16 @@ pub record IsProgress (reading : LogRules) (run_output : List Record → RunOutp
 
 -- The same between two reads, with all that was read. After the reader's end no more bytes come;
 -- until then the input has its version whatever follows.
-pub record Runs (reading : LogRules) (run_output : List Record → RunOutput)
+pub record Runs (log_rules : LogRules) (run_output : List Record → RunOutput)
     (left received left_now : Option (List ℕ)) (ended : Bool) (place : ℕ) (piece : List ℕ)
     (s : Splitter) (run_output_now : List Record → RunOutput)
     (received_now : Option (List ℕ)) : Type 0 where
   pub input : List ℕ
   pub read : Consumes left left_now input
-  pub progress : IsProgress reading run_output received input piece s run_output_now received_now
+  pub progress : IsProgress log_rules run_output received input piece s run_output_now received_now
   pub placed : place ≡ place_after 0 (length input)
   pub sure : (more : List ℕ) → (ended ≡ true → more ≡ []) →
-      IsVersion reading.versions s.version (input ++ more)
+      IsVersion log_rules.versions s.version (input ++ more)
 
 -- Each call of the reader and of the writer took one of the turns that were left.
 pub record BothSpend
@@ -101,15 +101,15 @@ IsLastFault (BadLog place) = ⊥
 -- What is written when a fault comes at the end of the input, and what the fault says of the input.
 abbrev pub IsEndFault : LogRules → (List Record → RunOutput) → Bool → List ℕ → Option (List ℕ) →
     Option (List ℕ) → ℕ → EngineFault → Type 0
-IsEndFault reading run_output unflushed input old new len Read = ⊥
-IsEndFault reading run_output unflushed input old new len Write
-    = BrokenAtEnd reading run_output input old new
-IsEndFault reading run_output unflushed input old new len (Frame fault) = ⊥
-IsEndFault reading run_output unflushed input old new len (Truncated place) = (place ≡ len)
-    × Reached reading run_output input old new (IsCut reading.max_body)
-IsEndFault reading run_output unflushed input old new len (BodyTooLong place) = ⊥
-IsEndFault reading run_output unflushed input old new len NoMemory
-    = BrokenAtEnd reading run_output input old new
-IsEndFault reading run_output unflushed input old new len TooManyTurns
-    = RanOutAtEnd reading run_output unflushed input old new
-IsEndFault reading run_output unflushed input old new len (BadLog place) = ⊥
+IsEndFault log_rules run_output unflushed input old new len Read = ⊥
+IsEndFault log_rules run_output unflushed input old new len Write
+    = BrokenAtEnd log_rules run_output input old new
+IsEndFault log_rules run_output unflushed input old new len (Frame fault) = ⊥
+IsEndFault log_rules run_output unflushed input old new len (Truncated place) = (place ≡ len)
+    × Reached log_rules run_output input old new (IsCut log_rules.max_body)
+IsEndFault log_rules run_output unflushed input old new len (BodyTooLong place) = ⊥
+IsEndFault log_rules run_output unflushed input old new len NoMemory
+    = BrokenAtEnd log_rules run_output input old new
+IsEndFault log_rules run_output unflushed input old new len TooManyTurns
+    = RanOutAtEnd log_rules run_output unflushed input old new
+IsEndFault log_rules run_output unflushed input old new len (BadLog place) = ⊥

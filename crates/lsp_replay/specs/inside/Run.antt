@@ -9,7 +9,7 @@ use Rattle.lsp_replay.specs.Run.{Engine}
 abbrev pub each_engine : Settings → Engine
 each_engine settings
     = record {
-      reading = as_log settings;
+      log_rules = as_log settings;
       run_output = canonical_log settings;
       flushes = false;
       in_parts = false;
@@ -18,7 +18,7 @@ each_engine settings
 abbrev pub squash_engine : Settings → Engine
 squash_engine settings
     = record {
-      reading = as_log settings;
+      log_rules = as_log settings;
       run_output = squashed settings;
       flushes = false;
       in_parts = false;

@@ -1,44 +1,44 @@
 use Rattle.std.proofs.Common.{ap, ◌∙◌}
 use Rattle.lsp_edit.specs.Joined.{JoinedData}
 use Rattle.lsp_edit.specs.Parts.{parts_of}
-use Rattle.lsp_edit.proofs.Deltas.DeltaLemmas.{folded_end, folded_next, folded_order, folded_start, folded_through, rows_rest}
+use Rattle.lsp_edit.proofs.Deltas.LayerLemmas.{folded_end, folded_next, folded_order, folded_start, folded_through, rows_rest}
 use Rattle.lsp_edit.proofs.Canonical.GapLemmas.{ends_exact}
 use Rattle.lsp_edit.proofs.joined.Joined.canonical.Goals as goal
 
-pub loop-delta-init : goal.loop-delta-init
-loop-delta-init c =
-    rw c.deref-delta-items.ensures.value
-    (folded_start c.as_old-text.result c.self.inside.before c.self.inside.deltas.items _ c.args.self.now c.whole-whole.ensures.utf8 c.as_old-text.ensures c.self.view_is c.self.invariant
+pub loop-layer-init : goal.loop-layer-init
+loop-layer-init c =
+    rw c.deref-layer-items.ensures.value
+    (folded_start c.as_old-text.result c.self.inside.before c.self.inside.layers.items _ c.args.self.now c.whole-whole.ensures.utf8 c.as_old-text.ensures c.self.view_is c.self.invariant
     (ap parts_of (c.in_ok-spans.ensures.items ∙ c.as_slice.ensures) ∙ c.whole-whole.ensures.parts))
 
 pub spans_through-requires-clause-through : goal.spans_through-requires-clause-through
 spans_through-requires-clause-through c =
-    rw (c.deref.ensures.value, c.deref-in-loop-delta.ensures.value, c.in_ok-next.ensures, c.delta-item.is)
-    (folded_through c.args.self.now.before (parts_of c.loop-delta.spans.items) _ _ c.args.self.now.items
-    (rw (rows_rest c.deref-delta-items.result.now c.loop-delta.delta-index c.delta-item.result c.loop-delta-test.true) at c.loop-delta.invariant))
+    rw (c.deref.ensures.value, c.deref-in-loop-layer.ensures.value, c.in_ok-next.ensures, c.layer-item.is)
+    (folded_through c.args.self.now.before (parts_of c.loop-layer.spans.items) _ _ c.args.self.now.items
+    (rw (rows_rest c.deref-layer-items.result.now c.loop-layer.layer-index c.layer-item.result c.loop-layer-test.true) at c.loop-layer.invariant))
 
 pub spans_through-requires-clause-order : goal.spans_through-requires-clause-order
 spans_through-requires-clause-order c =
-    rw (c.deref-in-loop-delta.ensures.value, c.in_ok-next.ensures, c.delta-item.is)
-    (folded_order c.args.self.now.before (parts_of c.loop-delta.spans.items) _ _ c.args.self.now.items
-    (rw (rows_rest c.deref-delta-items.result.now c.loop-delta.delta-index c.delta-item.result c.loop-delta-test.true) at c.loop-delta.invariant))
+    rw (c.deref-in-loop-layer.ensures.value, c.in_ok-next.ensures, c.layer-item.is)
+    (folded_order c.args.self.now.before (parts_of c.loop-layer.spans.items) _ _ c.args.self.now.items
+    (rw (rows_rest c.deref-layer-items.result.now c.loop-layer.layer-index c.layer-item.result c.loop-layer-test.true) at c.loop-layer.invariant))
 
-pub loop-delta-preserved : goal.loop-delta-preserved
-loop-delta-preserved c =
-    folded_next c.args.self.now.before (parts_of c.loop-delta.spans.items) _ _ c.args.self.now.items
-    (rw (rows_rest c.deref-delta-items.result.now c.loop-delta.delta-index c.delta-item.result c.loop-delta-test.true) at c.loop-delta.invariant)
+pub loop-layer-preserved : goal.loop-layer-preserved
+loop-layer-preserved c =
+    folded_next c.args.self.now.before (parts_of c.loop-layer.spans.items) _ _ c.args.self.now.items
+    (rw (rows_rest c.deref-layer-items.result.now c.loop-layer.layer-index c.layer-item.result c.loop-layer-test.true) at c.loop-layer.invariant)
     _
-    (rw (c.deref.ensures.value, c.deref-in-loop-delta.ensures.value, c.in_ok-next.ensures, c.delta-item.is) at c.in_ok-spans-2.ensures)
+    (rw (c.deref.ensures.value, c.deref-in-loop-layer.ensures.value, c.in_ok-next.ensures, c.layer-item.is) at c.in_ok-spans-2.ensures)
 
 pub canonical_of-requires-clause-ends : goal.canonical_of-requires-clause-ends
 canonical_of-requires-clause-ends c =
-    rw (c.as_old-text.ensures ∙ ap (λ (j : JoinedData). j.before) c.self.view_is, c.deref-2.ensures.value) (ends_exact _ _ c.loop-delta.invariant.keeps)
+    rw (c.as_old-text.ensures ∙ ap (λ (j : JoinedData). j.before) c.self.view_is, c.deref-2.ensures.value) (ends_exact _ _ c.loop-layer.invariant.keeps)
 
 pub returns : goal.returns
 returns c =
     rw (
       c.as_old-text.ensures ∙ ap (λ (j : JoinedData). j.before) c.self.view_is,
       c.deref-2.ensures.value,
-      folded_end c.args.self.now.before (parts_of c.loop-delta.spans.items) c.deref-delta-items.result.now c.loop-delta.delta-index c.args.self.now.items c.loop-delta-test.false c.loop-delta.invariant,
+      folded_end c.args.self.now.before (parts_of c.loop-layer.spans.items) c.deref-layer-items.result.now c.loop-layer.layer-index c.args.self.now.items c.loop-layer-test.false c.loop-layer.invariant,
     )
     at c.canonical_of.ensures

@@ -1,7 +1,7 @@
 use Rattle.std.proofs.Common.{ℕ, List, ap, ◌∙◌}
 use Rattle.std.specs.Str.{chars}
 use Rattle.lsp_edit.specs.Items.{plain}
-use Rattle.lsp_edit.proofs.Deltas.DeltaLemmas.{first_reached}
+use Rattle.lsp_edit.proofs.Deltas.LayerLemmas.{first_reached}
 use Rattle.lsp_edit.proofs.joined.Joined.over.Goals as goal
 
 pub returns-clause-reached : goal.returns-clause-reached

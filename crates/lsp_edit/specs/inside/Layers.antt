@@ -1,4 +1,4 @@
--- What only proofs and private contracts use of `Deltas`.
+-- What only proofs and private contracts use of `Layers`.
 use Rattle.std.specs.Prelude.{ℕ, ◌≡◌, List, Result, Ok}
 use Rattle.std.specs.Str.{IsUtf8, chars}
 use Rattle.lsp_edit.specs.Items.{Item}
@@ -12,7 +12,7 @@ AreSameItems parts others =
     AreParts old parts × (items_of (chars old) parts ≡ items_of (chars old) others)
 
 -- Parts of the text with the bytes `reached` are what a batch means on it.
-pub record IsDelta (meant : Result (List Item) (ℕ × Fault)) (reached : List ℕ)
+pub record IsLayer (meant : Result (List Item) (ℕ × Fault)) (reached : List ℕ)
     (parts : List Part) : Type 0 where
   pub utf8 : IsUtf8 reached
   pub are : AreParts reached parts

@@ -5,16 +5,16 @@ use Rattle.std.proofs.lemmas.Bool.{cases_Bool}
 use Rattle.std.proofs.lemmas.List.{drop_more, drop_all, map-append, take-append-drop}
 use Rattle.std.proofs.lemmas.List.Concat.{flat_map-append}
 use Rattle.std.proofs.lemmas.Str.{encodes-chars, chars_from_encodes, chars-append, IsUtf8-append, IsUtf8-between, IsUtf8-nil, IsUtf8-from_is_utf8, is_utf8-from_IsUtf8, IsCharBoundary-start}
-use Rattle.lsp_edit.specs.declared.joined.delta.Delta.{Delta}
-use Rattle.lsp_edit.specs.declared.joined.delta.OwnedSpan.{OwnedSpan}
-use Rattle.lsp_edit.specs.declared.joined.delta.OwnedSpan.TheVariants.{Old as OldSpan}
+use Rattle.lsp_edit.specs.declared.joined.layer.Layer.{Layer}
+use Rattle.lsp_edit.specs.declared.joined.layer.OwnedSpan.{OwnedSpan}
+use Rattle.lsp_edit.specs.declared.joined.layer.OwnedSpan.TheVariants.{Old as OldSpan}
 use Rattle.lsp_edit.specs.declared.indexed.TextFault.{TextFault}
 use Rattle.lsp_edit.specs.declared.indexed.TextFault.TheVariants.{TooLong}
 use Rattle.lsp_edit.specs.Items.{Item, New, plain, text_of}
 use Rattle.lsp_edit.specs.Batch.{Edit, Fault, meaning}
 use Rattle.lsp_edit.specs.Compose.{then_items}
-use Rattle.lsp_edit.specs.Deltas.{AllOver, delta_parts, IsOver, items_over, owned_part, owned_parts}
-use Rattle.lsp_edit.specs.inside.Deltas.{AreSameItems, IsDelta}
+use Rattle.lsp_edit.specs.Layers.{AllOver, layer_parts, IsOver, items_over, owned_part, owned_parts}
+use Rattle.lsp_edit.specs.inside.Layers.{AreSameItems, IsLayer}
 use Rattle.lsp_edit.specs.Edited.{PlainData, Means, before_bytes}
 use Rattle.lsp_edit.specs.Indexed.{bytes_left, text_within}
 use Rattle.lsp_edit.specs.Joined.{IsJoined, IsReached, JoinedData, joined_text}
@@ -98,7 +98,7 @@ same_ends whole done text same = subst (λ (ps : List Part). AreSameItems (done 
 -- ---- what a batch makes of a text
 
 pub delta_is : (reached : List ℕ) (meant : Result (List Item) (ℕ × Fault)) (count : ℕ) (edited : PlainData) (parts owned : List Part) → IsUtf8 reached → Means (chars reached) meant count edited
-    → items_of edited.before parts ≡ edited.items → AreParts (before_bytes edited) parts → AreSameItems owned parts → IsDelta meant reached owned
+    → items_of edited.before parts ≡ edited.items → AreParts (before_bytes edited) parts → AreSameItems owned parts → IsLayer meant reached owned
 delta_is reached meant count edited parts owned utf8 means items are same =
     let bytes : before_bytes edited ≡ reached = ap encode_utf8_all means.same ∙ encodes-chars reached utf8 in
     let kept : AreParts reached owned × (items_of (chars reached) owned ≡ items_of (chars reached) parts) = same reached (subst (λ (b : List ℕ). AreParts b parts) bytes are) in
@@ -162,7 +162,7 @@ module _ (old : List ℕ) (items : List Item) (first second : List Part) (a : Is
         ap (then_items items) (ap (λ (t : List ℕ). items_of t both) (sym a.text_is) ∙ (both_items ∙ ap₂ (λ (t u : List ℕ). then_items (items_of t first) (items_of u second)) a.text_is b.text_is))
         ∙ sym (then_associative items (items_of (text_of old items) first) (items_of (text_of old (then_items items (items_of (text_of old items) first))) second))
 
--- ---- the last two deltas become one
+-- ---- the last two layers become one
 
 pub two_last : {X : Type 0} (xs : List X) (len : ℕ) (x y : X) → 2 ≤ len → length xs ≡ len → x ≡ get_or xs (len - 2) x → y ≡ get_or xs (len - 1) y → xs ≡ take (len - 2) xs ++ (x ∷ y ∷ [])
 two_last xs len x y some long first second =
@@ -171,76 +171,76 @@ two_last xs len x y some long first second =
     let two : drop (len - 1) xs ≡ y ∷ [] = drop_more xs (len - 1) y (omega (arith, some, long)) ∙ (ap (λ z. z ∷ drop (len - 1 + 1) xs) (sym second) ∙ ap (λ zs. y ∷ zs) (drop_all (len - 1 + 1) xs (omega (arith, some, long)))) in
     sym (take-append-drop (len - 2) xs) ∙ ap (λ zs. take (len - 2) xs ++ zs) (one ∙ ap (λ zs. x ∷ zs) (ap (λ (k : ℕ). drop k xs) next ∙ two))
 
-module _ (old : List ℕ) (items : List Item) (deltas front : List Delta) (first second : Delta) (is : deltas ≡ front ++ (first ∷ second ∷ [])) (all : AllOver old items (map delta_parts deltas)) where
-  rows : map delta_parts deltas ≡ map delta_parts front ++ (delta_parts first ∷ delta_parts second ∷ [])
-  rows = ap (map delta_parts) is ∙ map-append delta_parts front (first ∷ second ∷ [])
+module _ (old : List ℕ) (items : List Item) (layers front : List Layer) (first second : Layer) (is : layers ≡ front ++ (first ∷ second ∷ [])) (all : AllOver old items (map layer_parts layers)) where
+  rows : map layer_parts layers ≡ map layer_parts front ++ (layer_parts first ∷ layer_parts second ∷ [])
+  rows = ap (map layer_parts) is ∙ map-append layer_parts front (first ∷ second ∷ [])
 
   abbrev below : List Item
-  below = items_over old items (map delta_parts front)
+  below = items_over old items (map layer_parts front)
 
-  split : AllOver old items (map delta_parts front) × AllOver old below (delta_parts first ∷ delta_parts second ∷ [])
-  split = all_split old items (map delta_parts front) (delta_parts first ∷ delta_parts second ∷ []) (subst (AllOver old items) rows all)
+  split : AllOver old items (map layer_parts front) × AllOver old below (layer_parts first ∷ layer_parts second ∷ [])
+  split = all_split old items (map layer_parts front) (layer_parts first ∷ layer_parts second ∷ []) (subst (AllOver old items) rows all)
 
-  pub last_through : AreThrough (delta_parts first) (delta_parts second)
-  last_through = over_through old below (delta_parts first) (delta_parts second) split.1.0 split.1.1.0
+  pub last_through : AreThrough (layer_parts first) (layer_parts second)
+  last_through = over_through old below (layer_parts first) (layer_parts second) split.1.0 split.1.1.0
 
-  pub last_order : Ascend 0 (delta_parts second)
-  last_order = over_order old below (delta_parts first) (delta_parts second) split.1.0 split.1.1.0
+  pub last_order : Ascend 0 (layer_parts second)
+  last_order = over_order old below (layer_parts first) (layer_parts second) split.1.0 split.1.1.0
 
-  module _ (both : Delta) (same : AreSameItems (delta_parts both) (through_parts (delta_parts first) (delta_parts second))) (now : List Delta) (now_is : now ≡ front ++ both ∷ []) where
-    rows_now : map delta_parts now ≡ map delta_parts front ++ delta_parts both ∷ []
-    rows_now = ap (map delta_parts) now_is ∙ map-append delta_parts front (both ∷ [])
+  module _ (both : Layer) (same : AreSameItems (layer_parts both) (through_parts (layer_parts first) (layer_parts second))) (now : List Layer) (now_is : now ≡ front ++ both ∷ []) where
+    rows_now : map layer_parts now ≡ map layer_parts front ++ layer_parts both ∷ []
+    rows_now = ap (map layer_parts) now_is ∙ map-append layer_parts front (both ∷ [])
 
-    pub last_all : AllOver old items (map delta_parts now)
+    pub last_all : AllOver old items (map layer_parts now)
     last_all =
         subst (AllOver old items) (sym rows_now)
-        (all_both old items (map delta_parts front) (delta_parts both ∷ []) split.0 (both_over old below (delta_parts first) (delta_parts second) split.1.0 split.1.1.0 (delta_parts both) same, tt))
+        (all_both old items (map layer_parts front) (layer_parts both ∷ []) split.0 (both_over old below (layer_parts first) (layer_parts second) split.1.0 split.1.1.0 (layer_parts both) same, tt))
 
-    pub last_same : items_over old items (map delta_parts now) ≡ items_over old items (map delta_parts deltas)
+    pub last_same : items_over old items (map layer_parts now) ≡ items_over old items (map layer_parts layers)
     last_same =
         ap (items_over old items) rows_now
-        ∙ (items_over-append old items (map delta_parts front) (delta_parts both ∷ [])
-        ∙ (both_are old below (delta_parts first) (delta_parts second) split.1.0 split.1.1.0 (delta_parts both) same
-        ∙ (sym (items_over-append old items (map delta_parts front) (delta_parts first ∷ delta_parts second ∷ []))
+        ∙ (items_over-append old items (map layer_parts front) (layer_parts both ∷ [])
+        ∙ (both_are old below (layer_parts first) (layer_parts second) split.1.0 split.1.1.0 (layer_parts both) same
+        ∙ (sym (items_over-append old items (map layer_parts front) (layer_parts first ∷ layer_parts second ∷ []))
         ∙ ap (items_over old items) (sym rows))))
 
 -- ---- a batch more
 
 -- what callers see of the fields
-abbrev pub joined_seen : List ℕ → List Delta → JoinedData
-joined_seen before deltas = record { before = before; items = items_over (chars before) (plain (chars before)) (map delta_parts deltas) }
+abbrev pub joined_seen : List ℕ → List Layer → JoinedData
+joined_seen before layers = record { before = before; items = items_over (chars before) (plain (chars before)) (map layer_parts layers) }
 
-module _ (before : List ℕ) (deltas : List Delta) (all : AllOver (chars before) (plain (chars before)) (map delta_parts deltas)) (old : JoinedData) (view : joined_seen before deltas ≡ old)
-    (reached : List ℕ) (at : IsReached old reached) (units : ℕ → ℕ) (batch : List Edit) (delta : Delta) (is : IsDelta (meaning units (chars reached) batch) reached (delta_parts delta))
-    (now : List Delta) (now_is : now ≡ deltas ++ delta ∷ []) where
+module _ (before : List ℕ) (layers : List Layer) (all : AllOver (chars before) (plain (chars before)) (map layer_parts layers)) (old : JoinedData) (view : joined_seen before layers ≡ old)
+    (reached : List ℕ) (at : IsReached old reached) (units : ℕ → ℕ) (batch : List Edit) (layer : Layer) (is : IsLayer (meaning units (chars reached) batch) reached (layer_parts layer))
+    (now : List Layer) (now_is : now ≡ layers ++ layer ∷ []) where
   abbrev items_then : List Item
-  items_then = items_over (chars before) (plain (chars before)) (map delta_parts deltas)
+  items_then = items_over (chars before) (plain (chars before)) (map layer_parts layers)
 
   reached_then : chars reached ≡ text_of (chars before) items_then
   reached_then = at.text_is ∙ sym (ap joined_text view)
 
-  more_over : IsOver (chars before) items_then (delta_parts delta)
-  more_over = record { middle = reached; utf8 = at.utf8; text_is = reached_then; are = is.are; keeps = meaning_keeps (chars reached) units batch (items_of (chars reached) (delta_parts delta)) is.means }
+  more_over : IsOver (chars before) items_then (layer_parts layer)
+  more_over = record { middle = reached; utf8 = at.utf8; text_is = reached_then; are = is.are; keeps = meaning_keeps (chars reached) units batch (items_of (chars reached) (layer_parts layer)) is.means }
 
-  rows_more : map delta_parts now ≡ map delta_parts deltas ++ delta_parts delta ∷ []
-  rows_more = ap (map delta_parts) now_is ∙ map-append delta_parts deltas (delta ∷ [])
+  rows_more : map layer_parts now ≡ map layer_parts layers ++ layer_parts layer ∷ []
+  rows_more = ap (map layer_parts) now_is ∙ map-append layer_parts layers (layer ∷ [])
 
-  pub more_all : AllOver (chars before) (plain (chars before)) (map delta_parts now)
-  more_all = subst (AllOver (chars before) (plain (chars before))) (sym rows_more) (all_both (chars before) (plain (chars before)) (map delta_parts deltas) (delta_parts delta ∷ []) all (more_over, tt))
+  pub more_all : AllOver (chars before) (plain (chars before)) (map layer_parts now)
+  more_all = subst (AllOver (chars before) (plain (chars before))) (sym rows_more) (all_both (chars before) (plain (chars before)) (map layer_parts layers) (layer_parts layer ∷ []) all (more_over, tt))
 
-  more_items : items_over (chars before) (plain (chars before)) (map delta_parts now) ≡ then_items items_then (items_of (chars reached) (delta_parts delta))
+  more_items : items_over (chars before) (plain (chars before)) (map layer_parts now) ≡ then_items items_then (items_of (chars reached) (layer_parts layer))
   more_items =
       ap (items_over (chars before) (plain (chars before))) rows_more
-      ∙ (items_over-append (chars before) (plain (chars before)) (map delta_parts deltas) (delta_parts delta ∷ [])
-      ∙ ap (λ (t : List ℕ). then_items items_then (items_of t (delta_parts delta))) (sym reached_then))
+      ∙ (items_over-append (chars before) (plain (chars before)) (map layer_parts layers) (layer_parts layer ∷ [])
+      ∙ ap (λ (t : List ℕ). then_items items_then (items_of t (layer_parts layer))) (sym reached_then))
 
-  pub more_is : joined_seen before now ≡ record old { items = then_items old.items (items_of (chars reached) (delta_parts delta)) }
-  more_is = λ i. record { before = (view i).before; items = (more_items ∙ ap (λ (o : JoinedData). then_items o.items (items_of (chars reached) (delta_parts delta))) view) i }
+  pub more_is : joined_seen before now ≡ record old { items = then_items old.items (items_of (chars reached) (layer_parts layer)) }
+  more_is = λ i. record { before = (view i).before; items = (more_items ∙ ap (λ (o : JoinedData). then_items o.items (items_of (chars reached) (layer_parts layer))) view) i }
 
   pub more_joined : IsJoined units old batch (joined_seen before now)
   more_joined = record {
-    others = items_of (chars reached) (delta_parts delta);
-    means = subst (λ (t : List ℕ). meaning units t batch ≡ Ok (items_of (chars reached) (delta_parts delta))) at.text_is is.means;
+    others = items_of (chars reached) (layer_parts layer);
+    means = subst (λ (t : List ℕ). meaning units t batch ≡ Ok (items_of (chars reached) (layer_parts layer))) at.text_is is.means;
     is = more_is;
   }
 
@@ -265,7 +265,7 @@ within_is max_len reached items left is =
     (cases_Bool (nat_lt max_len (length (bytes_left reached items))))
 
 pub left_reached : (units : ℕ → ℕ) (old new : JoinedData) (batch : List Edit) (reached left : List ℕ) (max_len : ℕ) (parts : List Part) → IsReached old reached
-    → (is : IsDelta (meaning units (chars reached) batch) reached parts) → new ≡ record old { items = then_items old.items (items_of (chars reached) parts) }
+    → (is : IsLayer (meaning units (chars reached) batch) reached parts) → new ≡ record old { items = then_items old.items (items_of (chars reached) parts) }
     → text_within max_len reached (meaning units (chars reached) batch) ≡ Ok left → IsReached new left
 left_reached units old new batch reached left max_len parts at is new_is within =
     let text : List ℕ = text_of (chars reached) (items_of (chars reached) parts) in
@@ -278,7 +278,7 @@ left_reached units old new batch reached left max_len parts at is new_is within 
           ∙ (sym (text_of-then (chars old.before) old.items (items_of (chars reached) parts)) ∙ sym (ap joined_text new_is)));
     }
 
--- ---- all deltas told over the text before them
+-- ---- all layers told over the text before them
 
 -- Parts of the text, and rows that are still to be told through them.
 pub record IsFolded (before : List ℕ) (parts : List Part) (rows : List (List Part)) (items : List Item) : Type 0 where
@@ -301,15 +301,15 @@ folded_first before rows parts items utf8 is all same =
       same = ap (λ (i : List Item). items_over (chars before) i rows) e ∙ same;
     }
 
-pub folded_start : (text before : List ℕ) (deltas : List Delta) (parts : List Part) (joined : JoinedData) → IsUtf8 text → text ≡ before → joined_seen before deltas ≡ joined → AllOver (chars before) (plain (chars before)) (map delta_parts deltas)
-    → parts ≡ whole_parts text → IsFolded joined.before parts (map delta_parts deltas) joined.items
-folded_start text before deltas parts joined utf8 same view all is =
-    subst (λ (j : JoinedData). IsFolded j.before parts (map delta_parts deltas) j.items) view
-    (folded_first before (map delta_parts deltas) parts (items_over (chars before) (plain (chars before)) (map delta_parts deltas)) (subst IsUtf8 same utf8) (is ∙ ap whole_parts same) all refl)
+pub folded_start : (text before : List ℕ) (layers : List Layer) (parts : List Part) (joined : JoinedData) → IsUtf8 text → text ≡ before → joined_seen before layers ≡ joined → AllOver (chars before) (plain (chars before)) (map layer_parts layers)
+    → parts ≡ whole_parts text → IsFolded joined.before parts (map layer_parts layers) joined.items
+folded_start text before layers parts joined utf8 same view all is =
+    subst (λ (j : JoinedData). IsFolded j.before parts (map layer_parts layers) j.items) view
+    (folded_first before (map layer_parts layers) parts (items_over (chars before) (plain (chars before)) (map layer_parts layers)) (subst IsUtf8 same utf8) (is ∙ ap whole_parts same) all refl)
 
-pub folded_end : (before : List ℕ) (parts : List Part) (deltas : List Delta) (i : ℕ) (items : List Item) → length deltas ≤ i → IsFolded before parts (map delta_parts (drop i deltas)) items → items_of (chars before) parts ≡ items
-folded_end before parts deltas i items past f =
-    let none : map delta_parts (drop i deltas) ≡ [] = ap (map delta_parts) (drop_all i deltas past) in
+pub folded_end : (before : List ℕ) (parts : List Part) (layers : List Layer) (i : ℕ) (items : List Item) → length layers ≤ i → IsFolded before parts (map layer_parts (drop i layers)) items → items_of (chars before) parts ≡ items
+folded_end before parts layers i items past f =
+    let none : map layer_parts (drop i layers) ≡ [] = ap (map layer_parts) (drop_all i layers past) in
     ap (items_over (chars before) (items_of (chars before) parts)) (sym none) ∙ f.same
 
 module _ (before : List ℕ) (parts row : List Part) (rows : List (List Part)) (items : List Item) (f : IsFolded before parts (row ∷ rows) items) where
@@ -344,5 +344,5 @@ module _ (before : List ℕ) (parts row : List Part) (rows : List (List Part)) (
       }
 
 -- the rows from an index on
-pub rows_rest : (deltas : List Delta) (i : ℕ) (default : Delta) → i < length deltas → map delta_parts (drop i deltas) ≡ delta_parts (get_or deltas i default) ∷ map delta_parts (drop (i + 1) deltas)
-rows_rest deltas i default within = ap (map delta_parts) (drop_more deltas i default within)
+pub rows_rest : (layers : List Layer) (i : ℕ) (default : Layer) → i < length layers → map layer_parts (drop i layers) ≡ layer_parts (get_or layers i default) ∷ map layer_parts (drop (i + 1) layers)
+rows_rest layers i default within = ap (map layer_parts) (drop_more layers i default within)

@@ -1,8 +1,8 @@
 //! The result of some batches of changes, in spans that own their texts.
 
 ghost use Rattle.std.specs.Prelude.{◌≡◌, IfOk, OnOk, length, string_bytes, ◌++◌};
-ghost use Rattle.lsp_edit.specs.Deltas.{delta_parts, owned_part, owned_parts};
-ghost use Rattle.lsp_edit.specs.inside.Deltas.{AreSameItems};
+ghost use Rattle.lsp_edit.specs.Layers.{layer_parts, owned_part, owned_parts};
+ghost use Rattle.lsp_edit.specs.inside.Layers.{AreSameItems};
 ghost use Rattle.lsp_edit.specs.Parts.{Ascend, new_parts, part_of, parts_of};
 ghost use Rattle.lsp_edit.specs.inside.Parts.{AreThrough, through_parts};
 
@@ -20,10 +20,10 @@ pub enum OwnedSpan {
     New(String),
 }
 
-/// The result of some batches on a text. `rank` is how often two deltas of one rank were joined for
+/// The result of some batches on a text. `rank` is how often two layers of one rank were joined for
 /// it.
 #[derive(Debug, Drop)]
-pub struct Delta {
+pub struct Layer {
     pub rank: u32,
     pub spans: Vec<OwnedSpan>,
 }
@@ -76,18 +76,18 @@ impl OwnedSpan {
     }
 }
 
-impl Delta {
-    /// Makes the delta of spans, with their texts copied.
+impl Layer {
+    /// Makes the layer of spans, with their texts copied.
     pub fn of_spans(alloc: Global, rank: u32, spans: &[Span<'_>]) -> Result<Self, AllocError>
-        ensures { IfOk result (λ delta. AreSameItems (delta_parts delta) (parts_of spans.now)) }
+        ensures { IfOk result (λ layer. AreSameItems (layer_parts layer) (parts_of spans.now)) }
     {
         let spans = owned(alloc, spans)?;
-        Ok(Delta { rank, spans })
+        Ok(Layer { rank, spans })
     }
 
     /// Returns the spans with their texts borrowed. Costs one step for each.
     pub fn borrowed(&self, alloc: Global) -> Result<Vec<Span<'_>>, AllocError>
-        ensures { IfOk result (λ spans. parts_of spans.items ≡ delta_parts self.now) }
+        ensures { IfOk result (λ spans. parts_of spans.items ≡ layer_parts self.now) }
     {
         let mut spans = Vec::with_capacity(alloc, self.spans.len())?;
         for span in &self.spans {
@@ -96,14 +96,14 @@ impl Delta {
         Ok(spans)
     }
 
-    /// Composes this delta and `next`, which is over the text that this one leaves. Costs the spans
+    /// Composes this layer and `next`, which is over the text that this one leaves. Costs the spans
     /// of both, and a copy of the texts that are left of them.
-    pub fn then(&self, alloc: Global, next: &Delta) -> Result<Self, AllocError>
-        requires through { AreThrough (delta_parts self.now) (delta_parts next.now) }
-        requires order { Ascend 0 (delta_parts next.now) }
+    pub fn then(&self, alloc: Global, next: &Layer) -> Result<Self, AllocError>
+        requires through { AreThrough (layer_parts self.now) (layer_parts next.now) }
+        requires order { Ascend 0 (layer_parts next.now) }
         ensures { IfOk result (λ both.
-            AreSameItems (delta_parts both)
-            (through_parts (delta_parts self.now) (delta_parts next.now))) }
+            AreSameItems (layer_parts both)
+            (through_parts (layer_parts self.now) (layer_parts next.now))) }
     {
         let first = self.borrowed(alloc)?;
         let second = next.borrowed(alloc)?;

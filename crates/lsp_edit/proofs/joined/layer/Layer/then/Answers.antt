@@ -1,4 +1,4 @@
-use Rattle.lsp_edit.proofs.joined.delta.Delta.then.Goals as goal
+use Rattle.lsp_edit.proofs.joined.layer.Layer.then.Goals as goal
 
 pub returns : goal.returns
 returns c =

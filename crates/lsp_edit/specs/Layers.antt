@@ -2,9 +2,9 @@
 -- text that those before it leave.
 use Rattle.std.specs.Prelude.{ℕ, ◌≡◌, List, [], ◌∷◌, map, string_bytes}
 use Rattle.std.specs.Str.{IsUtf8, chars}
-use Rattle.lsp_edit.specs.declared.joined.delta.Delta.{Delta}
-use Rattle.lsp_edit.specs.declared.joined.delta.OwnedSpan.{OwnedSpan}
-use Rattle.lsp_edit.specs.declared.joined.delta.OwnedSpan.TheVariants.{Old as OldSpan, New as NewSpan}
+use Rattle.lsp_edit.specs.declared.joined.layer.Layer.{Layer}
+use Rattle.lsp_edit.specs.declared.joined.layer.OwnedSpan.{OwnedSpan}
+use Rattle.lsp_edit.specs.declared.joined.layer.OwnedSpan.TheVariants.{Old as OldSpan, New as NewSpan}
 use Rattle.lsp_edit.specs.Items.{Item, text_of}
 use Rattle.lsp_edit.specs.Compose.{then_items}
 use Rattle.lsp_edit.specs.Keeps.{Keeps}
@@ -19,9 +19,9 @@ owned_part (NewSpan text) = NewPart (string_bytes text)
 abbrev pub owned_parts : List OwnedSpan → List Part
 owned_parts spans = map owned_part spans
 
--- The parts of a delta.
-abbrev pub delta_parts : Delta → List Part
-delta_parts delta = owned_parts delta.spans.items
+-- The parts of a layer.
+abbrev pub layer_parts : Layer → List Part
+layer_parts layer = owned_parts layer.spans.items
 
 -- Parts of the text that items leave of the text `old`.
 pub record IsOver (old : List ℕ) (items : List Item) (parts : List Part) : Type 0 where
