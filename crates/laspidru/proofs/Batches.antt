@@ -8,5 +8,6 @@ use Rattle.lsp_edit.specs.Indexed.{IsCanonicalBatch}
 use Rattle.laspidru.specs.Batches.{Asked, IsBatchOf}
 
 pub is_batch_of : (asked : Asked) (changes : List Change)
-    → IsCanonicalBatch (units_in asked.encoding) MAX_OLD_TEXT asked.text asked.edits (map edit_of changes) → IsBatchOf asked changes
+    → IsCanonicalBatch (units_in asked.encoding) MAX_OLD_TEXT asked.text asked.edits (map edit_of changes)
+    → IsBatchOf asked changes
 is_batch_of asked changes batch = record { items = batch.items; means = batch.means; is = batch.is }

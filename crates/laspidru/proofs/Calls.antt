@@ -14,8 +14,10 @@ use Rattle.laspidru.specs.Streams.{StreamData}
 use Rattle.laspidru.specs.Clients.{IsCalled, IsDeliveredTo, IsTakenIn, IsRefusedCall, IsWritten, IsCallReport, call_code, delivered_out, frame_out}
 
 -- A call that sends a frame is accepted.
-pub accepted : (stream : StreamData) (r : Result Sending ClientFault) (bytes : List ℕ) (new : ClientData) (code len : ℕ) (stored : Option Object)
-    → IsSent r bytes new → code ≡ OK → stored ≡ Some (Client (record { client = new; frame = bytes; stream = stream })) → len ≡ length bytes
+pub accepted : (stream : StreamData) (r : Result Sending ClientFault) (bytes : List ℕ) (new : ClientData) (code len : ℕ)
+    (stored : Option Object)
+    → IsSent r bytes new → code ≡ OK → stored ≡ Some (Client (record { client = new; frame = bytes; stream = stream }))
+    → len ≡ length bytes
     → IsCalled stream r code stored len
 accepted stream (Ok sending) bytes new code len stored sent done held counted =
     inr (record {
@@ -26,20 +28,23 @@ accepted stream (Ok sending) bytes new code len stored sent done held counted =
 accepted stream (Err refusal) bytes new code len stored sent done held counted = absurd sent
 
 -- The code of a fault says why the step is refused.
-code_is : (refusal : ClientFault) (fault : ClientFault) (code : ℕ) → IsFaultOf {A = Sending} (Err refusal) fault → code ≡ call_code fault → IsRefusedCall refusal code
+code_is : (refusal : ClientFault) (fault : ClientFault) (code : ℕ) → IsFaultOf {A = Sending} (Err refusal) fault
+    → code ≡ call_code fault → IsRefusedCall refusal code
 code_is (client.WrongPhase phase) fault code why is = is ∙ ap call_code why
 code_is (client.Store refusal) fault code (inl none) is = inl (is ∙ ap call_code none)
 code_is (client.Store refusal) fault code (inr why) is = inr (is ∙ ap call_code why)
 code_is client.NoMemory fault code why is = is ∙ ap call_code why
 
-delivery_code_is : (refusal : ClientFault) (fault : ClientFault) (code : ℕ) → IsFaultOf {A = Delivery} (Err refusal) fault → code ≡ call_code fault → IsRefusedCall refusal code
+delivery_code_is : (refusal : ClientFault) (fault : ClientFault) (code : ℕ) → IsFaultOf {A = Delivery} (Err refusal)
+    fault → code ≡ call_code fault → IsRefusedCall refusal code
 delivery_code_is (client.WrongPhase phase) fault code why is = is ∙ ap call_code why
 delivery_code_is (client.Store refusal) fault code (inl none) is = inl (is ∙ ap call_code none)
 delivery_code_is (client.Store refusal) fault code (inr why) is = inr (is ∙ ap call_code why)
 delivery_code_is client.NoMemory fault code why is = is ∙ ap call_code why
 
 -- A call with a fault is refused, or out of memory.
-pub call_refused : (stream : StreamData) (r : Result Sending ClientFault) (fault : ClientFault) (code len : ℕ) (stored : Option Object)
+pub call_refused : (stream : StreamData) (r : Result Sending ClientFault) (fault : ClientFault) (code len : ℕ)
+    (stored : Option Object)
     → IsFaultOf r fault → code ≡ call_code fault → IsCalled stream r code stored len
 call_refused stream (Ok sending) fault code len stored why is = inl (is ∙ ap call_code why)
 call_refused stream (Err refusal) fault code len stored why is = code_is refusal fault code why is
@@ -50,17 +55,22 @@ pub report_written : (r : Result Sending ClientFault) (fault : ClientFault) (cod
 report_written (Ok sending) fault code out why is written = tt
 report_written (Err (client.WrongPhase phase)) fault code out why is written = tt
 report_written (Err (client.Store refusal)) fault code out (inl none) is written = inl (is ∙ ap call_code none)
-report_written (Err (client.Store refusal)) fault code out (inr why) is written = inr (subst (λ f. IsCallReport f out) why written)
+report_written (Err (client.Store refusal)) fault code out (inr why) is written =
+    inr (subst (λ f. IsCallReport f out) why written)
 report_written (Err client.NoMemory) fault code out why is written = tt
 
 -- An accepted call writes no fault.
-pub none_written : (r : Result Sending ClientFault) (bytes : List ℕ) (new : ClientData) (code : ℕ) (out : Fault) → IsSent r bytes new → IsWritten r code out
+pub none_written : (r : Result Sending ClientFault) (bytes : List ℕ) (new : ClientData) (code : ℕ) (out : Fault)
+    → IsSent r bytes new → IsWritten r code out
 none_written (Ok sending) bytes new code out sent = tt
 none_written (Err refusal) bytes new code out sent = absurd sent
 
 -- A body that a client takes.
-pub delivered : (stream : StreamData) (r : Result Delivery ClientFault) (given : DeliveredData (List ℕ)) (new : ClientData) (code : ℕ) (stored : Option Object) (out : Answer)
-    → IsDelivered r given new → code ≡ OK → stored ≡ Some (Client (record { client = new; frame = frame_out given; stream = stream })) → out ≡ delivered_out given
+pub delivered : (stream : StreamData) (r : Result Delivery ClientFault) (given : DeliveredData (List ℕ))
+    (new : ClientData) (code : ℕ) (stored : Option Object) (out : Answer)
+    → IsDelivered r given new → code ≡ OK
+    → stored ≡ Some (Client (record { client = new; frame = frame_out given; stream = stream }))
+    → out ≡ delivered_out given
     → IsDeliveredTo stream r code stored out
 delivered stream (Ok delivery) given new code stored out is done held answered =
     inr (record {
@@ -71,18 +81,22 @@ delivered stream (Ok delivery) given new code stored out is done held answered =
 delivered stream (Err refusal) given new code stored out is done held answered = absurd is
 
 -- A body that a client refuses.
-pub delivery_refused : (stream : StreamData) (r : Result Delivery ClientFault) (fault : ClientFault) (code : ℕ) (stored : Option Object) (out : Answer)
+pub delivery_refused : (stream : StreamData) (r : Result Delivery ClientFault) (fault : ClientFault) (code : ℕ)
+    (stored : Option Object) (out : Answer)
     → IsFaultOf r fault → code ≡ call_code fault → IsDeliveredTo stream r code stored out
 delivery_refused stream (Ok delivery) fault code stored out why is = inl (is ∙ ap call_code why)
 delivery_refused stream (Err refusal) fault code stored out why is = delivery_code_is refusal fault code why is
 
 -- A body that a listening client takes.
-pub heard : (stream : StreamData) (s : ClientData) (body : Reading) (given : DeliveredData (List ℕ)) (new : ClientData) (code : ℕ) (stored : Option Object) (out : Answer)
+pub heard : (stream : StreamData) (s : ClientData) (body : Reading) (given : DeliveredData (List ℕ)) (new : ClientData)
+    (code : ℕ) (stored : Option Object) (out : Answer)
     → is_listening s.phase ≡ true → IsDelivered (delivery_result s body) given new → code ≡ OK
-    → stored ≡ Some (Client (record { client = new; frame = frame_out given; stream = stream })) → out ≡ delivered_out given
+    → stored ≡ Some (Client (record { client = new; frame = frame_out given; stream = stream }))
+    → out ≡ delivered_out given
     → IsTakenIn stream (delivery_of s body) code stored out
 heard stream s body given new code stored out listens is done held answered =
-    let d : IsDelivered (Ok (delivery_of s body)) given new = subst (λ b. IsDelivered (if_listening b s body) given new) listens is in
+    let d : IsDelivered (Ok (delivery_of s body)) given new =
+    subst (λ b. IsDelivered (if_listening b s body) given new) listens is in
     record {
       done = done;
       client = held ∙ (λ i. Some (Client (record { client = d.1 i; frame = frame_out (d.0 i); stream = stream })));

@@ -50,7 +50,9 @@ none_served old new piece code taken before after fed is no_body rest same =
 -- A message is whole, and out of memory.
 pub waits : (old new : SessionData) (piece body : List ℕ) (code : ℕ) (taken : Taken) (before after : Answer)
     → IsFedTo old.stream piece code new.stream taken → code ≡ OK → IsBodyOf new.stream.framing body
-    → new ≡ record old { stream = new.stream } → after ≡ before → IsServed old piece OUT_OF_MEMORY new taken before after
+    → new ≡ record old {
+      stream = new.stream;
+    } → after ≡ before → IsServed old piece OUT_OF_MEMORY new taken before after
 waits old new piece body code taken before after fed is whole rest same =
     inl (
       rest,
@@ -67,7 +69,8 @@ pub one_served : (old new : SessionData) (stream : StreamData) (piece body reply
     → given ≡ as_sent (step_at old body).answer → after_it ≡ (step_at old body).state → reply ≡ reply_out given
     → new ≡ record { server = after_it; reply = reply; stream = handled stream } → after ≡ answer_out given
     → IsServed old piece OK new taken before after
-one_served old new stream piece body reply code taken before after after_it given fed is whole answered moved replied held written =
+one_served old new stream piece body reply code taken before after after_it given fed is whole answered moved replied
+    held written =
     inr (record {
       stream = stream;
       body = body;
@@ -91,15 +94,20 @@ live Down other = refl
 live Ended other = absurd (other refl)
 
 -- The server of an object takes a piece.
-pub served_in : (object stored : Object) (session new : SessionData) (piece : List ℕ) (code : ℕ) (taken : Taken) (before after : Answer)
+pub served_in : (object stored : Object) (session new : SessionData) (piece : List ℕ) (code : ℕ) (taken : Taken)
+    (before after : Answer)
     → object ≡ Server session → session.server.phase ≢ Ended → stored ≡ Server new
     → IsServed session piece code new taken before after
-    → IsRefusedOr (live_asked (server_of object)) code (λ s. IsOkAnd (server_of stored) (λ t. IsServed s piece code t taken before after))
+    → IsRefusedOr (live_asked (server_of object)) code
+    (λ s. IsOkAnd (server_of stored) (λ t. IsServed s piece code t taken before after))
 served_in object stored session new piece code taken before after is other left served =
-    subst (λ (o : Object). IsRefusedOr (live_asked (server_of o)) code (λ s. IsOkAnd (server_of stored) (λ t. IsServed s piece code t taken before after))) (sym is)
-    (subst (λ (o : Option ℕ). IsRefusedOr (unless o (Ok session)) code (λ s. IsOkAnd (server_of stored) (λ t. IsServed s piece code t taken before after)))
+    subst (λ (o : Object). IsRefusedOr (live_asked (server_of o)) code
+    (λ s. IsOkAnd (server_of stored) (λ t. IsServed s piece code t taken before after))) (sym is)
+    (subst (λ (o : Option ℕ). IsRefusedOr (unless o (Ok session)) code
+    (λ s. IsOkAnd (server_of stored) (λ t. IsServed s piece code t taken before after)))
     (sym (live session.server.phase other))
-    (subst (λ (o : Object). IsOkAnd (server_of o) (λ t. IsServed session piece code t taken before after)) (sym left) served))
+    (subst (λ (o : Object). IsOkAnd (server_of o) (λ t. IsServed session piece code t taken before after)) (sym left)
+    served))
 
 -- It isn't refused.
 pub served_unrefused : (object : Object) (session : SessionData) (Fact : Type 0) → object ≡ Server session
@@ -144,7 +152,8 @@ unheard old new piece body code taken before after fed is whole rest same =
     )
 
 -- A message is whole, and was handled.
-pub one_heard : (old new : EditorData) (stream : StreamData) (piece body : List ℕ) (code : ℕ) (taken : Taken) (before after : Answer)
+pub one_heard : (old new : EditorData) (stream : StreamData) (piece body : List ℕ) (code : ℕ) (taken : Taken)
+    (before after : Answer)
     → IsFedTo old.stream piece code stream taken → code ≡ OK → IsBodyOf stream.framing body
     → IsTakenIn (handled stream) (delivery_of old.client (reading body)) OK (Some (Client new)) after
     → IsHeard old piece OK new taken before after
@@ -157,15 +166,20 @@ one_heard old new stream piece body code taken before after fed is whole deliver
     })
 
 -- The client of an object takes a piece.
-pub heard_in : (object stored : Object) (editor new : EditorData) (piece : List ℕ) (code : ℕ) (taken : Taken) (before after : Answer)
+pub heard_in : (object stored : Object) (editor new : EditorData) (piece : List ℕ) (code : ℕ) (taken : Taken)
+    (before after : Answer)
     → object ≡ Client editor → is_listening editor.client.phase ≡ true → stored ≡ Client new
     → IsHeard editor piece code new taken before after
-    → IsRefusedOr (listening_asked (client_of object)) code (λ e. IsOkAnd (client_of stored) (λ t. IsHeard e piece code t taken before after))
+    → IsRefusedOr (listening_asked (client_of object)) code
+    (λ e. IsOkAnd (client_of stored) (λ t. IsHeard e piece code t taken before after))
 heard_in object stored editor new piece code taken before after is listens left heard =
-    subst (λ (o : Object). IsRefusedOr (listening_asked (client_of o)) code (λ e. IsOkAnd (client_of stored) (λ t. IsHeard e piece code t taken before after))) (sym is)
-    (subst (λ b. IsRefusedOr (if b then Ok editor else Err WRONG_PHASE) code (λ e. IsOkAnd (client_of stored) (λ t. IsHeard e piece code t taken before after)))
+    subst (λ (o : Object). IsRefusedOr (listening_asked (client_of o)) code
+    (λ e. IsOkAnd (client_of stored) (λ t. IsHeard e piece code t taken before after))) (sym is)
+    (subst (λ b. IsRefusedOr (if b then Ok editor else Err WRONG_PHASE) code
+    (λ e. IsOkAnd (client_of stored) (λ t. IsHeard e piece code t taken before after)))
     (sym listens)
-    (subst (λ (o : Object). IsOkAnd (client_of o) (λ t. IsHeard editor piece code t taken before after)) (sym left) heard))
+    (subst (λ (o : Object). IsOkAnd (client_of o) (λ t. IsHeard editor piece code t taken before after)) (sym left)
+    heard))
 
 -- It isn't refused.
 pub heard_unrefused : (object : Object) (editor : EditorData) (Fact : Type 0) → object ≡ Client editor

@@ -34,10 +34,12 @@ none NoMemory code out is report kept =
 none_of : (old new : FramerData) (piece : List ℕ) (code : ℕ) (out : Taken) → IsFed old piece code new out → code ≢ OK
     → (code ≢ OK → code ≢ BAD_FRAME → (new ≡ old) × (out ≡ nothing_taken)) → IsNothing out
 none_of old new piece code out (inl done) bad kept = absurd (bad done.0)
-none_of old new piece code out (inr fault) bad kept = none fault.fault code out fault.is fault.report (λ a b. (kept a b).1)
+none_of old new piece code out (inr fault) bad kept =
+    none fault.fault code out fault.is fault.report (λ a b. (kept a b).1)
 
 -- A message that was handled is released.
-pub released_next : (is_handled : Bool) (old new : FramerData) → is_handled ≡ true → IsReleased old new → IsNext is_handled old new
+pub released_next : (is_handled : Bool) (old new : FramerData) → is_handled ≡ true → IsReleased old new
+    → IsNext is_handled old new
 released_next is_handled old new is done = subst (λ b. IsNext b old new) (sym is) done
 
 -- One that wasn't stays.

@@ -11,4 +11,7 @@ pub utf8_yes : (bytes : List ℕ) → IsUtf8 bytes → is_utf8 bytes ≡ true
 utf8_yes bytes utf8 = is_utf8-from_IsUtf8 bytes utf8
 
 pub utf8_no : (bytes : List ℕ) → (¬ (IsUtf8 bytes)) → is_utf8 bytes ≡ false
-utf8_no bytes other = elim (cases_Bool (is_utf8 bytes)) [ inl passes ↦ absurd (other (utf8_is bytes passes)) | inr fails ↦ fails ]
+utf8_no bytes other = elim (cases_Bool (is_utf8 bytes)) [
+  | inl passes ↦ absurd (other (utf8_is bytes passes))
+  | inr fails ↦ fails
+]

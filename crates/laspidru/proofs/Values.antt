@@ -38,7 +38,13 @@ abbrev pub A : RattleType
 A = global.the_row
 
 abbrev pub allocator : Al
-allocator = record { row = A; laws = global-laws.the_row_laws; g = ghosts; d = impl [] tnil dnil; drops = impl [] tnil dnil }
+allocator = record {
+  row = A;
+  laws = global-laws.the_row_laws;
+  g = ghosts;
+  d = impl [] tnil dnil;
+  drops = impl [] tnil dnil;
+}
 
 abbrev pub Object : Type 0
 Object = (object.the_row).Denot
@@ -57,8 +63,10 @@ both_hold false y s t = absurd s
 
 pub triple_fits : (p : Ptr) (full : Bool) (h : Val) → Good (layout A) h
     → T (has_ty ty_ptr (ptr_val p) && (has_ty (layout A) h && true)) × WT (triple p full h)
-triple_fits p full h fits =
-    (both_hold (has_ty ty_ptr (ptr_val p)) (has_ty (layout A) h) (pointer_fits p).0 fits.0, ((pointer_fits p).1, (tt, (fits.1, tt))))
+triple_fits p full h fits = (
+  both_hold (has_ty ty_ptr (ptr_val p)) (has_ty (layout A) h) (pointer_fits p).0 fits.0,
+  ((pointer_fits p).1, (tt, (fits.1, tt))),
+)
 
 module _ {M : Type 1} {𝓤 : Ura M} {𝓛 : Logic 𝓤} {K : Type 0} {Γ : List (Item 𝓤)} {G : Goal 𝓤 𝓛.H} where
   pub opens_handle : K → (d : (handle.the_row).Denot) (vs : List Val)
@@ -66,15 +74,18 @@ module _ {M : Type 1} {𝓤 : Ura M} {𝓛 : Logic 𝓤} {K : Type 0} {Γ : List
       → Seq K 𝓛 (‵ (object_if d.is_full d.alloc d.pointer d.value) ∷ ‵ (A.own_val d.alloc (h ∷ [])) ∷ Γ) G)
       → Seq K 𝓛 (‵ ((handle.the_row).own_val d vs) ∷ Γ) G
   opens_handle t d vs next =
-      let stored : List Val → List Val → List Val → Type 0 = λ ps bs hs. vs ≡ vstruct (of_list (ps ++ (bs ++ (hs ++ [])))) ∷ [] in
-      fsplit t $ fpick t (λ vss. fsplit t $ feq_l t (λ whole. fsplit t $ feq_l t (λ pointer. fsplit t $ feq_l t (λ flag. fsplit t $
+      let stored : List Val → List Val → List Val → Type 0 =
+      λ ps bs hs. vs ≡ vstruct (of_list (ps ++ (bs ++ (hs ++ [])))) ∷ [] in
+      fsplit t $ fpick t
+      (λ vss. fsplit t $ feq_l t (λ whole. fsplit t $ feq_l t (λ pointer. fsplit t $ feq_l t (λ flag. fsplit t $
       handle_tells allocator t d.alloc vss.1.1.0 (λ h alloc fits. move t (1 ∷ []) $ drop t $ move t (1 ∷ []) $ next h
       (subst (λ (hs : List Val). stored (ptr_val d.pointer ∷ []) (vbool d.is_full ∷ []) hs) alloc
       (subst (λ (bs : List Val). stored (ptr_val d.pointer ∷ []) bs vss.1.1.0) flag
       (subst (λ (ps : List Val). stored ps vss.1.0 vss.1.1.0) pointer whole))) fits)))))
 
   pub closes_handle : K → (p : Ptr) (full : Bool) (h : Val) (a : Global) (value : Option Object)
-      → Step K 𝓛 (‵ ((handle.the_row).own_val (record { pointer = p; is_full = full; alloc = a; value = value }) (triple p full h ∷ [])) ∷ Γ) G
+      → Step K 𝓛 (‵ ((handle.the_row).own_val (record { pointer = p; is_full = full; alloc = a; value = value })
+      (triple p full h ∷ [])) ∷ Γ) G
       (‵ (object_if full a p value) ∷ ‵ (A.own_val a (h ∷ [])) ∷ Γ) G
   closes_handle t p full h a value = step (λ next. let v : Val = triple p full h in
       nothing t $ move t (2 ∷ 0 ∷ []) $ fjoin t $
@@ -82,20 +93,28 @@ module _ {M : Type 1} {𝓤 : Ura M} {𝓛 : Logic 𝓤} {K : Type 0} {Γ : List
       feq_i t (List Val) (ptr_val p ∷ []) (ptr_val p ∷ []) refl $ fjoin t $
       feq_i t (List Val) (v ∷ []) (v ∷ []) refl $ fjoin t $
       fpack t (Valss (fields handle.the_type))
-      (within (shape handle.the_type) (to handle.the_type (record { pointer = p; is_full = full; alloc = a; value = value })) (v ∷ []))
+      (within (shape handle.the_type) (to handle.the_type (record {
+        pointer = p;
+        is_full = full;
+        alloc = a;
+        value = value;
+      })) (v ∷ []))
       (ptr_val p ∷ [], (vbool full ∷ [], (h ∷ [], tt))) $ fjoin t $ next)
 
   pub is_there : K → (full : Bool) (a : Global) (p : Ptr) (value : Option Object) → IsSome value
-      → ((b o : ℕ) (x : Object) → full ≡ true → p ≡ block_ptr b o → value ≡ Some x → Seq K 𝓛 (‵ (object_at a (block_ptr b o) x) ∷ Γ) G)
+      → ((b o : ℕ) (x : Object) → full ≡ true → p ≡ block_ptr b o → value ≡ Some x
+      → Seq K 𝓛 (‵ (object_at a (block_ptr b o) x) ∷ Γ) G)
       → Seq K 𝓛 (‵ (object_if full a p value) ∷ Γ) G
   is_there t true a p (Some x) is next = in_a_block t p (λ q. object_at a q x)
-      (fst∗ 𝓤 (never 𝓤) (sem 𝓛 (ghosts.dealloc_token a (bare (lone (object.the_row).mir)) null_ptr))) (λ b o at. next b o x refl at refl)
+      (fst∗ 𝓤 (never 𝓤) (sem 𝓛 (ghosts.dealloc_token a (bare (lone (object.the_row).mir)) null_ptr)))
+      (λ b o at. next b o x refl at refl)
   is_there t true a p None is next = use1 𝓛 (given ⊥ (‵ ftrue)) (never_e 𝓤 _) $ learn t (λ z. absurd z)
   is_there t false a p (Some x) is next = use1 𝓛 (given ⊥ (‵ ftrue)) (never_e 𝓤 _) $ learn t (λ z. absurd z)
   is_there t false a p None is next = absurd (false≢true is)
 
   pub says_full : K → (full : Bool) (a : Global) (p : Ptr) (value : Option Object)
-      → (full ≡ is_some value → Seq K 𝓛 (‵ (object_if full a p value) ∷ Γ) G) → Seq K 𝓛 (‵ (object_if full a p value) ∷ Γ) G
+      → (full ≡ is_some value → Seq K 𝓛 (‵ (object_if full a p value) ∷ Γ) G)
+      → Seq K 𝓛 (‵ (object_if full a p value) ∷ Γ) G
   says_full t true a p (Some x) next = next refl
   says_full t true a p None next = use1 𝓛 (given ⊥ (‵ ftrue)) (never_e 𝓤 _) $ learn t (λ z. absurd z)
   says_full t false a p (Some x) next = use1 𝓛 (given ⊥ (‵ ftrue)) (never_e 𝓤 _) $ learn t (λ z. absurd z)
@@ -104,9 +123,11 @@ module _ {M : Type 1} {𝓤 : Ura M} {𝓛 : Logic 𝓤} {K : Type 0} {Γ : List
 abbrev pub two : Val → Val → Val
 two v w = vstruct (vcons v (vcons w vnil))
 
-module _ (P Q : RattleType) {M : Type 1} {𝓤 : Ura M} {𝓛 : Logic 𝓤} {K : Type 0} {Γ : List (Item 𝓤)} {G : Goal 𝓤 𝓛.H} where
+module _ (P Q : RattleType) {M : Type 1} {𝓤 : Ura M} {𝓛 : Logic 𝓤} {K : Type 0} {Γ : List (Item 𝓤)}
+    {G : Goal 𝓤 𝓛.H} where
   pub tuple_of : K → (x : P.Denot) (y : Q.Denot) (v w : Val)
-      → Step K 𝓛 (‵ ((Tuple (P ∷ Q ∷ [])).own_val (x, y) (two v w ∷ [])) ∷ Γ) G (‵ (P.own_val x (v ∷ [])) ∷ ‵ (Q.own_val y (w ∷ [])) ∷ Γ) G
+      → Step K 𝓛 (‵ ((Tuple (P ∷ Q ∷ [])).own_val (x, y) (two v w ∷ [])) ∷ Γ) G
+      (‵ (P.own_val x (v ∷ [])) ∷ ‵ (Q.own_val y (w ∷ [])) ∷ Γ) G
   tuple_of t x y v w = step (λ next.
       nothing t $ move t (1 ∷ 2 ∷ 0 ∷ []) $ fjoin3 t $ feq_i t (List Val) (two v w ∷ []) (two v w ∷ []) refl $ fjoin t $
       fpack t (Valss (P ∷ Q ∷ []))

@@ -12,7 +12,8 @@ use Rattle.laspidru.specs.Messages.{IsMessageLeft, frame_unless}
 use Rattle.laspidru.specs.Servers.{store_code}
 
 -- It is refused by this fault, or out of memory.
-pub message_refused : (refusal : Option Refusal) (frame : List ℕ) (fault : StoreFault) (code len : ℕ) (stored : Option Object) (out : Fault)
+pub message_refused : (refusal : Option Refusal) (frame : List ℕ) (fault : StoreFault) (code len : ℕ)
+    (stored : Option Object) (out : Fault)
     → IsRefusal refusal fault → code ≡ store_code fault → IsStoreReport fault out
     → (code ≡ OUT_OF_MEMORY) ⊎ IsMessageLeft (frame_unless refusal frame) code stored len out
 message_refused refusal frame fault code len stored out (inl none) is written = inl (is ∙ ap store_code none)

@@ -75,7 +75,8 @@ IsFrameReport (frame.BadCharset place) out = out ≡ taken_fault 7 place
 IsFrameReport other out = Unit {0}
 
 -- A piece was not taken, by this fault of the framer.
-pub record IsNotTaken (old new : FramerData) (piece : List ℕ) (code : ℕ) (out : Taken) : Type 0 where
+pub record IsNotTaken (old new : FramerData) (piece : List ℕ) (code : ℕ) (out : Taken) : Type
+    0 where
   pub fault : FrameFault
   pub why : IsFeedFault old new piece fault
   pub is : code ≡ frame_code fault

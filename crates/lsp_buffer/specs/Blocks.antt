@@ -1,4 +1,5 @@
--- A text in blocks. Each but the last ends with a character that isn't a carriage return, so no CRLF
+-- A text in blocks. Each but the last ends with a character that isn't a carriage return, so no
+-- CRLF
 -- is in two of them.
 use Rattle.std.specs.Prelude.{ℕ, zero, suc, ◌≡◌, ◌≢◌, ◌+◌, ◌-◌, ◌<◌, ◌≤◌, true, List, [], ◌∷◌, length, map, slice_index}
 use Rattle.std.specs.List.{concat}

@@ -21,7 +21,8 @@ use Rattle.lsp_client.specs.Seen.{IsFaultOf, IsSent, client_fault}
 -- ---- refusals
 
 -- A refusal of the store is a refusal of the client, with the store's fault.
-fault_kept : (refusal : documents_table.Refusal) → client_fault (documents.fault_of refusal) ≡ Store (documents.fault_of refusal)
+fault_kept : (refusal : documents_table.Refusal) → client_fault (documents.fault_of refusal)
+    ≡ Store (documents.fault_of refusal)
 fault_kept already_open = refl
 fault_kept too_many_documents = refl
 fault_kept text_too_long = refl
@@ -47,18 +48,24 @@ pub some_same : {A : Type 0} (a b : A) → Some a ≡ Some b → a ≡ b
 some_same a b e = cc
 
 -- The client's fault for what the store refuses.
-pub refused : (refusal : Option documents_table.Refusal) (sending : Sending) (fault : StoreFault) → IsRefusal refusal fault → IsFaultOf (sending_unless refusal sending) (client_fault fault)
-refused None sending fault why = ⊎_elim (λ (e : fault ≡ faults.NoMemory). rw e refl) (λ (e : None ≡ Some fault). absurd (cc)) why
+pub refused : (refusal : Option documents_table.Refusal) (sending : Sending) (fault : StoreFault)
+    → IsRefusal refusal fault → IsFaultOf (sending_unless refusal sending) (client_fault fault)
+refused None sending fault why =
+    ⊎_elim (λ (e : fault ≡ faults.NoMemory). rw e refl) (λ (e : None ≡ Some fault). absurd (cc)) why
 refused (Some refusal) sending fault why =
     ⊎_elim (λ (e : fault ≡ faults.NoMemory). inl (rw e refl))
-    (λ (e : Some (documents.fault_of refusal) ≡ Some fault). inr (ap client_fault (sym (some_same (documents.fault_of refusal) fault e)) ∙ fault_kept refusal)) why
+    (λ (e : Some (documents.fault_of refusal) ≡ Some fault). inr
+    (ap client_fault (sym (some_same (documents.fault_of refusal) fault e)) ∙ fault_kept refusal)) why
 
 -- What is refused first is refused.
-pub refused_first : (first later : Option documents_table.Refusal) (fault : StoreFault) → IsRefusal first fault → IsRefusal (else_refused first later) fault
+pub refused_first : (first later : Option documents_table.Refusal) (fault : StoreFault) → IsRefusal first fault
+    → IsRefusal (else_refused first later) fault
 refused_first (Some refusal) later fault why = why
-refused_first None later fault why = ⊎_elim (λ (e : fault ≡ faults.NoMemory). inl e) (λ (e : None ≡ Some fault). absurd (cc)) why
+refused_first None later fault why =
+    ⊎_elim (λ (e : fault ≡ faults.NoMemory). inl e) (λ (e : None ≡ Some fault). absurd (cc)) why
 
-pub refused_later : (first later : Option documents_table.Refusal) (fault : StoreFault) → first ≡ None → IsRefusal later fault → IsRefusal (else_refused first later) fault
+pub refused_later : (first later : Option documents_table.Refusal) (fault : StoreFault) → first ≡ None
+    → IsRefusal later fault → IsRefusal (else_refused first later) fault
 refused_later first later fault none why = rw none why
 
 -- ---- what is sent
@@ -72,8 +79,10 @@ unfolding sent_body
 sent_if s kind command bytes new may within framed state = rw (may, within) (framed, state)
 
 -- Under any kind but Full the canonical batch is sent.
-pub canonical_sent : (kind : SyncKind) (table : List DocumentItem) (uri : List ℕ) (version : ℤ) (encoding : Encoding) (batch : List Edit) → kind ≢ Full
-    → sent_body kind table (changes uri version encoding batch) ≡ canonical_body (units_in encoding) table uri version batch
+pub canonical_sent : (kind : SyncKind) (table : List DocumentItem) (uri : List ℕ) (version : ℤ) (encoding : Encoding)
+    (batch : List Edit) → kind ≢ Full
+    → sent_body kind table (changes uri version encoding batch) ≡ canonical_body (units_in encoding) table uri version
+    batch
 unfolding change_body sent_body
 canonical_sent Full table uri version encoding batch not = absurd (not refl)
 canonical_sent Incremental table uri version encoding batch not = refl

@@ -22,14 +22,16 @@ use Rattle.lsp_client.proofs.OrderLemmas.{some_same}
 
 -- ---- the document that a change leaves
 
-pub entry_after : (units : ℕ → ℕ) (table : List DocumentItem) (uri : List ℕ) (version : ℤ) (batch : List Edit) (entry : DocumentItem) → entry_at table uri ≡ Some entry
+pub entry_after : (units : ℕ → ℕ) (table : List DocumentItem) (uri : List ℕ) (version : ℤ) (batch : List Edit)
+    (entry : DocumentItem) → entry_at table uri ≡ Some entry
     → entry_at (after_change units table uri version batch) uri ≡ Some (changed units entry version batch)
 entry_after units [] uri version batch entry found = absurd (cc)
 entry_after units (first ∷ table) uri version batch entry found =
     ⊎_elim
     (λ (here : bytes_eq uri first.uri ≡ true).
     let same : first ≡ entry = some_same first entry (rw here at found) in
-    let there : entry_at (after_change units (first ∷ table) uri version batch) uri ≡ Some (changed units first version batch) = rw here (rw here refl) in
+    let there : entry_at (after_change units (first ∷ table) uri version batch) uri
+    ≡ Some (changed units first version batch) = rw here (rw here refl) in
     there ∙ ap (λ (e : DocumentItem). Some (changed units e version batch)) same)
     (λ (elsewhere : bytes_eq uri first.uri ≡ false).
     let rest : entry_at table uri ≡ Some entry = rw elsewhere at found in
@@ -38,24 +40,32 @@ entry_after units (first ∷ table) uri version batch entry found =
     (cases_Bool (bytes_eq uri first.uri))
 
 -- The document of a URI decides what text is left.
-pub whole_left : (units : ℕ → ℕ) (table : List DocumentItem) (uri : List ℕ) (version : ℤ) (batch : List Edit) (entry : DocumentItem) (text : List ℕ) → entry_at table uri ≡ Some entry
+pub whole_left : (units : ℕ → ℕ) (table : List DocumentItem) (uri : List ℕ) (version : ℤ) (batch : List Edit)
+    (entry : DocumentItem) (text : List ℕ) → entry_at table uri ≡ Some entry
     → (changed units entry version batch).text ≡ text
     → whole_batch units table uri version batch ≡ whole_change text ∷ []
 whole_left units table uri version batch entry text found left =
-    let whole : entry_at (after_change units table uri version batch) uri ≡ Some (changed units entry version batch) = entry_after units table uri version batch entry found in
+    let whole : entry_at (after_change units table uri version batch) uri ≡ Some (changed units entry version batch) =
+    entry_after units table uri version batch entry found in
     ap whole_text whole ∙ ap (λ (t : List ℕ). whole_change t ∷ []) left
 
 -- The whole text that a plan leaves is that of its batch.
-pub planned_whole : (store : StoreData) (uri : List ℕ) (version : ℤ) (encoding : Encoding) (batch : List Edit) (plan : Plan) (q : IsPlanOf store uri version encoding batch plan) (text : List ℕ)
-    → text ≡ bytes_after q.on.entry.text plan.delta → whole_batch (units_in encoding) store.table uri version batch ≡ whole_change text ∷ []
+pub planned_whole : (store : StoreData) (uri : List ℕ) (version : ℤ) (encoding : Encoding) (batch : List Edit)
+    (plan : Plan) (q : IsPlanOf store uri version encoding batch plan) (text : List ℕ)
+    → text ≡ bytes_after q.on.entry.text plan.delta → whole_batch (units_in encoding) store.table uri version batch
+    ≡ whole_change text ∷ []
 planned_whole store uri version encoding batch plan q text is =
-    whole_left (units_in encoding) store.table uri version batch q.on.entry text q.is_open ((meaning_accepted store.limits q.on.entry.text _ _ q.delta.is).1 ∙ sym is)
+    whole_left (units_in encoding) store.table uri version batch q.on.entry text q.is_open
+    ((meaning_accepted store.limits q.on.entry.text _ _ q.delta.is).1 ∙ sym is)
 
 -- ---- the message
 
 -- One change without a range, as it is written.
-pub whole_body : (copy uri : List ℕ) (given version : ℤ) (new : String Global) (items : List Change) → copy ≡ uri → given ≡ version
+pub whole_body : (copy uri : List ℕ) (given version : ℤ) (new : String Global) (items : List Change) → copy ≡ uri
+    → given ≡ version
     → items ≡ record { range = None; text = new } ∷ []
-    → body_of (did_change (record { uri = copy; version = given; changes = map edit_view items })) ≡ change_body uri version (whole_change (string_bytes new) ∷ [])
+    → body_of (did_change (record { uri = copy; version = given; changes = map edit_view items }))
+    ≡ change_body uri version (whole_change (string_bytes new) ∷ [])
 unfolding change_body
-whole_body copy uri given version new items same is are = rw (same, is, are, encodes-chars (string_bytes new) (IsUtf8-string_bytes new)) refl
+whole_body copy uri given version new items same is are =
+    rw (same, is, are, encodes-chars (string_bytes new) (IsUtf8-string_bytes new)) refl

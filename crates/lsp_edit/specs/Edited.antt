@@ -43,12 +43,14 @@ abbrev pub both_counts : ℕ → ℕ → ℕ
 both_counts first second = min (first + second) 18446744073709551615
 
 -- `next` is `edited` after a change, and counts it.
-pub record Applied (units : ℕ → ℕ) (edited : PlainData) (change : Edit) (next : PlainData) : Type 0 where
+pub record Applied (units : ℕ → ℕ) (edited : PlainData) (change : Edit) (next : PlainData) : Type
+    0 where
   pub changed : after_change units edited.before edited.items change ≡ Ok next.items
   pub same : next.before ≡ edited.before
   pub counted : next.changes ≡ next_number edited.changes
 
--- What is true of the fields of pieces. The spans are parts of the old text and of new texts, and no
+-- What is true of the fields of pieces. The spans are parts of the old text and of new texts, and
+-- no
 -- two neighbours touch. They keep each CRLF of it whole, and there are at most two more of them for
 -- each change.
 pub record ArePieces (before : List ℕ) (parts : List Part) (len changes : ℕ) : Type 0 where

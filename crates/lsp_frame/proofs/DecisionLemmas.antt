@@ -55,7 +55,10 @@ Next part = ((s : Shape) × IsPartOfLine s part) ⊎ StopsHeader part
 next_byte : (s : Shape) (part : List ℕ) (b : ℕ) → IsPartOfLine s part → is_over s ≡ false → Next (part ++ b ∷ [])
 next_byte shape.Start part b is line_open =
     elim (name_or_not b) [
-      | inl name ↦ inl (shape.Name, subst (λ (p : List ℕ). IsPartOfLine shape.Name (p ++ b ∷ [])) (sym is) (omega arith, (name, tt)))
+      | inl name ↦ inl (
+        shape.Name,
+        subst (λ (p : List ℕ). IsPartOfLine shape.Name (p ++ b ∷ [])) (sym is) (omega arith, (name, tt)),
+      )
       | inr no_name ↦ elim (cases_eq b 13) [
         | inl return ↦ inl (shape.LastReturn, ap (λ (p : List ℕ). p ++ b ∷ []) is ∙ ap (λ (c : ℕ). c ∷ []) return)
         | inr no_return ↦ inr (stops_at_start shape.Start b refl no_name no_return part is)
@@ -75,7 +78,12 @@ next_byte shape.Value part b is line_open =
       | inr no_value ↦ elim (cases_eq b 13) [
         | inl return ↦ inl (
           shape.Return,
-          (is.0, is.1, ap (λ (p : List ℕ). p ++ b ∷ []) is.2 ∙ append_assoc is.0.name (58 ∷ is.0.value) (b ∷ []) ∙ ap (λ (c : ℕ). is.0.name ++ (58 ∷ (is.0.value ++ c ∷ []))) return),
+          (
+            is.0,
+            is.1,
+            ap (λ (p : List ℕ). p ++ b ∷ []) is.2 ∙ append_assoc is.0.name (58 ∷ is.0.value) (b ∷ [])
+                ∙ ap (λ (c : ℕ). is.0.name ++ (58 ∷ (is.0.value ++ c ∷ []))) return,
+          ),
         )
         | inr no_return ↦ inr (stops_at_value shape.Value b refl no_value no_return part is)
       ]
@@ -88,7 +96,8 @@ next_byte shape.Return part b is line_open =
           is.0,
           is.1,
           ap (λ (p : List ℕ). p ++ b ∷ []) is.2 ∙ append_assoc is.0.name (58 ∷ (is.0.value ++ (13 ∷ []))) (b ∷ [])
-              ∙ ap (λ (x : List ℕ). is.0.name ++ (58 ∷ x)) (append_assoc is.0.value (13 ∷ []) (b ∷ [])) ∙ ap (λ (c : ℕ). is.0.name ++ (58 ∷ (is.0.value ++ (13 ∷ c ∷ [])))) feed,
+              ∙ ap (λ (x : List ℕ). is.0.name ++ (58 ∷ x)) (append_assoc is.0.value (13 ∷ []) (b ∷ []))
+              ∙ ap (λ (c : ℕ). is.0.name ++ (58 ∷ (is.0.value ++ (13 ∷ c ∷ [])))) feed,
         ),
       )
       | inr no_feed ↦ inr (stops_at_return shape.Return b refl no_feed part is)
@@ -110,10 +119,12 @@ record HeaderFront (bytes : List ℕ) : Type 0 where
   is : bytes ≡ header_of lines ++ rest
 
 abbrev IsHeaderDecided : List ℕ → Type 0
-IsHeaderDecided bytes = HeaderFront bytes ⊎ ((lines : List Line) (rest : List ℕ) → AreLines lines → bytes ≢ header_of lines ++ rest)
+IsHeaderDecided bytes =
+    HeaderFront bytes ⊎ ((lines : List Line) (rest : List ℕ) → AreLines lines → bytes ≢ header_of lines ++ rest)
 
 -- Where the next byte stops each header, none begins.
-none_stopped : (front rest : List ℕ) (b : ℕ) → BeginsHeader front → StopsHeader (front ++ b ∷ []) → (lines : List Line) (more : List ℕ) → AreLines lines → front ++ (b ∷ rest) ≢ header_of lines ++ more
+none_stopped : (front rest : List ℕ) (b : ℕ) → BeginsHeader front → StopsHeader (front ++ b ∷ []) → (lines : List Line)
+    (more : List ℕ) → AreLines lines → front ++ (b ∷ rest) ≢ header_of lines ++ more
 none_stopped front rest b begins stops lines more each e =
     elim (one_front front (header_of lines) (b ∷ rest) more e) [
       | inl f ↦ begins_none lines f.more each (subst BeginsHeader f.is begins)
@@ -127,8 +138,10 @@ none_stopped front rest b begins stops lines more each e =
         stops lines c each (is ∙ ap (λ (x : ℕ). front ++ (x ∷ c)) byte ∙ sym (append_assoc front (b ∷ []) c))
 
 -- The rest of the bytes decides, after so many lines and these bytes of one.
-after_byte : (lines : List Line) (part rest : List ℕ) (s : Shape) → AreLines lines → IsPartOfLine s part → (is_over s ≡ false → IsHeaderDecided (lines_bytes lines ++ (part ++ rest)))
-    → ((line : Line) → IsLine line → part ≡ line_bytes line → IsHeaderDecided (lines_bytes lines ++ (part ++ rest))) → IsHeaderDecided (lines_bytes lines ++ (part ++ rest))
+after_byte : (lines : List Line) (part rest : List ℕ) (s : Shape) → AreLines lines → IsPartOfLine s part
+    → (is_over s ≡ false → IsHeaderDecided (lines_bytes lines ++ (part ++ rest)))
+    → ((line : Line) → IsLine line → part ≡ line_bytes line → IsHeaderDecided (lines_bytes lines ++ (part ++ rest)))
+    → IsHeaderDecided (lines_bytes lines ++ (part ++ rest))
 after_byte lines part rest shape.Start each is on whole = on refl
 after_byte lines part rest shape.Name each is on whole = on refl
 after_byte lines part rest shape.Value each is on whole = on refl
@@ -140,49 +153,72 @@ after_byte lines part rest shape.End each is on whole =
       lines = lines;
       rest = rest;
       each = each;
-      is = ap (λ (x : List ℕ). lines_bytes lines ++ (x ++ rest)) is ∙ sym (append_assoc (lines_bytes lines) (13 ∷ 10 ∷ []) rest);
+      is = ap (λ (x : List ℕ). lines_bytes lines ++ (x ++ rest)) is
+          ∙ sym (append_assoc (lines_bytes lines) (13 ∷ 10 ∷ []) rest);
     })
 
-header_decided : (rest : List ℕ) (lines : List Line) (s : Shape) (part : List ℕ) → AreLines lines → IsPartOfLine s part → is_over s ≡ false → IsHeaderDecided (lines_bytes lines ++ (part ++ rest))
+header_decided : (rest : List ℕ) (lines : List Line) (s : Shape) (part : List ℕ) → AreLines lines → IsPartOfLine s part
+    → is_over s ≡ false → IsHeaderDecided (lines_bytes lines ++ (part ++ rest))
 header_decided [] lines s part each is line_open =
     inr (λ others more all e. begins_none others more all
-    (subst BeginsHeader (ap (λ (x : List ℕ). lines_bytes lines ++ x) (sym (append-nil part)) ∙ e) (begins_behind lines part each (begins_part s part is line_open))))
+    (subst BeginsHeader (ap (λ (x : List ℕ). lines_bytes lines ++ x) (sym (append-nil part)) ∙ e)
+    (begins_behind lines part each (begins_part s part is line_open))))
 header_decided (b ∷ rest) lines s part each is line_open =
-    let moved : lines_bytes lines ++ ((part ++ b ∷ []) ++ rest) ≡ lines_bytes lines ++ (part ++ (b ∷ rest)) = ap (λ (x : List ℕ). lines_bytes lines ++ x) (append_assoc part (b ∷ []) rest) in
+    let moved : lines_bytes lines ++ ((part ++ b ∷ []) ++ rest) ≡ lines_bytes lines ++ (part ++ (b ∷ rest)) =
+    ap (λ (x : List ℕ). lines_bytes lines ++ x) (append_assoc part (b ∷ []) rest) in
     elim (next_byte s part b is line_open) [
-      | inl next ↦ subst IsHeaderDecided moved (after_byte lines (part ++ b ∷ []) rest next.0 each next.1 (header_decided rest lines next.0 (part ++ b ∷ []) each next.1)
-          (λ line is_line e. subst IsHeaderDecided (with_line line e) (header_decided rest (lines ++ line ∷ []) shape.Start [] (AreLines-append lines (line ∷ []) each (is_line, tt)) refl refl)))
-      | inr stops ↦ inr (λ others more all e. none_stopped (lines_bytes lines ++ part) rest b (begins_behind lines part each (begins_part s part is line_open))
-          (subst StopsHeader (sym (append_assoc (lines_bytes lines) part (b ∷ []))) (stops_behind lines (part ++ b ∷ []) each stops)) others more all (append_assoc (lines_bytes lines) part (b ∷ rest) ∙ e))
+      | inl next ↦ subst IsHeaderDecided moved (after_byte lines (part ++ b ∷ []) rest next.0 each next.1
+          (header_decided rest lines next.0 (part ++ b ∷ []) each next.1)
+          (λ line is_line e. subst IsHeaderDecided (with_line line e)
+          (header_decided rest (lines ++ line ∷ []) shape.Start [] (AreLines-append lines (line ∷ []) each (
+            is_line,
+            tt,
+          )) refl refl)))
+      | inr stops ↦ inr (λ others more all e. none_stopped (lines_bytes lines ++ part) rest b
+          (begins_behind lines part each (begins_part s part is line_open))
+          (subst StopsHeader (sym (append_assoc (lines_bytes lines) part (b ∷ [])))
+          (stops_behind lines (part ++ b ∷ []) each stops)) others more all
+          (append_assoc (lines_bytes lines) part (b ∷ rest) ∙ e))
     ]
   where
-    with_line : (line : Line) → part ++ b ∷ [] ≡ line_bytes line → lines_bytes (lines ++ line ∷ []) ++ rest ≡ lines_bytes lines ++ ((part ++ b ∷ []) ++ rest)
+    with_line : (line : Line) → part ++ b ∷ [] ≡ line_bytes line → lines_bytes (lines ++ line ∷ []) ++ rest
+        ≡ lines_bytes lines ++ ((part ++ b ∷ []) ++ rest)
     with_line line e =
-        ap (λ (x : List ℕ). x ++ rest) (lines_bytes-append lines (line ∷ [])) ∙ append_assoc (lines_bytes lines) (line_bytes line ++ []) rest
+        ap (λ (x : List ℕ). x ++ rest) (lines_bytes-append lines (line ∷ [])) ∙ append_assoc (lines_bytes lines)
+        (line_bytes line ++ []) rest
         ∙ ap (λ (x : List ℕ). lines_bytes lines ++ (x ++ rest)) (append-nil (line_bytes line) ∙ sym e)
 
 -- ---- a frame
 
-frame_decided : (max_body : ℕ) (bytes : List ℕ) → HeaderFront bytes → BeginsFrame max_body bytes ⊎ HasNoFrame max_body bytes
+frame_decided : (max_body : ℕ) (bytes : List ℕ) → HeaderFront bytes → BeginsFrame max_body bytes
+    ⊎ HasNoFrame max_body bytes
 frame_decided max_body bytes front =
     elim (cases_lt 8192 (length (header_of front.lines))) [
-      | inl long ↦ inr (λ frame body more s e. omega (arith, long, s.short, ap (λ (lines : List Line). length (header_of lines)) (same frame body more s e).0))
+      | inl long ↦ inr (λ frame body more s e. omega (
+        arith,
+        long,
+        s.short,
+        ap (λ (lines : List Line). length (header_of lines)) (same frame body more s e).0,
+      ))
       | inr short ↦ judged short (judge max_body front.lines) refl
     ]
   where
-    same : (frame body more : List ℕ) (s : IsFrameOf max_body frame body) → bytes ≡ frame ++ more → (front.lines ≡ s.lines) × (front.rest ≡ body ++ more)
+    same : (frame body more : List ℕ) (s : IsFrameOf max_body frame body) → bytes ≡ frame ++ more
+        → (front.lines ≡ s.lines) × (front.rest ≡ body ++ more)
     same frame body more s e =
         same_header front.lines s.lines front.rest (body ++ more) front.each s.each
         (sym front.is ∙ e ∙ ap (λ (x : List ℕ). x ++ more) s.is ∙ append_assoc (header_of s.lines) body more)
 
-    judged : length (header_of front.lines) ≤ 8192 → (verdict : Result ℕ HeaderFault) → judge max_body front.lines ≡ verdict → BeginsFrame max_body bytes ⊎ HasNoFrame max_body bytes
+    judged : length (header_of front.lines) ≤ 8192 → (verdict : Result ℕ HeaderFault) → judge max_body front.lines
+        ≡ verdict → BeginsFrame max_body bytes ⊎ HasNoFrame max_body bytes
     judged short (Err fault) is = inr (λ frame body more s e.
         let both : Err fault ≡ Ok (length body) = sym is ∙ ap (judge max_body) (same frame body more s e).0 ∙ s.good in
         cc)
     judged short (Ok wanted) is =
         elim (cases_lt (length front.rest) wanted) [
           | inl few ↦ inr (λ frame body more s e.
-              let both : Ok wanted ≡ Ok (length body) = sym is ∙ ap (judge max_body) (same frame body more s e).0 ∙ s.good in
+              let both : Ok wanted ≡ Ok (length body) = sym is ∙ ap (judge max_body) (same frame body more s e).0
+              ∙ s.good in
               let len : wanted ≡ length body = cc in
               omega (arith, few, len, ap length (same frame body more s e).1, length-append body more))
           | inr enough ↦ inl (record {
@@ -196,7 +232,8 @@ frame_decided max_body bytes front =
               short = short;
               good = is ∙ ap Ok (sym (length-take-le wanted front.rest enough));
             };
-            is = front.is ∙ ap (λ (x : List ℕ). header_of front.lines ++ x) (sym (take-append-drop wanted front.rest)) ∙ sym (append_assoc (header_of front.lines) (take wanted front.rest) (drop wanted front.rest));
+            is = front.is ∙ ap (λ (x : List ℕ). header_of front.lines ++ x) (sym (take-append-drop wanted front.rest))
+                ∙ sym (append_assoc (header_of front.lines) (take wanted front.rest) (drop wanted front.rest));
           })
         ]
 
@@ -204,17 +241,29 @@ pub decision_law : DecisionLaw
 decision_law max_body bytes =
     elim (header_decided bytes [] shape.Start [] tt refl refl) [
       | inl front ↦ frame_decided max_body bytes front
-      | inr none ↦ inr (λ frame body more s e. none s.lines (body ++ more) s.each (e ∙ ap (λ (x : List ℕ). x ++ more) s.is ∙ append_assoc (header_of s.lines) body more))
+      | inr none ↦ inr (λ frame body more s e. none s.lines (body ++ more) s.each
+          (e ∙ ap (λ (x : List ℕ). x ++ more) s.is ∙ append_assoc (header_of s.lines) body more))
     ]
 
 -- ---- a stream
 
 frame_some : (max_body : ℕ) (frame body : List ℕ) → IsFrameOf max_body frame body → 2 ≤ length frame
-frame_some max_body frame body s = omega (arith, ap length s.is, length-append (header_of s.lines) body, length-append (lines_bytes s.lines) (13 ∷ 10 ∷ []))
+frame_some max_body frame body s = omega (
+  arith,
+  ap length s.is,
+  length-append (header_of s.lines) body,
+  length-append (lines_bytes s.lines) (13 ∷ 10 ∷ []),
+)
 
-first_shorter : (max_body : ℕ) (stream : List ℕ) (first : BeginsFrame max_body stream) → length first.rest + 2 ≤ length stream
+first_shorter : (max_body : ℕ) (stream : List ℕ) (first : BeginsFrame max_body stream)
+    → length first.rest + 2 ≤ length stream
 first_shorter max_body stream first =
-    omega (arith, ap length first.is, length-append first.frame first.rest, frame_some max_body first.frame first.body first.is_frame)
+    omega (
+      arith,
+      ap length first.is,
+      length-append first.frame first.rest,
+      frame_some max_body first.frame first.body first.is_frame,
+    )
 
 frames_within : (n max_body : ℕ) (stream : List ℕ) → length stream ≤ n → AllFrames max_body stream
 frames_within zero max_body stream within =
@@ -225,11 +274,15 @@ frames_within zero max_body stream within =
 frames_within (suc n) max_body stream within =
     elim (decision_law max_body stream) [
       | inl first ↦
-          let others : AllFrames max_body first.rest = frames_within n max_body first.rest (omega (arith, within, first_shorter max_body stream first)) in
+          let others : AllFrames max_body first.rest =
+          frames_within n max_body first.rest (omega (arith, within, first_shorter max_body stream first)) in
           record {
             bodies = first.body ∷ others.bodies;
             rest = others.rest;
-            frames = record { framed = (first.frame, first.rest, first.is_frame, first.is, others.frames.framed); longest = others.frames.longest };
+            frames = record {
+              framed = (first.frame, first.rest, first.is_frame, first.is, others.frames.framed);
+              longest = others.frames.longest;
+            };
           }
       | inr none ↦ record { bodies = []; rest = stream; frames = record { framed = refl; longest = none } }
     ]

@@ -25,45 +25,74 @@ or-true false = refl
 pub many : {A : Type 0} (a b : A) (xs : List A) → nat_lt 1 (length (a ∷ b ∷ xs)) ≡ true
 many a b xs = lt-ltb 1 (length (a ∷ b ∷ xs)) (omega arith)
 
-pub judged_one : (max_body : ℕ) (value : List ℕ) → length_judged (length_said max_body value) named.Missing ≡ judge_single max_body (value ∷ []) []
+pub judged_one : (max_body : ℕ) (value : List ℕ) → length_judged (length_said max_body value) named.Missing
+    ≡ judge_single max_body (value ∷ []) []
 judged_one max_body value =
-    elim (is_number (trimmed value)) as (λ b. length_judged (if not b then said.Bad else if nat_lt max_body (number (trimmed value)) then said.TooLong else said.Given (number (trimmed value))) named.Missing ≡ (if not b then Err header.BadLength else if nat_lt max_body (number (trimmed value)) then Err header.BodyTooLong else Ok (number (trimmed value)))) [
-      | true ↦ elim (nat_lt max_body (number (trimmed value))) as (λ b. length_judged (if b then said.TooLong else said.Given (number (trimmed value))) named.Missing ≡ (if b then Err header.BodyTooLong else Ok (number (trimmed value)))) [ true ↦ refl | false ↦ refl ]
+    elim (is_number (trimmed value)) as (λ b. length_judged (if not b then said.Bad else if nat_lt max_body
+    (number (trimmed value)) then said.TooLong else said.Given (number (trimmed value))) named.Missing
+    ≡ (if not b then Err header.BadLength else if nat_lt max_body (number (trimmed value)) then Err header.BodyTooLong
+    else Ok (number (trimmed value)))) [
+      | true ↦ elim (nat_lt max_body (number (trimmed value))) as (λ b. length_judged (if b then said.TooLong
+          else said.Given (number (trimmed value))) named.Missing
+          ≡ (if b then Err header.BodyTooLong else Ok (number (trimmed value)))) [ true ↦ refl | false ↦ refl ]
       | false ↦ refl
     ]
 
-pub judged_two : (max_body : ℕ) (value content : List ℕ) → both_judged (length_said max_body value) (charset_of (content ∷ [])) ≡ judge_single max_body (value ∷ []) (content ∷ [])
+pub judged_two : (max_body : ℕ) (value content : List ℕ) → both_judged (length_said max_body value)
+    (charset_of (content ∷ [])) ≡ judge_single max_body (value ∷ []) (content ∷ [])
 judged_two max_body value content =
-    elim (has_good_charset content) as (λ g. both_judged (length_said max_body value) (if g then named.Good else named.Bad) ≡ (if not (is_number (trimmed value)) then Err header.BadLength else if nat_lt max_body (number (trimmed value)) then Err header.BodyTooLong else if not (g && true) then Err header.BadCharset else Ok (number (trimmed value)))) [
-      | true ↦ elim (is_number (trimmed value)) as (λ b. length_judged (if not b then said.Bad else if nat_lt max_body (number (trimmed value)) then said.TooLong else said.Given (number (trimmed value))) named.Good ≡ (if not b then Err header.BadLength else if nat_lt max_body (number (trimmed value)) then Err header.BodyTooLong else Ok (number (trimmed value)))) [
-        | true ↦ elim (nat_lt max_body (number (trimmed value))) as (λ b. length_judged (if b then said.TooLong else said.Given (number (trimmed value))) named.Good ≡ (if b then Err header.BodyTooLong else Ok (number (trimmed value)))) [ true ↦ refl | false ↦ refl ]
-        | false ↦ refl
-      ]
-      | false ↦ elim (is_number (trimmed value)) as (λ b. length_judged (if not b then said.Bad else if nat_lt max_body (number (trimmed value)) then said.TooLong else said.Given (number (trimmed value))) named.Bad ≡ (if not b then Err header.BadLength else if nat_lt max_body (number (trimmed value)) then Err header.BodyTooLong else Err header.BadCharset)) [
-        | true ↦ elim (nat_lt max_body (number (trimmed value))) as (λ b. length_judged (if b then said.TooLong else said.Given (number (trimmed value))) named.Bad ≡ (if b then Err header.BodyTooLong else Err header.BadCharset)) [ true ↦ refl | false ↦ refl ]
-        | false ↦ refl
-      ]
+    elim (has_good_charset content) as (λ g. both_judged (length_said max_body value)
+    (if g then named.Good else named.Bad) ≡ (if not (is_number (trimmed value)) then Err header.BadLength
+    else if nat_lt max_body (number (trimmed value)) then Err header.BodyTooLong else if not (g && true) then
+    Err header.BadCharset else Ok (number (trimmed value)))) [
+      | true ↦ elim (is_number (trimmed value)) as (λ b. length_judged (if not b then said.Bad else if nat_lt max_body
+          (number (trimmed value)) then said.TooLong else said.Given (number (trimmed value))) named.Good
+          ≡ (if not b then Err header.BadLength else if nat_lt max_body (number (trimmed value)) then
+          Err header.BodyTooLong else Ok (number (trimmed value)))) [
+            | true ↦ elim (nat_lt max_body (number (trimmed value))) as (λ b. length_judged (if b then said.TooLong
+                else said.Given (number (trimmed value))) named.Good
+                ≡ (if b then Err header.BodyTooLong else Ok (number (trimmed value)))) [ true ↦ refl | false ↦ refl ]
+            | false ↦ refl
+          ]
+      | false ↦ elim (is_number (trimmed value)) as (λ b. length_judged (if not b then said.Bad else if nat_lt max_body
+          (number (trimmed value)) then said.TooLong else said.Given (number (trimmed value))) named.Bad
+          ≡ (if not b then Err header.BadLength else if nat_lt max_body (number (trimmed value)) then
+          Err header.BodyTooLong else Err header.BadCharset)) [
+            | true ↦ elim (nat_lt max_body (number (trimmed value))) as (λ b. length_judged (if b then said.TooLong
+                else said.Given (number (trimmed value))) named.Bad
+                ≡ (if b then Err header.BodyTooLong else Err header.BadCharset)) [ true ↦ refl | false ↦ refl ]
+            | false ↦ refl
+          ]
     ]
 
-pub missing_one : (max_body : ℕ) (content : List ℕ) → both_judged said.Missing (charset_of (content ∷ [])) ≡ Err header.MissingLength
-missing_one max_body content = elim (has_good_charset content) as (λ g. both_judged said.Missing (if g then named.Good else named.Bad) ≡ Err header.MissingLength) [ true ↦ refl | false ↦ refl ]
+pub missing_one : (max_body : ℕ) (content : List ℕ) → both_judged said.Missing (charset_of (content ∷ []))
+    ≡ Err header.MissingLength
+missing_one max_body content =
+    elim (has_good_charset content) as (λ g. both_judged said.Missing (if g then named.Good else named.Bad)
+    ≡ Err header.MissingLength) [ true ↦ refl | false ↦ refl ]
 
-pub repeated_one : (content : List ℕ) → both_judged said.Repeated (charset_of (content ∷ [])) ≡ Err header.RepeatedHeader
-repeated_one content = elim (has_good_charset content) as (λ g. both_judged said.Repeated (if g then named.Good else named.Bad) ≡ Err header.RepeatedHeader) [ true ↦ refl | false ↦ refl ]
+pub repeated_one : (content : List ℕ) → both_judged said.Repeated (charset_of (content ∷ []))
+    ≡ Err header.RepeatedHeader
+repeated_one content =
+    elim (has_good_charset content) as (λ g. both_judged said.Repeated (if g then named.Good else named.Bad)
+    ≡ Err header.RepeatedHeader) [ true ↦ refl | false ↦ refl ]
 
 -- The notes of a header say what its lines say.
-pub judged_values : (max_body : ℕ) (lengths types : List (List ℕ)) → both_judged (length_of max_body lengths) (charset_of types) ≡ judge_values max_body lengths types
+pub judged_values : (max_body : ℕ) (lengths types : List (List ℕ)) → both_judged (length_of max_body lengths)
+    (charset_of types) ≡ judge_values max_body lengths types
 judged_values max_body [] [] = refl
 judged_values max_body (value ∷ []) [] = judged_one max_body value
 judged_values max_body (value ∷ other ∷ values) [] = rw (many value other values) refl
 judged_values max_body [] (content ∷ []) = missing_one max_body content
 judged_values max_body (value ∷ []) (content ∷ []) = judged_two max_body value content
 judged_values max_body (value ∷ other ∷ values) (content ∷ []) = rw (many value other values) (repeated_one content)
-judged_values max_body lengths (content ∷ other ∷ types) = rw (many content other types, or-true (nat_lt 1 (length lengths))) refl
+judged_values max_body lengths (content ∷ other ∷ types) =
+    rw (many content other types, or-true (nat_lt 1 (length lengths))) refl
 
 pub judge_notes_is : (max_body : ℕ) (lines : List Line) → judge_notes (notes_of max_body lines) ≡ judge max_body lines
 unfolding notes_of judge
-judge_notes_is max_body lines = judged_values max_body (values_of (codes "content-length") lines) (values_of (codes "content-type") lines)
+judge_notes_is max_body lines =
+    judged_values max_body (values_of (codes "content-length") lines) (values_of (codes "content-type") lines)
 
 -- what a verdict can be
 abbrev pub IsVerdict : ℕ → Result ℕ HeaderFault → Type 0
@@ -76,17 +105,23 @@ IsVerdict max_body (Err header.BadLength) = Unit {0}
 IsVerdict max_body (Err header.BodyTooLong) = Unit {0}
 IsVerdict max_body (Err header.BadCharset) = Unit {0}
 
-pub single_verdict : (max_body : ℕ) (lengths types : List (List ℕ)) → IsVerdict max_body (judge_single max_body lengths types)
+pub single_verdict : (max_body : ℕ) (lengths types : List (List ℕ))
+    → IsVerdict max_body (judge_single max_body lengths types)
 single_verdict max_body [] types = tt
 single_verdict max_body (value ∷ values) types =
-    elim (is_number (trimmed value)) as (λ b. IsVerdict max_body (if not b then Err header.BadLength else if nat_lt max_body (number (trimmed value)) then Err header.BodyTooLong else if not (list_all has_good_charset types) then Err header.BadCharset else Ok (number (trimmed value)))) [
-      | true ↦ elim (nat_lt max_body (number (trimmed value))) as (λ b. nat_lt max_body (number (trimmed value)) ≡ b → IsVerdict max_body (if b then Err header.BodyTooLong else if not (list_all has_good_charset types) then Err header.BadCharset else Ok (number (trimmed value)))) [
-        | true ↦ λ _. tt
-        | false ↦ λ e. elim (list_all has_good_charset types) as (λ b. IsVerdict max_body (if not b then Err header.BadCharset else Ok (number (trimmed value)))) [
-          | true ↦ ltb-false max_body (number (trimmed value)) e
-          | false ↦ tt
-        ]
-      ] refl
+    elim (is_number (trimmed value)) as (λ b. IsVerdict max_body (if not b then Err header.BadLength
+    else if nat_lt max_body (number (trimmed value)) then Err header.BodyTooLong
+    else if not (list_all has_good_charset types) then Err header.BadCharset else Ok (number (trimmed value)))) [
+      | true ↦ elim (nat_lt max_body (number (trimmed value))) as (λ b. nat_lt max_body (number (trimmed value)) ≡ b
+          → IsVerdict max_body (if b then Err header.BodyTooLong else if not (list_all has_good_charset types) then
+          Err header.BadCharset else Ok (number (trimmed value)))) [
+            | true ↦ λ _. tt
+            | false ↦ λ e. elim (list_all has_good_charset types) as (λ b. IsVerdict max_body
+                (if not b then Err header.BadCharset else Ok (number (trimmed value)))) [
+                  | true ↦ ltb-false max_body (number (trimmed value)) e
+                  | false ↦ tt
+                ]
+          ] refl
       | false ↦ tt
     ]
 
@@ -95,17 +130,24 @@ unfolding judge
 is_verdict max_body lines =
     let lengths : List (List ℕ) = values_of (codes "content-length") lines in
     let types : List (List ℕ) = values_of (codes "content-type") lines in
-    elim (nat_lt 1 (length (values_of (codes "content-length") lines)) || nat_lt 1 (length (values_of (codes "content-type") lines))) as (λ b. IsVerdict max_body (if b then Err header.RepeatedHeader else judge_single max_body (values_of (codes "content-length") lines) (values_of (codes "content-type") lines))) [
+    elim (nat_lt 1 (length (values_of (codes "content-length") lines))
+    || nat_lt 1 (length (values_of (codes "content-type") lines))) as (λ b. IsVerdict max_body
+    (if b then Err header.RepeatedHeader else judge_single max_body (values_of (codes "content-length") lines)
+    (values_of (codes "content-type") lines))) [
       | true ↦ tt
-      | false ↦ single_verdict max_body (values_of (codes "content-length") lines) (values_of (codes "content-type") lines)
+      | false ↦ single_verdict max_body (values_of (codes "content-length") lines)
+          (values_of (codes "content-type") lines)
     ]
 
 pub judge_within : (max_body : ℕ) (lines : List Line) (n : ℕ) → judge max_body lines ≡ Ok n → n ≤ max_body
 judge_within max_body lines n e = subst (IsVerdict max_body) e (is_verdict max_body lines)
 
-pub judged_decided : (max_body : ℕ) (bytes : List ℕ) (k : ℕ) (fault : HeaderFault) → IsJudgedAt max_body bytes k fault → IsDecidedAt max_body bytes k fault
-judged_decided max_body bytes k header.BadHeader at = absurd (subst (IsVerdict max_body) at.judged (is_verdict max_body at.lines))
-judged_decided max_body bytes k header.HeaderTooLong at = absurd (subst (IsVerdict max_body) at.judged (is_verdict max_body at.lines))
+pub judged_decided : (max_body : ℕ) (bytes : List ℕ) (k : ℕ) (fault : HeaderFault) → IsJudgedAt max_body bytes k fault
+    → IsDecidedAt max_body bytes k fault
+judged_decided max_body bytes k header.BadHeader at =
+    absurd (subst (IsVerdict max_body) at.judged (is_verdict max_body at.lines))
+judged_decided max_body bytes k header.HeaderTooLong at =
+    absurd (subst (IsVerdict max_body) at.judged (is_verdict max_body at.lines))
 judged_decided max_body bytes k header.MissingLength at = at
 judged_decided max_body bytes k header.RepeatedHeader at = at
 judged_decided max_body bytes k header.BadLength at = at
@@ -113,10 +155,17 @@ judged_decided max_body bytes k header.BodyTooLong at = at
 judged_decided max_body bytes k header.BadCharset at = at
 
 -- The fault of a header that is whole.
-pub whole_fault : (max_body : ℕ) (buffered rest : List ℕ) (notes : Notes) (fault : HeaderFault) → IsWhole max_body buffered notes → Err fault ≡ judge_notes notes → IsDecidedAt max_body (buffered ++ rest) (length buffered - 1) fault
+pub whole_fault : (max_body : ℕ) (buffered rest : List ℕ) (notes : Notes) (fault : HeaderFault)
+    → IsWhole max_body buffered notes → Err fault ≡ judge_notes notes → IsDecidedAt max_body (buffered ++ rest)
+    (length buffered - 1) fault
 whole_fault max_body buffered rest notes fault whole error =
-    let judged : judge max_body whole.lines ≡ Err fault = sym (error ∙ ap judge_notes whole.noted ∙ judge_notes_is max_body whole.lines) in
-    let some : 0 < length buffered = omega (arith, ap length whole.is, length-append (lines_bytes whole.lines) (13 ∷ 10 ∷ [])) in
+    let judged : judge max_body whole.lines ≡ Err fault =
+    sym (error ∙ ap judge_notes whole.noted ∙ judge_notes_is max_body whole.lines) in
+    let some : 0 < length buffered = omega (
+      arith,
+      ap length whole.is,
+      length-append (lines_bytes whole.lines) (13 ∷ 10 ∷ []),
+    ) in
     let last : length buffered ≡ length buffered - 1 + 1 = omega arith in
     judged_decided max_body (buffered ++ rest) (length buffered - 1) fault (record {
       lines = whole.lines;
@@ -128,9 +177,12 @@ whole_fault max_body buffered rest notes fault whole error =
     })
 
 -- The body behind a header that is whole.
-pub whole_body : (max_body : ℕ) (buffered body : List ℕ) (notes : Notes) (wanted start stop_at : ℕ) → IsWhole max_body buffered notes → Ok wanted ≡ judge_notes notes → length body ≤ wanted → start ≡ length buffered → stop_at ≡ start + wanted → IsInBody max_body (buffered ++ body) start stop_at
+pub whole_body : (max_body : ℕ) (buffered body : List ℕ) (notes : Notes) (wanted start stop_at : ℕ)
+    → IsWhole max_body buffered notes → Ok wanted ≡ judge_notes notes → length body ≤ wanted → start ≡ length buffered
+    → stop_at ≡ start + wanted → IsInBody max_body (buffered ++ body) start stop_at
 whole_body max_body buffered body notes wanted start stop_at whole error within starts ends =
-    let good : judge max_body whole.lines ≡ Ok wanted = sym (error ∙ ap judge_notes whole.noted ∙ judge_notes_is max_body whole.lines) in
+    let good : judge max_body whole.lines ≡ Ok wanted =
+    sym (error ∙ ap judge_notes whole.noted ∙ judge_notes_is max_body whole.lines) in
     record {
       lines = whole.lines;
       body = body;
@@ -146,10 +198,18 @@ whole_body max_body buffered body notes wanted start stop_at whole error within 
     }
 
 -- A body that is all here.
-pub body_frame : (max_body : ℕ) (buffered : List ℕ) (start stop_at : ℕ) → IsInBody max_body buffered start stop_at → length buffered ≡ stop_at → IsFrame max_body buffered
+pub body_frame : (max_body : ℕ) (buffered : List ℕ) (start stop_at : ℕ) → IsInBody max_body buffered start stop_at
+    → length buffered ≡ stop_at → IsFrame max_body buffered
 body_frame max_body buffered start stop_at in_body all =
     let len : in_body.wanted ≡ length in_body.body =
-    omega (arith, ap length in_body.is, length-append (header_of in_body.lines) in_body.body, in_body.starts, in_body.ends, all) in
+    omega (
+      arith,
+      ap length in_body.is,
+      length-append (header_of in_body.lines) in_body.body,
+      in_body.starts,
+      in_body.ends,
+      all,
+    ) in
     record {
       body = in_body.body;
       is_frame_of = record {
@@ -161,6 +221,8 @@ body_frame max_body buffered start stop_at in_body all =
       };
     }
 
-pub whole_wanted : (max_body : ℕ) (buffered : List ℕ) (notes : Notes) (wanted : ℕ) → IsWhole max_body buffered notes → Ok wanted ≡ judge_notes notes → wanted ≤ max_body
+pub whole_wanted : (max_body : ℕ) (buffered : List ℕ) (notes : Notes) (wanted : ℕ) → IsWhole max_body buffered notes
+    → Ok wanted ≡ judge_notes notes → wanted ≤ max_body
 whole_wanted max_body buffered notes wanted whole error =
-    judge_within max_body whole.lines wanted (sym (error ∙ ap judge_notes whole.noted ∙ judge_notes_is max_body whole.lines))
+    judge_within max_body whole.lines wanted
+    (sym (error ∙ ap judge_notes whole.noted ∙ judge_notes_is max_body whole.lines))

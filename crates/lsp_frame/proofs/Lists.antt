@@ -3,7 +3,8 @@ use Rattle.std.proofs.Common.{◌≡◌, ℕ, List, [], ◌∷◌, ◌++◌, ref
 use Rattle.std.specs.List.{AllByRecursion}
 
 -- Two lists that go up to the first element that isn't P are one.
-pub same_front : (P : ℕ → Type 0) (xs ys us vs : List ℕ) (x y : ℕ) → AllByRecursion P xs → AllByRecursion P ys → (P x → ⊥) → (P y → ⊥) → xs ++ (x ∷ us) ≡ ys ++ (y ∷ vs) → (xs ≡ ys) × (x ≡ y) × (us ≡ vs)
+pub same_front : (P : ℕ → Type 0) (xs ys us vs : List ℕ) (x y : ℕ) → AllByRecursion P xs → AllByRecursion P ys
+    → (P x → ⊥) → (P y → ⊥) → xs ++ (x ∷ us) ≡ ys ++ (y ∷ vs) → (xs ≡ ys) × (x ≡ y) × (us ≡ vs)
 same_front P [] [] us vs x y a b nx ny e = let h : x ≡ y = cc in let t : us ≡ vs = cc in (refl, h, t)
 same_front P [] (z ∷ ys) us vs x y a b nx ny e = let h : z ≡ x = cc in absurd (nx (subst P h b.0))
 same_front P (z ∷ xs) [] us vs x y a b nx ny e = let h : z ≡ y = cc in absurd (ny (subst P h a.0))

@@ -17,15 +17,26 @@ use Rattle.lsp_frame.proofs.HeaderLemmas.{AreLines-append, lines_bytes-append, b
 use Rattle.lsp_frame.proofs.LineLemmas.{noted_is}
 
 -- The line that is whole becomes one of the lines.
-pub with_line_so_far : (max_body : ℕ) (buffered : List ℕ) (header : Header) (name value : List ℕ) (added : Notes) → IsSoFar max_body buffered header → header.shape ≡ shape.Whole → ((parts : Line) → IsLine parts → take (length buffered - header.line) (drop header.line buffered) ≡ line_bytes parts → (name ≡ parts.name) × (value ≡ parts.value)) → added ≡ noted max_body header.notes name value → IsSoFar max_body buffered (record { shape = shape.Start; line = length buffered; notes = added })
+pub with_line_so_far : (max_body : ℕ) (buffered : List ℕ) (header : Header) (name value : List ℕ) (added : Notes)
+    → IsSoFar max_body buffered header → header.shape ≡ shape.Whole
+    → ((parts : Line) → IsLine parts → take (length buffered - header.line) (drop header.line buffered)
+    ≡ line_bytes parts → (name ≡ parts.name) × (value ≡ parts.value)) → added ≡ noted max_body header.notes name value
+    → IsSoFar max_body buffered (record { shape = shape.Start; line = length buffered; notes = added })
 with_line_so_far max_body buffered header name value added so_far whole split add =
-    let shaped : IsPartOfLine shape.Whole so_far.part = subst (λ (s : Shape). IsPartOfLine s so_far.part) whole so_far.shaped in
+    let shaped : IsPartOfLine shape.Whole so_far.part =
+    subst (λ (s : Shape). IsPartOfLine s so_far.part) whole so_far.shaped in
     let line : Line = shaped.0 in
-    let dropped : drop header.line buffered ≡ so_far.part = rw (so_far.is, so_far.starts) (drop_at (lines_bytes so_far.lines) so_far.part (length (lines_bytes so_far.lines)) refl) in
-    let cut : take (length buffered - header.line) (drop header.line buffered) ≡ line_bytes line = take_rest buffered header.line ∙ dropped ∙ shaped.2 in
+    let dropped : drop header.line buffered ≡ so_far.part =
+    rw (
+      so_far.is,
+      so_far.starts,
+    ) (drop_at (lines_bytes so_far.lines) so_far.part (length (lines_bytes so_far.lines)) refl) in
+    let cut : take (length buffered - header.line) (drop header.line buffered) ≡ line_bytes line =
+    take_rest buffered header.line ∙ dropped ∙ shaped.2 in
     let parts = split line shaped.1 cut in
     let all : buffered ≡ lines_bytes (so_far.lines ++ line ∷ []) ++ [] =
-    so_far.is ∙ ap (λ x. lines_bytes so_far.lines ++ x) shaped.2 ∙ sym (ap (λ x. x ++ []) (lines_bytes-append so_far.lines (line ∷ [])) ∙ simp (append-nil)) in
+    so_far.is ∙ ap (λ x. lines_bytes so_far.lines ++ x) shaped.2
+    ∙ sym (ap (λ x. x ++ []) (lines_bytes-append so_far.lines (line ∷ [])) ∙ simp (append-nil)) in
     record {
       lines = so_far.lines ++ line ∷ [];
       part = [];
@@ -40,16 +51,29 @@ with_line_so_far max_body buffered header name value added so_far whole split ad
     same_noted p q r = cc
 
 -- The byte of a window with which no header goes on.
-pub bad_byte : (max_body : ℕ) (buffered window : List ℕ) (header : Header) (n i at : ℕ) → IsSoFar max_body buffered header → n ≤ length window → i < length (take n window) → at ≡ length buffered + i → ((part : List ℕ) → IsPartOfLine header.shape part → CanContinue (part ++ take i (take n window))) → ((part : List ℕ) → IsPartOfLine header.shape part → StopsHeader (part ++ take (i + 1) (take n window))) → IsBadByte buffered window at
+pub bad_byte : (max_body : ℕ) (buffered window : List ℕ) (header : Header) (n i at : ℕ)
+    → IsSoFar max_body buffered header → n ≤ length window → i < length (take n window) → at ≡ length buffered + i
+    → ((part : List ℕ) → IsPartOfLine header.shape part → CanContinue (part ++ take i (take n window)))
+    → ((part : List ℕ) → IsPartOfLine header.shape part → StopsHeader (part ++ take (i + 1) (take n window)))
+    → IsBadByte buffered window at
 bad_byte max_body buffered window header n i at so_far within there place goes stops =
     let below : i < n = omega (arith, length-take n window) in
     let g = goes so_far.part so_far.shaped in
-    let begins : BeginsHeader (lines_bytes so_far.lines ++ (so_far.part ++ take i (take n window))) = begins_behind so_far.lines (so_far.part ++ take i (take n window)) so_far.each (begins_part g.shape (so_far.part ++ take i (take n window)) g.is g.open_line) in
-    let stopped : StopsHeader (lines_bytes so_far.lines ++ (so_far.part ++ take (i + 1) (take n window))) = stops_behind so_far.lines (so_far.part ++ take (i + 1) (take n window)) so_far.each (stops so_far.part so_far.shaped) in
+    let begins : BeginsHeader (lines_bytes so_far.lines ++ (so_far.part ++ take i (take n window))) =
+    begins_behind so_far.lines (so_far.part ++ take i (take n window)) so_far.each
+    (begins_part g.shape (so_far.part ++ take i (take n window)) g.is g.open_line) in
+    let stopped : StopsHeader (lines_bytes so_far.lines ++ (so_far.part ++ take (i + 1) (take n window))) =
+    stops_behind so_far.lines (so_far.part ++ take (i + 1) (take n window)) so_far.each
+    (stops so_far.part so_far.shaped) in
     let first : lines_bytes so_far.lines ++ (so_far.part ++ take i (take n window)) ≡ buffered ++ take i window =
-    sym (append_assoc (lines_bytes so_far.lines) so_far.part (take i (take n window))) ∙ rw (← so_far.is, take-take i n window (omega arith)) refl in
-    let second : lines_bytes so_far.lines ++ (so_far.part ++ take (i + 1) (take n window)) ≡ buffered ++ take (i + 1) window =
-    sym (append_assoc (lines_bytes so_far.lines) so_far.part (take (i + 1) (take n window))) ∙ rw (← so_far.is, take-take (i + 1) n window (omega arith)) refl in
+    sym (append_assoc (lines_bytes so_far.lines) so_far.part (take i (take n window))) ∙ rw (
+      ← so_far.is,
+      take-take i n window (omega arith),
+    ) refl in
+    let second : lines_bytes so_far.lines ++ (so_far.part ++ take (i + 1) (take n window))
+    ≡ buffered ++ take (i + 1) window =
+    sym (append_assoc (lines_bytes so_far.lines) so_far.part (take (i + 1) (take n window)))
+    ∙ rw (← so_far.is, take-take (i + 1) n window (omega arith)) refl in
     record {
       i = i;
       there = omega (arith, length-take n window);
@@ -59,9 +83,11 @@ bad_byte max_body buffered window header n i at so_far within there place goes s
     }
 
 -- A header that is coming in goes on.
-pub so_far_begins : (max_body : ℕ) (buffered : List ℕ) (header : Header) → IsSoFar max_body buffered header → is_over header.shape ≡ false → BeginsHeader buffered
+pub so_far_begins : (max_body : ℕ) (buffered : List ℕ) (header : Header) → IsSoFar max_body buffered header
+    → is_over header.shape ≡ false → BeginsHeader buffered
 so_far_begins max_body buffered header so_far line_open =
-    subst BeginsHeader (sym so_far.is) (begins_behind so_far.lines so_far.part so_far.each (begins_part header.shape so_far.part so_far.shaped line_open))
+    subst BeginsHeader (sym so_far.is) (begins_behind so_far.lines so_far.part so_far.each
+    (begins_part header.shape so_far.part so_far.shaped line_open))
 
 pub open_shape : (s : Shape) → s ≢ shape.Whole → s ≢ shape.End → is_over s ≡ false
 open_shape shape.Start not_whole not_end = refl
@@ -73,39 +99,56 @@ open_shape shape.LastReturn not_whole not_end = refl
 open_shape shape.End not_whole not_end = absurd (not_end refl)
 
 -- Bytes of a piece behind what was held before it.
-pub take_joined : (old piece : List ℕ) (at i : ℕ) → take (length old + (at + i)) (old ++ piece) ≡ (old ++ take at piece) ++ take i (drop at piece)
+pub take_joined : (old piece : List ℕ) (at i : ℕ) → take (length old + (at + i)) (old ++ piece) ≡ (old ++ take at piece)
+    ++ take i (drop at piece)
 take_joined old piece at i =
-    take-append-add old piece (at + i) ∙ ap (λ x. old ++ x) (take-add at i piece) ∙ sym (append_assoc old (take at piece) (take i (drop at piece)))
+    take-append-add old piece (at + i) ∙ ap (λ x. old ++ x) (take-add at i piece)
+    ∙ sym (append_assoc old (take at piece) (take i (drop at piece)))
 
 -- what a window shows of a piece
-pub window_take : (piece window : List ℕ) (at room n : ℕ) → window ≡ take room (take (length piece - at) (drop at piece)) → n ≤ length window → take n window ≡ take n (drop at piece)
+pub window_take : (piece window : List ℕ) (at room n : ℕ)
+    → window ≡ take room (take (length piece - at) (drop at piece)) → n ≤ length window → take n window
+    ≡ take n (drop at piece)
 window_take piece window at room n e within =
     let whole : window ≡ take room (drop at piece) = e ∙ ap (take room) (take_rest piece at) in
     let low : n ≤ room = omega (arith, ap length whole, length-take room (drop at piece)) in
     ap (take n) whole ∙ take-take n room (drop at piece) low
 
-pub window_len : (piece window : List ℕ) (at room : ℕ) → window ≡ take room (take (length piece - at) (drop at piece)) → (length window ≤ room) × (length window ≤ length piece - at)
+pub window_len : (piece window : List ℕ) (at room : ℕ) → window ≡ take room (take (length piece - at) (drop at piece))
+    → (length window ≤ room) × (length window ≤ length piece - at)
 window_len piece window at room e =
     let whole : window ≡ take room (drop at piece) = e ∙ ap (take room) (take_rest piece at) in
-    let l : length window ≡ length (take room (drop at piece)) = ap length whole in
-    (omega (arith, l, length-take room (drop at piece)), omega (arith, l, length-take room (drop at piece), length-drop at piece))
+    let l : length window ≡ length (take room (drop at piece)) = ap length whole in (
+      omega (arith, l, length-take room (drop at piece)),
+      omega (arith, l, length-take room (drop at piece), length-drop at piece),
+    )
 
-pub held_more : (old piece buffered window : List ℕ) (at room n : ℕ) → buffered ≡ old ++ take at piece → window ≡ take room (take (length piece - at) (drop at piece)) → n ≤ length window → buffered ++ take n window ≡ old ++ take (at + n) piece
+pub held_more : (old piece buffered window : List ℕ) (at room n : ℕ) → buffered ≡ old ++ take at piece
+    → window ≡ take room (take (length piece - at) (drop at piece)) → n ≤ length window → buffered ++ take n window
+    ≡ old ++ take (at + n) piece
 held_more old piece buffered window at room n e w within =
-    ap (λ x. x ++ take n window) e ∙ ap (λ x. (old ++ take at piece) ++ x) (window_take piece window at room n w within) ∙ append_assoc old (take at piece) (take n (drop at piece)) ∙ ap (λ x. old ++ x) (sym (take-add at n piece))
+    ap (λ x. x ++ take n window) e ∙ ap (λ x. (old ++ take at piece) ++ x) (window_take piece window at room n w within)
+    ∙ append_assoc old (take at piece) (take n (drop at piece)) ∙ ap (λ x. old ++ x) (sym (take-add at n piece))
 
 -- The fault of a line is the header's, decided at the same byte.
-pub bad_header : (old piece buffered window : List ℕ) (at room place : ℕ) → at ≤ length piece → buffered ≡ old ++ take at piece → window ≡ take room (take (length piece - at) (drop at piece)) → length buffered + room ≤ 8192 → IsBadByte buffered window place → IsBadHeaderAt (old ++ piece) place
+pub bad_header : (old piece buffered window : List ℕ) (at room place : ℕ) → at ≤ length piece → buffered
+    ≡ old ++ take at piece → window ≡ take room (take (length piece - at) (drop at piece)) → length buffered + room
+    ≤ 8192 → IsBadByte buffered window place → IsBadHeaderAt (old ++ piece) place
 bad_header old piece buffered window at room place within e w room_is bad =
-    let len : length buffered ≡ length old + at = ap length e ∙ omega (arith, length-append old (take at piece), length-take at piece) in
+    let len : length buffered ≡ length old + at =
+    ap length e ∙ omega (arith, length-append old (take at piece), length-take at piece) in
     let at_place : place ≡ length old + (at + bad.i) = bad.place ∙ omega (arith, len) in
     let rest_after : place + 1 ≡ length old + (at + (bad.i + 1)) = omega (arith, at_place) in
     let lens = window_len piece window at room w in
     let there : bad.i < length window = bad.there in
     let first : take place (old ++ piece) ≡ buffered ++ take bad.i window =
-    ap (λ n. take n (old ++ piece)) at_place ∙ take_joined old piece at bad.i ∙ sym (ap (λ x. x ++ take bad.i window) e ∙ ap (λ x. (old ++ take at piece) ++ x) (window_take piece window at room bad.i w (omega arith))) in
+    ap (λ n. take n (old ++ piece)) at_place ∙ take_joined old piece at bad.i
+    ∙ sym (ap (λ x. x ++ take bad.i window) e ∙ ap (λ x. (old ++ take at piece) ++ x)
+    (window_take piece window at room bad.i w (omega arith))) in
     let second : take (place + 1) (old ++ piece) ≡ buffered ++ take (bad.i + 1) window =
-    ap (λ n. take n (old ++ piece)) rest_after ∙ take_joined old piece at (bad.i + 1) ∙ sym (ap (λ x. x ++ take (bad.i + 1) window) e ∙ ap (λ x. (old ++ take at piece) ++ x) (window_take piece window at room (bad.i + 1) w (omega arith))) in
+    ap (λ n. take n (old ++ piece)) rest_after ∙ take_joined old piece at (bad.i + 1)
+    ∙ sym (ap (λ x. x ++ take (bad.i + 1) window) e ∙ ap (λ x. (old ++ take at piece) ++ x)
+    (window_take piece window at room (bad.i + 1) w (omega arith))) in
     let stopped : StopsHeader (take (place + 1) (old ++ piece)) = subst StopsHeader (sym second) bad.stops in
     record {
       there = omega (arith, length-append old piece, at_place, lens.1);
@@ -116,10 +159,19 @@ bad_header old piece buffered window at room place within e w room_is bad =
     }
 
 -- A header that goes on behind its 8,192nd byte is too long.
-pub too_long : (max_body : ℕ) (old piece buffered : List ℕ) (header : Header) (at : ℕ) → at ≤ length piece → buffered ≡ old ++ take at piece → length buffered ≡ 8192 → IsSoFar max_body buffered header → is_over header.shape ≡ false → IsHeaderTooLongAt (old ++ piece) 8191
+pub too_long : (max_body : ℕ) (old piece buffered : List ℕ) (header : Header) (at : ℕ) → at ≤ length piece → buffered
+    ≡ old ++ take at piece → length buffered ≡ 8192 → IsSoFar max_body buffered header → is_over header.shape ≡ false
+    → IsHeaderTooLongAt (old ++ piece) 8191
 too_long max_body old piece buffered header at within e len so_far line_open =
-    let total : length old + at ≡ 8192 = omega (arith, len, ap length e, length-append old (take at piece), length-take at piece) in
-    let front : take (8191 + 1) (old ++ piece) ≡ buffered = ap (λ n. take n (old ++ piece)) (sym total) ∙ take-append-add old piece at ∙ sym e in
+    let total : length old + at ≡ 8192 = omega (
+      arith,
+      len,
+      ap length e,
+      length-append old (take at piece),
+      length-take at piece,
+    ) in
+    let front : take (8191 + 1) (old ++ piece) ≡ buffered = ap (λ n. take n (old ++ piece)) (sym total)
+    ∙ take-append-add old piece at ∙ sym e in
     record {
       there = omega (arith, length-append old piece);
       place = refl;
@@ -127,19 +179,28 @@ too_long max_body old piece buffered header at within e len so_far line_open =
     }
 
 -- Why a line was not taken is why the header was not.
-pub header_stop : (max_body : ℕ) (old piece buffered window : List ℕ) (at room : ℕ) (why : Stop) → at ≤ length piece → buffered ≡ old ++ take at piece → window ≡ take room (take (length piece - at) (drop at piece)) → length buffered + room ≤ 8192 → IsLineStop buffered window why → IsHeaderStop max_body (old ++ piece) why
+pub header_stop : (max_body : ℕ) (old piece buffered window : List ℕ) (at room : ℕ) (why : Stop) → at ≤ length piece
+    → buffered ≡ old ++ take at piece → window ≡ take room (take (length piece - at) (drop at piece))
+    → length buffered + room ≤ 8192 → IsLineStop buffered window why → IsHeaderStop max_body (old ++ piece) why
 header_stop max_body old piece buffered window at room (stop.Fault fault place) within e w room_is line =
-    subst (λ (f : HeaderFault). IsDecidedAt max_body (old ++ piece) place f) (sym line.0) (bad_header old piece buffered window at room place within e w room_is line.1)
+    subst (λ (f : HeaderFault). IsDecidedAt max_body (old ++ piece) place f) (sym line.0)
+    (bad_header old piece buffered window at room place within e w room_is line.1)
 header_stop max_body old piece buffered window at room stop.NoMemory within e w room_is line = tt
 
-pub take_short : (buffered window new : List ℕ) (n : ℕ) → new ≡ buffered ++ take n window → length buffered + length window ≤ 8192 → length new ≤ 8192
-take_short buffered window new n e short = omega (arith, ap length e, length-append buffered (take n window), length-take n window)
+pub take_short : (buffered window new : List ℕ) (n : ℕ) → new ≡ buffered ++ take n window
+    → length buffered + length window ≤ 8192 → length new ≤ 8192
+take_short buffered window new n e short =
+    omega (arith, ap length e, length-append buffered (take n window), length-take n window)
 
 -- What is taken behind the first bytes of a piece.
-pub taken_more : (old piece buffered new : List ℕ) (n m : ℕ) → buffered ≡ old ++ take n piece → new ≡ buffered ++ take m (take (length piece - n) (drop n piece)) → new ≡ old ++ take (n + m) piece
+pub taken_more : (old piece buffered new : List ℕ) (n m : ℕ) → buffered ≡ old ++ take n piece
+    → new ≡ buffered ++ take m (take (length piece - n) (drop n piece)) → new ≡ old ++ take (n + m) piece
 taken_more old piece buffered new n m first second =
-    second ∙ ap (λ x. buffered ++ take m x) (take_rest piece n) ∙ ap (λ x. x ++ take m (drop n piece)) first ∙ append_assoc old (take n piece) (take m (drop n piece)) ∙ ap (λ x. old ++ x) (sym (take-add n m piece))
+    second ∙ ap (λ x. buffered ++ take m x) (take_rest piece n) ∙ ap (λ x. x ++ take m (drop n piece)) first
+    ∙ append_assoc old (take n piece) (take m (drop n piece)) ∙ ap (λ x. old ++ x) (sym (take-add n m piece))
 
-pub all_of : (old piece buffered : List ℕ) (n : ℕ) → buffered ≡ old ++ take n piece → buffered ++ take (length piece - n) (drop n piece) ≡ old ++ piece
+pub all_of : (old piece buffered : List ℕ) (n : ℕ) → buffered ≡ old ++ take n piece
+    → buffered ++ take (length piece - n) (drop n piece) ≡ old ++ piece
 all_of old piece buffered n first =
-    ap (λ x. buffered ++ x) (take_rest piece n) ∙ ap (λ x. x ++ drop n piece) first ∙ append_assoc old (take n piece) (drop n piece) ∙ ap (λ x. old ++ x) (take-append-drop n piece)
+    ap (λ x. buffered ++ x) (take_rest piece n) ∙ ap (λ x. x ++ drop n piece) first ∙ append_assoc old (take n piece)
+    (drop n piece) ∙ ap (λ x. old ++ x) (take-append-drop n piece)

@@ -31,7 +31,8 @@ digits_of (b ∷ bs) t =
     three true false s e = cc
     three false q s e = cc
 
-pub digits_judged : (max_body : ℕ) (digits : List ℕ) → AreDigits digits → 0 < length digits → number digits ≤ max_body → judge max_body (digits_line digits ∷ []) ≡ Ok (number digits)
+pub digits_judged : (max_body : ℕ) (digits : List ℕ) → AreDigits digits → 0 < length digits → number digits ≤ max_body
+    → judge max_body (digits_line digits ∷ []) ≡ Ok (number digits)
 unfolding judge
 digits_judged max_body digits all some within =
     let cut : trimmed (32 ∷ digits) ≡ digits = trimmed_digits digits all in
@@ -40,7 +41,8 @@ digits_judged max_body digits all some within =
     rw (cut, any, all_digits digits all, not_more) refl
 
 -- The first bytes of the frame.
-pub written_in_body : (max_body : ℕ) (bytes : List ℕ) (header : WrittenHeader) → BeginsWritten max_body bytes header → IsInBody max_body (take (header.len + header.body) bytes) header.len (header.len + header.body)
+pub written_in_body : (max_body : ℕ) (bytes : List ℕ) (header : WrittenHeader) → BeginsWritten max_body bytes header
+    → IsInBody max_body (take (header.len + header.body) bytes) header.len (header.len + header.body)
 written_in_body max_body bytes header w =
     let all : AreDigits w.digits = digits_of w.digits w.each in
     let front : List ℕ = header_of (digits_line w.digits ∷ []) in
@@ -55,7 +57,14 @@ written_in_body max_body bytes header w =
       lines = digits_line w.digits ∷ [];
       body = take header.body w.rest;
       wanted = header.body;
-      each = (record { some = omega arith; name = name_from_test (codes "Content-Length") refl; value = (inl (omega arith, omega arith), digits_are_values w.digits all) }, tt);
+      each = (
+        record {
+          some = omega arith;
+          name = name_from_test (codes "Content-Length") refl;
+          value = (inl (omega arith, omega arith), digits_are_values w.digits all);
+        },
+        tt,
+      );
       is = is;
       starts = len;
       short = omega (arith, w.len, w.few);
@@ -66,14 +75,20 @@ written_in_body max_body bytes header w =
     }
 
 -- The digits at the front, as they are found in the first bytes alone.
-pub digits_front : (rest window digits : List ℕ) (most n : ℕ) → window ≡ take most rest → n ≤ length window → digits ≡ take n rest → list_all is_digit (take n window) ≡ true → list_all is_digit digits ≡ true
+pub digits_front : (rest window digits : List ℕ) (most n : ℕ) → window ≡ take most rest → n ≤ length window
+    → digits ≡ take n rest → list_all is_digit (take n window) ≡ true → list_all is_digit digits ≡ true
 digits_front rest window digits most n e within front each =
     let low : n ≤ most = omega (arith, ap length e, length-take most rest) in
     let same : take n window ≡ take n rest = ap (take n) e ∙ take-take n most rest low in
     ap (list_all is_digit) (front ∙ sym same) ∙ each
 
 -- The parts of the header, as they are found.
-pub begins_written : (max_body : ℕ) (bytes rest digits rest_after : List ℕ) (len body : ℕ) → bytes ≡ codes "Content-Length: " ++ rest → rest ≡ digits ++ rest_after → rest_after ≡ codes "\r\n\r\n" ++ drop 4 rest_after → 0 < length digits → length digits ≤ 10 → list_all is_digit digits ≡ true → len ≡ 16 + length digits + 4 → Some body ≡ (if nat_lt max_body (number digits) then None else Some (number digits)) → BeginsWritten max_body bytes (record { len = len; body = body })
+pub begins_written : (max_body : ℕ) (bytes rest digits rest_after : List ℕ) (len body : ℕ)
+    → bytes ≡ codes "Content-Length: " ++ rest → rest ≡ digits ++ rest_after → rest_after ≡ codes "\r\n\r\n"
+    ++ drop 4 rest_after → 0 < length digits → length digits ≤ 10 → list_all is_digit digits ≡ true
+    → len ≡ 16 + length digits + 4 → Some body
+    ≡ (if nat_lt max_body (number digits) then None else Some (number digits))
+    → BeginsWritten max_body bytes (record { len = len; body = body })
 begins_written max_body bytes rest digits rest_after len body named split ends some few each is_len error = record {
   digits = digits;
   rest = drop 4 rest_after;
@@ -88,13 +103,16 @@ begins_written max_body bytes rest digits rest_after len body named split ends s
   where
     within_body : (most n got : ℕ) → Some got ≡ (if nat_lt most n then None else Some n) → (got ≡ n) × (got ≤ most)
     within_body most n got e =
-        elim (nat_lt most n) as (λ b. nat_lt most n ≡ b → Some got ≡ (if b then None else Some n) → (got ≡ n) × (got ≤ most)) [
+        elim (nat_lt most n) as (λ b. nat_lt most n ≡ b → Some got ≡ (if b then None else Some n) → (got ≡ n)
+        × (got ≤ most)) [
           | true ↦ λ t h. absurd (cc)
           | false ↦ λ t h. let same : got ≡ n = cc in (same, omega (arith, ltb-false most n t))
         ] refl e
 
 -- The digits that are found are those of the header.
-pub same_len : (rest window digits more : List ℕ) (most n : ℕ) → window ≡ take most rest → rest ≡ digits ++ 13 ∷ more → length digits ≤ most → list_all is_digit digits ≡ true → n ≤ length window → list_all is_digit (take n window) ≡ true → (n < length window → is_digit (get_or window n 0) ≡ false) → n ≡ length digits
+pub same_len : (rest window digits more : List ℕ) (most n : ℕ) → window ≡ take most rest → rest ≡ digits ++ 13 ∷ more
+    → length digits ≤ most → list_all is_digit digits ≡ true → n ≤ length window → list_all is_digit (take n window)
+    ≡ true → (n < length window → is_digit (get_or window n 0) ≡ false) → n ≡ length digits
 same_len rest window digits more most n cut is few each within found last =
     let len : length window ≡ length (take most rest) = ap length cut in
     let all : length rest ≡ length (digits ++ 13 ∷ more) = ap length is in
@@ -102,43 +120,65 @@ same_len rest window digits more most n cut is few each within found last =
       | inl e ↦ e
       | inr other ↦ elim other [
         | inl less ↦ absurd (
-            let here : n < length window = omega (arith, len, all, length-take most rest, length-append digits (13 ∷ more)) in
+            let here : n < length window = omega (
+              arith,
+              len,
+              all,
+              length-take most rest,
+              length-append digits (13 ∷ more),
+            ) in
             let low : n < most = omega (arith, len, length-take most rest) in
             let there : get_or window n 0 ≡ get_or digits n 0 =
-            ap (λ x. get_or x n 0) cut ∙ get_or-take most rest n 0 low ∙ ap (λ x. get_or x n 0) is ∙ get_or-append digits (13 ∷ more) 0 n less in
-            let none : list_all is_digit digits ≡ false = list_all_at is_digit digits n 0 less (ap is_digit (sym there) ∙ last here) in
+            ap (λ x. get_or x n 0) cut ∙ get_or-take most rest n 0 low ∙ ap (λ x. get_or x n 0) is
+            ∙ get_or-append digits (13 ∷ more) 0 n less in
+            let none : list_all is_digit digits ≡ false =
+            list_all_at is_digit digits n 0 less (ap is_digit (sym there) ∙ last here) in
             cc
             )
         | inr above ↦ absurd (
             let low : length digits < most = omega (arith, len, length-take most rest) in
             let here : length digits < length (take n window) = omega (arith, length-take n window) in
             let there : get_or (take n window) (length digits) 0 ≡ 13 =
-            get_or-take n window (length digits) 0 above ∙ ap (λ x. get_or x (length digits) 0) cut ∙ get_or-take most rest (length digits) 0 low
+            get_or-take n window (length digits) 0 above ∙ ap (λ x. get_or x (length digits) 0) cut
+            ∙ get_or-take most rest (length digits) 0 low
             ∙ ap (λ x. get_or x (length digits) 0) is ∙ get_or-append_seam digits 13 more 0 in
-            let none : list_all is_digit (take n window) ≡ false = list_all_at is_digit (take n window) (length digits) 0 here (ap is_digit there) in
+            let none : list_all is_digit (take n window) ≡ false =
+            list_all_at is_digit (take n window) (length digits) 0 here (ap is_digit there) in
             cc
             )
       ]
     ]
 
 -- What stands behind the name in a header that is written so.
-pub written_rest : (max_body : ℕ) (bytes : List ℕ) (header : WrittenHeader) (w : BeginsWritten max_body bytes header) → bytes ≡ codes "Content-Length: " ++ (w.digits ++ 13 ∷ 10 ∷ 13 ∷ 10 ∷ w.rest)
+pub written_rest : (max_body : ℕ) (bytes : List ℕ) (header : WrittenHeader) (w : BeginsWritten max_body bytes header)
+    → bytes ≡ codes "Content-Length: " ++ (w.digits ++ 13 ∷ 10 ∷ 13 ∷ 10 ∷ w.rest)
 written_rest max_body bytes header w = w.is ∙ simp append_assoc
 
 -- The parts that are found are those of the header.
-pub found_parts : (max_body : ℕ) (bytes rest window digits rest_after : List ℕ) (n : ℕ) (header : WrittenHeader) (w : BeginsWritten max_body bytes header) → bytes ≡ codes "Content-Length: " ++ rest → window ≡ take 10 rest → n ≤ length window → list_all is_digit (take n window) ≡ true → (n < length window → is_digit (get_or window n 0) ≡ false) → digits ≡ take n rest → rest_after ≡ drop n rest → (digits ≡ w.digits) × (rest_after ≡ codes "\r\n\r\n" ++ w.rest)
+pub found_parts : (max_body : ℕ) (bytes rest window digits rest_after : List ℕ) (n : ℕ) (header : WrittenHeader)
+    (w : BeginsWritten max_body bytes header) → bytes ≡ codes "Content-Length: " ++ rest → window ≡ take 10 rest
+    → n ≤ length window → list_all is_digit (take n window) ≡ true
+    → (n < length window → is_digit (get_or window n 0) ≡ false) → digits ≡ take n rest → rest_after ≡ drop n rest
+    → (digits ≡ w.digits) × (rest_after ≡ codes "\r\n\r\n" ++ w.rest)
 found_parts max_body bytes rest window digits rest_after n header w named cut within found last front back =
     let is : rest ≡ w.digits ++ 13 ∷ 10 ∷ 13 ∷ 10 ∷ w.rest =
-    (same_length_front (codes "Content-Length: ") (codes "Content-Length: ") rest (w.digits ++ 13 ∷ 10 ∷ 13 ∷ 10 ∷ w.rest) refl (sym named ∙ written_rest max_body bytes header w)).1 in
-    let len : n ≡ length w.digits = same_len rest window w.digits (10 ∷ 13 ∷ 10 ∷ w.rest) 10 n cut is w.few w.each within found last in (
-      front ∙ ap (λ k. take k rest) len ∙ ap (take (length w.digits)) is ∙ take-append_seam w.digits (13 ∷ 10 ∷ 13 ∷ 10 ∷ w.rest),
-      back ∙ ap (λ k. drop k rest) len ∙ ap (drop (length w.digits)) is ∙ drop-append_seam w.digits (13 ∷ 10 ∷ 13 ∷ 10 ∷ w.rest),
+    (same_length_front (codes "Content-Length: ") (codes "Content-Length: ") rest
+    (w.digits ++ 13 ∷ 10 ∷ 13 ∷ 10 ∷ w.rest) refl (sym named ∙ written_rest max_body bytes header w)).1 in
+    let len : n ≡ length w.digits = same_len rest window w.digits (10 ∷ 13 ∷ 10 ∷ w.rest) 10 n cut is w.few w.each
+    within found last in (
+      front ∙ ap (λ k. take k rest) len ∙ ap (take (length w.digits)) is ∙ take-append_seam w.digits
+          (13 ∷ 10 ∷ 13 ∷ 10 ∷ w.rest),
+      back ∙ ap (λ k. drop k rest) len ∙ ap (drop (length w.digits)) is ∙ drop-append_seam w.digits
+          (13 ∷ 10 ∷ 13 ∷ 10 ∷ w.rest),
     )
 
 -- A length that is within the limit is not refused.
-pub within_told : (max_body : ℕ) (bytes digits : List ℕ) (header : WrittenHeader) (w : BeginsWritten max_body bytes header) → digits ≡ w.digits → None ≡ (if nat_lt max_body (number digits) then None else Some (number digits)) → ⊥
+pub within_told : (max_body : ℕ) (bytes digits : List ℕ) (header : WrittenHeader)
+    (w : BeginsWritten max_body bytes header) → digits ≡ w.digits
+    → None ≡ (if nat_lt max_body (number digits) then None else Some (number digits)) → ⊥
 within_told max_body bytes digits header w same error =
     let value : number digits ≡ header.body = ap number same ∙ sym w.body in
-    let not_more : nat_lt max_body (number digits) ≡ false = le-ltb max_body (number digits) (omega (arith, value, w.small)) in
+    let not_more : nat_lt max_body (number digits) ≡ false =
+    le-ltb max_body (number digits) (omega (arith, value, w.small)) in
     let found : None ≡ Some (number digits) = error ∙ rw not_more refl in
     cc

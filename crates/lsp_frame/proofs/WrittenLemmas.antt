@@ -26,7 +26,8 @@ tells_own_digits = record { empty = tt; parts = λ c cs p. p; more = λ c cs h p
 pub number_folds : FoldsDigits (λ n bs. fold (λ (m b : ℕ). 10 * m + (b - 48)) n bs)
 number_folds = record {
   empty = λ n. refl;
-  more = λ n c cs h. ap (λ m. fold (λ (k b : ℕ). 10 * k + (b - 48)) m cs) (let e : 10 * n + (c - 48) ≡ n * 10 + (c - 48) = omega arith in e);
+  more = λ n c cs h. ap (λ m. fold (λ (k b : ℕ). 10 * k + (b - 48)) m cs)
+      (let e : 10 * n + (c - 48) ≡ n * 10 + (c - 48) = omega arith in e);
 }
 
 pub numerals : IsNumeralModel AreDigits number
@@ -41,7 +42,8 @@ all_digits (b ∷ bs) all = rw (is_digit_true b all.0) (all_digits bs all.1)
 
 pub digits_are_values : (bs : List ℕ) → AreDigits bs → AllByRecursion IsValueByte bs
 digits_are_values [] all = tt
-digits_are_values (b ∷ bs) all = let low : 48 ≤ b = all.0.0 in let high : b ≤ 57 = all.0.1 in (inl (omega arith, omega arith), digits_are_values bs all.1)
+digits_are_values (b ∷ bs) all = let low : 48 ≤ b = all.0.0 in let high : b ≤ 57 = all.0.1 in
+    (inl (omega arith, omega arith), digits_are_values bs all.1)
 
 pub digit_not_blank : (b : ℕ) → IsDigit b → is_blank b ≡ false
 digit_not_blank b h =
@@ -59,23 +61,28 @@ end_same bs all =
     let last : 0 < length (reverse bs) → is_blank (get_or (reverse bs) 0 0) ≡ false = λ some.
     let len : length (reverse bs) ≡ length bs = length-reverse bs in
     let within : length bs - 1 - 0 < length bs = omega (arith, len, some) in
-    let there : get_or (reverse bs) 0 0 ≡ get_or bs (length bs - 1 - 0) 0 = get_or-reverse bs 0 0 (omega (arith, len, some)) in
-    ap is_blank there ∙ digit_not_blank (get_or bs (length bs - 1 - 0) 0) (All_at IsDigit bs (length bs - 1 - 0) 0 all within) in
+    let there : get_or (reverse bs) 0 0 ≡ get_or bs (length bs - 1 - 0) 0 =
+    get_or-reverse bs 0 0 (omega (arith, len, some)) in
+    ap is_blank there ∙ digit_not_blank (get_or bs (length bs - 1 - 0) 0)
+    (All_at IsDigit bs (length bs - 1 - 0) 0 all within) in
     ap reverse (start_same (reverse bs) last) ∙ reverse-reverse bs
 
 pub trimmed_digits : (bs : List ℕ) → AreDigits bs → trimmed (32 ∷ bs) ≡ bs
 trimmed_digits bs all =
-    let first : 0 < length bs → is_blank (get_or bs 0 0) ≡ false = λ some. digit_not_blank (get_or bs 0 0) (All_at IsDigit bs 0 0 all some) in
+    let first : 0 < length bs → is_blank (get_or bs 0 0) ≡ false =
+    λ some. digit_not_blank (get_or bs 0 0) (All_at IsDigit bs 0 0 all some) in
     ap trimmed_end (start_same bs first) ∙ end_same bs all
 
 -- the one line of a written header
 abbrev pub length_line : ℕ → Line
 length_line n = record { name = codes "Content-Length"; value = 32 ∷ decimal n }
 
-pub name_from_test : (bs : List ℕ) → list_all (λ b. nat_le 33 b && nat_le b 126 && not (b == 58)) bs ≡ true → AllByRecursion IsNameByte bs
+pub name_from_test : (bs : List ℕ) → list_all (λ b. nat_le 33 b && nat_le b 126 && not (b == 58)) bs ≡ true
+    → AllByRecursion IsNameByte bs
 name_from_test [] t = tt
 name_from_test (b ∷ bs) t =
-    let parts = three (nat_le 33 b) (nat_le b 126) (b == 58) (list_all (λ c. nat_le 33 c && nat_le c 126 && not (c == 58)) bs) t in
+    let parts = three (nat_le 33 b) (nat_le b 126) (b == 58)
+    (list_all (λ c. nat_le 33 c && nat_le c 126 && not (c == 58)) bs) t in
     ((leb-true 33 b parts.0, leb-true b 126 parts.1, eqb-false b 58 parts.2), name_from_test bs parts.3)
   where
     three : (p q r s : Bool) → ((p && q && not r) && s) ≡ true → (p ≡ true) × (q ≡ true) × (r ≡ false) × (s ≡ true)
@@ -95,14 +102,22 @@ written_judged max_body n within small =
     let not_more : nat_lt max_body n ≡ false = le-ltb max_body n within in
     rw (cut, some, all_digits (decimal n) all, value, not_more) refl
 
-pub written_is_frame : (max_body : ℕ) (body : List ℕ) → length body ≤ max_body → length body < 2 ^ 64 → IsFrameOf max_body (frame body) body
+pub written_is_frame : (max_body : ℕ) (body : List ℕ) → length body ≤ max_body → length body < 2 ^ 64
+    → IsFrameOf max_body (frame body) body
 unfolding frame
 written_is_frame max_body body within small =
     let all : AreDigits (decimal (length body)) = digits_decimal numerals (length body) small in
     let len : length (decimal (length body)) ≤ 20 = length-decimal-le 20 (length body) (lit< tt) (omega arith) small in
     record {
       lines = length_line (length body) ∷ [];
-      each = (record { some = omega arith; name = name_from_test (codes "Content-Length") refl; value = (inl (omega arith, omega arith), digits_are_values (decimal (length body)) all) }, tt);
+      each = (
+        record {
+          some = omega arith;
+          name = name_from_test (codes "Content-Length") refl;
+          value = (inl (omega arith, omega arith), digits_are_values (decimal (length body)) all);
+        },
+        tt,
+      );
       is = simp append_assoc;
       short = simp length-append (omega (arith, len));
       good = written_judged max_body (length body) within small;
@@ -112,7 +127,8 @@ pub frame_len : (body : List ℕ) → length body ≤ length (frame body)
 unfolding frame
 frame_len body = simp length-append (omega arith)
 
-pub ok_is_frame : {E : Type 0} (body : List ℕ) (r : Result (Vec ℕ Global) E) → IfOk r (λ v. v.items ≡ frame body) → IfOk r (λ v. (max_body : ℕ) → length body ≤ max_body → IsFrameOf max_body v.items body)
+pub ok_is_frame : {E : Type 0} (body : List ℕ) (r : Result (Vec ℕ Global) E) → IfOk r (λ v. v.items ≡ frame body)
+    → IfOk r (λ v. (max_body : ℕ) → length body ≤ max_body → IsFrameOf max_body v.items body)
 ok_is_frame body (Ok v) e = λ max_body within.
     let small : length body < 2 ^ 64 = omega (arith, frame_len body, ap length e, v.ok, v.small) in
     subst (λ (bytes : List ℕ). IsFrameOf max_body bytes body) (sym e) (written_is_frame max_body body within small)

@@ -23,8 +23,15 @@ version_decided : (versions : Bool) (input : List ℕ) → (version : Version) �
 version_decided false input = (One, λ looks. absurd (let other : false ≡ true = looks in cc))
 version_decided true input =
     elim (cases_Bool (starts_with nat_eq input version_line)) [
-      | inl begins ↦ (Two, (refl, (drop 18 input, starts_front input version_line (starts_with nat_eq input version_line) refl begins)))
-      | inr other ↦ (One, λ looks more e. let begins : starts_with nat_eq input version_line ≡ true = starts_known input version_line more (starts_with nat_eq input version_line) refl e in cc)
+      | inl begins ↦ (
+        Two,
+        (refl, (drop 18 input, starts_front input version_line (starts_with nat_eq input version_line) refl begins)),
+      )
+      | inr other ↦ (
+        One,
+        λ looks more e. let begins : starts_with nat_eq input version_line ≡ true =
+            starts_known input version_line more (starts_with nat_eq input version_line) refl e in cc,
+      )
     ]
 
 -- ---- the next record
@@ -39,16 +46,20 @@ record NextRecord (max_body : ℕ) (version : Version) (bytes : List ℕ) : Type
   client : version ≡ One → side ≡ Client
 
 -- No record begins where the byte is no mark, or no frame follows it.
-none_marked : (max_body b : ℕ) (rest : List ℕ) → ((b ≡ 62) ⊎ (b ≡ 60) → HasNoFrame max_body rest) → IsEnd max_body Two (b ∷ rest)
-none_marked max_body b rest none Client frame body more s e = let mark : b ≡ 62 = cc in let same : rest ≡ frame ++ more = cc in none (inl mark) frame body more s same
-none_marked max_body b rest none Server frame body more s e = let mark : b ≡ 60 = cc in let same : rest ≡ frame ++ more = cc in none (inr mark) frame body more s same
+none_marked : (max_body b : ℕ) (rest : List ℕ) → ((b ≡ 62) ⊎ (b ≡ 60) → HasNoFrame max_body rest)
+    → IsEnd max_body Two (b ∷ rest)
+none_marked max_body b rest none Client frame body more s e = let mark : b ≡ 62 = cc in
+    let same : rest ≡ frame ++ more = cc in none (inl mark) frame body more s same
+none_marked max_body b rest none Server frame body more s e = let mark : b ≡ 60 = cc in
+    let same : rest ≡ frame ++ more = cc in none (inr mark) frame body more s same
 
 nothing_marked : (max_body : ℕ) → IsEnd max_body Two []
 nothing_marked max_body Client frame body more s e = omega (arith, ap length e)
 nothing_marked max_body Server frame body more s e = omega (arith, ap length e)
 
 module _ (decision : DecisionLaw) where
-  marked : (max_body b : ℕ) (rest : List ℕ) (side : Side) → b ∷ [] ≡ mark_of Two side → NextRecord max_body Two (b ∷ rest) ⊎ IsEnd max_body Two (b ∷ rest)
+  marked : (max_body b : ℕ) (rest : List ℕ) (side : Side) → b ∷ [] ≡ mark_of Two side
+      → NextRecord max_body Two (b ∷ rest) ⊎ IsEnd max_body Two (b ∷ rest)
   marked max_body b rest side e =
       elim (decision max_body rest) [
         | inl first ↦ inl (record {
@@ -63,7 +74,8 @@ module _ (decision : DecisionLaw) where
         | inr none ↦ inr (none_marked max_body b rest (λ _. none))
       ]
 
-  next_record : (max_body : ℕ) (version : Version) (bytes : List ℕ) → NextRecord max_body version bytes ⊎ IsEnd max_body version bytes
+  next_record : (max_body : ℕ) (version : Version) (bytes : List ℕ) → NextRecord max_body version bytes
+      ⊎ IsEnd max_body version bytes
   next_record max_body One bytes =
       elim (decision max_body bytes) [
         | inl first ↦ inl (record {
@@ -100,27 +112,46 @@ module _ (decision : DecisionLaw) where
     each : AreRecords max_body version place due records
     ends : IsEnd max_body version rest
 
-  abbrev record_of : (max_body place : ℕ) (version : Version) (due : Bool) (bytes : List ℕ) → NextRecord max_body version bytes → Record
+  abbrev record_of : (max_body place : ℕ) (version : Version) (due : Bool) (bytes : List ℕ)
+      → NextRecord max_body version bytes → Record
   record_of max_body place version due bytes next =
-      record { head = record { side = next.side; version = version; place = place_after 0 place; line_due = due }; raw = next.frame; body = next.body }
+      record {
+        head = record { side = next.side; version = version; place = place_after 0 place; line_due = due };
+        raw = next.frame;
+        body = next.body;
+      }
 
-  shorter : (max_body : ℕ) (version : Version) (bytes : List ℕ) (next : NextRecord max_body version bytes) → suc (length next.more) ≤ length bytes
+  shorter : (max_body : ℕ) (version : Version) (bytes : List ℕ) (next : NextRecord max_body version bytes)
+      → suc (length next.more) ≤ length bytes
   shorter max_body version bytes next =
-      omega (arith, ap length next.is, length-append (mark_of version next.side) (next.frame ++ next.more), length-append next.frame next.more, frame_len max_body next.frame next.body next.is_frame)
+      omega (
+        arith,
+        ap length next.is,
+        length-append (mark_of version next.side) (next.frame ++ next.more),
+        length-append next.frame next.more,
+        frame_len max_body next.frame next.body next.is_frame,
+      )
 
-  with_first : (max_body place : ℕ) (version : Version) (due : Bool) (bytes : List ℕ) (next : NextRecord max_body version bytes)
-      → AllFrom max_body version (place + length (record_bytes version (record_of max_body place version due bytes next))) false next.more → AllFrom max_body version place due bytes
+  with_first : (max_body place : ℕ) (version : Version) (due : Bool) (bytes : List ℕ)
+      (next : NextRecord max_body version bytes)
+      → AllFrom max_body version
+      (place + length (record_bytes version (record_of max_body place version due bytes next))) false next.more
+      → AllFrom max_body version place due bytes
   with_first max_body place version due bytes next others =
       record {
         records = record_of max_body place version due bytes next ∷ others.records;
         rest = others.rest;
         is = next.is ∙ sym (append_assoc (mark_of version next.side) next.frame next.more)
             ∙ ap (λ (x : List ℕ). (mark_of version next.side ++ next.frame) ++ x) others.is;
-        each = (record { is_frame_of = next.is_frame; side = next.client; of_version = refl; placed = refl; due = refl }, others.each);
+        each = (
+          record { is_frame_of = next.is_frame; side = next.client; of_version = refl; placed = refl; due = refl },
+          others.each,
+        );
         ends = others.ends;
       }
 
-  all_within : (n max_body place : ℕ) (version : Version) (due : Bool) (bytes : List ℕ) → length bytes ≤ n → AllFrom max_body version place due bytes
+  all_within : (n max_body place : ℕ) (version : Version) (due : Bool) (bytes : List ℕ) → length bytes ≤ n
+      → AllFrom max_body version place due bytes
   all_within zero max_body place version due bytes within =
       elim (next_record max_body version bytes) [
         | inl next ↦ absurd (omega (arith, within, shorter max_body version bytes next))
@@ -129,15 +160,19 @@ module _ (decision : DecisionLaw) where
   all_within (suc n) max_body place version due bytes within =
       elim (next_record max_body version bytes) [
         | inl next ↦ with_first max_body place version due bytes next
-            (all_within n max_body (place + length (record_bytes version (record_of max_body place version due bytes next))) version false next.more (omega (arith, within, shorter max_body version bytes next)))
+            (all_within n max_body
+            (place + length (record_bytes version (record_of max_body place version due bytes next))) version false
+            next.more (omega (arith, within, shorter max_body version bytes next)))
         | inr ends ↦ record { records = []; rest = bytes; is = refl; each = tt; ends = ends }
       ]
 
-  all_behind : (log_rules : LogRules) (input : List ℕ) (version : Version) → IsVersion log_rules.versions version input → (log_rules.only_one ≡ true → version ≡ One) → (rest : List ℕ)
+  all_behind : (log_rules : LogRules) (input : List ℕ) (version : Version) → IsVersion log_rules.versions version input
+      → (log_rules.only_one ≡ true → version ≡ One) → (rest : List ℕ)
       → input ≡ line_of version ++ rest → AllRecords log_rules input
   all_behind log_rules input version known accepted rest is =
       let all : AllFrom log_rules.max_body version (length (line_of version)) (is_line_due version []) rest
-      = all_within (length rest) log_rules.max_body (length (line_of version)) version (is_line_due version []) rest (omega arith) in
+      = all_within (length rest) log_rules.max_body (length (line_of version)) version (is_line_due version []) rest
+      (omega arith) in
       record {
         log = record { version = version; records = all.records; rest = all.rest };
         reads = record {
@@ -149,11 +184,13 @@ module _ (decision : DecisionLaw) where
         none = all.ends;
       }
 
-  all_of_version : (log_rules : LogRules) (input : List ℕ) (version : Version) → IsVersion log_rules.versions version input → (log_rules.only_one ≡ true → version ≡ One) → AllRecords log_rules input
+  all_of_version : (log_rules : LogRules) (input : List ℕ) (version : Version) → IsVersion log_rules.versions version
+      input → (log_rules.only_one ≡ true → version ≡ One) → AllRecords log_rules input
   all_of_version log_rules input One known accepted = all_behind log_rules input One known accepted input refl
   all_of_version log_rules input Two known accepted = all_behind log_rules input Two known accepted known.1.0 known.1.1
 
   pub all_records_law : AllRecordsLaw
   all_records_law log_rules input allowed =
       let found = version_decided log_rules.versions input in
-      all_of_version log_rules input found.0 found.1 (λ only_one. same_version log_rules.versions found.0 One input found.1 (allowed only_one))
+      all_of_version log_rules input found.0 found.1 (λ only_one. same_version log_rules.versions found.0 One input
+      found.1 (allowed only_one))

@@ -17,17 +17,21 @@ use Rattle.lsp_log.specs.Log.{IsVersion, line_of, version_line}
 use Rattle.lsp_log.specs.Opening.{IsLineFront}
 
 -- bytes that begin with others
-pub starts_front : (bytes front : List ℕ) (r : Bool) → r ≡ starts_with nat_eq bytes front → r ≡ true → bytes ≡ front ++ drop (length front) bytes
+pub starts_front : (bytes front : List ℕ) (r : Bool) → r ≡ starts_with nat_eq bytes front → r ≡ true
+    → bytes ≡ front ++ drop (length front) bytes
 starts_front bytes front r is holds = (starts_is (λ a b. Decides-eqb a b) bytes front r is).0 holds
 
-pub starts_known : (bytes front rest : List ℕ) (r : Bool) → r ≡ starts_with nat_eq bytes front → bytes ≡ front ++ rest → r ≡ true
+pub starts_known : (bytes front rest : List ℕ) (r : Bool) → r ≡ starts_with nat_eq bytes front → bytes ≡ front ++ rest
+    → r ≡ true
 starts_known bytes front rest r is e = (starts_is (λ a b. Decides-eqb a b) bytes front r is).1 rest e
 
 -- Are these some first bytes of the line?
-pub front_yes : (bytes : List ℕ) (r : Bool) → r ≡ starts_with nat_eq version_line bytes → r ≡ true → length bytes < length version_line → IsLineFront bytes
+pub front_yes : (bytes : List ℕ) (r : Bool) → r ≡ starts_with nat_eq version_line bytes → r ≡ true
+    → length bytes < length version_line → IsLineFront bytes
 front_yes bytes r is holds short =
     let e : version_line ≡ bytes ++ drop (length bytes) version_line = starts_front version_line bytes r is holds in
-    let front : take (length bytes) (bytes ++ drop (length bytes) version_line) ≡ bytes = take_at bytes (drop (length bytes) version_line) (length bytes) refl in
+    let front : take (length bytes) (bytes ++ drop (length bytes) version_line) ≡ bytes =
+    take_at bytes (drop (length bytes) version_line) (length bytes) refl in
     (short, sym front ∙ ap (take (length bytes)) (sym e))
 
 pub front_no : (bytes : List ℕ) (r : Bool) → r ≡ starts_with nat_eq version_line bytes → IsLineFront bytes → r ≡ true
@@ -42,28 +46,47 @@ next_bytes len n buf part within long few =
     let all : take (len + length part) (put_mid len (length buf - len) buf part) ≡ take len buf ++ part =
     take-put_mid len (length buf - len) buf part (len + length part) refl within in
     let front : length (take len buf) ≡ len = omega (arith, length-take len buf) in
-    let some : take (length (take len buf) + n) (take len buf ++ part) ≡ take len buf ++ take n part = take-append-add (take len buf) part n in
-    sym (take-take (len + n) (len + length part) (put_mid len (length buf - len) buf part) (omega (arith, few))) ∙ ap (take (len + n)) all ∙ rw front at some
+    let some : take (length (take len buf) + n) (take len buf ++ part) ≡ take len buf ++ take n part =
+    take-append-add (take len buf) part n in
+    sym (take-take (len + n) (len + length part) (put_mid len (length buf - len) buf part) (omega (arith, few)))
+    ∙ ap (take (len + n)) all ∙ rw front at some
 
-pub next_len : (len n : ℕ) (buf part : List ℕ) → len ≤ length buf → length part ≡ length buf - len → n ≤ length part → length (take (len + n) (put_mid len (length buf - len) buf part)) ≡ len + n
+pub next_len : (len n : ℕ) (buf part : List ℕ) → len ≤ length buf → length part ≡ length buf - len → n ≤ length part
+    → length (take (len + n) (put_mid len (length buf - len) buf part)) ≡ len + n
 next_len len n buf part within long few =
-    omega (arith, ap length (next_bytes len n buf part within long few), length-append (take len buf) (take n part), length-take len buf, length-take n part)
+    omega (
+      arith,
+      ap length (next_bytes len n buf part within long few),
+      length-append (take len buf) (take n part),
+      length-take len buf,
+      length-take n part,
+    )
 
-pub next_read : (old mid new : Option (List ℕ)) (len n : ℕ) (buf part : List ℕ) → len ≤ length buf → length part ≡ length buf - len → n ≤ length part
-    → Consumes old mid (take len buf) → Consumes mid new (take n part) → Consumes old new (take (len + n) (put_mid len (length buf - len) buf part))
+pub next_read : (old mid new : Option (List ℕ)) (len n : ℕ) (buf part : List ℕ) → len ≤ length buf → length part
+    ≡ length buf - len → n ≤ length part
+    → Consumes old mid (take len buf) → Consumes mid new (take n part)
+    → Consumes old new (take (len + n) (put_mid len (length buf - len) buf part))
 next_read old mid new len n buf part within long few before now =
-    subst (λ (z : List ℕ). Consumes old new z) (sym (next_bytes len n buf part within long few)) (Consumes-trans old mid new (take len buf) (take n part) before now)
+    subst (λ (z : List ℕ). Consumes old new z) (sym (next_bytes len n buf part within long few))
+    (Consumes-trans old mid new (take len buf) (take n part) before now)
 
 -- A version that is known stays.
-two_stays : (versions : Bool) (bytes more : List ℕ) → IsVersion versions Two bytes → IsVersion versions Two (bytes ++ more)
-two_stays versions bytes more two = (two.0, (two.1.0 ++ more, ap (λ z. z ++ more) two.1.1 ∙ append_assoc version_line two.1.0 more))
+two_stays : (versions : Bool) (bytes more : List ℕ) → IsVersion versions Two bytes
+    → IsVersion versions Two (bytes ++ more)
+two_stays versions bytes more two = (
+  two.0,
+  (two.1.0 ++ more, ap (λ z. z ++ more) two.1.1 ∙ append_assoc version_line two.1.0 more),
+)
 
-pub stays : (versions : Bool) (version : Version) (bytes more : List ℕ) → (versions ≡ true → IsLineFront bytes → more ≡ []) → IsVersion versions version bytes → IsVersion versions version (bytes ++ more)
+pub stays : (versions : Bool) (version : Version) (bytes more : List ℕ)
+    → (versions ≡ true → IsLineFront bytes → more ≡ []) → IsVersion versions version bytes
+    → IsVersion versions version (bytes ++ more)
 stays versions One bytes more last one = λ looks rest e.
     elim (cases_lt (length bytes) 18) [
       | inl short ↦
           let front : take (length bytes) (bytes ++ more) ≡ bytes = take_at bytes more (length bytes) refl in
-          let line : take (length bytes) (version_line ++ rest) ≡ take (length bytes) version_line = take-append-le (length bytes) version_line rest (omega (arith, short)) in
+          let line : take (length bytes) (version_line ++ rest) ≡ take (length bytes) version_line =
+          take-append-le (length bytes) version_line rest (omega (arith, short)) in
           let none : more ≡ [] = last looks (short, sym front ∙ ap (take (length bytes)) e ∙ line) in
           one looks rest (sym (append-nil bytes) ∙ ap (λ z. bytes ++ z) (sym none) ∙ e)
       | inr long ↦
@@ -75,7 +98,8 @@ stays versions One bytes more last one = λ looks rest e.
 stays versions Two bytes more last two = two_stays versions bytes more two
 
 -- what stands behind the line
-pub behind_line : (versions : Bool) (version : Version) (bytes : List ℕ) → IsVersion versions version bytes → bytes ≡ line_of version ++ drop (length (line_of version)) bytes
+pub behind_line : (versions : Bool) (version : Version) (bytes : List ℕ) → IsVersion versions version bytes
+    → bytes ≡ line_of version ++ drop (length (line_of version)) bytes
 behind_line versions One bytes one = refl
 behind_line versions Two bytes two =
     let rest : drop 18 (version_line ++ two.1.0) ≡ two.1.0 = refl in

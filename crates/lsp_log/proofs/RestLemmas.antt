@@ -14,7 +14,8 @@ use Rattle.lsp_log.specs.laws.Logs.{BufferedLaw, RestLaw}
 use Rattle.lsp_log.proofs.SplitLemmas.{given_reads, some_side, some_or, frame_len}
 
 -- Two marks of one version have one length.
-behind_mark : (version : Version) (side other : Side) (a b : List ℕ) → mark_of version side ++ a ≡ mark_of version other ++ b → a ≡ b
+behind_mark : (version : Version) (side other : Side) (a b : List ℕ) → mark_of version side ++ a ≡ mark_of version other
+    ++ b → a ≡ b
 behind_mark One side other a b e = e
 behind_mark Two Client Client a b e = ap (drop 1) e
 behind_mark Two Client Server a b e = ap (drop 1) e
@@ -22,21 +23,36 @@ behind_mark Two Server Client a b e = ap (drop 1) e
 behind_mark Two Server Server a b e = ap (drop 1) e
 
 -- At the end of the input no whole record is held.
-no_record : (log_rules : LogRules) (input : List ℕ) (records : List Record) (s : Splitter) → IsReady s → IsAfter log_rules input [] records s → HasNoRecord log_rules.max_body (log_at s records [])
+no_record : (log_rules : LogRules) (input : List ℕ) (records : List Record) (s : Splitter) → IsReady s
+    → IsAfter log_rules input [] records s → HasNoRecord log_rules.max_body (log_at s records [])
 no_record log_rules input records s ready at other raw body more is_frame_of e =
-    let none : IsFrame log_rules.max_body s.framer.buffered → ⊥ = λ frame. ready.none (subst (λ (m : ℕ). IsFrame m s.framer.buffered) (sym at.limit) frame) in
-    let plain : mark_part s.version s.side ++ s.framer.buffered ≡ mark_of s.version other ++ (raw ++ more) = sym (append-nil (buffered_of s)) ∙ e in
+    let none : IsFrame log_rules.max_body s.framer.buffered → ⊥ =
+    λ frame. ready.none (subst (λ (m : ℕ). IsFrame m s.framer.buffered) (sym at.limit) frame) in
+    let plain : mark_part s.version s.side ++ s.framer.buffered ≡ mark_of s.version other ++ (raw ++ more) =
+    sym (append-nil (buffered_of s)) ∙ e in
     elim (some_or s.side) [
       | inl known ↦
           let known_plain : mark_of s.version known.0 ++ s.framer.buffered ≡ mark_of s.version other ++ (raw ++ more) =
           ap (λ (o : Option Side). mark_part s.version o ++ s.framer.buffered) (sym known.1) ∙ plain in
-          let same : s.framer.buffered ≡ raw ++ more = behind_mark s.version known.0 other s.framer.buffered (raw ++ more) known_plain in
+          let same : s.framer.buffered ≡ raw ++ more =
+          behind_mark s.version known.0 other s.framer.buffered (raw ++ more) known_plain in
           let nothing : more ≡ [] = at.one raw body more is_frame_of same in
           let all : raw ≡ s.framer.buffered = sym (same ∙ ap (λ z. raw ++ z) nothing ∙ append-nil raw) in
-          none (record { body = body; is_frame_of = subst (λ (z : List ℕ). IsFrameOf log_rules.max_body z body) all is_frame_of })
+          none (record {
+            body = body;
+            is_frame_of = subst (λ (z : List ℕ). IsFrameOf log_rules.max_body z body) all is_frame_of;
+          })
       | inr unknown ↦
-          let empty : mark_part s.version s.side ++ s.framer.buffered ≡ [] = ap (λ (o : Option Side). mark_part s.version o ++ s.framer.buffered) unknown ∙ ready.fed.between unknown in
-          omega (arith, ap length plain, ap length empty, length-append (mark_of s.version other) (raw ++ more), length-append raw more, frame_len log_rules.max_body raw body is_frame_of)
+          let empty : mark_part s.version s.side ++ s.framer.buffered ≡ [] =
+          ap (λ (o : Option Side). mark_part s.version o ++ s.framer.buffered) unknown ∙ ready.fed.between unknown in
+          omega (
+            arith,
+            ap length plain,
+            ap length empty,
+            length-append (mark_of s.version other) (raw ++ more),
+            length-append raw more,
+            frame_len log_rules.max_body raw body is_frame_of,
+          )
     ]
 
 nothing_or_some : (xs : List ℕ) → (xs ≡ []) ⊎ (xs ≢ [])
@@ -51,15 +67,19 @@ rest_law log_rules input records s ready at =
         | inl known ↦ inr (record {
           side = known.0;
           part = s.framer.buffered;
-          is = append-nil (buffered_of s) ∙ ap (λ (o : Option Side). mark_part s.version o ++ s.framer.buffered) known.1;
+          is = append-nil (buffered_of s) ∙ ap (λ (o : Option Side). mark_part s.version o ++ s.framer.buffered)
+              known.1;
           begins = at.part;
           some = some;
           none = no_record log_rules input records s ready at;
         })
-        | inr unknown ↦ inl (append-nil (buffered_of s) ∙ ap (λ (o : Option Side). mark_part s.version o ++ s.framer.buffered) unknown ∙ ready.fed.between unknown)
+        | inr unknown ↦ inl (append-nil (buffered_of s)
+            ∙ ap (λ (o : Option Side). mark_part s.version o ++ s.framer.buffered) unknown ∙ ready.fed.between unknown)
       ]
     ]
 
 pub buffered_law : BufferedLaw
 buffered_law log_rules input more body records s fed is_frame_of at =
-    given_reads log_rules input more body records s (some_side s fed (record { body = body; is_frame_of = is_frame_of })) (subst (λ (m : ℕ). IsFrameOf m s.framer.buffered body) at.limit is_frame_of) at
+    given_reads log_rules input more body records s
+    (some_side s fed (record { body = body; is_frame_of = is_frame_of }))
+    (subst (λ (m : ℕ). IsFrameOf m s.framer.buffered body) at.limit is_frame_of) at

@@ -21,10 +21,16 @@ use Rattle.lsp_log.proofs.LogLemmas.{together_push, input_len, are_push, due_now
 
 -- A frame has at least two bytes, so nothing is none.
 pub frame_len : (max_body : ℕ) (raw body : List ℕ) → IsFrameOf max_body raw body → 2 ≤ length raw
-frame_len max_body raw body s = omega (arith, ap length s.is, length-append (header_of s.lines) body, length-append (lines_bytes s.lines) (13 ∷ 10 ∷ []))
+frame_len max_body raw body s = omega (
+  arith,
+  ap length s.is,
+  length-append (header_of s.lines) body,
+  length-append (lines_bytes s.lines) (13 ∷ 10 ∷ []),
+)
 
 pub nothing_one : (max_body : ℕ) → HoldsOne max_body []
-nothing_one max_body raw body more s e = absurd (omega (arith, frame_len max_body raw body s, ap length e, length-append raw more))
+nothing_one max_body raw body more s e =
+    absurd (omega (arith, frame_len max_body raw body s, ap length e, length-append raw more))
 
 pub no_empty_frame : (max_body : ℕ) → IsFrame max_body [] → ⊥
 no_empty_frame max_body frame = omega (arith, frame_len max_body [] frame.body frame.is_frame_of)
@@ -47,20 +53,29 @@ not_none o none said some is = let two : false ≡ true = sym (ap is_some is) �
 
 -- Bytes were taken.
 fed_bytes : (buffered piece : List ℕ) (k : ℕ) → (buffered ++ take k piece) ++ drop k piece ≡ buffered ++ piece
-fed_bytes buffered piece k = append_assoc buffered (take k piece) (drop k piece) ∙ ap (λ z. buffered ++ z) (take-append-drop k piece)
+fed_bytes buffered piece k = append_assoc buffered (take k piece) (drop k piece)
+    ∙ ap (λ z. buffered ++ z) (take-append-drop k piece)
 
-fed_held : (mark buffered piece : List ℕ) (k : ℕ) → (mark ++ (buffered ++ take k piece)) ++ drop k piece ≡ (mark ++ buffered) ++ piece
+fed_held : (mark buffered piece : List ℕ) (k : ℕ) → (mark ++ (buffered ++ take k piece)) ++ drop k piece
+    ≡ (mark ++ buffered) ++ piece
 fed_held mark buffered piece k =
-    append_assoc mark (buffered ++ take k piece) (drop k piece) ∙ ap (λ z. mark ++ z) (fed_bytes buffered piece k) ∙ sym (append_assoc mark buffered piece)
+    append_assoc mark (buffered ++ take k piece) (drop k piece) ∙ ap (λ z. mark ++ z) (fed_bytes buffered piece k)
+    ∙ sym (append_assoc mark buffered piece)
 
-pub fed_stands : (log_rules : LogRules) (input piece : List ℕ) (records : List Record) (s : Splitter) (f : FramerData) (k : ℕ) → f ≡ record s.framer { buffered = s.framer.buffered ++ take k piece }
-    → IsPart f.limits.max_body f.buffered → HoldsOne f.limits.max_body f.buffered → IsAfter log_rules input piece records s → IsAfter log_rules input (drop k piece) records (record s { framer = f })
+pub fed_stands : (log_rules : LogRules) (input piece : List ℕ) (records : List Record) (s : Splitter) (f : FramerData)
+    (k : ℕ) → f ≡ record s.framer { buffered = s.framer.buffered ++ take k piece }
+    → IsPart f.limits.max_body f.buffered → HoldsOne f.limits.max_body f.buffered
+    → IsAfter log_rules input piece records s → IsAfter log_rules input (drop k piece) records (record s { framer = f })
 fed_stands log_rules input piece records s f k e part one at =
     let bytes = fed_bytes s.framer.buffered piece k in
     let all = fed_held (mark_part s.version s.side) s.framer.buffered piece k in
-    let part_here : IsPart s.framer.limits.max_body (s.framer.buffered ++ take k piece) = subst (λ (g : FramerData). IsPart g.limits.max_body g.buffered) e part in
-    let one_here : HoldsOne s.framer.limits.max_body (s.framer.buffered ++ take k piece) = subst (λ (g : FramerData). HoldsOne g.limits.max_body g.buffered) e one in
-    let is_after : IsAfter log_rules input (drop k piece) records (record s { framer = record s.framer { buffered = s.framer.buffered ++ take k piece } }) = record {
+    let part_here : IsPart s.framer.limits.max_body (s.framer.buffered ++ take k piece) =
+    subst (λ (g : FramerData). IsPart g.limits.max_body g.buffered) e part in
+    let one_here : HoldsOne s.framer.limits.max_body (s.framer.buffered ++ take k piece) =
+    subst (λ (g : FramerData). HoldsOne g.limits.max_body g.buffered) e one in
+    let is_after : IsAfter log_rules input (drop k piece) records (record s {
+      framer = record s.framer { buffered = s.framer.buffered ++ take k piece };
+    }) = record {
       reads = record {
         version = at.reads.version;
         accepted = at.reads.accepted;
@@ -75,36 +90,53 @@ fed_stands log_rules input piece records s f k e part one at =
       side = at.side;
       due = at.due;
     } in
-    subst (λ (g : FramerData). IsAfter log_rules input (drop k piece) records (record s { framer = g })) (sym e) is_after
+    subst (λ (g : FramerData). IsAfter log_rules input (drop k piece) records (record s { framer = g })) (sym e)
+    is_after
 
 -- No more of them can be taken.
-malformed : (log_rules : LogRules) (input piece : List ℕ) (records : List Record) (s : Splitter) (side : Side) (n : FramerData) (fault : FrameFault) → s.side ≡ Some side
-    → IsStreamFault s.framer n piece fault → IsAfter log_rules input piece records s → IsMalformed log_rules.max_body input fault (log_at s records piece)
+malformed : (log_rules : LogRules) (input piece : List ℕ) (records : List Record) (s : Splitter) (side : Side)
+    (n : FramerData) (fault : FrameFault) → s.side ≡ Some side
+    → IsStreamFault s.framer n piece fault → IsAfter log_rules input piece records s
+    → IsMalformed log_rules.max_body input fault (log_at s records piece)
 malformed log_rules input piece records s side n fault is why at =
     let limited : IsDecided log_rules.max_body s.framer.place (s.framer.buffered ++ piece) fault =
     subst (λ (m : ℕ). IsDecided m s.framer.place (s.framer.buffered ++ piece) fault) at.limit why.decided in
     record {
       side = side;
       part = s.framer.buffered ++ piece;
-      is = ap (λ (o : Option Side). (mark_part s.version o ++ s.framer.buffered) ++ piece) is ∙ append_assoc (mark_of s.version side) s.framer.buffered piece;
+      is = ap (λ (o : Option Side). (mark_part s.version o ++ s.framer.buffered) ++ piece) is
+          ∙ append_assoc (mark_of s.version side) s.framer.buffered piece;
       decided = subst (λ (p : ℕ). IsDecided log_rules.max_body p (s.framer.buffered ++ piece) fault) at.framed limited;
-      hopeless = λ more raw body tail t. why.hopeless more raw body tail (subst (λ (m : ℕ). IsFrameOf m raw body) (sym at.limit) t);
+      hopeless = λ more raw body tail t. why.hopeless more raw body tail
+          (subst (λ (m : ℕ). IsFrameOf m raw body) (sym at.limit) t);
     }
 
-split_fault : (log_rules : LogRules) (input piece : List ℕ) (records : List Record) (s : Splitter) (side : Side) (n : FramerData) (fault : FrameFault) → s.side ≡ Some side
-    → IsFeedFault s.framer n piece fault → s.framer.failed ≡ false → IsAfter log_rules input piece records s → IsSplitFault log_rules.max_body input (log_at s records piece) (engine_fault fault)
-split_fault log_rules input piece records s side n (fault_of.BadHeader place) is why sound at = malformed log_rules input piece records s side n (fault_of.BadHeader place) is why at
-split_fault log_rules input piece records s side n (fault_of.HeaderTooLong place) is why sound at = malformed log_rules input piece records s side n (fault_of.HeaderTooLong place) is why at
-split_fault log_rules input piece records s side n (fault_of.MissingLength place) is why sound at = malformed log_rules input piece records s side n (fault_of.MissingLength place) is why at
-split_fault log_rules input piece records s side n (fault_of.RepeatedHeader place) is why sound at = malformed log_rules input piece records s side n (fault_of.RepeatedHeader place) is why at
-split_fault log_rules input piece records s side n (fault_of.BadLength place) is why sound at = malformed log_rules input piece records s side n (fault_of.BadLength place) is why at
-split_fault log_rules input piece records s side n (fault_of.BodyTooLong place) is why sound at = malformed log_rules input piece records s side n (fault_of.BodyTooLong place) is why at
-split_fault log_rules input piece records s side n (fault_of.BadCharset place) is why sound at = malformed log_rules input piece records s side n (fault_of.BadCharset place) is why at
-split_fault log_rules input piece records s side n fault_of.Failed is why sound at = let failed : s.framer.failed ≡ true = why.0 in let two : true ≡ false = sym failed ∙ sound in cc
+split_fault : (log_rules : LogRules) (input piece : List ℕ) (records : List Record) (s : Splitter) (side : Side)
+    (n : FramerData) (fault : FrameFault) → s.side ≡ Some side
+    → IsFeedFault s.framer n piece fault → s.framer.failed ≡ false → IsAfter log_rules input piece records s
+    → IsSplitFault log_rules.max_body input (log_at s records piece) (engine_fault fault)
+split_fault log_rules input piece records s side n (fault_of.BadHeader place) is why sound at =
+    malformed log_rules input piece records s side n (fault_of.BadHeader place) is why at
+split_fault log_rules input piece records s side n (fault_of.HeaderTooLong place) is why sound at =
+    malformed log_rules input piece records s side n (fault_of.HeaderTooLong place) is why at
+split_fault log_rules input piece records s side n (fault_of.MissingLength place) is why sound at =
+    malformed log_rules input piece records s side n (fault_of.MissingLength place) is why at
+split_fault log_rules input piece records s side n (fault_of.RepeatedHeader place) is why sound at =
+    malformed log_rules input piece records s side n (fault_of.RepeatedHeader place) is why at
+split_fault log_rules input piece records s side n (fault_of.BadLength place) is why sound at =
+    malformed log_rules input piece records s side n (fault_of.BadLength place) is why at
+split_fault log_rules input piece records s side n (fault_of.BodyTooLong place) is why sound at =
+    malformed log_rules input piece records s side n (fault_of.BodyTooLong place) is why at
+split_fault log_rules input piece records s side n (fault_of.BadCharset place) is why sound at =
+    malformed log_rules input piece records s side n (fault_of.BadCharset place) is why at
+split_fault log_rules input piece records s side n fault_of.Failed is why sound at =
+    let failed : s.framer.failed ≡ true = why.0 in let two : true ≡ false = sym failed ∙ sound in cc
 split_fault log_rules input piece records s side n fault_of.NoMemory is why sound at = tt
 
-pub feed_fault : (log_rules : LogRules) (input piece : List ℕ) (records : List Record) (s : Splitter) (n : FramerData) (fault : FrameFault) → (s.side ≡ None → ⊥)
-    → IsFeedFault s.framer n piece fault → s.framer.failed ≡ false → IsAfter log_rules input piece records s → IsSplitFault log_rules.max_body input (log_at s records piece) (engine_fault fault)
+pub feed_fault : (log_rules : LogRules) (input piece : List ℕ) (records : List Record) (s : Splitter) (n : FramerData)
+    (fault : FrameFault) → (s.side ≡ None → ⊥)
+    → IsFeedFault s.framer n piece fault → s.framer.failed ≡ false → IsAfter log_rules input piece records s
+    → IsSplitFault log_rules.max_body input (log_at s records piece) (engine_fault fault)
 feed_fault log_rules input piece records s n fault some why sound at =
     let known : KnownSide s.side = known_side s.side some in
     split_fault log_rules input piece records s known.side n fault known.is why sound at
@@ -114,21 +146,27 @@ two_between : (version : Version) → IsSide version None → version ≡ Two
 two_between One side = absurd side
 two_between Two side = refl
 
-pub marked_stands : (log_rules : LogRules) (input piece tail : List ℕ) (mark : ℕ) (records : List Record) (s : Splitter) (side : Side) (f : FramerData) → s.side ≡ None → s.framer.buffered ≡ []
-    → piece ≡ mark ∷ tail → mark_of Two side ≡ mark ∷ [] → f ≡ record s.framer { place = place_after s.framer.place 1 } → IsAfter log_rules input piece records s
+pub marked_stands : (log_rules : LogRules) (input piece tail : List ℕ) (mark : ℕ) (records : List Record) (s : Splitter)
+    (side : Side) (f : FramerData) → s.side ≡ None → s.framer.buffered ≡ []
+    → piece ≡ mark ∷ tail → mark_of Two side ≡ mark ∷ [] → f ≡ record s.framer { place = place_after s.framer.place 1 }
+    → IsAfter log_rules input piece records s
     → IsAfter log_rules input tail records (record s { framer = f; side = Some side })
 marked_stands log_rules input piece tail mark records s side f none nothing is said e at =
     let two : s.version ≡ Two = two_between s.version (subst (λ (o : Option Side). IsSide s.version o) none at.side) in
     let marked : mark_of s.version side ≡ mark ∷ [] = ap (λ (v : Version). mark_of v side) two ∙ said in
     let was : buffered_of s ++ piece ≡ mark ∷ tail =
-    ap (λ (o : Option Side). (mark_part s.version o ++ s.framer.buffered) ++ piece) none ∙ ap (λ z. z ++ piece) nothing ∙ is in
+    ap (λ (o : Option Side). (mark_part s.version o ++ s.framer.buffered) ++ piece) none ∙ ap (λ z. z ++ piece) nothing
+    ∙ is in
     let now : (mark_of s.version side ++ s.framer.buffered) ++ tail ≡ mark ∷ tail =
     ap (λ z. (z ++ s.framer.buffered) ++ tail) marked ∙ ap (λ z. ((mark ∷ []) ++ z) ++ tail) nothing in
     let all : buffered_of s ++ piece ≡ (mark_of s.version side ++ s.framer.buffered) ++ tail = was ∙ sym now in
     let rest_after : s.framer.buffered ++ tail ≡ tail = ap (λ z. z ++ tail) nothing in
     let before : s.framer.buffered ++ piece ≡ mark ∷ tail = ap (λ z. z ++ piece) nothing ∙ is in
     let len = input_len log_rules input (log_at s records piece) at.reads in
-    let is_after : IsAfter log_rules input tail records (record s { framer = record s.framer { place = place_after s.framer.place 1 }; side = Some side }) = record {
+    let is_after : IsAfter log_rules input tail records (record s {
+      framer = record s.framer { place = place_after s.framer.place 1 };
+      side = Some side;
+    }) = record {
       reads = record {
         version = at.reads.version;
         accepted = at.reads.accepted;
@@ -143,22 +181,32 @@ marked_stands log_rules input piece tail mark records s side f none nothing is s
       side = subst (λ (v : Version). IsSide v (Some side)) (sym two) tt;
       due = at.due;
     } in
-    subst (λ (g : FramerData). IsAfter log_rules input tail records (record s { framer = g; side = Some side })) (sym e) is_after
+    subst (λ (g : FramerData). IsAfter log_rules input tail records (record s { framer = g; side = Some side })) (sym e)
+    is_after
 
 -- A record was given up.
 one_side : (version : Version) (side : Side) → IsSide version (Some side) → version ≡ One → side ≡ Client
 one_side One side is e = is
 one_side Two side is e = let other : Two ≡ One = e in cc
 
-known_reads : (log_rules : LogRules) (input more body : List ℕ) (records : List Record) (s : Splitter) (was : Side) → s.side ≡ Some was → IsFrameOf log_rules.max_body s.framer.buffered body
-    → IsAfter log_rules input more records s → IsReadAs log_rules input (record { version = s.version; records = records ++ record_at s body ∷ []; rest = more })
+known_reads : (log_rules : LogRules) (input more body : List ℕ) (records : List Record) (s : Splitter) (was : Side)
+    → s.side ≡ Some was → IsFrameOf log_rules.max_body s.framer.buffered body
+    → IsAfter log_rules input more records s → IsReadAs log_rules input (record {
+      version = s.version;
+      records = records ++ record_at s body ∷ [];
+      rest = more;
+    })
 known_reads log_rules input more body records s was is is_frame_of at =
     let bytes : buffered_of s ≡ record_bytes s.version (record_at s body) =
-    ap (λ (o : Option Side). mark_part s.version o ++ s.framer.buffered) is ∙ ap (λ (w : Side). mark_of s.version w ++ s.framer.buffered) (sym (ap side_of is)) in
+    ap (λ (o : Option Side). mark_part s.version o ++ s.framer.buffered) is
+    ∙ ap (λ (w : Side). mark_of s.version w ++ s.framer.buffered) (sym (ap side_of is)) in
     let len = input_len log_rules input (log_at s records more) at.reads in
-    let record_here : IsRecord log_rules.max_body s.version (length (line_of s.version) + length (together s.version records [])) (is_line_due s.version records) (record_at s body) = record {
+    let record_here : IsRecord log_rules.max_body s.version
+    (length (line_of s.version) + length (together s.version records [])) (is_line_due s.version records)
+    (record_at s body) = record {
       is_frame_of = is_frame_of;
-      side = λ one. ap side_of is ∙ one_side s.version was (subst (λ (o : Option Side). IsSide s.version o) is at.side) one;
+      side = λ one. ap side_of is ∙ one_side s.version was (subst (λ (o : Option Side). IsSide s.version o) is at.side)
+          one;
       of_version = refl;
       placed = at.placed ∙ ap (place_after 0) (omega (arith, len));
       due = at.due;
@@ -168,26 +216,52 @@ known_reads log_rules input more body records s was is is_frame_of at =
       accepted = at.reads.accepted;
       is = at.reads.is ∙ ap (λ z. line_of s.version ++ together s.version records (z ++ more)) bytes
           ∙ ap (λ z. line_of s.version ++ z) (sym (together_push s.version records (record_at s body) more));
-      each = are_push log_rules.max_body s.version (length (line_of s.version)) (is_line_due s.version []) records (record_at s body) at.reads.each
-          (subst (λ (b : Bool). IsRecord log_rules.max_body s.version (length (line_of s.version) + length (together s.version records [])) b (record_at s body)) (sym (due_now s.version records)) record_here);
+      each = are_push log_rules.max_body s.version (length (line_of s.version)) (is_line_due s.version []) records
+          (record_at s body) at.reads.each
+          (subst (λ (b : Bool). IsRecord log_rules.max_body s.version
+          (length (line_of s.version) + length (together s.version records [])) b (record_at s body))
+          (sym (due_now s.version records)) record_here);
     }
 
-given_known : (log_rules : LogRules) (input more body : List ℕ) (records : List Record) (s : Splitter) (f : FramerData) (was : Side) (side : Option Side) (mark place : ℕ) → s.side ≡ Some was
-    → f ≡ released s.framer → IsSide s.version side → mark_part s.version side ≡ [] → mark ≡ length (mark_of s.version was)
-    → place ≡ min (min (s.place + mark) (2 ^ 64 - 1) + length s.framer.buffered) (2 ^ 64 - 1) → IsFrameOf log_rules.max_body s.framer.buffered body → IsAfter log_rules input more records s
-    → IsAfter log_rules input more (records ++ record_at s body ∷ []) (record { framer = f; version = s.version; side = side; place = place; line_due = false })
+given_known : (log_rules : LogRules) (input more body : List ℕ) (records : List Record) (s : Splitter) (f : FramerData)
+    (was : Side) (side : Option Side) (mark place : ℕ) → s.side ≡ Some was
+    → f ≡ released s.framer → IsSide s.version side → mark_part s.version side ≡ []
+    → mark ≡ length (mark_of s.version was)
+    → place ≡ min (min (s.place + mark) (2 ^ 64 - 1) + length s.framer.buffered) (2 ^ 64 - 1)
+    → IsFrameOf log_rules.max_body s.framer.buffered body → IsAfter log_rules input more records s
+    → IsAfter log_rules input more (records ++ record_at s body ∷ []) (record {
+      framer = f;
+      version = s.version;
+      side = side;
+      place = place;
+      line_due = false;
+    })
 given_known log_rules input more body records s f was side mark place is e sided none marked placed is_frame_of at =
     let len = input_len log_rules input (log_at s records more) at.reads in
     let buffered : length (buffered_of s) ≡ mark + length s.framer.buffered =
-    omega (arith, ap (λ (o : Option Side). length (mark_part s.version o ++ s.framer.buffered)) is, length-append (mark_of s.version was) s.framer.buffered, marked) in
-    let whole : length (buffered_of s ++ more) ≡ length (buffered_of s) + length more = length-append (buffered_of s) more in
-    let framed : length (s.framer.buffered ++ more) ≡ length s.framer.buffered + length more = length-append s.framer.buffered more in
+    omega (
+      arith,
+      ap (λ (o : Option Side). length (mark_part s.version o ++ s.framer.buffered)) is,
+      length-append (mark_of s.version was) s.framer.buffered,
+      marked,
+    ) in
+    let whole : length (buffered_of s ++ more) ≡ length (buffered_of s) + length more =
+    length-append (buffered_of s) more in
+    let framed : length (s.framer.buffered ++ more) ≡ length s.framer.buffered + length more =
+    length-append s.framer.buffered more in
     let reads = known_reads log_rules input more body records s was is is_frame_of at in
-    let is_after : IsAfter log_rules input more (records ++ record_at s body ∷ []) (record { framer = released s.framer; version = s.version; side = side; place = place; line_due = false }) = record {
+    let is_after : IsAfter log_rules input more (records ++ record_at s body ∷ []) (record {
+      framer = released s.framer;
+      version = s.version;
+      side = side;
+      place = place;
+      line_due = false;
+    }) = record {
       reads = record {
         version = reads.version;
         accepted = reads.accepted;
-        is = reads.is ∙ ap (λ z. line_of s.version ++ together s.version (records ++ record_at s body ∷ []) ((z ++ []) ++ more)) (sym none);
+        is = reads.is ∙ ap (λ z. line_of s.version ++ together s.version (records ++ record_at s body ∷ [])
+            ((z ++ []) ++ more)) (sym none);
         each = reads.each;
       };
       limit = at.limit;
@@ -198,30 +272,49 @@ given_known log_rules input more body records s f was side mark place is e sided
       side = sided;
       due = sym (not_due s.version records (record_at s body));
     } in
-    subst (λ (g : FramerData). IsAfter log_rules input more (records ++ record_at s body ∷ []) (record { framer = g; version = s.version; side = side; place = place; line_due = false })) (sym e) is_after
+    subst (λ (g : FramerData). IsAfter log_rules input more (records ++ record_at s body ∷ [])
+    (record { framer = g; version = s.version; side = side; place = place; line_due = false })) (sym e) is_after
 
 pub some_side : (s : Splitter) → IsFed s → IsFrame s.framer.limits.max_body s.framer.buffered → s.side ≡ None → ⊥
-some_side s fed frame none = no_empty_frame s.framer.limits.max_body (subst (λ (z : List ℕ). IsFrame s.framer.limits.max_body z) (fed.between none) frame)
+some_side s fed frame none =
+    no_empty_frame s.framer.limits.max_body (subst (λ (z : List ℕ). IsFrame s.framer.limits.max_body z)
+    (fed.between none) frame)
 
-pub given_reads : (log_rules : LogRules) (input more body : List ℕ) (records : List Record) (s : Splitter) → (s.side ≡ None → ⊥) → IsFrameOf log_rules.max_body s.framer.buffered body
-    → IsAfter log_rules input more records s → IsReadAs log_rules input (record { version = s.version; records = records ++ record_at s body ∷ []; rest = more })
+pub given_reads : (log_rules : LogRules) (input more body : List ℕ) (records : List Record) (s : Splitter)
+    → (s.side ≡ None → ⊥) → IsFrameOf log_rules.max_body s.framer.buffered body
+    → IsAfter log_rules input more records s → IsReadAs log_rules input (record {
+      version = s.version;
+      records = records ++ record_at s body ∷ [];
+      rest = more;
+    })
 given_reads log_rules input more body records s some is_frame_of at =
     let known : KnownSide s.side = known_side s.side some in
     known_reads log_rules input more body records s known.side known.is is_frame_of at
 
-pub given_stands : (log_rules : LogRules) (input more body : List ℕ) (records : List Record) (s : Splitter) (f : FramerData) (side : Option Side) (mark place : ℕ) → (s.side ≡ None → ⊥)
-    → f ≡ released s.framer → IsSide s.version side → mark_part s.version side ≡ [] → ((was : Side) → mark ≡ length (mark_of s.version was))
-    → place ≡ min (min (s.place + mark) (2 ^ 64 - 1) + length s.framer.buffered) (2 ^ 64 - 1) → IsFrameOf log_rules.max_body s.framer.buffered body → IsAfter log_rules input more records s
+pub given_stands : (log_rules : LogRules) (input more body : List ℕ) (records : List Record) (s : Splitter)
+    (f : FramerData) (side : Option Side) (mark place : ℕ) → (s.side ≡ None → ⊥)
+    → f ≡ released s.framer → IsSide s.version side → mark_part s.version side ≡ []
+    → ((was : Side) → mark ≡ length (mark_of s.version was))
+    → place ≡ min (min (s.place + mark) (2 ^ 64 - 1) + length s.framer.buffered) (2 ^ 64 - 1)
+    → IsFrameOf log_rules.max_body s.framer.buffered body → IsAfter log_rules input more records s
     → IsAfter log_rules input more (records ++ record_at s body ∷ [])
     (record { framer = f; version = s.version; side = side; place = place; line_due = false })
 given_stands log_rules input more body records s f side mark place some e sided none marked placed is_frame_of at =
     let known : KnownSide s.side = known_side s.side some in
-    given_known log_rules input more body records s f known.side side mark place known.is e sided none (marked known.side) placed is_frame_of at
+    given_known log_rules input more body records s f known.side side mark place known.is e sided none
+    (marked known.side) placed is_frame_of at
 
-pub given_ready : (s : Splitter) (f : FramerData) (side : Option Side) (place : ℕ) → f ≡ released s.framer → s.framer.failed ≡ false
+pub given_ready : (s : Splitter) (f : FramerData) (side : Option Side) (place : ℕ) → f ≡ released s.framer
+    → s.framer.failed ≡ false
     → IsReady (record { framer = f; version = s.version; side = side; place = place; line_due = false })
 given_ready s f side place e sound =
-    subst (λ (g : FramerData). IsReady (record { framer = g; version = s.version; side = side; place = place; line_due = false })) (sym e)
+    subst (λ (g : FramerData). IsReady (record {
+      framer = g;
+      version = s.version;
+      side = side;
+      place = place;
+      line_due = false;
+    })) (sym e)
     (record { fed = record { sound = sound; between = λ _. refl }; none = no_empty_frame s.framer.limits.max_body })
 
 line_len : (version : Version) → length (line_of version) ≤ 18
@@ -229,11 +322,14 @@ line_len One = omega arith
 line_len Two = omega arith
 
 -- A splitter at the start of a log.
-pub new_stands : (log_rules : LogRules) (input more : List ℕ) (s : Splitter) → s.framer.buffered ≡ [] → s.framer.limits.max_body ≡ log_rules.max_body → s.framer.place ≡ place_after 0 (length (line_of s.version))
-    → mark_part s.version s.side ≡ [] → IsSide s.version s.side → s.place ≡ length (line_of s.version) → s.line_due ≡ is_line_due s.version [] → IsOpen log_rules input s.version more → IsAfter log_rules input more [] s
+pub new_stands : (log_rules : LogRules) (input more : List ℕ) (s : Splitter) → s.framer.buffered ≡ []
+    → s.framer.limits.max_body ≡ log_rules.max_body → s.framer.place ≡ place_after 0 (length (line_of s.version))
+    → mark_part s.version s.side ≡ [] → IsSide s.version s.side → s.place ≡ length (line_of s.version) → s.line_due
+    ≡ is_line_due s.version [] → IsOpen log_rules input s.version more → IsAfter log_rules input more [] s
 new_stands log_rules input more s nothing limit framed none side placed due at_start =
     let buffered : buffered_of s ≡ [] = ap (λ z. z ++ s.framer.buffered) none ∙ nothing in
-    let len : length input ≡ length (line_of s.version) + length more = omega (arith, ap length at_start.is, length-append (line_of s.version) more) in
+    let len : length input ≡ length (line_of s.version) + length more =
+    omega (arith, ap length at_start.is, length-append (line_of s.version) more) in
     let line : length (line_of s.version) ≤ 18 = line_len s.version in
     record {
       reads = record {

@@ -18,4 +18,5 @@ IsBelowLine versions left_old left_new =
 -- an incomplete record, or the input may still become the line of version 2.
 pub record IsUnfinished (log_rules : LogRules) (input : List ℕ) (log : Log) : Type 0 where
   pub none : HasNoRecord log_rules.max_body log
-  pub undecided : IsUndecided log_rules.max_body log ⊎ ((log_rules.versions ≡ true) × IsLineFront input)
+  pub undecided : IsUndecided log_rules.max_body log
+      ⊎ ((log_rules.versions ≡ true) × IsLineFront input)

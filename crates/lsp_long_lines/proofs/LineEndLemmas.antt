@@ -16,30 +16,42 @@ use Rattle.lsp_text.proofs.PlainLemmas.{units_total}
 use Rattle.lsp_long_lines.specs.LongLines.{is_long, line_end}
 
 -- The greatest character denotes the end of each line.
-pub denoted-past_end : (encoding : Encoding) (bytes : List ℕ) (line : ℕ) → IsUtf8 bytes → length bytes ≤ 2147483648 → line ≤ line_ends (chars bytes) →
-    denoted (units_in encoding) (chars bytes) (record { line = line; character = 4294967295 }) ≡ Some (line_stop (chars bytes) line)
+pub denoted-past_end : (encoding : Encoding) (bytes : List ℕ) (line : ℕ) → IsUtf8 bytes → length bytes ≤ 2147483648
+    → line ≤ line_ends (chars bytes) →
+    denoted (units_in encoding) (chars bytes) (record { line = line; character = 4294967295 })
+    ≡ Some (line_stop (chars bytes) line)
 denoted-past_end encoding bytes line utf8 size there =
     let text = chars bytes in
     past_line (units_in encoding) text (record { line = line; character = 4294967295 }) there
-    (omega (arith, units_total encoding text (line_start text line) (line_stop text line), ap length (encodes-chars bytes utf8), size))
+    (omega (
+      arith,
+      units_total encoding text (line_start text line) (line_stop text line),
+      ap length (encodes-chars bytes utf8),
+      size,
+    ))
 
 -- The character of a line's end: the units of its content.
 pub line_end-character : (units : ℕ → ℕ) (text : List ℕ) (line : ℕ) → line ≤ line_ends text →
     (line_end units text line).character ≡ units_between units text (line_start text line) (line_stop text line)
 line_end-character units text line there =
-    let here : line_at text (line_stop text line) ≡ line = in_content_line text line (line_stop text line) (line_has_stop text line there).passes in
+    let here : line_at text (line_stop text line) ≡ line =
+    in_content_line text line (line_stop text line) (line_has_stop text line there).passes in
     ap (λ (m : ℕ). units_between units text (line_start text m) (line_stop text line)) here
 
-pub is_long-false : (units : ℕ → ℕ) (text : List ℕ) (line : ℕ) (stop : Position) → line ≤ line_ends text → stop ≡ line_end units text line → stop.character ≤ 100 →
+pub is_long-false : (units : ℕ → ℕ) (text : List ℕ) (line : ℕ) (stop : Position) → line ≤ line_ends text
+    → stop ≡ line_end units text line → stop.character ≤ 100 →
     false ≡ is_long units text line
 is_long-false units text line stop there end few =
-    let count : stop.character ≡ units_between units text (line_start text line) (line_stop text line) = ap (λ (p : Position). p.character) end ∙ line_end-character units text line there in
+    let count : stop.character ≡ units_between units text (line_start text line) (line_stop text line) =
+    ap (λ (p : Position). p.character) end ∙ line_end-character units text line there in
     sym (le-ltb 100 (units_between units text (line_start text line) (line_stop text line)) (omega arith))
 
-pub is_long-true : (units : ℕ → ℕ) (text : List ℕ) (line : ℕ) (stop : Position) → line ≤ line_ends text → stop ≡ line_end units text line → 100 < stop.character →
+pub is_long-true : (units : ℕ → ℕ) (text : List ℕ) (line : ℕ) (stop : Position) → line ≤ line_ends text
+    → stop ≡ line_end units text line → 100 < stop.character →
     true ≡ is_long units text line
 is_long-true units text line stop there end many =
-    let count : stop.character ≡ units_between units text (line_start text line) (line_stop text line) = ap (λ (p : Position). p.character) end ∙ line_end-character units text line there in
+    let count : stop.character ≡ units_between units text (line_start text line) (line_stop text line) =
+    ap (λ (p : Position). p.character) end ∙ line_end-character units text line there in
     sym (lt-ltb 100 (units_between units text (line_start text line) (line_stop text line)) (omega arith))
 
 -- One number more.
@@ -47,7 +59,8 @@ numbers_from-suc : (first count : ℕ) → numbers_from first (suc count) ≡ nu
 numbers_from-suc first zero = let e : first ≡ first + 0 = omega arith in ap (λ (k : ℕ). k ∷ []) e
 numbers_from-suc first (suc count) =
     let next : suc first + count ≡ first + suc count = omega arith in
-    ap (λ (ks : List ℕ). first ∷ ks) (numbers_from-suc (suc first) count ∙ ap (λ (k : ℕ). numbers_from (suc first) count ++ k ∷ []) next)
+    ap (λ (ks : List ℕ). first ∷ ks) (numbers_from-suc (suc first) count
+    ∙ ap (λ (k : ℕ). numbers_from (suc first) count ++ k ∷ []) next)
 
 numbers_from-more : (count : ℕ) → numbers_from 0 (count + 1) ≡ numbers_from 0 count ++ count ∷ []
 numbers_from-more count =
@@ -61,30 +74,37 @@ ends_before units text count = map (line_end units text) (filter (is_long units 
 
 -- One line more, which is the last of these if it is long.
 ends_before-more : (units : ℕ → ℕ) (text : List ℕ) (line : ℕ) (long : Bool) → long ≡ is_long units text line →
-    ends_before units text (line + 1) ≡ ends_before units text line ++ map (line_end units text) (cond long (line ∷ []) [])
+    ends_before units text (line + 1) ≡ ends_before units text line ++ map (line_end units text)
+    (cond long (line ∷ []) [])
 ends_before-more units text line long is =
     let test = is_long units text in
     let earlier = filter test (numbers_from 0 line) in
     let last : filter test (line ∷ []) ≡ cond long (line ∷ []) [] = ap (λ (b : Bool). cond b (line ∷ []) []) (sym is) in
     ap (map (line_end units text))
-    (ap (filter test) (numbers_from-more line) ∙ filter-append test (numbers_from 0 line) (line ∷ []) ∙ ap (λ (ks : List ℕ). earlier ++ ks) last)
+    (ap (filter test) (numbers_from-more line) ∙ filter-append test (numbers_from 0 line) (line ∷ [])
+    ∙ ap (λ (ks : List ℕ). earlier ++ ks) last)
     ∙ map-append (line_end units text) earlier (cond long (line ∷ []) [])
 
 abbrev pub stops : List Range → List Position
 stops ranges = map (λ (range : Range). range.stop) ranges
 
-pub stops-long : (units : ℕ → ℕ) (bytes shown : List ℕ) (line : ℕ) (ranges : List Range) (range : Range) → shown ≡ bytes → true ≡ is_long units (chars shown) line →
-    range.stop ≡ line_end units (chars shown) line → stops ranges ≡ ends_before units (chars bytes) line → stops (ranges ++ range ∷ []) ≡ ends_before units (chars bytes) (line + 1)
+pub stops-long : (units : ℕ → ℕ) (bytes shown : List ℕ) (line : ℕ) (ranges : List Range) (range : Range) → shown ≡ bytes
+    → true ≡ is_long units (chars shown) line →
+    range.stop ≡ line_end units (chars shown) line → stops ranges ≡ ends_before units (chars bytes) line
+    → stops (ranges ++ range ∷ []) ≡ ends_before units (chars bytes) (line + 1)
 stops-long units bytes shown line ranges range same long end before =
     let text = chars bytes in
     let here : true ≡ is_long units text line = subst (λ (b : List ℕ). true ≡ is_long units (chars b) line) same long in
-    let at : range.stop ≡ line_end units text line = subst (λ (b : List ℕ). range.stop ≡ line_end units (chars b) line) same end in
+    let at : range.stop ≡ line_end units text line = subst (λ (b : List ℕ). range.stop ≡ line_end units (chars b) line)
+    same end in
     map-append (λ (r : Range). r.stop) ranges (range ∷ []) ∙ ap (λ (ps : List Position). ps ++ range.stop ∷ []) before
     ∙ ap (λ (p : Position). ends_before units text line ++ p ∷ []) at ∙ sym (ends_before-more units text line true here)
 
-pub stops-short : (units : ℕ → ℕ) (bytes shown : List ℕ) (line : ℕ) (ranges : List Range) → shown ≡ bytes → false ≡ is_long units (chars shown) line →
+pub stops-short : (units : ℕ → ℕ) (bytes shown : List ℕ) (line : ℕ) (ranges : List Range) → shown ≡ bytes
+    → false ≡ is_long units (chars shown) line →
     stops ranges ≡ ends_before units (chars bytes) line → stops ranges ≡ ends_before units (chars bytes) (line + 1)
 stops-short units bytes shown line ranges same short before =
     let text = chars bytes in
-    let here : false ≡ is_long units text line = subst (λ (b : List ℕ). false ≡ is_long units (chars b) line) same short in
+    let here : false ≡ is_long units text line = subst (λ (b : List ℕ). false ≡ is_long units (chars b) line) same
+    short in
     before ∙ sym (append-nil (ends_before units text line)) ∙ sym (ends_before-more units text line false here)

@@ -28,7 +28,8 @@ use Rattle.lsp_message.proofs.Sound.{Sound, SoundItems, sound_null, sound_boolea
 
 -- ---- the depth
 
-items_depth-strings : {X : Type 0} (f : X → List ℕ) (xs : List X) → items_depth (items_of (map (λ x. string (f x)) xs)) ≡ 0
+items_depth-strings : {X : Type 0} (f : X → List ℕ) (xs : List X) → items_depth (items_of (map (λ x. string (f x)) xs))
+    ≡ 0
 items_depth-strings f [] = refl
 items_depth-strings f (x ∷ xs) = omega (arith, items_depth-strings f xs)
 
@@ -78,12 +79,17 @@ sound_position : (p : Position) → IsProperPosition p → Sound (values.positio
 sound_position p h =
     let line = h.line in
     let character = h.character in
-    sound_object _ refl (refl, sound_unsigned p.character (omega arith), (refl, sound_unsigned p.line (omega arith), tt))
+    sound_object _ refl (
+      refl,
+      sound_unsigned p.character (omega arith),
+      (refl, sound_unsigned p.line (omega arith), tt),
+    )
 
 sound_range : (r : Range) → IsProperRange r → Sound (values.range_value r)
 sound_range r h = sound_object _ refl (refl, sound_position r.stop h.stop, (refl, sound_position r.start h.start, tt))
 
-sound_edit : (r : Option Range) (s : List ℕ) → IfSome r IsProperRange → IsUtf8 s → Sound (values.edit_value (record { range = r; text = s }))
+sound_edit : (r : Option Range) (s : List ℕ) → IfSome r IsProperRange → IsUtf8 s
+    → Sound (values.edit_value (record { range = r; text = s }))
 sound_edit None s h u = sound_object _ refl (refl, sound_string s u, tt)
 sound_edit (Some r) s h u = sound_object _ refl (refl, sound_range r h, (refl, sound_string s u, tt))
 
@@ -91,7 +97,8 @@ sound_edits : (es : List EditData) → All IsProperEdit es → SoundItems (items
 sound_edits [] h = sound_no_items
 sound_edits (e ∷ es) h =
     let first = h 0 e (omega arith) in
-    sound_item _ _ (sound_edit e.range e.text first.range first.text) (sound_edits es (λ k d l. h (suc k) d (omega arith)))
+    sound_item _ _ (sound_edit e.range e.text first.range first.text)
+    (sound_edits es (λ k d l. h (suc k) d (omega arith)))
 
 sound_id : (id : IdData) → IsProperId id → Sound (values.id_value id)
 sound_id (whole n) h = sound_integer n h
@@ -126,10 +133,16 @@ sound_kind Incremental = sound_object _ refl (refl, sound_unsigned _ (omega arit
 two : Sound (string (codes "2.0"))
 two = sound_string _ (IsUtf8-are_ascii _ refl)
 
-sound_request : (id : ℕ) (method : List ℕ) (params : Data) → id < 2 ^ 64 → IsUtf8 method → Sound params → Sound (values.request_value id method (Some params))
-sound_request id method params small u h = sound_object _ refl (refl, sound_unsigned id small, (refl, two, (refl, sound_string method u, (refl, h, tt))))
+sound_request : (id : ℕ) (method : List ℕ) (params : Data) → id < 2 ^ 64 → IsUtf8 method → Sound params
+    → Sound (values.request_value id method (Some params))
+sound_request id method params small u h = sound_object _ refl (
+  refl,
+  sound_unsigned id small,
+  (refl, two, (refl, sound_string method u, (refl, h, tt))),
+)
 
-sound_notification : (method : List ℕ) (params : Data) → IsUtf8 method → Sound params → Sound (values.notification_value method (Some params))
+sound_notification : (method : List ℕ) (params : Data) → IsUtf8 method → Sound params
+    → Sound (values.notification_value method (Some params))
 sound_notification method params u h = sound_object _ refl (refl, two, (refl, sound_string method u, (refl, h, tt)))
 
 sound_result : (id : IdData) (d : Data) → IsProperId id → Sound d → Sound (values.result_value id d)
@@ -137,42 +150,64 @@ sound_result id d proper h = sound_object _ refl (refl, sound_id id proper, (ref
 
 sound_initialize_params : (offers : Offers) → Sound (values.initialize_params offers)
 sound_initialize_params offers =
-    let general = sound_object (member (codes "positionEncodings") (array (items_of (values.names_of offers))) no_members) refl (refl, sound_array _ (sound_names _), tt) in
+    let general =
+    sound_object (member (codes "positionEncodings") (array (items_of (values.names_of offers))) no_members) refl (
+      refl,
+      sound_array _ (sound_names _),
+      tt,
+    ) in
     let capabilities = sound_object (member (codes "general") _ no_members) refl (refl, general, tt) in
     sound_object _ refl (refl, capabilities, (refl, sound_null, (refl, sound_null, tt)))
 
 sound_open_params : (p : DocumentItem) → IsProperDocument p → Sound (values.open_params p)
 sound_open_params p h =
     let document : Sound (values.opened_document p) =
-    sound_object _ refl (refl, sound_string p.language h.language, (refl, sound_string p.text h.text, (refl, sound_string p.uri h.uri, (refl, sound_version p.version h.version, tt)))) in
+    sound_object _ refl (
+      refl,
+      sound_string p.language h.language,
+      (
+        refl,
+        sound_string p.text h.text,
+        (refl, sound_string p.uri h.uri, (refl, sound_version p.version h.version, tt)),
+      ),
+    ) in
     sound_object _ refl (refl, document, tt)
 
 sound_change_params : (p : ChangeData) → IsProperChange p → Sound (values.change_params p)
 sound_change_params p h =
-    let document : Sound (values.versioned_document p.uri p.version) = sound_object _ refl (refl, sound_string p.uri h.uri, (refl, sound_version p.version h.version, tt)) in
+    let document : Sound (values.versioned_document p.uri p.version) =
+    sound_object _ refl (refl, sound_string p.uri h.uri, (refl, sound_version p.version h.version, tt)) in
     sound_object _ refl (refl, sound_array _ (sound_edits p.changes h.changes), (refl, document, tt))
 
 sound_close_params : (p : CloseData) → IsUtf8 p.uri → Sound (values.close_params p)
 sound_close_params p u =
-    let document : Sound (object (member (codes "uri") (string p.uri) no_members)) = sound_object _ refl (refl, sound_string p.uri u, tt) in
+    let document : Sound (object (member (codes "uri") (string p.uri) no_members)) =
+    sound_object _ refl (refl, sound_string p.uri u, tt) in
     sound_object _ refl (refl, document, tt)
 
 sound_initialize_value : (encoding : Encoding) (kind : SyncKind) → Sound (values.initialize_value encoding kind)
 sound_initialize_value encoding kind =
-    let announced : Sound (values.announced_value encoding kind) = sound_object _ refl (refl, sound_string _ (utf8-name_of encoding), (refl, sound_kind kind, tt)) in
+    let announced : Sound (values.announced_value encoding kind) =
+    sound_object _ refl (refl, sound_string _ (utf8-name_of encoding), (refl, sound_kind kind, tt)) in
     sound_object _ refl (refl, announced, tt)
 
 pub sound-value_of : (m : OutgoingData) → IsProper m → Sound (values.value_of m)
-sound-value_of (spec.initialize offers) h = sound_request 1 _ _ (omega arith) (IsUtf8-are_ascii _ refl) (sound_initialize_params offers)
+sound-value_of (spec.initialize offers) h =
+    sound_request 1 _ _ (omega arith) (IsUtf8-are_ascii _ refl) (sound_initialize_params offers)
 sound-value_of spec.initialized h = sound_notification _ _ (IsUtf8-are_ascii _ refl) (sound_object no_members refl tt)
 sound-value_of (spec.did_open p) h = sound_notification _ _ (IsUtf8-are_ascii _ refl) (sound_open_params p h)
 sound-value_of (spec.did_change p) h = sound_notification _ _ (IsUtf8-are_ascii _ refl) (sound_change_params p h)
 sound-value_of (spec.did_close p) h = sound_notification _ _ (IsUtf8-are_ascii _ refl) (sound_close_params p h)
-sound-value_of spec.shutdown h = sound_object _ refl (refl, sound_unsigned 2 (omega arith), (refl, two, (refl, sound_string _ (IsUtf8-are_ascii _ refl), tt)))
+sound-value_of spec.shutdown h = sound_object _ refl (
+  refl,
+  sound_unsigned 2 (omega arith),
+  (refl, two, (refl, sound_string _ (IsUtf8-are_ascii _ refl), tt)),
+)
 sound-value_of spec.exit h = sound_object _ refl (refl, two, (refl, sound_string _ (IsUtf8-are_ascii _ refl), tt))
 sound-value_of (spec.initialize_result id encoding kind) h = sound_result id _ h (sound_initialize_value encoding kind)
 sound-value_of (spec.shutdown_result id) h = sound_result id _ h sound_null
-sound-value_of (spec.error_reply id error) h = sound_object _ refl (refl, sound_error error, (refl, sound_id_or_null id h, (refl, two, tt)))
+sound-value_of (spec.error_reply id error) h =
+    sound_object _ refl (refl, sound_error error, (refl, sound_id_or_null id h, (refl, two, tt)))
 
 -- the body of a message is read as its value
 pub read-body_of : (m : OutgoingData) → IsProper m → read (spec.body_of m) ≡ Some (values.value_of m)

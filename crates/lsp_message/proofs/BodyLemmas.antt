@@ -34,7 +34,8 @@ five a b c d e = simp append_assoc
 six : (a b c d e f : List ℕ) → ((((a ++ b) ++ c) ++ d) ++ e) ++ f ≡ a ++ (b ++ (c ++ (d ++ (e ++ f))))
 six a b c d e f = simp append_assoc
 
-eight : (a b c d e f g h : List ℕ) → ((((((a ++ b) ++ c) ++ d) ++ e) ++ f) ++ g) ++ h ≡ a ++ (b ++ (c ++ (d ++ (e ++ (f ++ (g ++ h))))))
+eight : (a b c d e f g h : List ℕ) → ((((((a ++ b) ++ c) ++ d) ++ e) ++ f) ++ g) ++ h
+    ≡ a ++ (b ++ (c ++ (d ++ (e ++ (f ++ (g ++ h))))))
 eight a b c d e f g h = simp append_assoc
 
 within : (a b c d e : List ℕ) → (a ++ (b ++ (c ++ d))) ++ e ≡ a ++ (b ++ (c ++ (d ++ e)))
@@ -45,14 +46,16 @@ items_later : {X : Type 0} (t : X → List ℕ) (v : X → Data) → ((x : X) �
     → flat_map (λ x. codes "," ++ t x) xs ++ codes "]" ≡ items_text true (items_of (map v xs))
 items_later t v are [] = refl
 items_later t v are (x ∷ xs) =
-    ap (λ s. 44 ∷ s) (append_assoc (t x) (flat_map (λ y. codes "," ++ t y) xs) (codes "]") ∙ ap₂ (λ a b. a ++ b) (are x) (items_later t v are xs))
+    ap (λ s. 44 ∷ s) (append_assoc (t x) (flat_map (λ y. codes "," ++ t y) xs) (codes "]") ∙ ap₂ (λ a b. a ++ b) (are x)
+    (items_later t v are xs))
 
 -- all items, with the closing bracket
 items_are : {X : Type 0} (t : X → List ℕ) (v : X → Data) → ((x : X) → t x ≡ compact_text (v x)) → (xs : List X)
     → join_by t (codes ",") xs ++ codes "]" ≡ items_text false (items_of (map v xs))
 items_are t v are [] = refl
 items_are t v are (x ∷ xs) =
-    append_assoc (t x) (flat_map (λ y. codes "," ++ t y) xs) (codes "]") ∙ ap₂ (λ a b. a ++ b) (are x) (items_later t v are xs)
+    append_assoc (t x) (flat_map (λ y. codes "," ++ t y) xs) (codes "]") ∙ ap₂ (λ a b. a ++ b) (are x)
+    (items_later t v are xs)
 
 -- ---- parts
 
@@ -74,16 +77,20 @@ id_or_null_is (Some id) = id_is id
 
 position_is : (p : Position) → position_text p ≡ compact_text (values.position_value p)
 unfolding escape_byte
-position_is p = ap (λ s. codes "{\"character\":" ++ s) (four (decimal p.character) (codes ",\"line\":") (decimal p.line) (codes "}"))
+position_is p =
+    ap (λ s. codes "{\"character\":" ++ s) (four (decimal p.character) (codes ",\"line\":") (decimal p.line)
+    (codes "}"))
 
 range_is : (r : Range) → range_text r ≡ compact_text (values.range_value r)
 unfolding escape_byte
 range_is r =
     ap (λ s. codes "{\"end\":" ++ s)
     (four (position_text r.stop) (codes ",\"start\":") (position_text r.start) (codes "}")
-    ∙ ap₂ (λ stop start. stop ++ (codes ",\"start\":" ++ (start ++ codes "}"))) (position_is r.stop) (position_is r.start))
+    ∙ ap₂ (λ stop start. stop ++ (codes ",\"start\":" ++ (start ++ codes "}"))) (position_is r.stop)
+    (position_is r.start))
 
-edit_of_is : (r : Option Range) (s : List ℕ) → edit_text (record { range = r; text = s }) ≡ compact_text (values.edit_value (record { range = r; text = s }))
+edit_of_is : (r : Option Range) (s : List ℕ) → edit_text (record { range = r; text = s })
+    ≡ compact_text (values.edit_value (record { range = r; text = s }))
 unfolding escape_byte
 edit_of_is None s = refl
 edit_of_is (Some r) s =
@@ -98,17 +105,23 @@ pub document_is : (p : DocumentItem) → document_text p ≡ compact_text (value
 unfolding escape_byte
 document_is p =
     ap (λ s. codes "{\"languageId\":" ++ s)
-    (eight (quoted p.language) (codes ",\"text\":") (quoted p.text) (codes ",\"uri\":") (quoted p.uri) (codes ",\"version\":") (signed_decimal p.version) (codes "}")
-    ∙ ap (λ n. quoted p.language ++ (codes ",\"text\":" ++ (quoted p.text ++ (codes ",\"uri\":" ++ (quoted p.uri ++ (codes ",\"version\":" ++ (n ++ codes "}"))))))) (sym (integer_text p.version)))
+    (eight (quoted p.language) (codes ",\"text\":") (quoted p.text) (codes ",\"uri\":") (quoted p.uri)
+    (codes ",\"version\":") (signed_decimal p.version) (codes "}")
+    ∙ ap (λ n. quoted p.language
+    ++ (codes ",\"text\":"
+    ++ (quoted p.text ++ (codes ",\"uri\":" ++ (quoted p.uri ++ (codes ",\"version\":" ++ (n ++ codes "}")))))))
+    (sym (integer_text p.version)))
 
 -- ---- params and results
 
-open_is : (p : DocumentItem) → codes "{\"textDocument\":" ++ document_text p ++ codes "}" ≡ compact_text (values.open_params p)
+open_is : (p : DocumentItem) → codes "{\"textDocument\":" ++ document_text p ++ codes "}"
+    ≡ compact_text (values.open_params p)
 unfolding escape_byte
 open_is p = ap (λ s. codes "{\"textDocument\":" ++ s ++ codes "}") (document_is p)
 
 change_is : (p : ChangeData)
-    → codes "{\"contentChanges\":[" ++ join_by edit_text (codes ",") p.changes ++ codes "],\"textDocument\":{\"uri\":" ++ quoted p.uri ++ codes ",\"version\":" ++ signed_decimal p.version ++ codes "}}"
+    → codes "{\"contentChanges\":[" ++ join_by edit_text (codes ",") p.changes ++ codes "],\"textDocument\":{\"uri\":"
+    ++ quoted p.uri ++ codes ",\"version\":" ++ signed_decimal p.version ++ codes "}}"
     ≡ compact_text (values.change_params p)
 unfolding escape_byte
 change_is p =
@@ -118,16 +131,21 @@ change_is p =
     let number = number_text (of_integer p.version) in
     ap (λ s. codes "{\"contentChanges\":[" ++ s)
     (six items (codes "],\"textDocument\":{\"uri\":") (quoted p.uri) version (signed_decimal p.version) (codes "}}")
-    ∙ (sym (append_assoc items (codes "]") (after ++ (quoted p.uri ++ (version ++ (signed_decimal p.version ++ codes "}}")))))
+    ∙ (sym (append_assoc items (codes "]")
+    (after ++ (quoted p.uri ++ (version ++ (signed_decimal p.version ++ codes "}}")))))
     ∙ ap₂ (λ list rest. list ++ (after ++ rest))
     (items_are edit_text values.edit_value edit_is p.changes)
-    (ap (λ n. quoted p.uri ++ (version ++ (n ++ codes "}}"))) (sym (integer_text p.version)) ∙ sym (within (quoted p.uri) version number (codes "}") (codes "}")))))
+    (ap (λ n. quoted p.uri ++ (version ++ (n ++ codes "}}"))) (sym (integer_text p.version))
+    ∙ sym (within (quoted p.uri) version number (codes "}") (codes "}")))))
 
-close_is : (p : CloseData) → codes "{\"textDocument\":{\"uri\":" ++ quoted p.uri ++ codes "}}" ≡ compact_text (values.close_params p)
+close_is : (p : CloseData) → codes "{\"textDocument\":{\"uri\":" ++ quoted p.uri ++ codes "}}"
+    ≡ compact_text (values.close_params p)
 unfolding escape_byte
-close_is p = ap (λ s. codes "{\"textDocument\":{\"uri\":" ++ s) (sym (append_assoc (quoted p.uri) (codes "}") (codes "}")))
+close_is p = ap (λ s. codes "{\"textDocument\":{\"uri\":" ++ s)
+    (sym (append_assoc (quoted p.uri) (codes "}") (codes "}")))
 
-response_is : (id : IdData) (result : List ℕ) (value : Data) → result ≡ compact_text value → result_text id result ≡ compact_text (values.result_value id value)
+response_is : (id : IdData) (result : List ℕ) (value : Data) → result ≡ compact_text value → result_text id result
+    ≡ compact_text (values.result_value id value)
 unfolding escape_byte
 response_is id result value is =
     ap (λ s. codes "{\"id\":" ++ s)
@@ -136,7 +154,8 @@ response_is id result value is =
 
 -- ---- bodies
 
-initialize_is : (utf8 utf32 : Bool) → let offers : Offers = record { utf8 = utf8; utf32 = utf32 } in body_of (initialize offers) ≡ compact_text (values.value_of (initialize offers))
+initialize_is : (utf8 utf32 : Bool) → let offers : Offers = record { utf8 = utf8; utf32 = utf32 } in
+    body_of (initialize offers) ≡ compact_text (values.value_of (initialize offers))
 unfolding escape_byte digits
 initialize_is true true = refl
 initialize_is true false = refl
@@ -156,7 +175,8 @@ initialize_result_is id Utf32 Off = response_is id _ (values.initialize_value Ut
 initialize_result_is id Utf32 Full = response_is id _ (values.initialize_value Utf32 Full) refl
 initialize_result_is id Utf32 Incremental = response_is id _ (values.initialize_value Utf32 Incremental) refl
 
-error_reply_is : (id : Option IdData) (error : ErrorCode) → body_of (error_reply id error) ≡ compact_text (values.value_of (error_reply id error))
+error_reply_is : (id : Option IdData) (error : ErrorCode) → body_of (error_reply id error)
+    ≡ compact_text (values.value_of (error_reply id error))
 unfolding escape_byte
 error_reply_is id error =
     ap (λ s. codes "{\"error\":" ++ s)

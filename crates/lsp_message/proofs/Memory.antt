@@ -11,12 +11,15 @@ use Rattle.lsp_message.specs.Values.{text_in}
 use Rattle.lsp_message.specs.Params.{EditData, ChangeData, HasChanges, edit_in, edits_in, range_of}
 
 both_there : (text : Option (List ℕ)) (range : Option (Option Range)) →
-    is_some (option_and_then (λ t. option_and_then (λ (r : Option Range). Some (let e : EditData = record { range = r; text = t } in e)) range) text) ≡ (is_some text && is_some range)
+    is_some (option_and_then
+    (λ t. option_and_then (λ (r : Option Range). Some (let e : EditData = record { range = r; text = t } in e)) range)
+    text) ≡ (is_some text && is_some range)
 both_there None range = refl
 both_there (Some t) None = refl
 both_there (Some t) (Some r) = refl
 
-pub edit_there : (d : Data) → is_some (edit_in d) ≡ (is_some (text_in (get (codes "text") d)) && is_some (range_of (get (codes "range") d)))
+pub edit_there : (d : Data) → is_some (edit_in d)
+    ≡ (is_some (text_in (get (codes "text") d)) && is_some (range_of (get (codes "range") d)))
 edit_there null = refl
 edit_there (boolean b) = refl
 edit_there (number n) = refl
@@ -30,10 +33,12 @@ one_more None edits = refl
 one_more (Some e) None = refl
 one_more (Some e) (Some es) = refl
 
-pub edits_there : (values : List Value) → list_all (λ v. is_some (edit_in (view v))) values ≡ is_some (edits_in (items_view values))
+pub edits_there : (values : List Value) → list_all (λ v. is_some (edit_in (view v))) values
+    ≡ is_some (edits_in (items_view values))
 edits_there [] = refl
 edits_there (value ∷ values) =
-    ap (λ b. is_some (edit_in (view value)) && b) (edits_there values) ∙ sym (one_more (edit_in (view value)) (edits_in (items_view values)))
+    ap (λ b. is_some (edit_in (view value)) && b) (edits_there values)
+    ∙ sym (one_more (edit_in (view value)) (edits_in (items_view values)))
 
 some_more : (edit : Option EditData) (edits : Option (List EditData)) →
     is_some (option_and_then (λ e. option_and_then (λ es. Some (e ∷ es)) edits) edit) ≡ true →
@@ -42,12 +47,17 @@ some_more None edits there = cc
 some_more (Some e) None there = cc
 some_more (Some e) (Some es) there = omega arith
 
-pub has_edits : (values : List Value) → 0 < length values → is_some (edits_in (items_view values)) ≡ true → IsSomeAnd (edits_in (items_view values)) (λ es. 0 < length es)
+pub has_edits : (values : List Value) → 0 < length values → is_some (edits_in (items_view values)) ≡ true
+    → IsSomeAnd (edits_in (items_view values)) (λ es. 0 < length es)
 has_edits [] some there = absurd (omega arith)
 has_edits (value ∷ values) some there = some_more (edit_in (view value)) (edits_in (items_view values)) there
 
-pub has_changes : (uri : Option (List ℕ)) (version : Option ℤ) (edits : Option (List EditData)) → is_some uri ≡ true → is_some version ≡ true → IsSomeAnd edits (λ es. 0 < length es) →
-    IsSomeAnd (option_and_then (λ u. option_and_then (λ v. option_and_then (λ es. Some (let c : ChangeData = record { uri = u; version = v; changes = es } in c)) edits) version) uri) HasChanges
+pub has_changes : (uri : Option (List ℕ)) (version : Option ℤ) (edits : Option (List EditData)) → is_some uri ≡ true
+    → is_some version ≡ true → IsSomeAnd edits (λ es. 0 < length es) →
+    IsSomeAnd (option_and_then
+    (λ u. option_and_then
+    (λ v. option_and_then (λ es. Some (let c : ChangeData = record { uri = u; version = v; changes = es } in c)) edits)
+    version) uri) HasChanges
 has_changes None version edits there known some = cc
 has_changes (Some u) None edits there known some = cc
 has_changes (Some u) (Some v) None there known some = some

@@ -55,7 +55,8 @@ is_null-id_value : (id : IdData) → is_null (values.id_value id) ≡ false
 is_null-id_value (whole n) = refl
 is_null-id_value (text s) = refl
 
-message_of-error_reply : (id : Option IdData) (error : ErrorCode) → IfSome id IsProperId → message_of (values.error_reply_value id error) ≡ message (sent (spec.error_reply id error))
+message_of-error_reply : (id : Option IdData) (error : ErrorCode) → IfSome id IsProperId
+    → message_of (values.error_reply_value id error) ≡ message (sent (spec.error_reply id error))
 message_of-error_reply None error h = refl
 message_of-error_reply (Some id) error h = rw (is_null-id_value id, id_in-id_value id h) refl
 
@@ -72,7 +73,8 @@ message_of-value_of (spec.shutdown_result id) h = rw (is_null-id_value id, id_in
 message_of-value_of (spec.error_reply id error) h = message_of-error_reply id error h
 
 pub reading-body_of : (m : OutgoingData) → IsProper m → reading (spec.body_of m) ≡ message (sent m)
-reading-body_of m h = reading_of_value (spec.body_of m) (values.value_of m) (utf8-body_of m h) (read-body_of m h) ∙ message_of-value_of m h
+reading-body_of m h = reading_of_value (spec.body_of m) (values.value_of m) (utf8-body_of m h) (read-body_of m h)
+    ∙ message_of-value_of m h
 
 -- ---- its parameters
 
@@ -83,9 +85,11 @@ position_in-position_value p h =
     rw (lt-ltb p.line (2 ^ 32) line, lt-ltb p.character (2 ^ 32) character) refl
 
 range_in-range_value : (r : Range) → IsProperRange r → range_in (Some (values.range_value r)) ≡ Some r
-range_in-range_value r h = rw (position_in-position_value r.start h.start, position_in-position_value r.stop h.stop) refl
+range_in-range_value r h = rw (position_in-position_value r.start h.start, position_in-position_value r.stop h.stop)
+    refl
 
-edit_in-edit_value : (r : Option Range) (s : List ℕ) → IfSome r IsProperRange → edit_in (values.edit_value (record { range = r; text = s })) ≡ Some (record { range = r; text = s })
+edit_in-edit_value : (r : Option Range) (s : List ℕ) → IfSome r IsProperRange
+    → edit_in (values.edit_value (record { range = r; text = s })) ≡ Some (record { range = r; text = s })
 edit_in-edit_value None s h = refl
 edit_in-edit_value (Some r) s h = rw (range_in-range_value r h) refl
 
@@ -101,7 +105,8 @@ open_of-open_params p h = rw (version_in-of_integer p.version h.version) refl
 change_of-change_params : (p : ChangeData) → IsProperChange p → change_of (Some (values.change_params p)) ≡ Some p
 change_of-change_params p h = rw (version_in-of_integer p.version h.version, edits_in-edits p.changes h.changes) refl
 
-offers_of-initialize_params : (utf8 utf32 : Bool) → let offers : Offers = record { utf8 = utf8; utf32 = utf32 } in offers_of (Some (values.initialize_params offers)) ≡ Some offers
+offers_of-initialize_params : (utf8 utf32 : Bool) → let offers : Offers = record { utf8 = utf8; utf32 = utf32 } in
+    offers_of (Some (values.initialize_params offers)) ≡ Some offers
 offers_of-initialize_params true true = refl
 offers_of-initialize_params true false = refl
 offers_of-initialize_params false true = refl
@@ -110,7 +115,8 @@ offers_of-initialize_params false false = refl
 abbrev announces : Encoding → SyncKind → Announced
 announces encoding kind = record { open_close = true; kind = kind; encoding = Some encoding }
 
-announced_of-initialize_value : (encoding : Encoding) (kind : SyncKind) → announced_of (values.initialize_value encoding kind) ≡ Some (announces encoding kind)
+announced_of-initialize_value : (encoding : Encoding) (kind : SyncKind)
+    → announced_of (values.initialize_value encoding kind) ≡ Some (announces encoding kind)
 announced_of-initialize_value Utf8 Off = refl
 announced_of-initialize_value Utf8 Full = refl
 announced_of-initialize_value Utf8 Incremental = refl
@@ -158,10 +164,13 @@ abbrev announced : IdData → Announced → Option OutgoingData
 announced id a = option_map (λ e. spec.initialize_result id e a.kind) a.encoding
 
 abbrev answered : Option IdData → Data → Option OutgoingData
-answered id result = option_and_then (λ i. if is_null result then Some (spec.shutdown_result i) else option_and_then (announced i) (announced_of result)) id
+answered id result =
+    option_and_then (λ i. if is_null result then Some (spec.shutdown_result i) else option_and_then (announced i)
+    (announced_of result)) id
 
 abbrev refused : Option IdData → Data → Option OutgoingData
-refused id error = option_map (spec.error_reply id) (option_and_then error_named (text_in (get (codes "message") error)))
+refused id error =
+    option_map (spec.error_reply id) (option_and_then error_named (text_in (get (codes "message") error)))
 
 abbrev replied : Option IdData → Option Data → Option Data → Option OutgoingData
 replied id (Some error) result = refused id error
@@ -186,7 +195,8 @@ error_named-text InvalidParams = refl
 error_named-text ServerNotInitialized = refl
 
 written_as-value_of : (m : OutgoingData) → IsProper m → written_as (values.value_of m) ≡ Some m
-written_as-value_of (spec.initialize offers) h = ap (option_map spec.initialize) (offers_of-initialize_params offers.utf8 offers.utf32)
+written_as-value_of (spec.initialize offers) h =
+    ap (option_map spec.initialize) (offers_of-initialize_params offers.utf8 offers.utf32)
 written_as-value_of spec.initialized h = refl
 written_as-value_of (spec.did_open p) h = ap (option_map spec.did_open) (open_of-open_params p h)
 written_as-value_of (spec.did_change p) h = ap (option_map spec.did_change) (change_of-change_params p h)
@@ -197,10 +207,12 @@ written_as-value_of (spec.initialize_result id encoding kind) h =
     rw (id_in-id_value id h) (ap (option_and_then (announced id)) (announced_of-initialize_value encoding kind))
 written_as-value_of (spec.shutdown_result id) h = rw (id_in-id_value id h) refl
 written_as-value_of (spec.error_reply id error) h =
-    ap (λ i. refused i (values.error_value error)) (id_found-id_or_null id h) ∙ ap (option_map (spec.error_reply id)) (error_named-text error)
+    ap (λ i. refused i (values.error_value error)) (id_found-id_or_null id h) ∙ ap (option_map (spec.error_reply id))
+    (error_named-text error)
 
 -- two messages with one text are one message
 pub body_of-unique : (m n : OutgoingData) → IsProper m → IsProper n → spec.body_of m ≡ spec.body_of n → m ≡ n
 body_of-unique m n h k same =
-    let same_values : values.value_of m ≡ values.value_of n = same_Some _ _ (sym (read-body_of m h) ∙ ap read same ∙ read-body_of n k) in
+    let same_values : values.value_of m ≡ values.value_of n =
+    same_Some _ _ (sym (read-body_of m h) ∙ ap read same ∙ read-body_of n k) in
     same_Some _ _ (sym (written_as-value_of m h) ∙ ap written_as same_values ∙ written_as-value_of n k)

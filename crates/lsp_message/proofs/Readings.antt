@@ -30,18 +30,22 @@ not_json_at body false broken refused = rw broken refl
 pub reading_of_none : (body : List ℕ) → (IsUtf8 body → read body ≡ None) → reading body ≡ not_json
 reading_of_none body refused = not_json_at body _ refl refused
 
-pub ok_by_reading : (r : Result Message ReadFault) (body : List ℕ) (found : Reading) → reading body ≡ found → Answers r found → IfOk r (λ m. reading body ≡ message (message_view m))
+pub ok_by_reading : (r : Result Message ReadFault) (body : List ℕ) (found : Reading) → reading body ≡ found
+    → Answers r found → IfOk r (λ m. reading body ≡ message (message_view m))
 ok_by_reading (Ok m) body found is h = is ∙ h
 ok_by_reading (Err e) body found is h = tt
 
-pub err_by_reading : (r : Result Message ReadFault) (body : List ℕ) (found : Reading) → reading body ≡ found → Answers r found → IfErr r (IsReadFault body)
+pub err_by_reading : (r : Result Message ReadFault) (body : List ℕ) (found : Reading) → reading body ≡ found
+    → Answers r found → IfErr r (IsReadFault body)
 err_by_reading (Ok m) body found is h = tt
 err_by_reading (Err NotJson) body found is h = absurd h
 err_by_reading (Err (NotAMessage id)) body found is h = is ∙ h
 err_by_reading (Err NoMemory) body found is h = absurd h
 
 -- the fault that an error of `serde_json` makes
-pub fault_by_error : (body : List ℕ) (error : Error) (fault : ReadFault) → IsFaultOf error fault → (¬ IsMemory error → IsUtf8 body → read body ≡ None) → (IsMemory error → 0 < length body) → slice_index body 0 ≢ 239 → IsReadFault body fault
+pub fault_by_error : (body : List ℕ) (error : Error) (fault : ReadFault) → IsFaultOf error fault
+    → (¬ IsMemory error → IsUtf8 body → read body ≡ None) → (IsMemory error → 0 < length body) → slice_index body 0
+    ≢ 239 → IsReadFault body fault
 fault_by_error body error NotJson is refused memory unmarked = reading_of_none body (refused is)
 fault_by_error body error (NotAMessage id) is refused memory unmarked = absurd is
 fault_by_error body error NoMemory is refused memory unmarked = (memory is, unmarked)
@@ -49,13 +53,17 @@ fault_by_error body error NoMemory is refused memory unmarked = (memory is, unma
 -- What is answered to a body by what `serde_json` makes of it.
 pub read_by : (body : List ℕ) (parsed : Result Value Error) (answer : Result Message ReadFault) →
     IfOk parsed (λ value. IsUtf8 body × (read body ≡ Some (view value))) →
-    IfErr parsed (λ error. ¬ IsMemory error → IsUtf8 body → read body ≡ None) → IfErr parsed (λ error. IsMemory error → 0 < length body) →
-    slice_index body 0 ≢ 239 → MatchResult parsed (λ value. Answers answer (message_of (view value))) (λ error. IsErrAnd answer (IsFaultOf error)) →
+    IfErr parsed (λ error. ¬ IsMemory error → IsUtf8 body → read body ≡ None)
+    → IfErr parsed (λ error. IsMemory error → 0 < length body) →
+    slice_index body 0 ≢ 239 → MatchResult parsed (λ value. Answers answer (message_of (view value)))
+    (λ error. IsErrAnd answer (IsFaultOf error)) →
     IfOk answer (λ m. reading body ≡ message (message_view m)) × IfErr answer (IsReadFault body)
 read_by body (Ok value) answer ok refused memory unmarked h =
-    let is = reading_of_value body (view value) ok.0 ok.1 in (ok_by_reading answer body _ is h, err_by_reading answer body _ is h)
+    let is = reading_of_value body (view value) ok.0 ok.1 in
+    (ok_by_reading answer body _ is h, err_by_reading answer body _ is h)
 read_by body (Err error) (Ok m) ok refused memory unmarked h = absurd h
-read_by body (Err error) (Err fault) ok refused memory unmarked h = (tt, fault_by_error body error fault h refused memory unmarked)
+read_by body (Err error) (Err fault) ok refused memory unmarked h =
+    (tt, fault_by_error body error fault h refused memory unmarked)
 
 marked : (rest : List ℕ) → read (239 ∷ rest) ≡ None
 unfolding value punctuate lex word after_number

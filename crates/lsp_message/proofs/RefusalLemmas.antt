@@ -13,7 +13,8 @@ abbrev IsNotification : Reading → Type 0
 IsNotification reading = (name : List ℕ) × (params : Option Data) × (reading ≡ message (notification name params))
 
 outcome_tells_none : (id : Option IdData) (failed_is : Bool) (r : Option Data) →
-    IsNotification (if failed_is then message (response id failed) else option_map_or (λ x. message (response id (given x))) r (not_a_message id)) → ⊥
+    IsNotification (if failed_is then message (response id failed)
+    else option_map_or (λ x. message (response id (given x))) r (not_a_message id)) → ⊥
 outcome_tells_none id true r (name, params, is) = cc
 outcome_tells_none id false None (name, params, is) = cc
 outcome_tells_none id false (Some d) (name, params, is) = cc
@@ -22,16 +23,19 @@ outcome_none : (id : Option IdData) (e r : Option Data) → IsNotification (outc
 outcome_none id e r is = outcome_tells_none id (option_map_or (λ d. not (is_null d)) e false) r is
 
 answer_tells_none : (null_is : Bool) (o : Option IdData) (e r : Option Data) →
-    IsNotification (if null_is then outcome_of None e r else option_map_or (λ j. outcome_of (Some j) e r) o (not_a_message None)) → ⊥
+    IsNotification (if null_is then outcome_of None e r else option_map_or (λ j. outcome_of (Some j) e r) o
+    (not_a_message None)) → ⊥
 answer_tells_none true o e r is = outcome_none None e r is
 answer_tells_none false None e r (name, params, is) = cc
 answer_tells_none false (Some j) e r is = outcome_none (Some j) e r is
 
-call_tells_none : (o : Option IdData) (m : List ℕ) (p : Option Data) → IsNotification (option_map_or (λ j. message (request j m p)) o (not_a_message None)) → ⊥
+call_tells_none : (o : Option IdData) (m : List ℕ) (p : Option Data)
+    → IsNotification (option_map_or (λ j. message (request j m p)) o (not_a_message None)) → ⊥
 call_tells_none None m p (name, params, is) = cc
 call_tells_none (Some j) m p (name, params, is) = cc
 
-named_tells_none : (t : Option (List ℕ)) (d : Data) (p : Option Data) → IsNotification (option_map_or (λ m. call_of (Some d) m p) t (not_a_message (id_in d))) → ⊥
+named_tells_none : (t : Option (List ℕ)) (d : Data) (p : Option Data)
+    → IsNotification (option_map_or (λ m. call_of (Some d) m p) t (not_a_message (id_in d))) → ⊥
 named_tells_none None d p (name, params, is) = cc
 named_tells_none (Some m) d p is = call_tells_none (id_in d) m p is
 
@@ -52,14 +56,17 @@ notification_law ms name params is =
 -- ---- the id of a refused object
 
 outcome_id : (j : Option IdData) (failed_is : Bool) (r : Option Data) (id : IdData) →
-    (if failed_is then message (response j failed) else option_map_or (λ x. message (response j (given x))) r (not_a_message j)) ≡ not_a_message (Some id) → j ≡ Some id
+    (if failed_is then message (response j failed) else option_map_or (λ x. message (response j (given x))) r
+    (not_a_message j)) ≡ not_a_message (Some id) → j ≡ Some id
 outcome_id j true r id is = cc
 outcome_id j false None id is = cc
 outcome_id j false (Some d) id is = cc
 
 answer_id : (null_is : Bool) (o : Option IdData) (e r : Option Data) (id : IdData) →
-    (if null_is then outcome_of None e r else option_map_or (λ j. outcome_of (Some j) e r) o (not_a_message None)) ≡ not_a_message (Some id) → o ≡ Some id
-answer_id true o e r id is = let same : None ≡ Some id = outcome_id None (option_map_or (λ d. not (is_null d)) e false) r id is in cc
+    (if null_is then outcome_of None e r else option_map_or (λ j. outcome_of (Some j) e r) o (not_a_message None))
+    ≡ not_a_message (Some id) → o ≡ Some id
+answer_id true o e r id is = let same : None ≡ Some id =
+    outcome_id None (option_map_or (λ d. not (is_null d)) e false) r id is in cc
 answer_id false None e r id is = cc
 answer_id false (Some j) e r id is = outcome_id (Some j) (option_map_or (λ d. not (is_null d)) e false) r id is
 
@@ -72,7 +79,8 @@ call_id : (o : Option IdData) (m : List ℕ) (p : Option Data) (id : IdData) →
 call_id None m p id is = cc
 call_id (Some j) m p id is = cc
 
-called_id : (i : Option Data) (m : List ℕ) (p : Option Data) (id : IdData) → call_of i m p ≡ not_a_message (Some id) → id_found i ≡ Some id
+called_id : (i : Option Data) (m : List ℕ) (p : Option Data) (id : IdData) → call_of i m p ≡ not_a_message (Some id)
+    → id_found i ≡ Some id
 called_id None m p id is = cc
 called_id (Some d) m p id is = call_id (id_in d) m p id is
 
@@ -82,14 +90,16 @@ named_id None i p id is = cc
 named_id (Some m) i p id is = called_id i m p id is
 
 message_id : (two_is : Bool) (m i p e r : Option Data) (id : IdData) →
-    (if two_is then message_with m i p e r else not_a_message (id_found i)) ≡ not_a_message (Some id) → id_found i ≡ Some id
+    (if two_is then message_with m i p e r else not_a_message (id_found i)) ≡ not_a_message (Some id) → id_found i
+    ≡ Some id
 message_id false m i p e r id is = cc
 message_id true None i p e r id is = answered_id i e r id is
 message_id true (Some method) i p e r id is = named_id (text_in (Some method)) i p id is
 
 pub refusal_law : RefusalLaw
 refusal_law ms id is =
-    message_id (is_version_two (version_of ms)) (method_of ms) (id_of ms) (params_of ms) (error_of ms) (result_of ms) id is
+    message_id (is_version_two (version_of ms)) (method_of ms) (id_of ms) (params_of ms) (error_of ms) (result_of ms) id
+    is
 
 -- ---- what is looked at
 

@@ -47,10 +47,13 @@ mutual
 pub read-compact_text : (d : Data) → Sound d → depth d ≤ max_depth → read (compact_text d) ≡ Some d
 read-compact_text d h shallow =
     let ts = json_tokens (outline d) in
-    let text : tokens (compact_text d) ≡ ts = ap tokens (sym (print-outline d)) ∙ tokens-print ts (ArePrintable-json_tokens (outline d) h.numbers) in
+    let text : tokens (compact_text d) ≡ ts =
+    ap tokens (sym (print-outline d)) ∙ tokens-print ts (ArePrintable-json_tokens (outline d) h.numbers) in
     let value : json.value max_depth ts ≡ Some (outline d, []) =
-    ap (json.value max_depth) (sym (append-nil ts)) ∙ value-json_tokens (outline d) max_depth [] (omega (arith, depth-outline d)) in
-    ap (λ o. option_and_then of_json (option_and_then (λ p. json.if_last p.0 p.1) o)) (ap (json.value max_depth) text ∙ value) ∙ h.reads
+    ap (json.value max_depth) (sym (append-nil ts)) ∙ value-json_tokens (outline d) max_depth []
+    (omega (arith, depth-outline d)) in
+    ap (λ o. option_and_then of_json (option_and_then (λ p. json.if_last p.0 p.1) o)) (ap (json.value max_depth) text
+    ∙ value) ∙ h.reads
 
 -- ---- what is sound
 
@@ -97,9 +100,11 @@ sound_no_items = record { reads = refl; numbers = tt; utf8 = λ later. IsUtf8-ar
 
 pub sound_item : (d : Data) (ds : Items) → Sound d → SoundItems ds → SoundItems (item d ds)
 sound_item d ds h hs = record {
-  reads = ap (option_and_then (λ e. option_map (item e) (of_items (items_outline ds)))) h.reads ∙ ap (option_map (item d)) hs.reads;
+  reads = ap (option_and_then (λ e. option_map (item e) (of_items (items_outline ds)))) h.reads
+      ∙ ap (option_map (item d)) hs.reads;
   numbers = (h.numbers, hs.numbers);
-  utf8 = λ later. IsUtf8-append (comma_if later) _ (utf8_comma_if later) (IsUtf8-append (compact_text d) _ h.utf8 (hs.utf8 true));
+  utf8 = λ later. IsUtf8-append (comma_if later) _ (utf8_comma_if later)
+      (IsUtf8-append (compact_text d) _ h.utf8 (hs.utf8 true));
 }
 
 pub sound_array : (ds : Items) → SoundItems ds → Sound (array ds)
@@ -121,10 +126,12 @@ abbrev pub put_all : Members → Members → Members
 put_all no_members found = found
 put_all (member k d ms) found = put_all ms (put k d found)
 
-of_members-put_all : (ms found : Members) → AllSound ms → of_members (members_outline ms) found ≡ Some (put_all ms found)
+of_members-put_all : (ms found : Members) → AllSound ms → of_members (members_outline ms) found
+    ≡ Some (put_all ms found)
 of_members-put_all no_members found h = refl
 of_members-put_all (member k d ms) found h =
-    ap (option_and_then (λ e. of_members (members_outline ms) (put k e found))) h.1.reads ∙ of_members-put_all ms (put k d found) h.2
+    ap (option_and_then (λ e. of_members (members_outline ms) (put k e found))) h.1.reads
+    ∙ of_members-put_all ms (put k d found) h.2
 
 numbers_of : (ms : Members) → AllSound ms → MembersHaveNumbers (members_outline ms)
 numbers_of no_members h = tt
@@ -135,7 +142,8 @@ utf8_of no_members later h = IsUtf8-are_ascii (125 ∷ []) refl
 utf8_of (member k d ms) later h =
     let value = IsUtf8-append (compact_text d) _ h.1.utf8 (utf8_of ms true h.2) in
     IsUtf8-append (comma_if later) _ (utf8_comma_if later)
-    (IsUtf8-append (quoted k) _ (IsUtf8-quoted k (IsUtf8-are_ascii k h.0)) (IsUtf8-append (58 ∷ []) _ (IsUtf8-are_ascii (58 ∷ []) refl) value))
+    (IsUtf8-append (quoted k) _ (IsUtf8-quoted k (IsUtf8-are_ascii k h.0))
+    (IsUtf8-append (58 ∷ []) _ (IsUtf8-are_ascii (58 ∷ []) refl) value))
 
 -- an object whose names are in order
 pub sound_object : (ms : Members) → put_all ms no_members ≡ ms → AllSound ms → Sound (object ms)

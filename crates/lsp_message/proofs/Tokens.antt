@@ -17,7 +17,8 @@ use Rattle.lsp_message.specs.Written.{range_before}
 use Rattle.lsp_message.specs.inside.Tokens.{Appends, tokens_of, range_tokens}
 
 -- some tokens, and then more
-pub add : {old mid new : Written} {xs ys : List Token} → Appends old mid xs → Appends mid new ys → Appends old new (xs ++ ys)
+pub add : {old mid new : Written} {xs ys : List Token} → Appends old mid xs → Appends mid new ys
+    → Appends old new (xs ++ ys)
 add {old} {xs = xs} {ys = ys} first rest = record {
   before = rest.before ∙ first.before;
   tokens = rest.tokens ∙ ap (λ ts. ts ++ ys) first.tokens ∙ append_assoc old.tokens xs ys;
@@ -29,7 +30,8 @@ pub put : {E : Type 0} {u : Unit {0}} {old mid new : Written} {t : Token} {ts : 
 put {t = t} w rest = add {xs = t ∷ []} (record { before = w.room.0; tokens = w.ok }) rest
 
 -- the last token
-pub ending : {E P : Type 0} {old new : Written} {t : Token} → (r : Result (Unit {0}) E) → (Appends old new (t ∷ []) → P) → Writes r old new t → OnOk r P
+pub ending : {E P : Type 0} {old new : Written} {t : Token} → (r : Result (Unit {0}) E) → (Appends old new (t ∷ []) → P)
+    → Writes r old new t → OnOk r P
 ending r whole w = on_ok_weaker r (λ e. whole (record { before = w.room.0; tokens = e })) w.ok
 
 -- the digits of a whole number
@@ -38,11 +40,15 @@ integer_text (pos n) = refl
 integer_text (negsuc n) = refl
 
 -- the range of a change is its first member, where it has one
-pub range_first : (r : Option Range) (rest : Members) → members_tokens (members_outline (range_before r rest)) ≡ range_tokens r ++ members_tokens (members_outline rest)
+pub range_first : (r : Option Range) (rest : Members) → members_tokens (members_outline (range_before r rest))
+    ≡ range_tokens r ++ members_tokens (members_outline rest)
 range_first None rest = refl
 range_first (Some r) rest = refl
 
 -- the tokens of a list's items, with the closing bracket
-pub items_in_turn : {X Y : Type 0} (f : Y → Data) (g : X → Y) (xs : List X) → items_tokens (items_outline (items_of (map f (map g xs)))) ≡ flat_map (λ x. tokens_of (f (g x))) xs ++ token.end_array ∷ []
+pub items_in_turn : {X Y : Type 0} (f : Y → Data) (g : X → Y) (xs : List X)
+    → items_tokens (items_outline (items_of (map f (map g xs)))) ≡ flat_map (λ x. tokens_of (f (g x))) xs
+    ++ token.end_array ∷ []
 items_in_turn f g [] = refl
-items_in_turn f g (x ∷ xs) = ap (λ ts. tokens_of (f (g x)) ++ ts) (items_in_turn f g xs) ∙ sym (append_assoc (tokens_of (f (g x))) _ _)
+items_in_turn f g (x ∷ xs) = ap (λ ts. tokens_of (f (g x)) ++ ts) (items_in_turn f g xs)
+    ∙ sym (append_assoc (tokens_of (f (g x))) _ _)

@@ -88,7 +88,8 @@ document_text p =
 -- A `Position`, and a `Range`.
 abbrev pub position_text : Position → List ℕ
 position_text p =
-    codes "{\"character\":" ++ decimal p.character ++ codes ",\"line\":" ++ decimal p.line ++ codes "}"
+    codes "{\"character\":" ++ decimal p.character ++ codes ",\"line\":" ++ decimal p.line
+    ++ codes "}"
 
 abbrev pub range_text : Range → List ℕ
 range_text r =

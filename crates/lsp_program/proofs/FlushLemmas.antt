@@ -7,12 +7,14 @@ use Rattle.lsp_stream.specs.Ports.{Rose, WriterState}
 use Rattle.lsp_stream.specs.Turns.{Spends, WritesWithin}
 use Rattle.lsp_program.specs.Output.{IsFlushed, allowed_turns}
 
-pub flushed_of : (before after : WriterState) (most left : ℕ) (answer : Result (Unit {0}) EngineFault) → most ≡ allowed_turns
+pub flushed_of : (before after : WriterState) (most left : ℕ) (answer : Result (Unit {0}) EngineFault)
+    → most ≡ allowed_turns
     → OnOk answer ((after.failed ≡ false) × Rose before.calls after.calls) → OnOk answer (after.flushed ≡ true)
     → IfErr answer (λ fault. (fault ≡ Write) ⊎ (fault ≡ TooManyTurns))
     → WritesWithin most left before after answer → IsFlushed before after answer
 flushed_of before after most left (Ok _) all ok passed fault calls = (passed, ok.0, ok.1)
-flushed_of before after most left (Err _) all ok passed (inl is) calls = inl (is, (calls.failed is).0, (calls.failed is).1)
+flushed_of before after most left (Err _) all ok passed (inl is) calls =
+    inl (is, (calls.failed is).0, (calls.failed is).1)
 flushed_of before after most left (Err _) all ok passed (inr is) calls =
     inr (
       is,

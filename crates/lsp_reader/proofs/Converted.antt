@@ -46,21 +46,25 @@ some_value a b e = ap (or_value a) e
 abbrev with_rest : {B : Type 0} → List Token → Option B → Option (B × List Token)
 with_rest ts o = option_map (λ b. (b, ts)) o
 
-source_at : {A B : Type 0} (f : A → Option B) (a : A) (s rest : List Token) (b : B) (o : Option B) → f a ≡ o → with_rest s o ≡ Some (b, rest) → Source f (Some (a, s)) b rest
+source_at : {A B : Type 0} (f : A → Option B) (a : A) (s rest : List Token) (b : B) (o : Option B) → f a ≡ o
+    → with_rest s o ≡ Some (b, rest) → Source f (Some (a, s)) b rest
 source_at f a s rest b None is e = no_some (b, rest) e
 source_at f a s rest b (Some x) is e =
     let same = some_value (x, s) (b, rest) e in
     (a, ap (λ p. Some (a, p.1)) same, is ∙ ap (λ p. Some p.0) same)
 
-pub source : {A B : Type 0} (f : A → Option B) (read : Option (A × List Token)) (b : B) (rest : List Token) → converted f read ≡ Some (b, rest) → Source f read b rest
+pub source : {A B : Type 0} (f : A → Option B) (read : Option (A × List Token)) (b : B) (rest : List Token)
+    → converted f read ≡ Some (b, rest) → Source f read b rest
 source f None b rest e = no_some (b, rest) e
 source f (Some p) b rest e = source_at f p.0 p.1 rest b (f p.0) refl e
 
-failure_at : {A B : Type 0} (f : A → Option B) (p : A × List Token) (o : Option B) → f p.0 ≡ o → with_rest p.1 o ≡ None → Failure f (Some p)
+failure_at : {A B : Type 0} (f : A → Option B) (p : A × List Token) (o : Option B) → f p.0 ≡ o → with_rest p.1 o ≡ None
+    → Failure f (Some p)
 failure_at f p None is e = inr (p, refl, is)
 failure_at f p (Some x) is e = no_some (x, p.1) (sym e)
 
-pub failure : {A B : Type 0} (f : A → Option B) (read : Option (A × List Token)) → converted f read ≡ None → Failure f read
+pub failure : {A B : Type 0} (f : A → Option B) (read : Option (A × List Token)) → converted f read ≡ None
+    → Failure f read
 failure f None e = inl refl
 failure f (Some p) e = failure_at f p (f p.0) refl e
 
@@ -69,10 +73,12 @@ failure f (Some p) e = failure_at f p (f p.0) refl e
 abbrev pub whole : Option (Json × List Token) → Option Data
 whole read = option_and_then of_json (option_and_then (λ p. if_last p.0 p.1) read)
 
-pub whole_read : (read : Option (Json × List Token)) (d : Data) → converted of_json read ≡ Some (d, []) → whole read ≡ Some d
+pub whole_read : (read : Option (Json × List Token)) (d : Data) → converted of_json read ≡ Some (d, []) → whole read
+    ≡ Some d
 whole_read read d e = let s = source of_json read d [] e in ap whole s.1 ∙ s.2
 
-pub whole_and_more : (read : Option (Json × List Token)) (d : Data) (t : Token) (rest : List Token) → converted of_json read ≡ Some (d, t ∷ rest) → whole read ≡ None
+pub whole_and_more : (read : Option (Json × List Token)) (d : Data) (t : Token) (rest : List Token)
+    → converted of_json read ≡ Some (d, t ∷ rest) → whole read ≡ None
 whole_and_more read d t rest e = ap whole (source of_json read d (t ∷ rest) e).1
 
 no_last : (j : Json) (ts : List Token) → of_json j ≡ None → option_and_then of_json (if_last j ts) ≡ None

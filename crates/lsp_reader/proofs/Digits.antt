@@ -10,22 +10,43 @@ use Rattle.serde_json.specs.Read.{number_of, number_from}
 
 -- the digits as a numeral's whole part
 abbrev only_whole : List ℕ → Parts
-only_whole ds = record { whole = ds; point = false; fraction = []; exponent_negative = false; exponent = []; len = length (ds ++ []) }
+only_whole ds = record {
+  whole = ds;
+  point = false;
+  fraction = [];
+  exponent_negative = false;
+  exponent = [];
+  len = length (ds ++ []);
+}
 
 no_sign : (ds : List ℕ) → AllDigits 10 ds → 0 < length ds → get_or ds 0 0 ≡ 45 → ⊥
 no_sign [] all some e = omega arith
 no_sign (d ∷ ds) all some e = let digit : digit_value d < 10 = all.0 in let is : d ≡ 45 = e in grind arith
 
-pub natural_of_digits : (ds : List ℕ) → AllDigits 10 ds → 0 < length ds → digits_value 10 ds < 2 ^ 64 → number_of ds ≡ Some (unsigned (digits_value 10 ds))
+pub natural_of_digits : (ds : List ℕ) → AllDigits 10 ds → 0 < length ds → digits_value 10 ds < 2 ^ 64 → number_of ds
+    ≡ Some (unsigned (digits_value 10 ds))
 unfolding number_of
 natural_of_digits ds all some small =
-    let formed : IsWellFormed (only_whole ds) = record { whole_digits = all; fraction_digits = tt; exponent_digits = tt; no_point = λ _. refl; no_exponent = λ _. refl; len_is = refl } in
+    let formed : IsWellFormed (only_whole ds) = record {
+      whole_digits = all;
+      fraction_digits = tt;
+      exponent_digits = tt;
+      no_point = λ _. refl;
+      no_exponent = λ _. refl;
+      len_is = refl;
+    } in
     let scanned : scan ds ≡ only_whole ds = ap scan (sym (append-nil ds)) ∙ scan-text_of (only_whole ds) formed in
-    rw (ne_eqb (get_or ds 0 0) 45 (no_sign ds all some)) (ap (number_from false) scanned ∙ rw (lt-ltb _ _ some, append-nil ds) (rw (lt-ltb _ _ small) refl))
+    rw (ne_eqb (get_or ds 0 0) 45 (no_sign ds all some)) (ap (number_from false) scanned ∙ rw (
+      lt-ltb _ _ some,
+      append-nil ds,
+    ) (rw (lt-ltb _ _ small) refl))
 
 -- one more digit
-pub one_more_digit : (bytes : List ℕ) (i value byte digit : ℕ) → i < length bytes → AllDigits 10 (take i bytes) → value ≡ digits_value 10 (take i bytes)
+pub one_more_digit : (bytes : List ℕ) (i value byte digit : ℕ) → i < length bytes → AllDigits 10 (take i bytes)
+    → value ≡ digits_value 10 (take i bytes)
     → byte ≡ get_or bytes i 0 → (digit_value byte < 10) × (digit ≡ digit_value byte)
     → AllDigits 10 (take (i + 1) bytes) × (value * 10 + digit ≡ digits_value 10 (take (i + 1) bytes))
-one_more_digit bytes i value byte digit within all is at digit_is =
-    (digits_more 10 bytes i within all (rw (← at) digit_is.0), rw (digits_value_more 10 bytes i within, ← at, ← is, digit_is.1))
+one_more_digit bytes i value byte digit within all is at digit_is = (
+  digits_more 10 bytes i within all (rw (← at) digit_is.0),
+  rw (digits_value_more 10 bytes i within, ← at, ← is, digit_is.1),
+)

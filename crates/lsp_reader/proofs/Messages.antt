@@ -64,7 +64,8 @@ none_in None e = refl
 none_in (Some d) e = absurd (not_missing d e)
 
 -- a message without a method
-pub by_answer : (v m i p e r : Option Data) → is_version_two v ≡ true → missing ≡ scalar_in m → message_by v m i p e r ≡ answer_of i e r
+pub by_answer : (v m i p e r : Option Data) → is_version_two v ≡ true → missing ≡ scalar_in m → message_by v m i p e r
+    ≡ answer_of i e r
 by_answer v m i p e r two none = rw (two, none_in m none) refl
 
 text_by : (v : Option Data) → scalar_text (scalar_in v) ≡ text_in v
@@ -76,7 +77,8 @@ text_by (Some (json_data.string s)) = refl
 text_by (Some (json_data.array ds)) = refl
 text_by (Some (json_data.object ms)) = refl
 
-with_other : (m i p e r : Option Data) → (m ≡ None → ⊥) → text_in m ≡ None → message_with m i p e r ≡ not_a_message (id_found i)
+with_other : (m i p e r : Option Data) → (m ≡ None → ⊥) → text_in m ≡ None → message_with m i p e r
+    ≡ not_a_message (id_found i)
 with_other None i p e r some no_text = absurd (some refl)
 with_other (Some d) i p e r some no_text = rw no_text refl
 
@@ -99,10 +101,12 @@ is_part_missing part.Float e = absurd (cc)
 is_part_missing part.Other e = absurd (cc)
 
 -- a message whose method is no text
-pub by_other : (v m i p e r : Option Data) (method : Scalar) → is_version_two v ≡ true → (method ≡ part.Missing → ⊥) → ((s : _) → method ≡ part.Text s → ⊥) → scalar_view method ≡ scalar_in m
+pub by_other : (v m i p e r : Option Data) (method : Scalar) → is_version_two v ≡ true → (method ≡ part.Missing → ⊥)
+    → ((s : _) → method ≡ part.Text s → ⊥) → scalar_view method ≡ scalar_in m
     → message_by v m i p e r ≡ not_a_message (id_found i)
 by_other v m i p e r method two some no_string is =
-    rw two (with_other m i p e r (λ none. some (is_part_missing method (is ∙ ap scalar_in none))) (sym (text_by m) ∙ ap scalar_text (sym is) ∙ no_text method no_string))
+    rw two (with_other m i p e r (λ none. some (is_part_missing method (is ∙ ap scalar_in none)))
+    (sym (text_by m) ∙ ap scalar_text (sym is) ∙ no_text method no_string))
 
 -- a value that is no object
 pub no_object : (d : Data) → as_object d ≡ None → message_of d ≡ not_a_message None
@@ -113,7 +117,8 @@ no_object d e = rw e refl
 pub text_read : (s : List ℕ) (d : Data) → value_at 127 (tokens s) ≡ Some (d, []) → read s ≡ Some d
 text_read s d e = whole_read (value 127 (tokens s)) d e
 
-pub text_and_more : (s : List ℕ) (d : Data) (t : Token) (r : List Token) → value_at 127 (tokens s) ≡ Some (d, t ∷ r) → read s ≡ None
+pub text_and_more : (s : List ℕ) (d : Data) (t : Token) (r : List Token) → value_at 127 (tokens s) ≡ Some (d, t ∷ r)
+    → read s ≡ None
 text_and_more s d t r e = whole_and_more (value 127 (tokens s)) d t r e
 
 pub text_refused : (s : List ℕ) → value_at 127 (tokens s) ≡ None → read s ≡ None

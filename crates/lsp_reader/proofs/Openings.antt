@@ -40,44 +40,67 @@ object_read (suc d) ts rest e =
 -- ---- the value of any other token
 
 -- a token that is a whole value
-one_token : (depth : ℕ) (t : Token) (ts rest : List Token) (d : Data) → value_at depth (t ∷ ts) ≡ Some (d, ts) → rest_of (value_at depth (t ∷ ts)) ≡ Some rest
+one_token : (depth : ℕ) (t : Token) (ts rest : List Token) (d : Data) → value_at depth (t ∷ ts) ≡ Some (d, ts)
+    → rest_of (value_at depth (t ∷ ts)) ≡ Some rest
     → value_at depth (t ∷ ts) ≡ Some (d, rest)
 one_token depth t ts rest d is e = is ∙ ap (λ r. Some (d, r)) (some_value ts rest (sym (ap rest_of is) ∙ e))
 
-number_token : (depth : ℕ) (s : List ℕ) (ts rest : List Token) (o : Option Num) → number_of s ≡ o → rest_of (value_at depth (Token.number s ∷ ts)) ≡ Some rest
+number_token : (depth : ℕ) (s : List ℕ) (ts rest : List Token) (o : Option Num) → number_of s ≡ o
+    → rest_of (value_at depth (Token.number s ∷ ts)) ≡ Some rest
     → (n : Num) × (value_at depth (Token.number s ∷ ts) ≡ Some (number n, rest))
 number_token depth s ts rest None is e = no_some rest (sym (ap rest_of (number_read depth s ts None is)) ∙ e)
-number_token depth s ts rest (Some n) is e = (n, one_token depth (Token.number s) ts rest (number n) (number_read depth s ts (Some n) is) e)
+number_token depth s ts rest (Some n) is e =
+    (n, one_token depth (Token.number s) ts rest (number n) (number_read depth s ts (Some n) is) e)
 
 -- a token that begins no value
-no_value : {P : Type 0} (depth : ℕ) (t : Token) (ts rest : List Token) → value_at depth (t ∷ ts) ≡ None → rest_of (value_at depth (t ∷ ts)) ≡ Some rest → P
+no_value : {P : Type 0} (depth : ℕ) (t : Token) (ts rest : List Token) → value_at depth (t ∷ ts) ≡ None
+    → rest_of (value_at depth (t ∷ ts)) ≡ Some rest → P
 no_value depth t ts rest none e = no_some rest (sym (ap rest_of none) ∙ e)
 
-pub other_read : (depth : ℕ) (t : Token) (ts rest : List Token) → (t ≡ Token.begin_object → ⊥) → (t ≡ Token.null → ⊥) → rest_of (value_at depth (t ∷ ts)) ≡ Some rest
+pub other_read : (depth : ℕ) (t : Token) (ts rest : List Token) → (t ≡ Token.begin_object → ⊥) → (t ≡ Token.null → ⊥)
+    → rest_of (value_at depth (t ∷ ts)) ≡ Some rest
     → (d : Data) × (value_at depth (t ∷ ts) ≡ Some (d, rest)) × (as_object d ≡ None) × (is_null d ≡ false)
 other_read depth Token.begin_object ts rest not_object not_null e = absurd (not_object refl)
-other_read depth Token.end_object ts rest not_object not_null e = no_value depth Token.end_object ts rest (ap (converted of_json) (value_is depth (Token.end_object ∷ ts))) e
-other_read depth Token.begin_array ts rest not_object not_null e = let read = array_read depth ts rest e in (array read.0, read.1, refl, refl)
-other_read depth Token.end_array ts rest not_object not_null e = no_value depth Token.end_array ts rest (ap (converted of_json) (value_is depth (Token.end_array ∷ ts))) e
-other_read depth (Token.key s) ts rest not_object not_null e = no_value depth (Token.key s) ts rest (ap (converted of_json) (value_is depth (Token.key s ∷ ts))) e
-other_read depth (Token.string s) ts rest not_object not_null e = (string s, one_token depth (Token.string s) ts rest (string s) (value_at-string depth s ts) e, refl, refl)
-other_read depth (Token.number s) ts rest not_object not_null e = let read = number_token depth s ts rest (number_of s) refl e in (number read.0, read.1, refl, refl)
-other_read depth (Token.boolean b) ts rest not_object not_null e = (boolean b, one_token depth (Token.boolean b) ts rest (boolean b) (value_at-boolean depth b ts) e, refl, refl)
+other_read depth Token.end_object ts rest not_object not_null e =
+    no_value depth Token.end_object ts rest (ap (converted of_json) (value_is depth (Token.end_object ∷ ts))) e
+other_read depth Token.begin_array ts rest not_object not_null e = let read = array_read depth ts rest e in
+    (array read.0, read.1, refl, refl)
+other_read depth Token.end_array ts rest not_object not_null e =
+    no_value depth Token.end_array ts rest (ap (converted of_json) (value_is depth (Token.end_array ∷ ts))) e
+other_read depth (Token.key s) ts rest not_object not_null e =
+    no_value depth (Token.key s) ts rest (ap (converted of_json) (value_is depth (Token.key s ∷ ts))) e
+other_read depth (Token.string s) ts rest not_object not_null e =
+    (string s, one_token depth (Token.string s) ts rest (string s) (value_at-string depth s ts) e, refl, refl)
+other_read depth (Token.number s) ts rest not_object not_null e = let read =
+    number_token depth s ts rest (number_of s) refl e in (number read.0, read.1, refl, refl)
+other_read depth (Token.boolean b) ts rest not_object not_null e =
+    (boolean b, one_token depth (Token.boolean b) ts rest (boolean b) (value_at-boolean depth b ts) e, refl, refl)
 other_read depth Token.null ts rest not_object not_null e = absurd (not_null refl)
-other_read depth Token.bad ts rest not_object not_null e = no_value depth Token.bad ts rest (ap (converted of_json) (value_is depth (Token.bad ∷ ts))) e
+other_read depth Token.bad ts rest not_object not_null e =
+    no_value depth Token.bad ts rest (ap (converted of_json) (value_is depth (Token.bad ∷ ts))) e
 
-pub no_array_read : (depth : ℕ) (t : Token) (ts rest : List Token) → (t ≡ Token.begin_array → ⊥) → rest_of (value_at depth (t ∷ ts)) ≡ Some rest
+pub no_array_read : (depth : ℕ) (t : Token) (ts rest : List Token) → (t ≡ Token.begin_array → ⊥)
+    → rest_of (value_at depth (t ∷ ts)) ≡ Some rest
     → (d : Data) × (value_at depth (t ∷ ts) ≡ Some (d, rest)) × (as_array d ≡ None)
-no_array_read depth Token.begin_object ts rest not_array e = let read = object_read depth ts rest e in (object read.0, read.1, refl)
-no_array_read depth Token.end_object ts rest not_array e = no_value depth Token.end_object ts rest (ap (converted of_json) (value_is depth (Token.end_object ∷ ts))) e
+no_array_read depth Token.begin_object ts rest not_array e = let read = object_read depth ts rest e in
+    (object read.0, read.1, refl)
+no_array_read depth Token.end_object ts rest not_array e =
+    no_value depth Token.end_object ts rest (ap (converted of_json) (value_is depth (Token.end_object ∷ ts))) e
 no_array_read depth Token.begin_array ts rest not_array e = absurd (not_array refl)
-no_array_read depth Token.end_array ts rest not_array e = no_value depth Token.end_array ts rest (ap (converted of_json) (value_is depth (Token.end_array ∷ ts))) e
-no_array_read depth (Token.key s) ts rest not_array e = no_value depth (Token.key s) ts rest (ap (converted of_json) (value_is depth (Token.key s ∷ ts))) e
-no_array_read depth (Token.string s) ts rest not_array e = (string s, one_token depth (Token.string s) ts rest (string s) (value_at-string depth s ts) e, refl)
-no_array_read depth (Token.number s) ts rest not_array e = let read = number_token depth s ts rest (number_of s) refl e in (number read.0, read.1, refl)
-no_array_read depth (Token.boolean b) ts rest not_array e = (boolean b, one_token depth (Token.boolean b) ts rest (boolean b) (value_at-boolean depth b ts) e, refl)
-no_array_read depth Token.null ts rest not_array e = (null, one_token depth Token.null ts rest null (value_at-null depth ts) e, refl)
-no_array_read depth Token.bad ts rest not_array e = no_value depth Token.bad ts rest (ap (converted of_json) (value_is depth (Token.bad ∷ ts))) e
+no_array_read depth Token.end_array ts rest not_array e =
+    no_value depth Token.end_array ts rest (ap (converted of_json) (value_is depth (Token.end_array ∷ ts))) e
+no_array_read depth (Token.key s) ts rest not_array e =
+    no_value depth (Token.key s) ts rest (ap (converted of_json) (value_is depth (Token.key s ∷ ts))) e
+no_array_read depth (Token.string s) ts rest not_array e =
+    (string s, one_token depth (Token.string s) ts rest (string s) (value_at-string depth s ts) e, refl)
+no_array_read depth (Token.number s) ts rest not_array e = let read =
+    number_token depth s ts rest (number_of s) refl e in (number read.0, read.1, refl)
+no_array_read depth (Token.boolean b) ts rest not_array e =
+    (boolean b, one_token depth (Token.boolean b) ts rest (boolean b) (value_at-boolean depth b ts) e, refl)
+no_array_read depth Token.null ts rest not_array e =
+    (null, one_token depth Token.null ts rest null (value_at-null depth ts) e, refl)
+no_array_read depth Token.bad ts rest not_array e =
+    no_value depth Token.bad ts rest (ap (converted of_json) (value_is depth (Token.bad ∷ ts))) e
 
 -- ---- what an opening says of the value
 
@@ -88,7 +111,8 @@ opened_object opening.Null depth old new is h = absurd cc
 opened_object opening.Other depth old new is h = absurd cc
 
 -- the value of an opening that is no object
-pub opened_otherwise : (o : Opening) (depth : ℕ) (old new : List Token) → (o ≡ opening.Null) ⊎ (o ≡ opening.Other) → IsOpening o depth old new
+pub opened_otherwise : (o : Opening) (depth : ℕ) (old new : List Token) → (o ≡ opening.Null) ⊎ (o ≡ opening.Other)
+    → IsOpening o depth old new
     → (d : Data) × (value_at depth old ≡ Some (d, new)) × (as_object d ≡ None)
 opened_otherwise opening.Object depth old new (inl is) h = absurd cc
 opened_otherwise opening.Object depth old new (inr is) h = absurd cc

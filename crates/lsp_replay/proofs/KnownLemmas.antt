@@ -53,40 +53,52 @@ module _ (s : Session) (body : List ℕ) where
   uri_at version Server = refl
 
   -- a server's record opens, closes and refuses no document, and has no notes
-  no_mention : (change : Bool) (verdict : Verdict) → (verdict ≡ recorded) ⊎ (verdict ≡ bad) → is_mention change verdict ≡ false
+  no_mention : (change : Bool) (verdict : Verdict) → (verdict ≡ recorded) ⊎ (verdict ≡ bad) → is_mention change verdict
+      ≡ false
   no_mention change verdict (inl e) = rw e refl
   no_mention change verdict (inr e) = rw e refl
 
-  no_notes : (notes : List Note) (verdict : Verdict) → (verdict ≡ recorded) ⊎ (verdict ≡ bad) → notes_if notes verdict ≡ []
+  no_notes : (notes : List Note) (verdict : Verdict) → (verdict ≡ recorded) ⊎ (verdict ≡ bad) → notes_if notes verdict
+      ≡ []
   no_notes notes verdict (inl e) = rw e refl
   no_notes notes verdict (inr e) = rw e refl
 
-  mention_at : (version : Version) (side : Side) → is_mention (is_change_read (body_read version side body)) (judge_from s version side body).verdict ≡ is_mention (is_change asked) (judge_from s version side body).verdict
+  mention_at : (version : Version) (side : Side) → is_mention (is_change_read (body_read version side body))
+      (judge_from s version side body).verdict ≡ is_mention (is_change asked) (judge_from s version side body).verdict
   mention_at version Client = refl
   mention_at version Server =
       let heard = heard_for s s.expected body in
-      no_mention false (hear_for s s.expected body).verdict heard ∙ sym (no_mention (is_change asked) (hear_for s s.expected body).verdict heard)
+      no_mention false (hear_for s s.expected body).verdict heard
+      ∙ sym (no_mention (is_change asked) (hear_for s s.expected body).verdict heard)
 
   notes_at : (ranged : Bool) (version : Version) (side : Side)
-      → notes_if (notes_on_read s.server ranged (reading body) (body_read version side body)) (judge_from s version side body).verdict ≡ notes_of s ranged body (judge_from s version side body).verdict
+      → notes_if (notes_on_read s.server ranged (reading body) (body_read version side body))
+      (judge_from s version side body).verdict ≡ notes_of s ranged body (judge_from s version side body).verdict
   notes_at ranged version Client = refl
   notes_at ranged version Server =
       let heard = heard_for s s.expected body in
-      no_notes [] (hear_for s s.expected body).verdict heard ∙ sym (no_notes (notes_on s.server ranged (reading body) asked) (hear_for s s.expected body).verdict heard)
+      no_notes [] (hear_for s s.expected body).verdict heard
+      ∙ sym (no_notes (notes_on s.server ranged (reading body) asked) (hear_for s s.expected body).verdict heard)
 
 -- ---- a record, by what was read of it, what it is about, and the verdict
 
-module _ (known : Known) (s : Session) (head : Head) (body : List ℕ) (t : Session) (read : BodyData) (same : t ≡ s) (is_read : read ≡ body_read head.version head.side body)
-    (about : About) (is_about : IsAbout t.server known.ranged (reading body) read about) (verdict : declared.Verdict) (judged : verdict_view verdict ≡ (judge_at s head body).verdict) where
+module _ (known : Known) (s : Session) (head : Head) (body : List ℕ) (t : Session) (read : BodyData) (same : t ≡ s)
+    (is_read : read ≡ body_read head.version head.side body)
+    (about : About) (is_about : IsAbout t.server known.ranged (reading body) read about) (verdict : declared.Verdict)
+    (judged : verdict_view verdict ≡ (judge_at s head body).verdict) where
   uri_is : option_map string_bytes about.uri ≡ uri_of head.side (incoming_of (reading body))
   uri_is = is_about.uri ∙ ap uri_read is_read ∙ uri_at s body head.version head.side
 
-  mention_is : is_mention about.is_change (verdict_view verdict) ≡ is_mention (is_change (incoming_of (reading body))) (judge_at s head body).verdict
-  mention_is = ap₂ is_mention (is_about.is_change ∙ ap is_change_read is_read) judged ∙ mention_at s body head.version head.side
+  mention_is : is_mention about.is_change (verdict_view verdict) ≡ is_mention (is_change (incoming_of (reading body)))
+      (judge_at s head body).verdict
+  mention_is = ap₂ is_mention (is_about.is_change ∙ ap is_change_read is_read) judged ∙ mention_at s body head.version
+      head.side
 
-  notes_are : notes_if about.notes.items (verdict_view verdict) ≡ notes_of s known.ranged body (judge_at s head body).verdict
+  notes_are : notes_if about.notes.items (verdict_view verdict) ≡ notes_of s known.ranged body
+      (judge_at s head body).verdict
   notes_are =
-      ap₂ notes_if (is_about.notes ∙ ap (λ (u : Session). notes_on_read u.server known.ranged (reading body) read) same ∙ ap (notes_on_read s.server known.ranged (reading body)) is_read) judged
+      ap₂ notes_if (is_about.notes ∙ ap (λ (u : Session). notes_on_read u.server known.ranged (reading body) read) same
+      ∙ ap (notes_on_read s.server known.ranged (reading body)) is_read) judged
       ∙ notes_at s body known.ranged head.version head.side
 
   pub noted_is : (noted : Noted) → IsLearned known about verdict noted → IsNoted known s head body noted
@@ -97,9 +109,11 @@ module _ (known : Known) (s : Session) (head : Head) (body : List ℕ) (t : Sess
     notes = learned.notes ∙ notes_are;
   }
 
-  pub known_is : (ranged : Bool) (number : ℕ) (next : Known) → ranged ≡ ranged_after known.ranged s head.side body → number ≡ (judge_at s head body).session.records
+  pub known_is : (ranged : Bool) (number : ℕ) (next : Known) → ranged ≡ ranged_after known.ranged s head.side body
+      → number ≡ (judge_at s head body).session.records
       → next ≡ known_by known ranged number about verdict → next ≡ known_after known s head body (judge_at s head body)
-  known_is ranged number next ranged_is number_is is = is ∙ rw (mention_is, notes_are, uri_is, judged, ranged_is, number_is) refl
+  known_is ranged number next ranged_is number_is is =
+      is ∙ rw (mention_is, notes_are, uri_is, judged, ranged_is, number_is) refl
 
 -- ---- a line, and the output after it
 
@@ -110,25 +124,31 @@ module _ (view : LineView) (known : Known) (s : Session) (r : Record) where
   abbrev next : Known
   next = known_after known s r.head r.body (judge s r)
 
-  pub line_first : (judge s r).verdict ≢ bad → (bytes : List ℕ) → bytes ≡ line → (t : Session) → t ≡ (judge s r).session → (kept : Known) → kept ≡ next → (more : List Record)
+  pub line_first : (judge s r).verdict ≢ bad → (bytes : List ℕ) → bytes ≡ line → (t : Session) → t ≡ (judge s r).session
+      → (kept : Known) → kept ≡ next → (more : List Record)
       → lines_in view known s (r ∷ more) ≡ written_first bytes (lines_in view kept t more)
   line_first not_bad bytes is t session kept kept_is more =
-      ap (λ (given : RecordOutput). continue_with given.out given.end (lines_in view next (judge s r).session more)) (unless_not r (judge s r).verdict (writes line) not_bad)
+      ap (λ (given : RecordOutput). continue_with given.out given.end (lines_in view next (judge s r).session more))
+      (unless_not r (judge s r).verdict (writes line) not_bad)
       ∙ ap (λ (u : Session). written_first line (lines_in view next u more)) (sym session)
       ∙ ap (λ (k : Known). written_first line (lines_in view k t more)) (sym kept_is)
       ∙ ap (λ (b : List ℕ). written_first b (lines_in view kept t more)) (sym is)
 
 -- ---- all records
 
-lines_settled : (view : LineView) (known : Known) (s : Session) (rs more : List Record) (answer : Result Outcome EngineFault) → (lines_in view known s rs).stop ≡ Some answer → lines_in view known s (rs ++ more) ≡ lines_in view known s rs
+lines_settled : (view : LineView) (known : Known) (s : Session) (rs more : List Record)
+    (answer : Result Outcome EngineFault) → (lines_in view known s rs).stop ≡ Some answer
+    → lines_in view known s (rs ++ more) ≡ lines_in view known s rs
 lines_settled view known s [] more answer e = absurd (let wrong : None ≡ Some answer = e in cc)
 lines_settled view known s (r ∷ rs) more answer e =
     let given = line_output view known s r (judge s r) in
     let next = known_after known s r.head r.body (judge s r) in
-    settled_on given.out given.end (lines_in view next (judge s r).session rs) (lines_in view next (judge s r).session (rs ++ more)) answer e
+    settled_on given.out given.end (lines_in view next (judge s r).session rs)
+    (lines_in view next (judge s r).session (rs ++ more)) answer e
     (lines_settled view next (judge s r).session rs more answer)
 
-lines_grow : (view : LineView) (known : Known) (s : Session) (rs more : List Record) → Grows (lines_in view known s rs) (lines_in view known s (rs ++ more))
+lines_grow : (view : LineView) (known : Known) (s : Session) (rs more : List Record)
+    → Grows (lines_in view known s rs) (lines_in view known s (rs ++ more))
 unfolding Grows
 lines_grow view known s [] more = ((lines_in view known s more).out, refl)
 lines_grow view known s (r ∷ rs) more =
@@ -136,8 +156,16 @@ lines_grow view known s (r ∷ rs) more =
     let next = known_after known s r.head r.body (judge s r) in
     grows_on given.out given.end _ _ (lines_grow view next (judge s r).session rs more)
 
-pub run_of_lines : FirstLaw → VersionLaw → (view : LineView) (known : Known) (s : Session) {log_rules : LogRules} {max_turns : ℕ} {before after : Ports} {result : Result Outcome EngineFault}
-    → IsLoopRun log_rules (lines_in view known s) false max_turns before after result → NoneCut false log_rules (lines_in view known s) before after result
-    → IsEngineRun (record { log_rules = log_rules; run_output = lines_in view known s; flushes = false; in_parts = false }) max_turns before after result
+pub run_of_lines : FirstLaw → VersionLaw → (view : LineView) (known : Known) (s : Session) {log_rules : LogRules}
+    {max_turns : ℕ} {before after : Ports} {result : Result Outcome EngineFault}
+    → IsLoopRun log_rules (lines_in view known s) false max_turns before after result
+    → NoneCut false log_rules (lines_in view known s) before after result
+    → IsEngineRun (record {
+      log_rules = log_rules;
+      run_output = lines_in view known s;
+      flushes = false;
+      in_parts = false;
+    }) max_turns before after result
 run_of_lines first version view known s run whole =
-    run_of_course first version (lines_in view known s) (lines_settled view known s) (lines_grow view known s) false run whole
+    run_of_course first version (lines_in view known s) (lines_settled view known s) (lines_grow view known s) false run
+    whole

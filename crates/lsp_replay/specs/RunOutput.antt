@@ -19,7 +19,8 @@ pub record RunOutput : Type 0 where
 abbrev pub written_first : List ℕ → RunOutput → RunOutput
 written_first bytes c = record c { out = bytes ++ c.out }
 
--- Some output, and then a result: nothing after it is read, so there is no end of the input. What the
+-- Some output, and then a result: nothing after it is read, so there is no end of the input. What
+-- the
 -- two other fields have means nothing.
 abbrev pub stopped : List ℕ → Result Outcome EngineFault → RunOutput
 stopped bytes answer

@@ -29,7 +29,8 @@ over s store = record s { config = record s.config { limits = store.limits }; ta
 
 -- What is answered to a refused command tells the store's fault.
 refusal_answered : (s : ServerData) (refusal : Option table.Refusal) (next : List DocumentItem) (fault : StoreFault)
-    → option_map fault_of refusal ≡ Some fault → obeyed s (unless_refused refusal next) ≡ stays s (refused (Store fault))
+    → option_map fault_of refusal ≡ Some fault → obeyed s (unless_refused refusal next)
+    ≡ stays s (refused (Store fault))
 refusal_answered s None next fault e = cc
 refusal_answered s (Some refusal) next fault e =
     let same : fault_of refusal ≡ fault = cc in ap (λ error. stays s (refused (Store error))) same
@@ -41,7 +42,8 @@ obeyed_as_refused s command fault other (inr e) =
     refusal_answered s (command_refusal s.config.limits s.table command) (table_after s.table command) fault e
 
 -- The store's result of a command, as an answer, is the step that obeys it.
-pub obeyed_step : {E : Type 0} (s : ServerData) (given command : Command) (new : StoreData) (outcome : Result (Unit {0}) StoreFault) (result : Result Answer E)
+pub obeyed_step : {E : Type 0} (s : ServerData) (given command : Command) (new : StoreData)
+    (outcome : Result (Unit {0}) StoreFault) (result : Result Answer E)
     → OnOk outcome (Takes (store_of s) given new)
     → OnErr outcome (new ≡ store_of s)
     → IfErr outcome (IsRefused (store_of s) given)
@@ -51,7 +53,11 @@ pub obeyed_step : {E : Type 0} (s : ServerData) (given command : Command) (new :
     → IsStepOf (obeys s command) result s (over s new)
 obeyed_step s given command new (Ok u) result takes unchanged error changed other same =
     subst (λ r. IsStepOf (obeys s command) r s (over s new)) (sym changed)
-    (record { answer = rw (← same, takes.table) refl; state = rw (← same, takes.table, takes.limits) refl; unchanged = tt })
+    (record {
+      answer = rw (← same, takes.table) refl;
+      state = rw (← same, takes.table, takes.limits) refl;
+      unchanged = tt;
+    })
 obeyed_step s given command new (Err fault) (Err e) takes unchanged error changed other same =
     record { answer = tt; state = tt; unchanged = rw unchanged refl }
 obeyed_step s given command new (Err fault) (Ok a) takes unchanged error changed other same =

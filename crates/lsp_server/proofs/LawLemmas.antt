@@ -36,18 +36,22 @@ one_of id true b x y z p q r = p
 one_of id false true x y z p q r = q
 one_of id false false x y z p q r = r
 
-pub request_of-is : (id : IdData) (method : List ℕ) (params : Option Data) → IsRequestOf id (request_of id method params)
+pub request_of-is : (id : IdData) (method : List ℕ) (params : Option Data)
+    → IsRequestOf id (request_of id method params)
 request_of-is id method params =
-    one_of id (bytes_eq method (codes "initialize")) (bytes_eq method (codes "shutdown")) (initialize id (offers_of params)) (shutdown id)
+    one_of id (bytes_eq method (codes "initialize")) (bytes_eq method (codes "shutdown"))
+    (initialize id (offers_of params)) (shutdown id)
     (other_request id method) refl refl refl
 
-pub replied : (p : Phase) (s : ServerData) (id : IdData) (m : IncomingData) → IsRequestOf id m → p ≢ Ended → RepliesTo id (step_in p s m).answer
+pub replied : (p : Phase) (s : ServerData) (id : IdData) (m : IncomingData) → IsRequestOf id m → p ≢ Ended
+    → RepliesTo id (step_in p s m).answer
 replied Ended s id m is live = absurd (live refl)
 replied New s id (initialize other None) is live = (error_reply (Some other) InvalidParams, refl, ap Some is)
 replied New s id (initialize other (Some offers)) is live =
     (initialize_result other (chosen s.config.choice offers) (announced_kind s.config.sync), refl, ap Some is)
 replied New s id (shutdown other) is live = (error_reply (Some other) ServerNotInitialized, refl, ap Some is)
-replied New s id (other_request other method) is live = (error_reply (Some other) ServerNotInitialized, refl, ap Some is)
+replied New s id (other_request other method) is live =
+    (error_reply (Some other) ServerNotInitialized, refl, ap Some is)
 replied Running s id (initialize other offers) is live = (error_reply (Some other) InvalidRequest, refl, ap Some is)
 replied Running s id (shutdown other) is live = (shutdown_result other, refl, ap Some is)
 replied Running s id (other_request other method) is live = (error_reply (Some other) MethodNotFound, refl, ap Some is)
@@ -77,15 +81,19 @@ one_of_five false false false false v w x y z p q r s t = t
 
 pub notification_of-is : (method : List ℕ) (params : Option Data) → IsNotification (notification_of method params)
 notification_of-is method params =
-    one_of_five (bytes_eq method (codes "exit")) (bytes_eq method (codes "textDocument/didOpen")) (bytes_eq method (codes "textDocument/didChange"))
-    (bytes_eq method (codes "textDocument/didClose")) exit (did_open (open_of params)) (did_change (change_of params)) (did_close (close_of params))
+    one_of_five (bytes_eq method (codes "exit")) (bytes_eq method (codes "textDocument/didOpen"))
+    (bytes_eq method (codes "textDocument/didChange"))
+    (bytes_eq method (codes "textDocument/didClose")) exit (did_open (open_of params)) (did_change (change_of params))
+    (did_close (close_of params))
     (other_notification method) tt tt tt tt tt
 
-obeyed_quietly : (s : ServerData) (result : Result (List DocumentItem) table.Refusal) (m : OutgoingData) → (obeyed s result).answer ≢ reply m
+obeyed_quietly : (s : ServerData) (result : Result (List DocumentItem) table.Refusal) (m : OutgoingData)
+    → (obeyed s result).answer ≢ reply m
 obeyed_quietly s (Ok next) m = λ e. cc
 obeyed_quietly s (Err refusal) m = λ e. cc
 
-pub unreplied : (p : Phase) (s : ServerData) (n : IncomingData) (m : OutgoingData) → IsNotification n → (step_in p s n).answer ≢ reply m
+pub unreplied : (p : Phase) (s : ServerData) (n : IncomingData) (m : OutgoingData) → IsNotification n
+    → (step_in p s n).answer ≢ reply m
 unreplied Ended s n m is = λ e. cc
 unreplied New s exit m is = λ e. cc
 unreplied New s (did_open params) m is = λ e. cc
@@ -126,7 +134,8 @@ stays_kept : (p : Phase) (s : ServerData) (answer : AnswerData OutgoingData) →
 stays_kept p s answer e =
     record { config = refl; forward = rw e (omega arith); documents = λ _. refl; refusal = λ _. refl }
 
-goes_kept : (p q : Phase) (s : ServerData) (answer : AnswerData OutgoingData) → way_of p ≤ way_of q → (IsRefusal answer → ⊥) → Keeps p s (step_to s q answer)
+goes_kept : (p q : Phase) (s : ServerData) (answer : AnswerData OutgoingData) → way_of p ≤ way_of q
+    → (IsRefusal answer → ⊥) → Keeps p s (step_to s q answer)
 goes_kept p q s answer on apart =
     record { config = refl; forward = on; documents = λ _. refl; refusal = λ h. absurd (apart h) }
 
@@ -134,9 +143,15 @@ begins_kept : (s : ServerData) (id : IdData) (offers : Offers) → Keeps New s (
 begins_kept s id offers =
     record { config = refl; forward = omega arith; documents = λ _. refl; refusal = λ h. absurd h }
 
-obeyed_kept : (p : Phase) (s : ServerData) (result : Result (List DocumentItem) table.Refusal) → s.phase ≡ p → Keeps p s (obeyed s result)
+obeyed_kept : (p : Phase) (s : ServerData) (result : Result (List DocumentItem) table.Refusal) → s.phase ≡ p
+    → Keeps p s (obeyed s result)
 obeyed_kept p s (Ok next) e =
-    record { config = refl; forward = rw e (omega arith); documents = λ apart. absurd (apart refl); refusal = λ h. absurd h }
+    record {
+      config = refl;
+      forward = rw e (omega arith);
+      documents = λ apart. absurd (apart refl);
+      refusal = λ h. absurd h;
+    }
 obeyed_kept p s (Err refusal) e = stays_kept p s _ e
 
 pub kept : (p : Phase) (s : ServerData) (m : IncomingData) → s.phase ≡ p → Keeps p s (step_in p s m)
@@ -155,7 +170,8 @@ kept Down s m e = stays_kept Down s _ e
 
 -- ---- the encoding
 
-pub offered_if : (prefer : Encoding) (offers : Offers) (b : Bool) → is_offered offers prefer ≡ b → is_offered offers (if b then prefer else Utf16) ≡ true
+pub offered_if : (prefer : Encoding) (offers : Offers) (b : Bool) → is_offered offers prefer ≡ b
+    → is_offered offers (if b then prefer else Utf16) ≡ true
 offered_if prefer offers true e = e
 offered_if prefer offers false e = refl
 

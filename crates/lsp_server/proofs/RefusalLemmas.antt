@@ -52,6 +52,8 @@ as_answered (refused why) h = tt
 as_answered (exits status) h = h
 
 -- After a call that took a step and was refused the server is as before.
-pub refused_stays : {E : Type 0} (s new : ServerData) (m : IncomingData) (a : Answer) → IsRowOf {E = E} (step_on s m) (Ok a) s new → IsRefusing a → new ≡ s
+pub refused_stays : {E : Type 0} (s new : ServerData) (m : IncomingData) (a : Answer)
+    → IsRowOf {E = E} (step_on s m) (Ok a) s new → IsRefusing a → new ≡ s
 refused_stays s new m a row refusing =
-    row.taken.state ∙ (kept s.phase s m refl).refusal (as_answered (step_on s m).answer (subst IsRefusingSent row.taken.answer (as_viewed a refusing)))
+    row.taken.state ∙ (kept s.phase s m refl).refusal
+    (as_answered (step_on s m).answer (subst IsRefusingSent row.taken.answer (as_viewed a refusing)))

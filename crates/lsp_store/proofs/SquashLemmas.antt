@@ -49,30 +49,52 @@ seen uri limits encoding joined version = record {
 }
 
 weights : (edits : List Edit) → batch_bytes edits ≤ sum_by (λ change. sum_by len_utf8 change.text) edits
-weights edits = sum_by-le-sum_by (λ (e : Edit). length (encode_utf8_all e.text)) (λ (e : Edit). sum_by len_utf8 e.text) edits (λ e. omega (arith, bytes_sum e.text))
+weights edits = sum_by-le-sum_by (λ (e : Edit). length (encode_utf8_all e.text)) (λ (e : Edit). sum_by len_utf8 e.text)
+    edits (λ e. omega (arith, bytes_sum e.text))
 
 -- ---- before any batch
 
-pub start_seen : (uri : List ℕ) (limits : LimitsData) (encoding : Encoding) (joined : JoinedData) (before : List ℕ) (version : ℤ) (entry : DocumentItem) → joined ≡ record { before = before; items = plain (chars before) } → uri ≡ entry.uri → before ≡ entry.text
+pub start_seen : (uri : List ℕ) (limits : LimitsData) (encoding : Encoding) (joined : JoinedData) (before : List ℕ)
+    (version : ℤ) (entry : DocumentItem) → joined ≡ record { before = before; items = plain (chars before) }
+    → uri ≡ entry.uri → before ≡ entry.text
     → version ≡ entry.version → seen uri limits encoding joined version ≡ squash_of limits encoding entry
 start_seen uri limits encoding joined before version entry is same_uri same_text same_version =
-    (λ i. seen (same_uri i) limits encoding (is i) (same_version i)) ∙ ap (λ (t : List ℕ). seen entry.uri limits encoding (record { before = t; items = plain (chars t) }) entry.version) same_text
+    (λ i. seen (same_uri i) limits encoding (is i) (same_version i))
+    ∙ ap (λ (t : List ℕ). seen entry.uri limits encoding (record { before = t; items = plain (chars t) }) entry.version)
+    same_text
 
-module _ (uri : List ℕ) (limits : LimitsData) (encoding : Encoding) (joined : JoinedData) (stored : Stored) (at : IsReached joined stored.text) (kept : SquashData) (view : seen uri limits encoding joined stored.version ≡ kept) where
+module _ (uri : List ℕ) (limits : LimitsData) (encoding : Encoding) (joined : JoinedData) (stored : Stored)
+    (at : IsReached joined stored.text) (kept : SquashData) (view : seen uri limits encoding joined stored.version
+    ≡ kept) where
   text_is : stored.text ≡ bytes_left joined.before joined.items
   text_is = sym (encodes-chars stored.text at.utf8) ∙ ap encode_utf8_all at.text_is
 
-  refusal_is : (version : ℤ) (more : List Edit) → entry_refusal limits (units_in encoding) (entry_under uri stored) version more ≡ add_refusal kept version more
+  refusal_is : (version : ℤ) (more : List Edit) → entry_refusal limits (units_in encoding) (entry_under uri stored)
+      version more ≡ add_refusal kept version more
   refusal_is version more =
-      ap (λ (t : List ℕ). entry_refusal limits (units_in encoding) (record { uri = uri; language = []; version = stored.version; text = t }) version more) text_is
+      ap (λ (t : List ℕ). entry_refusal limits (units_in encoding) (record {
+        uri = uri;
+        language = [];
+        version = stored.version;
+        text = t;
+      }) version more) text_is
       ∙ ap (λ (k : SquashData). add_refusal k version more) view
 
-  pub add_error : (version : ℤ) (more : List Edit) (fault : StoreFault) → IsRefusal (entry_refusal limits (units_in encoding) (entry_under uri stored) version more) fault → IsRefusal (add_refusal kept version more) fault
+  pub add_error : (version : ℤ) (more : List Edit) (fault : StoreFault)
+      → IsRefusal (entry_refusal limits (units_in encoding) (entry_under uri stored) version more) fault
+      → IsRefusal (add_refusal kept version more) fault
   add_error version more fault error = subst (λ (r : Option Refusal). IsRefusal r fault) (refusal_is version more) error
 
-  pub left_to_meaning : (version : ℤ) (more : List Edit) → IsLeftToMeaning limits (entry_under uri stored) version more → IsLeftToMeaning kept.limits (reached_entry kept) version more
+  pub left_to_meaning : (version : ℤ) (more : List Edit) → IsLeftToMeaning limits (entry_under uri stored) version more
+      → IsLeftToMeaning kept.limits (reached_entry kept) version more
   left_to_meaning version more left =
-      let at_text = subst (λ (t : List ℕ). IsLeftToMeaning limits (record { uri = uri; language = []; version = stored.version; text = t }) version more) text_is left in
+      let at_text =
+      subst (λ (t : List ℕ). IsLeftToMeaning limits (record {
+        uri = uri;
+        language = [];
+        version = stored.version;
+        text = t;
+      }) version more) text_is left in
       subst (λ (k : SquashData). IsLeftToMeaning k.limits (reached_entry k) version more) view at_text
 
   -- ---- a batch more
@@ -81,9 +103,13 @@ module _ (uri : List ℕ) (limits : LimitsData) (encoding : Encoding) (joined : 
       (accepted : entry_refusal limits (units_in encoding) (entry_under uri stored) version more ≡ None)
       (is : IsJoined (units_in encoding) joined more next) (version_is : next_version ≡ version) where
     more_means : meaning (units_in kept.encoding) (text_of (chars kept.text) kept.items) more ≡ Ok is.others
-    more_means = subst (λ (k : SquashData). meaning (units_in k.encoding) (text_of (chars k.text) k.items) more ≡ Ok is.others) view is.means
+    more_means = subst (λ (k : SquashData). meaning (units_in k.encoding) (text_of (chars k.text) k.items) more
+        ≡ Ok is.others) view is.means
 
-    next_is : seen uri limits encoding next next_version ≡ record kept { items = then_items kept.items is.others; version = version }
+    next_is : seen uri limits encoding next next_version ≡ record kept {
+      items = then_items kept.items is.others;
+      version = version;
+    }
     next_is =
         ap₂ (λ (j : JoinedData) (v : ℤ). seen uri limits encoding j v) is.is version_is
         ∙ ap (λ (k : SquashData). record k { items = then_items k.items is.others; version = version }) view
@@ -95,24 +121,30 @@ module _ (uri : List ℕ) (limits : LimitsData) (encoding : Encoding) (joined : 
       means = more_means;
       is = next_is;
       together = λ b p.
-          then_means (units_in kept.encoding) (chars kept.text) b more kept.items is.others p more_means ∙ ap Ok (sym (ap (λ (k : SquashData). k.items) next_is));
+          then_means (units_in kept.encoding) (chars kept.text) b more kept.items is.others p more_means
+          ∙ ap Ok (sym (ap (λ (k : SquashData). k.items) next_is));
     }
 
 -- ---- the message
 
-module _ (uri : List ℕ) (limits : LimitsData) (encoding : Encoding) (joined : JoinedData) (version : ℤ) (kept : SquashData) (view : seen uri limits encoding joined version ≡ kept)
+module _ (uri : List ℕ) (limits : LimitsData) (encoding : Encoding) (joined : JoinedData) (version : ℤ)
+    (kept : SquashData) (view : seen uri limits encoding joined version ≡ kept)
     (made : List Edit) (is : made ≡ canonical (units_in encoding) (chars joined.before) joined.items) where
   pub batch_is : made ≡ squash_batch kept
   batch_is = is ∙ ap squash_batch view
 
-  pub written_refusal : (if nat_lt limits.max_changes (length made) then Some too_many_changes else body_refusal limits (change_body uri version made)) ≡ squash_refusal kept
+  pub written_refusal : (if nat_lt limits.max_changes (length made) then Some too_many_changes else body_refusal limits
+      (change_body uri version made)) ≡ squash_refusal kept
   written_refusal =
-      ap (λ (b : List Edit). if nat_lt limits.max_changes (length b) then Some too_many_changes else body_refusal limits (change_body uri version b)) batch_is
-      ∙ ap (λ (k : SquashData). if nat_lt k.limits.max_changes (length (squash_batch kept)) then Some too_many_changes else body_refusal k.limits (change_body k.uri k.version (squash_batch kept))) view
+      ap (λ (b : List Edit). if nat_lt limits.max_changes (length b) then Some too_many_changes else body_refusal limits
+      (change_body uri version b)) batch_is
+      ∙ ap (λ (k : SquashData). if nat_lt k.limits.max_changes (length (squash_batch kept)) then Some too_many_changes
+      else body_refusal k.limits (change_body k.uri k.version (squash_batch kept))) view
 
 -- ---- the message of all batches is accepted on the document as it was, and leaves the one that was reached
 
-module _ (limits : LimitsData) (encoding : Encoding) (entry : DocumentItem) (version : ℤ) (batch : List Edit) (items : List Item)
+module _ (limits : LimitsData) (encoding : Encoding) (entry : DocumentItem) (version : ℤ) (batch : List Edit)
+    (items : List Item)
     (means : meaning (units_in encoding) (chars entry.text) batch ≡ Ok items)
     (newer : is_stale limits version entry.version ≡ false)
     (short : length (bytes_left entry.text items) ≤ limits.max_text) (within : limits.max_text ≤ 1073741824)
@@ -123,55 +155,88 @@ module _ (limits : LimitsData) (encoding : Encoding) (entry : DocumentItem) (ver
   all_fit : nat_lt greatest_batch (batch_bytes (canonical (units_in encoding) (chars entry.text) items)) ≡ false
   all_fit =
       le-ltb greatest_batch (batch_bytes (canonical (units_in encoding) (chars entry.text) items))
-      (omega (arith, weights (canonical (units_in encoding) (chars entry.text) items), all_law.short len_utf8, bytes_sum (text_of (chars entry.text) items), short, within))
+      (omega (
+        arith,
+        weights (canonical (units_in encoding) (chars entry.text) items),
+        all_law.short len_utf8,
+        bytes_sum (text_of (chars entry.text) items),
+        short,
+        within,
+      ))
 
-  pub squash_accepted : entry_refusal limits (units_in encoding) entry version (canonical (units_in encoding) (chars entry.text) items) ≡ None
-  squash_accepted = rw (newer, few, all_fit, all_law.means, le-ltb limits.max_text (length (bytes_left entry.text items)) short) refl
+  pub squash_accepted : entry_refusal limits (units_in encoding) entry version
+      (canonical (units_in encoding) (chars entry.text) items) ≡ None
+  squash_accepted = rw (
+    newer,
+    few,
+    all_fit,
+    all_law.means,
+    le-ltb limits.max_text (length (bytes_left entry.text items)) short,
+  ) refl
 
-  pub squash_leaves : changed (units_in encoding) entry version (canonical (units_in encoding) (chars entry.text) items) ≡ record entry { version = version; text = bytes_left entry.text items }
+  pub squash_leaves : changed (units_in encoding) entry version (canonical (units_in encoding) (chars entry.text) items)
+      ≡ record entry { version = version; text = bytes_left entry.text items }
   squash_leaves = rw all_law.means refl
 
 -- ---- what a run means: batches that are accepted one after another mean together what they mean as one list
 
-pub run_on : (units : ℕ → ℕ) (old : List ℕ) (batch more : List Edit) (items others : List Item) → meaning units old batch ≡ Ok items
-    → meaning units (text_of old items) more ≡ Ok others → meaning units old (batch ++ more) ≡ Ok (then_items items others)
+pub run_on : (units : ℕ → ℕ) (old : List ℕ) (batch more : List Edit) (items others : List Item)
+    → meaning units old batch ≡ Ok items
+    → meaning units (text_of old items) more ≡ Ok others → meaning units old (batch ++ more)
+    ≡ Ok (then_items items others)
 run_on units old batch more items others one two = then_means units old batch more items others one two
 
 -- Canonical batches that are written singly mean together what the batches that they were written for mean together.
-pub singles_mean : (units : ℕ → ℕ) → ((c : ℕ) → 1 ≤ units c) → (old : List ℕ) (batch more single : List Edit) (items others : List Item) → meaning units old batch ≡ Ok items → meaning units old single ≡ Ok items
-    → meaning units (text_of old items) more ≡ Ok others → meaning units old (single ++ canonical units (text_of old items) others) ≡ Ok (then_items items others)
+pub singles_mean : (units : ℕ → ℕ) → ((c : ℕ) → 1 ≤ units c) → (old : List ℕ) (batch more single : List Edit)
+    (items others : List Item) → meaning units old batch ≡ Ok items → meaning units old single ≡ Ok items
+    → meaning units (text_of old items) more ≡ Ok others
+    → meaning units old (single ++ canonical units (text_of old items) others) ≡ Ok (then_items items others)
 singles_mean units some old batch more single items others one same two =
-    then_means units old single (canonical units (text_of old items) others) items others same (canonical_law units some (text_of old items) more others two).means
+    then_means units old single (canonical units (text_of old items) others) items others same
+    (canonical_law units some (text_of old items) more others two).means
 
 -- What a batch makes of a squash is one thing.
-pub after_is : (old : SquashData) (version : ℤ) (batch : List Edit) (new : SquashData) → IsSquashAfter old version batch new → new ≡ squash_after old version batch
+pub after_is : (old : SquashData) (version : ℤ) (batch : List Edit) (new : SquashData)
+    → IsSquashAfter old version batch new → new ≡ squash_after old version batch
 after_is old version batch new adds =
-    adds.is ∙ ap (λ (o : List Item). record old { items = then_items old.items o; version = version }) (sym (ap items_meant adds.means))
+    adds.is ∙ ap (λ (o : List Item). record old { items = then_items old.items o; version = version })
+    (sym (ap items_meant adds.means))
 
 -- ---- batches on a document that is kept elsewhere
 
 -- What became of the text's characters is what the batches before led to.
-pub is_reached : (joined : JoinedData) (text : List ℕ) → IsUtf8 text → chars text ≡ joined_text joined → IsReached joined text
+pub is_reached : (joined : JoinedData) (text : List ℕ) → IsUtf8 text → chars text ≡ joined_text joined
+    → IsReached joined text
 is_reached joined text utf8 is = record { utf8 = utf8; text_is = is }
 
-module _ (kept : SquashData) (entry : DocumentItem) (version : ℤ) (more : List Edit) (utf8 : IsUtf8 entry.text) (at : HasReached kept entry)
+module _ (kept : SquashData) (entry : DocumentItem) (version : ℤ) (more : List Edit) (utf8 : IsUtf8 entry.text)
+    (at : HasReached kept entry)
     (accepted : entry_refusal kept.limits (units_in kept.encoding) entry version more ≡ None) where
   same_text : entry.text ≡ bytes_left kept.text kept.items
   same_text = sym (encodes-chars entry.text utf8) ∙ ap encode_utf8_all at.text
 
   pub add_accepted : add_refusal kept version more ≡ None
   add_accepted =
-      ap₂ (λ (t : List ℕ) (v : ℤ). entry_refusal kept.limits (units_in kept.encoding) (record { uri = kept.uri; language = []; version = v; text = t }) version more)
+      ap₂ (λ (t : List ℕ) (v : ℤ). entry_refusal kept.limits (units_in kept.encoding) (record {
+        uri = kept.uri;
+        language = [];
+        version = v;
+        text = t;
+      }) version more)
       (sym same_text) (sym at.version)
       ∙ accepted
 
   -- A batch more leads to the changed document.
-  pub has_reached : (next : SquashData) → AreTexts more → IsSquashAfter kept version more next → HasReached next (changed (units_in kept.encoding) entry version more)
+  pub has_reached : (next : SquashData) → AreTexts more → IsSquashAfter kept version more next
+      → HasReached next (changed (units_in kept.encoding) entry version more)
   has_reached next texts adds =
-      let means : meaning (units_in kept.encoding) (chars entry.text) more ≡ Ok adds.others = ap (λ t. meaning (units_in kept.encoding) t more) at.text ∙ adds.means in
-      let made : meant_text entry.text (meaning (units_in kept.encoding) (chars entry.text) more) ≡ bytes_left entry.text adds.others = ap (meant_text entry.text) means in
+      let means : meaning (units_in kept.encoding) (chars entry.text) more ≡ Ok adds.others =
+      ap (λ t. meaning (units_in kept.encoding) t more) at.text ∙ adds.means in
+      let made : meant_text entry.text (meaning (units_in kept.encoding) (chars entry.text) more)
+      ≡ bytes_left entry.text adds.others = ap (meant_text entry.text) means in
       let all : all_scalars (text_of (chars entry.text) adds.others) ≡ true =
-      scalar-text (chars entry.text) adds.others (scalars-chars entry.text utf8) (scalar-meaning (units_in kept.encoding) (chars entry.text) more adds.others texts means) in
+      scalar-text (chars entry.text) adds.others (scalars-chars entry.text utf8)
+      (scalar-meaning (units_in kept.encoding) (chars entry.text) more adds.others texts means) in
       record {
         text =
             ap chars made ∙ chars-encodes (text_of (chars entry.text) adds.others) all
@@ -182,35 +247,50 @@ module _ (kept : SquashData) (entry : DocumentItem) (version : ℤ) (more : List
       }
 
 -- A batch more, by what is kept of the batches before it.
-pub joins_after : (uri : List ℕ) (limits : LimitsData) (encoding : Encoding) (joined next : JoinedData) (before version next_version : ℤ) (kept : SquashData) (more : List Edit) → seen uri limits encoding joined before ≡ kept
-    → add_refusal kept version more ≡ None → IsJoined (units_in encoding) joined more next → next_version ≡ version → IsSquashAfter kept version more (seen uri limits encoding next next_version)
+pub joins_after : (uri : List ℕ) (limits : LimitsData) (encoding : Encoding) (joined next : JoinedData)
+    (before version next_version : ℤ) (kept : SquashData) (more : List Edit) → seen uri limits encoding joined before
+    ≡ kept
+    → add_refusal kept version more ≡ None → IsJoined (units_in encoding) joined more next → next_version ≡ version
+    → IsSquashAfter kept version more (seen uri limits encoding next next_version)
 joins_after uri limits encoding joined next before version next_version kept more view accepted is version_is = record {
   accepted = accepted;
   others = is.others;
   means = more_means;
   is = next_is;
   together = λ b p.
-      then_means (units_in kept.encoding) (chars kept.text) b more kept.items is.others p more_means ∙ ap Ok (sym (ap (λ (k : SquashData). k.items) next_is));
+      then_means (units_in kept.encoding) (chars kept.text) b more kept.items is.others p more_means
+      ∙ ap Ok (sym (ap (λ (k : SquashData). k.items) next_is));
 }
   where
     more_means : meaning (units_in kept.encoding) (text_of (chars kept.text) kept.items) more ≡ Ok is.others
-    more_means = subst (λ (k : SquashData). meaning (units_in k.encoding) (text_of (chars k.text) k.items) more ≡ Ok is.others) view is.means
+    more_means = subst (λ (k : SquashData). meaning (units_in k.encoding) (text_of (chars k.text) k.items) more
+        ≡ Ok is.others) view is.means
 
-    next_is : seen uri limits encoding next next_version ≡ record kept { items = then_items kept.items is.others; version = version }
+    next_is : seen uri limits encoding next next_version ≡ record kept {
+      items = then_items kept.items is.others;
+      version = version;
+    }
     next_is =
         ap₂ (λ (j : JoinedData) (v : ℤ). seen uri limits encoding j v) is.is version_is
         ∙ ap (λ (k : SquashData). record k { items = then_items k.items is.others; version = version }) view
 
 -- A batch that is accepted is refused only where memory runs out.
-pub memory_alone : (uri : List ℕ) (limits : LimitsData) (encoding : Encoding) (joined : JoinedData) (before : ℤ) (kept : SquashData) → seen uri limits encoding joined before ≡ kept
-    → (entry : DocumentItem) (version : ℤ) (more : List Edit) → entry_refusal kept.limits (units_in kept.encoding) entry version more ≡ None
+pub memory_alone : (uri : List ℕ) (limits : LimitsData) (encoding : Encoding) (joined : JoinedData) (before : ℤ)
+    (kept : SquashData) → seen uri limits encoding joined before ≡ kept
+    → (entry : DocumentItem) (version : ℤ) (more : List Edit) → entry_refusal kept.limits (units_in kept.encoding) entry
+    version more ≡ None
     → (reached : List ℕ) → reached ≡ entry.text
-    → (fault : TextFault) → (fault ≡ NoMemory) ⊎ (text_within limits.max_text reached (meaning (units_in encoding) (chars reached) more) ≡ Err fault) → fault ≡ NoMemory
+    → (fault : TextFault) → (fault ≡ NoMemory)
+    ⊎ (text_within limits.max_text reached (meaning (units_in encoding) (chars reached) more) ≡ Err fault)
+    → fault ≡ NoMemory
 memory_alone uri limits encoding joined before kept view entry version more accepted reached same fault error =
-    let may : entry_refusal limits (units_in encoding) entry version more ≡ None = subst (λ (k : SquashData). entry_refusal k.limits (units_in k.encoding) entry version more ≡ None) (sym view) accepted in
+    let may : entry_refusal limits (units_in encoding) entry version more ≡ None =
+    subst (λ (k : SquashData). entry_refusal k.limits (units_in k.encoding) entry version more ≡ None) (sym view)
+    accepted in
     let a = accepted_parts limits (units_in encoding) entry version more may in
     only_memory limits entry.text (meaning (units_in encoding) (chars entry.text) more) a.items a.means a.short fault
-    (subst (λ (t : List ℕ). (fault ≡ NoMemory) ⊎ (text_within limits.max_text t (meaning (units_in encoding) (chars t) more) ≡ Err fault)) same error)
+    (subst (λ (t : List ℕ). (fault ≡ NoMemory)
+    ⊎ (text_within limits.max_text t (meaning (units_in encoding) (chars t) more) ≡ Err fault)) same error)
 
 -- ---- a batch that was planned
 
@@ -218,11 +298,18 @@ on_utf8 : (before : List ℕ) (delta : Delta) → IsOn before delta → IsUtf8 b
 on_utf8 before (Put encoding start stop new) on = on.utf8
 on_utf8 before (Left encoding changes left) on = on.utf8
 
-module _ (uri : List ℕ) (limits : LimitsData) (encoding : Encoding) (joined next : JoinedData) (before next_version : ℤ) (kept : SquashData) (view : seen uri limits encoding joined before ≡ kept)
-    (store : StoreData) (plan : Plan) (given : next_version ≡ plan.version) (text : List ℕ) (same : (on : IsPlanOn store plan) → text ≡ on.entry.text) (at : (on : IsPlanOn store plan) → HasReached kept on.entry)
-    (joins : (units : ℕ → ℕ) (batch : List Edit) → meaning units (chars text) batch ≡ meant_by text plan.delta → IsJoined units joined batch next)
-    (reaches : (max_len : ℕ) (left : List ℕ) → text_within max_len text (meant_by text plan.delta) ≡ Ok left → IsReached next left)
-    (document : List ℕ) (version : ℤ) (coded : Encoding) (batch : List Edit) (q : IsPlanOf store document version coded batch plan) (coded_is : kept.encoding ≡ coded) (limits_are : kept.limits ≡ store.limits) where
+module _ (uri : List ℕ) (limits : LimitsData) (encoding : Encoding) (joined next : JoinedData) (before next_version : ℤ)
+    (kept : SquashData) (view : seen uri limits encoding joined before ≡ kept)
+    (store : StoreData) (plan : Plan) (given : next_version ≡ plan.version) (text : List ℕ)
+    (same : (on : IsPlanOn store plan) → text ≡ on.entry.text) (at : (on : IsPlanOn store plan)
+    → HasReached kept on.entry)
+    (joins : (units : ℕ → ℕ) (batch : List Edit) → meaning units (chars text) batch ≡ meant_by text plan.delta
+    → IsJoined units joined batch next)
+    (reaches : (max_len : ℕ) (left : List ℕ) → text_within max_len text (meant_by text plan.delta) ≡ Ok left
+    → IsReached next left)
+    (document : List ℕ) (version : ℤ) (coded : Encoding) (batch : List Edit)
+    (q : IsPlanOf store document version coded batch plan) (coded_is : kept.encoding ≡ coded)
+    (limits_are : kept.limits ≡ store.limits) where
   abbrev entry : DocumentItem
   entry = q.on.entry
 
@@ -235,37 +322,49 @@ module _ (uri : List ℕ) (limits : LimitsData) (encoding : Encoding) (joined ne
       ∙ entry_accepts
 
   added_accepted : add_refusal kept version batch ≡ None
-  added_accepted = add_accepted kept q.on.entry version batch (on_utf8 q.on.entry.text plan.delta q.on.on) (at q.on) kept_accepts
+  added_accepted = add_accepted kept q.on.entry version batch (on_utf8 q.on.entry.text plan.delta q.on.on) (at q.on)
+      kept_accepts
 
   batch_means : meaning (units_in coded) (chars text) batch ≡ meant_by text plan.delta
-  batch_means = subst (λ (t : List ℕ). meaning (units_in coded) (chars t) batch ≡ meant_by t plan.delta) (sym (same q.on)) q.delta.means
+  batch_means = subst (λ (t : List ℕ). meaning (units_in coded) (chars t) batch ≡ meant_by t plan.delta)
+      (sym (same q.on)) q.delta.means
 
   encoding_is : encoding ≡ coded
   encoding_is = ap (λ (k : SquashData). k.encoding) view ∙ coded_is
 
   added_joins : IsJoined (units_in encoding) joined batch next
-  added_joins = subst (λ (e : Encoding). IsJoined (units_in e) joined batch next) (sym encoding_is) (joins (units_in coded) batch batch_means)
+  added_joins = subst (λ (e : Encoding). IsJoined (units_in e) joined batch next) (sym encoding_is)
+      (joins (units_in coded) batch batch_means)
 
   pub plan_after : IsSquashAfter kept version batch (seen uri limits encoding next next_version)
-  plan_after = joins_after uri limits encoding joined next before version next_version kept batch view added_accepted added_joins (given ∙ q.version_is)
+  plan_after = joins_after uri limits encoding joined next before version next_version kept batch view added_accepted
+      added_joins (given ∙ q.version_is)
 
-  plan_within : text_within store.limits.max_text text (meant_by text plan.delta) ≡ Ok (bytes_after q.on.entry.text plan.delta)
+  plan_within : text_within store.limits.max_text text (meant_by text plan.delta)
+      ≡ Ok (bytes_after q.on.entry.text plan.delta)
   plan_within =
-      subst (λ (t : List ℕ). text_within store.limits.max_text t (meant_by t plan.delta) ≡ Ok (bytes_after q.on.entry.text plan.delta)) (sym (same q.on))
-      (subst (λ m. text_within store.limits.max_text q.on.entry.text m ≡ Ok (bytes_after q.on.entry.text plan.delta)) q.delta.means q.delta.is)
+      subst (λ (t : List ℕ). text_within store.limits.max_text t (meant_by t plan.delta)
+      ≡ Ok (bytes_after q.on.entry.text plan.delta)) (sym (same q.on))
+      (subst (λ m. text_within store.limits.max_text q.on.entry.text m ≡ Ok (bytes_after q.on.entry.text plan.delta))
+      q.delta.means q.delta.is)
 
-  plan_left : meant_text q.on.entry.text (meaning (units_in coded) (chars q.on.entry.text) batch) ≡ bytes_after q.on.entry.text plan.delta
+  plan_left : meant_text q.on.entry.text (meaning (units_in coded) (chars q.on.entry.text) batch)
+      ≡ bytes_after q.on.entry.text plan.delta
   plan_left = (meaning_accepted store.limits q.on.entry.text _ _ q.delta.is).1
 
-  pub plan_reached : HasReached (seen uri limits encoding next next_version) (changed (units_in coded) q.on.entry version batch)
+  pub plan_reached : HasReached (seen uri limits encoding next next_version)
+      (changed (units_in coded) q.on.entry version batch)
   plan_reached = record {
-    text = ap chars plan_left ∙ (reaches store.limits.max_text (bytes_after q.on.entry.text plan.delta) plan_within).text_is;
+    text = ap chars plan_left
+        ∙ (reaches store.limits.max_text (bytes_after q.on.entry.text plan.delta) plan_within).text_is;
     version = sym (given ∙ q.version_is);
   }
 
 -- The document that a plan is of is the one that was reached.
-pub plan_at : (uri : List ℕ) (limits : LimitsData) (encoding : Encoding) (joined : JoinedData) (before : ℤ) (kept : SquashData) → seen uri limits encoding joined before ≡ kept
-    → (store : StoreData) (plan : Plan) (on : IsPlanOn store plan) (text : List ℕ) → text ≡ on.entry.text → HasReached kept on.entry → IsReached joined text
+pub plan_at : (uri : List ℕ) (limits : LimitsData) (encoding : Encoding) (joined : JoinedData) (before : ℤ)
+    (kept : SquashData) → seen uri limits encoding joined before ≡ kept
+    → (store : StoreData) (plan : Plan) (on : IsPlanOn store plan) (text : List ℕ) → text ≡ on.entry.text
+    → HasReached kept on.entry → IsReached joined text
 plan_at uri limits encoding joined before kept view store plan on text same at = record {
   utf8 = subst IsUtf8 (sym same) (on_utf8 on.entry.text plan.delta on.on);
   text_is = ap chars same ∙ (at.text ∙ sym (ap (λ (k : SquashData). text_of (chars k.text) k.items) view));

@@ -158,7 +158,8 @@ unless_refused None table = Ok table
 unless_refused (Some refusal) table = Err refusal
 
 -- The table after a command, or why the command is refused.
-abbrev pub after_command : LimitsData → List DocumentItem → Command → Result (List DocumentItem) Refusal
+abbrev pub after_command : LimitsData → List DocumentItem → Command
+    → Result (List DocumentItem) Refusal
 after_command limits table command
     = unless_refused (command_refusal limits table command) (table_after table command)
 

@@ -46,9 +46,11 @@ unit_law Utf16 c = let b = utf16_bounds c in let l = len_utf8_bounds c in (b.0, 
 unit_law Utf32 c = let b = utf32_bounds c in let l = len_utf8_bounds c in (b.0, omega arith)
 
 -- The kept start of a line is the place of the line's start.
-start_place : (text : List ℕ) (line : ℕ) → line ≤ line_ends text → slice_index (start_places text) line ≡ place_of text (line_start text line)
+start_place : (text : List ℕ) (line : ℕ) → line ≤ line_ends text → slice_index (start_places text) line
+    ≡ place_of text (line_start text line)
 start_place text line there =
-    get_or-map (place_of text) (line_starts text) line 0 0 (omega (arith, length-line_starts text)) ∙ ap (place_of text) (start_at text line there)
+    get_or-map (place_of text) (line_starts text) line 0 0 (omega (arith, length-line_starts text))
+    ∙ ap (place_of text) (start_at text line there)
 
 -- It is the line's first index.
 pub starts_law : StartsLaw
@@ -67,14 +69,17 @@ starts_law text line there =
 pub found_law : FoundLaw
 found_law text k line within found =
     let lines = start_places text in
-    let count : length lines ≡ line_ends text + 1 = omega (arith, length-map (line_starts text) (place_of text), length-line_starts text) in
+    let count : length lines ≡ line_ends text + 1 =
+    omega (arith, length-map (line_starts text) (place_of text), length-line_starts text) in
     let inside = found.within in
     let there : line ≤ line_ends text = omega (arith, count) in
     let start = line_has_start text line there in
     let low : line_start text line ≤ k =
-    place_order text (line_start text line) k (omega (arith, start.in_row)) (omega (arith, start_place text line there, found.at_most)) in
+    place_order text (line_start text line) k (omega (arith, start.in_row))
+    (omega (arith, start_place text line there, found.at_most)) in
     let rises : line_at text (line_start text line) ≤ line_at text k = line_rises text (line_start text line) k low in
-    let here : line_at text (line_start text line) ≡ line = in_content_line text line (line_start text line) start.passes in
+    let here : line_at text (line_start text line) ≡ line =
+    in_content_line text line (line_start text line) start.passes in
     ⊎_elim
     (λ (h : line < line_at text k).
     let m = line_at text k in
@@ -89,8 +94,10 @@ found_law text k line within found =
 
 -- the encoding of a name, by what the name is equal to
 named : (name : List ℕ) (encoding : Encoding) (first second third : Bool) →
-    (first ≡ true → name ≡ codes "utf-8") → (second ≡ true → name ≡ codes "utf-16") → (third ≡ true → name ≡ codes "utf-32") →
-    (if first then Some Utf8 else if second then Some Utf16 else if third then Some Utf32 else None) ≡ Some encoding → name ≡ name_of encoding
+    (first ≡ true → name ≡ codes "utf-8") → (second ≡ true → name ≡ codes "utf-16")
+    → (third ≡ true → name ≡ codes "utf-32") →
+    (if first then Some Utf8 else if second then Some Utf16 else if third then Some Utf32 else None) ≡ Some encoding
+    → name ≡ name_of encoding
 named name Utf8 true second third one two three found = one refl
 named name Utf16 true second third one two three found = cc
 named name Utf32 true second third one two three found = cc
@@ -110,6 +117,7 @@ named_by Utf32 = refl
 pub name_law : NameLaw
 name_law name encoding = (
   named name encoding (bytes_eq name (codes "utf-8")) (bytes_eq name (codes "utf-16")) (bytes_eq name (codes "utf-32"))
-      (bytes_eq-Decides name (codes "utf-8")).0 (bytes_eq-Decides name (codes "utf-16")).0 (bytes_eq-Decides name (codes "utf-32")).0,
+      (bytes_eq-Decides name (codes "utf-8")).0 (bytes_eq-Decides name (codes "utf-16")).0
+      (bytes_eq-Decides name (codes "utf-32")).0,
   λ same. ap encoding_named same ∙ named_by encoding,
 )

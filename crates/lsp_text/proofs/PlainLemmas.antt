@@ -21,15 +21,18 @@ row_more k n before =
     rw count (ap (λ (j : ℕ). k ∷ numbers_from j (n - (k + 1))) next)
 
 -- An index that fails leaves the filtered rest as it is.
-pub row_on : (test : ℕ → Bool) (k n : ℕ) → k < n → test k ≡ false → filter test (numbers_from k (n - k)) ≡ filter test (numbers_from (k + 1) (n - (k + 1)))
+pub row_on : (test : ℕ → Bool) (k n : ℕ) → k < n → test k ≡ false → filter test (numbers_from k (n - k))
+    ≡ filter test (numbers_from (k + 1) (n - (k + 1)))
 row_on test k n before fails = rw (row_more k n before, fails) refl
 
 -- One that passes is the last so far, and the one that is found if it is wanted.
 pub last_on : (test : ℕ → Bool) (default k n : ℕ) → k < n → test k ≡ true →
-    last_or default (filter test (numbers_from k (n - k))) ≡ last_or k (filter test (numbers_from (k + 1) (n - (k + 1))))
+    last_or default (filter test (numbers_from k (n - k)))
+    ≡ last_or k (filter test (numbers_from (k + 1) (n - (k + 1))))
 last_on test default k n before passes = rw (row_more k n before, passes) refl
 
-pub find_here : (test wanted : ℕ → Bool) (k n : ℕ) → k < n → test k ≡ true → wanted k ≡ true → find wanted (filter test (numbers_from k (n - k))) ≡ Some k
+pub find_here : (test wanted : ℕ → Bool) (k n : ℕ) → k < n → test k ≡ true → wanted k ≡ true
+    → find wanted (filter test (numbers_from k (n - k))) ≡ Some k
 find_here test wanted k n before passes is = rw (row_more k n before, passes, is) refl
 
 pub find_on : (test wanted : ℕ → Bool) (k n : ℕ) → k < n → test k ≡ true → wanted k ≡ false →
@@ -37,11 +40,15 @@ pub find_on : (test wanted : ℕ → Bool) (k n : ℕ) → k < n → test k ≡ 
 find_on test wanted k n before passes other = rw (row_more k n before, passes, other) refl
 
 -- The units from an index on are those of its character, and those from the next index on.
-pub units_rest : (units : ℕ → ℕ) (text : List ℕ) (k to default : ℕ) → k < to → to ≤ length text → units_between units text k to ≡ units (get_or text k default) + units_between units text (k + 1) to
+pub units_rest : (units : ℕ → ℕ) (text : List ℕ) (k to default : ℕ) → k < to → to ≤ length text
+    → units_between units text k to ≡ units (get_or text k default) + units_between units text (k + 1) to
 units_rest units text k to default before within =
     let count : to - k ≡ suc (to - (k + 1)) = omega arith in
     let here : k < length text = omega arith in
-    rw (count, drop_more text k default here) (sum_by-cons units (get_or text k default) (take (to - (k + 1)) (drop (k + 1) text)))
+    rw (
+      count,
+      drop_more text k default here,
+    ) (sum_by-cons units (get_or text k default) (take (to - (k + 1)) (drop (k + 1) text)))
 
 units_of_bytes : (encoding : Encoding) (c : ℕ) → units_in encoding c ≤ len_utf8 c
 units_of_bytes Utf8 c = (utf8_bounds c).1
@@ -49,12 +56,16 @@ units_of_bytes Utf16 c = (utf16_bounds c).1
 units_of_bytes Utf32 c = (utf32_bounds c).1
 
 -- A loop that adds the units of the characters in turn.
-pub units_on : (units : ℕ → ℕ) (text : List ℕ) (from k to count got default : ℕ) → k < to → to ≤ length text → got ≡ units (get_or text k default) →
-    count + units_between units text k to ≡ units_between units text from to → (count + got) + units_between units text (k + 1) to ≡ units_between units text from to
-units_on units text from k to count got default before within is left = omega (arith, units_rest units text k to default before within)
+pub units_on : (units : ℕ → ℕ) (text : List ℕ) (from k to count got default : ℕ) → k < to → to ≤ length text
+    → got ≡ units (get_or text k default) →
+    count + units_between units text k to ≡ units_between units text from to → (count + got) + units_between units text
+    (k + 1) to ≡ units_between units text from to
+units_on units text from k to count got default before within is left =
+    omega (arith, units_rest units text k to default before within)
 
 -- No part of a text has more units than the text has bytes.
-pub units_total : (encoding : Encoding) (text : List ℕ) (from to : ℕ) → units_between (units_in encoding) text from to ≤ length (encode_utf8_all text)
+pub units_total : (encoding : Encoding) (text : List ℕ) (from to : ℕ) → units_between (units_in encoding) text from to
+    ≤ length (encode_utf8_all text)
 units_total encoding text from to =
     let units = units_in encoding in
     omega (
@@ -66,34 +77,50 @@ units_total encoding text from to =
     )
 
 -- The character that a loop adds next still fits.
-pub units_next : (encoding : Encoding) (text : List ℕ) (from k to count got default : ℕ) → k < to → to ≤ length text → got ≡ units_in encoding (get_or text k default) →
-    count + units_between (units_in encoding) text k to ≡ units_between (units_in encoding) text from to → count + got ≤ length (encode_utf8_all text)
+pub units_next : (encoding : Encoding) (text : List ℕ) (from k to count got default : ℕ) → k < to → to ≤ length text
+    → got ≡ units_in encoding (get_or text k default) →
+    count + units_between (units_in encoding) text k to ≡ units_between (units_in encoding) text from to
+    → count + got ≤ length (encode_utf8_all text)
 units_next encoding text from k to count got default before within is left =
-    omega (arith, units_on (units_in encoding) text from k to count got default before within is left, units_total encoding text from to)
+    omega (
+      arith,
+      units_on (units_in encoding) text from k to count got default before within is left,
+      units_total encoding text from to,
+    )
 
 -- Whether an index has so many units before it in a line.
 abbrev pub has_units : (ℕ → ℕ) → List ℕ → ℕ → ℕ → ℕ → Bool
 has_units units text line character k = units_between units text (line_start text line) k == character
 
-pub has_them : (units : ℕ → ℕ) (text : List ℕ) (line character start k count : ℕ) → start ≡ line_start text line → count ≡ units_between units text start k →
+pub has_them : (units : ℕ → ℕ) (text : List ℕ) (line character start k count : ℕ) → start ≡ line_start text line
+    → count ≡ units_between units text start k →
     count ≡ character → has_units units text line character k ≡ true
 has_them units text line character start k count starts is same =
-    eq-eqb (units_between units text (line_start text line) k) character (ap (λ (s : ℕ). units_between units text s k) (sym starts) ∙ (sym is ∙ same))
+    eq-eqb (units_between units text (line_start text line) k) character
+    (ap (λ (s : ℕ). units_between units text s k) (sym starts) ∙ (sym is ∙ same))
 
-pub has_others : (units : ℕ → ℕ) (text : List ℕ) (line character start k count : ℕ) → start ≡ line_start text line → count ≡ units_between units text start k →
+pub has_others : (units : ℕ → ℕ) (text : List ℕ) (line character start k count : ℕ) → start ≡ line_start text line
+    → count ≡ units_between units text start k →
     (count ≡ character → ⊥) → has_units units text line character k ≡ false
 has_others units text line character start k count starts is other =
     ne_eqb (units_between units text (line_start text line) k) character
-    (λ (e : units_between units text (line_start text line) k ≡ character). other (is ∙ (ap (λ (s : ℕ). units_between units text s k) starts ∙ e)))
+    (λ (e : units_between units text (line_start text line) k ≡ character). other
+    (is ∙ (ap (λ (s : ℕ). units_between units text s k) starts ∙ e)))
 
 -- A position whose line the text has, with more units than its character, denotes the index that the search finds.
-pub denoted_found : (units : ℕ → ℕ) (text : List ℕ) (p : Position) (start stop count : ℕ) → start ≡ line_start text p.line → stop ≡ line_stop text p.line →
+pub denoted_found : (units : ℕ → ℕ) (text : List ℕ) (p : Position) (start stop count : ℕ)
+    → start ≡ line_start text p.line → stop ≡ line_stop text p.line →
     count ≡ units_between units text start stop → p.line ≤ line_ends text → p.character < count →
     denoted units text p ≡ find (has_units units text p.line p.character) (line_content text p.line)
 denoted_found units text p start stop count starts stops is there less =
     let full : units_between units text (line_start text p.line) (line_stop text p.line) ≡ count =
-    ap (λ (s : ℕ). units_between units text s (line_stop text p.line)) (sym starts) ∙ (ap (units_between units text start) (sym stops) ∙ sym is) in
-    rw (le-ltb (line_ends text) p.line there, lt-leb (units_between units text (line_start text p.line) (line_stop text p.line)) p.character (omega (arith, full))) refl
+    ap (λ (s : ℕ). units_between units text s (line_stop text p.line)) (sym starts)
+    ∙ (ap (units_between units text start) (sym stops) ∙ sym is) in
+    rw (
+      le-ltb (line_ends text) p.line there,
+      lt-leb (units_between units text (line_start text p.line) (line_stop text p.line)) p.character
+          (omega (arith, full)),
+    ) refl
 
 -- The units of UTF-8 from the text's start are a place.
 pub place_counted : (text : List ℕ) (index : ℕ) → units_between (units_in Utf8) text 0 index ≡ place_of text index

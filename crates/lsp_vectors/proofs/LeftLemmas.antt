@@ -12,9 +12,11 @@ use Rattle.lsp_edit.proofs.Deltas.OnceLemmas.{within_told}
 use Rattle.lsp_vectors.specs.declared.answer.Left.{Left}
 use Rattle.lsp_vectors.specs.Answer.{IsLeft}
 
-pub left_told : (units : ℕ → ℕ) (max_len : ℕ) (before : List ℕ) (batch : List Edit) (delta : Delta) (left : Left) → IsDeltaOf units max_len before batch delta
+pub left_told : (units : ℕ → ℕ) (max_len : ℕ) (before : List ℕ) (batch : List Edit) (delta : Delta) (left : Left)
+    → IsDeltaOf units max_len before batch delta
     → string_bytes left.text ≡ bytes_after before delta
-    → ((items : List Item) → meant_by before delta ≡ Ok items → map edit_of left.canonical.items ≡ canonical (units_in (encoding_of delta)) (chars before) items) → IsLeft units before batch left
+    → ((items : List Item) → meant_by before delta ≡ Ok items → map edit_of left.canonical.items
+    ≡ canonical (units_in (encoding_of delta)) (chars before) items) → IsLeft units before batch left
 left_told units max_len before batch delta left of text same =
     let left_is = within_told max_len before (meaning units (chars before) batch) (bytes_after before delta) of.is in
     record {

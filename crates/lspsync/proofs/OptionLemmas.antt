@@ -15,7 +15,8 @@ abbrev pub IsSmall : List ℕ → Type 0
 IsSmall text = IsNumeral 10 (without_leading_plus text) × (digits_value 10 (without_leading_plus text) < 2 ^ 64)
 
 module _ {E : Type 0} (gives : List ℕ → Result ℕ E → Type 0) (options : ArgMatches) (id : List ℕ) where
-  read_number : (text : Option (List ℕ)) → one_text (found_of options) id ≡ text → (read : Option ℕ) → (text ≡ None → read ≡ None)
+  read_number : (text : Option (List ℕ)) → one_text (found_of options) id ≡ text → (read : Option ℕ)
+      → (text ≡ None → read ≡ None)
       → ((t : List ℕ) → text ≡ Some t → ReadsOne gives t read)
       → ((t : List ℕ) (n : ℕ) → gives t (Ok n) → IsSmall t × (n ≡ digits_value 10 (without_leading_plus t)))
       → IfSome read (HasNumber options id)
@@ -46,12 +47,14 @@ no_some None s is some = let bad : false ≡ true = some in cc
 
 -- ---- the part of a log
 
-none_of : (at : Option ℕ) (uri : Option (String Global)) → (not (is_some at) && not (is_some uri)) ≡ true → (at ≡ None) × (uri ≡ None)
+none_of : (at : Option ℕ) (uri : Option (String Global)) → (not (is_some at) && not (is_some uri)) ≡ true → (at ≡ None)
+    × (uri ≡ None)
 none_of None None e = (refl, refl)
 none_of None (Some uri) e = absurd (let wrong : false ≡ true = e in cc)
 none_of (Some at) uri e = absurd (let wrong : false ≡ true = e in cc)
 
-whole_part : (options : ArgMatches) (part : Part) → is_whole part ≡ true → IsLogPart options part → IsLogPart options whole
+whole_part : (options : ArgMatches) (part : Part) → is_whole part ≡ true → IsLogPart options part
+    → IsLogPart options whole
 whole_part options part is given =
     let none = none_of part.at part.uri is in
     record {
@@ -59,10 +62,16 @@ whole_part options part is given =
       uri = sym (ap (option_map string_bytes) none.1) ∙ given.uri;
     }
 
-pub named_part : (options : ArgMatches) (settings : Settings) (part : Part) (asked : Call) → AreSettings options settings → IsLogPart options part
-    → (is_whole part ≡ true → asked ≡ call.Replay settings) → (is_whole part ≡ false → asked ≡ call.ReplayPart settings part) → IsCallNamed (codes "replay") options asked
+pub named_part : (options : ArgMatches) (settings : Settings) (part : Part) (asked : Call)
+    → AreSettings options settings → IsLogPart options part
+    → (is_whole part ≡ true → asked ≡ call.Replay settings)
+    → (is_whole part ≡ false → asked ≡ call.ReplayPart settings part) → IsCallNamed (codes "replay") options asked
 named_part options settings part asked are given all some = by (is_whole part) refl
   where
     by : (b : Bool) → is_whole part ≡ b → IsCallNamed (codes "replay") options asked
-    by true is = subst (IsCallNamed (codes "replay") options) (sym (all is)) (refl, are, whole_part options part is given)
+    by true is = subst (IsCallNamed (codes "replay") options) (sym (all is)) (
+      refl,
+      are,
+      whole_part options part is given,
+    )
     by false is = subst (IsCallNamed (codes "replay") options) (sym (some is)) (refl, are, given, is)

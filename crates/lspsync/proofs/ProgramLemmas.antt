@@ -33,14 +33,16 @@ adds_one old new a rule added local same = record {
   globals = added.globals ∙ (ap (λ g. (fields_of old).has_globals || g) local ∙ or-false (fields_of old).has_globals);
 }
 
-pub adds_more : (old mid new : Command) (xs ys : List Rule) → AddsRules old xs mid → AddsRules mid ys new → AddsRules old (xs ++ ys) new
+pub adds_more : (old mid new : Command) (xs ys : List Rule) → AddsRules old xs mid → AddsRules mid ys new
+    → AddsRules old (xs ++ ys) new
 adds_more old mid new xs ys one two = record {
   app = two.app ∙ (ap (longer ys) one.app ∙ longer_more xs ys (app_of old));
   globals = two.globals ∙ one.globals;
 }
 
 -- The same, of what a call returned.
-pub adds : {E : Type 0} (old : Command) (a : Arg) (rule : Rule) (r : Result Command E) → a.global ≡ false → rule_of a ≡ rule
+pub adds : {E : Type 0} (old : Command) (a : Arg) (rule : Rule) (r : Result Command E) → a.global ≡ false → rule_of a
+    ≡ rule
     → IfOk r (AddsArg old a) → IfOk r (AddsRules old (rule ∷ []))
 adds old a rule (Ok new) local same added = adds_one old new a rule added local same
 adds old a rule (Err e) local same added = tt
@@ -66,21 +68,25 @@ pub shape_is : (page : Page) (values : Values) (name : Text) (own : Choices → 
     → rules_of_limits values.limits.now ≡ limit_rules
     → shape_by page values ≡ page_shape name (own values.kinds) values.encodings limit_rules
 shape_is page values name own p same =
-    ap (λ n. page_shape n (own_rules values.kinds page.own) values.encodings (rules_of_limits values.limits.now)) p.named
+    ap (λ n. page_shape n (own_rules values.kinds page.own) values.encodings (rules_of_limits values.limits.now))
+    p.named
     ∙ (ap (λ rules. page_shape name rules values.encodings (rules_of_limits values.limits.now)) (p.own_are values.kinds)
     ∙ ap (page_shape name (own values.kinds) values.encodings) same)
 
 -- A program with one command more, whose page is known.
-pub puts : (old new known : App) (page : Page) (values : Values) (name : Text) (own : Choices → List Rule) → IsPage page name own
+pub puts : (old new known : App) (page : Page) (values : Values) (name : Text) (own : Choices → List Rule)
+    → IsPage page name own
     → rules_of_limits values.limits.now ≡ limit_rules → new ≡ with_subcommand old (shape_by page values) → old ≡ known
     → new ≡ with_subcommand known (page_shape name (own values.kinds) values.encodings limit_rules)
 puts old new known page values name own is same put at =
-    put ∙ (ap (λ app. with_subcommand app (shape_by page values)) at ∙ ap (with_subcommand known) (shape_is page values name own is same))
+    put ∙ (ap (λ app. with_subcommand app (shape_by page values)) at ∙ ap (with_subcommand known)
+    (shape_is page values name own is same))
 
 -- The program before its last command.
 abbrev pub before_last : Choices → Choices → App
 before_last encodings kinds =
-    let more = λ (app : App) (name : Text) (own : List Rule). with_subcommand app (page_shape name own encodings limit_rules) in
+    let more = λ (app : App) (name : Text) (own : List Rule). with_subcommand app
+    (page_shape name own encodings limit_rules) in
     more (more (more (more (more top_app (codes "serve") (sync_rule kinds ∷ [])) (codes "check") (explain_rule ∷ []))
     (codes "trace") detail_rules) (codes "replay") part_rules) (codes "normalise") writing_rules
 
@@ -88,7 +94,8 @@ pub program_is : {E : Type 0} (old : App) (page : Page) (values : Values) (made 
     → map (λ s. s.now) values.encodings.now ≡ codes "utf-8" ∷ codes "utf-16" ∷ codes "utf-32" ∷ []
     → map (λ s. s.now) values.kinds.now ≡ codes "full" ∷ codes "incremental" ∷ []
     → IsPage page (codes "convert") (λ _. []) → rules_of_limits values.limits.now ≡ limit_rules
-    → IfOk made (λ new. app_of new ≡ with_subcommand old (shape_by page values)) → old ≡ before_last values.encodings values.kinds
+    → IfOk made (λ new. app_of new ≡ with_subcommand old (shape_by page values))
+    → old ≡ before_last values.encodings values.kinds
     → IfOk made (λ program. IsProgram (app_of program))
 program_is old page values (Err e) names kinds is same put at = tt
 program_is old page values (Ok new) names kinds is same put at = record {
@@ -96,5 +103,6 @@ program_is old page values (Ok new) names kinds is same put at = record {
   kinds = values.kinds;
   names = names;
   kind_names = kinds;
-  same = puts old (app_of new) (before_last values.encodings values.kinds) page values (codes "convert") (λ _. []) is same put at;
+  same = puts old (app_of new) (before_last values.encodings values.kinds) page values (codes "convert") (λ _. []) is
+      same put at;
 }

@@ -23,7 +23,8 @@ is_simple_program app p = ap is_simple p.same ∙ simple p.encodings p.kinds
 pub is_free_program : (app : App) → IsProgram app → is_simple_and_free app ≡ true
 is_free_program app p = ap is_simple_and_free p.same ∙ free p.encodings p.kinds
 
-pub read_ok : (words : List (List ℕ)) (app : App) (found : ArgMatches) (call : Option Call) → IsProgram app → fault_of app words ≡ []
+pub read_ok : (words : List (List ℕ)) (app : App) (found : ArgMatches) (call : Option Call) → IsProgram app
+    → fault_of app words ≡ []
     → subcommand_rows_of found ≡ subcommand_of app words → IsFound found call → IsRead words (Ok call)
 read_ok words app found call p taken rows is = record {
   app = app;
@@ -34,6 +35,7 @@ read_ok words app found call p taken rows is = record {
   call = is;
 }
 
-pub read_err : (words : List (List ℕ)) (app : App) (error : Error) → IsProgram app → HasKind (fault_of app words) error → IsRead words (Err error)
+pub read_err : (words : List (List ℕ)) (app : App) (error : Error) → IsProgram app → HasKind (fault_of app words) error
+    → IsRead words (Err error)
 read_err words app error p (inl memory) = inl memory
 read_err words app error p (inr among) = inr (app, p, among)

@@ -10,97 +10,180 @@ use Rattle.ordered_map.proofs.SlotLemmas.{live_next, live_gap, live_past, live_r
 
 module _ {X : Type 0} where
   -- a count fits among the items
-  pub count_fits : (items : List (Option X)) (counts : List ℕ) (block : ℕ) → AreCounted items counts → block < length counts → live_to items (256 * block) + slice_index counts block ≤ length (somes items)
-  count_fits items counts block counted within = omega (arith, counted.each block within, live_within items (256 * (block + 1)))
+  pub count_fits : (items : List (Option X)) (counts : List ℕ) (block : ℕ) → AreCounted items counts
+      → block < length counts → live_to items (256 * block) + slice_index counts block ≤ length (somes items)
+  count_fits items counts block counted within =
+      omega (arith, counted.each block within, live_within items (256 * (block + 1)))
 
-  pub count_small : (items : List (Option X)) (counts : List ℕ) (block : ℕ) → AreCounted items counts → block < length counts → slice_index counts block ≤ 256
-  count_small items counts block counted within = omega (arith, counted.each block within, live_gap items (256 * block) (256 * (block + 1)) (omega arith))
+  pub count_small : (items : List (Option X)) (counts : List ℕ) (block : ℕ) → AreCounted items counts
+      → block < length counts → slice_index counts block ≤ 256
+  count_small items counts block counted within =
+      omega (arith, counted.each block within, live_gap items (256 * block) (256 * (block + 1)) (omega arith))
 
   -- a block with an item begins within the places
-  pub block_begins : (items : List (Option X)) (counts : List ℕ) (block : ℕ) → AreCounted items counts → block < length counts → 0 < slice_index counts block → 256 * block < length items
+  pub block_begins : (items : List (Option X)) (counts : List ℕ) (block : ℕ) → AreCounted items counts
+      → block < length counts → 0 < slice_index counts block → 256 * block < length items
   block_begins items counts block counted within some =
       ⊎_elim
       (λ (is : 256 * block < length items). is)
       (λ (past : length items ≤ 256 * block).
-      absurd (omega (arith, counted.each block within, live_past items (256 * block) past, live_past items (256 * (block + 1)) (omega (arith, past)), some)))
+      absurd (omega (
+        arith,
+        counted.each block within,
+        live_past items (256 * block) past,
+        live_past items (256 * (block + 1)) (omega (arith, past)),
+        some,
+      )))
       (cases_lt (256 * block) (length items))
 
   -- each place is in a block
-  pub block_within : (items : List (Option X)) (counts : List ℕ) (place : ℕ) → AreCounted items counts → place < length items → place / 256 < length counts
+  pub block_within : (items : List (Option X)) (counts : List ℕ) (place : ℕ) → AreCounted items counts
+      → place < length items → place / 256 < length counts
   block_within items counts place counted within = omega (arith, counted.enough, within)
 
   -- the block of an item has one
-  pub block_has : (items : List (Option X)) (counts : List ℕ) (place : ℕ) (item : X) → AreCounted items counts → slice_get items place ≡ Some (Some item) → 0 < slice_index counts (place / 256)
+  pub block_has : (items : List (Option X)) (counts : List ℕ) (place : ℕ) (item : X) → AreCounted items counts
+      → slice_get items place ≡ Some (Some item) → 0 < slice_index counts (place / 256)
   block_has items counts place item counted at =
       let within : place < length items = slice_get_within items place (Some item) at in
-      let begins : live_to items (256 * (place / 256)) ≤ live_to items place = live_rises items (256 * (place / 256)) place (omega arith) in
-      let ends : live_to items (place + 1) ≤ live_to items (256 * (place / 256 + 1)) = live_rises items (place + 1) (256 * (place / 256 + 1)) (omega arith) in
-      omega (arith, begins, ends, live_next items place (Some item) at, counted.each (place / 256) (block_within items counts place counted within))
+      let begins : live_to items (256 * (place / 256)) ≤ live_to items place =
+      live_rises items (256 * (place / 256)) place (omega arith) in
+      let ends : live_to items (place + 1) ≤ live_to items (256 * (place / 256 + 1)) =
+      live_rises items (place + 1) (256 * (place / 256 + 1)) (omega arith) in
+      omega (
+        arith,
+        begins,
+        ends,
+        live_next items place (Some item) at,
+        counted.each (place / 256) (block_within items counts place counted within),
+      )
 
   -- ---- an item is taken out
 
-  pub taken_counted : (items : List (Option X)) (counts : List ℕ) (place : ℕ) (item : X) → AreCounted items counts → slice_get items place ≡ Some (Some item)
+  pub taken_counted : (items : List (Option X)) (counts : List ℕ) (place : ℕ) (item : X) → AreCounted items counts
+      → slice_get items place ≡ Some (Some item)
       → AreCounted (set items place None) (set counts (place / 256) (slice_index counts (place / 256) - 1))
   taken_counted items counts place item counted at =
       let within : place < length items = slice_get_within items place (Some item) at in
       let block_is : place / 256 < length counts = block_within items counts place counted within in
       let some : 0 < slice_index counts (place / 256) = block_has items counts place item counted at in
       record {
-        enough = omega (arith, counted.enough, length-set items place None, length-set counts (place / 256) (slice_index counts (place / 256) - 1));
+        enough = omega (
+          arith,
+          counted.enough,
+          length-set items place None,
+          length-set counts (place / 256) (slice_index counts (place / 256) - 1),
+        );
         each = λ block fits.
-            let fits_before : block < length counts = omega (arith, fits, length-set counts (place / 256) (slice_index counts (place / 256) - 1)) in
-            let was : live_to items (256 * (block + 1)) ≡ live_to items (256 * block) + slice_index counts block = counted.each block fits_before in
+            let fits_before : block < length counts =
+            omega (arith, fits, length-set counts (place / 256) (slice_index counts (place / 256) - 1)) in
+            let was : live_to items (256 * (block + 1)) ≡ live_to items (256 * block) + slice_index counts block =
+            counted.each block fits_before in
             ⊎_elim
             (λ (same : block ≡ place / 256).
-            let count : slice_index (set counts (place / 256) (slice_index counts (place / 256) - 1)) (place / 256) ≡ slice_index counts (place / 256) - 1
+            let count : slice_index (set counts (place / 256) (slice_index counts (place / 256) - 1)) (place / 256)
+            ≡ slice_index counts (place / 256) - 1
             = get_or-set_same counts (place / 256) (slice_index counts (place / 256) - 1) 0 block_is in
-            let was_here : live_to items (256 * (place / 256 + 1)) ≡ live_to items (256 * (place / 256)) + slice_index counts (place / 256) = counted.each (place / 256) block_is in
+            let was_here : live_to items (256 * (place / 256 + 1)) ≡ live_to items (256 * (place / 256)) + slice_index
+            counts (place / 256) = counted.each (place / 256) block_is in
             rw same
-            (omega (arith, count, was_here, some, live_taken_after items place item (256 * (place / 256 + 1)) at (omega arith), live_taken_before items place (256 * (place / 256)) (omega arith))))
+            (omega (
+              arith,
+              count,
+              was_here,
+              some,
+              live_taken_after items place item (256 * (place / 256 + 1)) at (omega arith),
+              live_taken_before items place (256 * (place / 256)) (omega arith),
+            )))
             (λ (other : block ≡ place / 256 → ⊥).
-            let count : slice_index (set counts (place / 256) (slice_index counts (place / 256) - 1)) block ≡ slice_index counts block
+            let count : slice_index (set counts (place / 256) (slice_index counts (place / 256) - 1)) block
+            ≡ slice_index counts block
             = get_or-set_other counts (place / 256) block (slice_index counts (place / 256) - 1) 0 other in
             ⊎_elim
             (λ (before : block < place / 256).
-            omega (arith, count, was, live_taken_before items place (256 * (block + 1)) (omega (arith, before)), live_taken_before items place (256 * block) (omega (arith, before))))
+            omega (
+              arith,
+              count,
+              was,
+              live_taken_before items place (256 * (block + 1)) (omega (arith, before)),
+              live_taken_before items place (256 * block) (omega (arith, before)),
+            ))
             (λ (after : place / 256 ≤ block).
             let later : place / 256 < block = omega (arith, after, other) in
-            omega (arith, count, was, live_taken_after items place item (256 * (block + 1)) at (omega (arith, later)), live_taken_after items place item (256 * block) at (omega (arith, later))))
+            omega (
+              arith,
+              count,
+              was,
+              live_taken_after items place item (256 * (block + 1)) at (omega (arith, later)),
+              live_taken_after items place item (256 * block) at (omega (arith, later)),
+            ))
             (cases_lt block (place / 256)))
             (cases_eq block (place / 256));
       }
 
   -- ---- an item is put in last
 
-  pub put_counted : (items : List (Option X)) (counts : List ℕ) (item : X) → AreCounted items counts → length items / 256 < length counts
-      → AreCounted (items ++ Some item ∷ []) (set counts (length items / 256) (slice_index counts (length items / 256) + 1))
+  pub put_counted : (items : List (Option X)) (counts : List ℕ) (item : X) → AreCounted items counts
+      → length items / 256 < length counts
+      → AreCounted (items ++ Some item ∷ [])
+      (set counts (length items / 256) (slice_index counts (length items / 256) + 1))
   put_counted items counts item counted block_is =
       record {
-        enough = omega (arith, block_is, length-append items (Some item ∷ []), length-set counts (length items / 256) (slice_index counts (length items / 256) + 1));
+        enough = omega (
+          arith,
+          block_is,
+          length-append items (Some item ∷ []),
+          length-set counts (length items / 256) (slice_index counts (length items / 256) + 1),
+        );
         each = λ block fits.
-            let fits_before : block < length counts = omega (arith, fits, length-set counts (length items / 256) (slice_index counts (length items / 256) + 1)) in
-            let was : live_to items (256 * (block + 1)) ≡ live_to items (256 * block) + slice_index counts block = counted.each block fits_before in
+            let fits_before : block < length counts =
+            omega (arith, fits, length-set counts (length items / 256) (slice_index counts (length items / 256) + 1)) in
+            let was : live_to items (256 * (block + 1)) ≡ live_to items (256 * block) + slice_index counts block =
+            counted.each block fits_before in
             ⊎_elim
             (λ (same : block ≡ length items / 256).
-            let count : slice_index (set counts (length items / 256) (slice_index counts (length items / 256) + 1)) (length items / 256) ≡ slice_index counts (length items / 256) + 1
+            let count : slice_index (set counts (length items / 256) (slice_index counts (length items / 256) + 1))
+            (length items / 256) ≡ slice_index counts (length items / 256) + 1
             = get_or-set_same counts (length items / 256) (slice_index counts (length items / 256) + 1) 0 block_is in
-            let was_here : live_to items (256 * (length items / 256 + 1)) ≡ live_to items (256 * (length items / 256)) + slice_index counts (length items / 256) = counted.each (length items / 256) block_is in
+            let was_here : live_to items (256 * (length items / 256 + 1)) ≡ live_to items (256 * (length items / 256))
+            + slice_index counts (length items / 256) = counted.each (length items / 256) block_is in
             rw same
-            (omega (arith, count, was_here, live_put_after items item (256 * (length items / 256 + 1)) (omega arith), live_put_before items (Some item) (256 * (length items / 256)) (omega arith))))
+            (omega (
+              arith,
+              count,
+              was_here,
+              live_put_after items item (256 * (length items / 256 + 1)) (omega arith),
+              live_put_before items (Some item) (256 * (length items / 256)) (omega arith),
+            )))
             (λ (other : block ≡ length items / 256 → ⊥).
-            let count : slice_index (set counts (length items / 256) (slice_index counts (length items / 256) + 1)) block ≡ slice_index counts block
-            = get_or-set_other counts (length items / 256) block (slice_index counts (length items / 256) + 1) 0 other in
+            let count : slice_index (set counts (length items / 256) (slice_index counts (length items / 256) + 1))
+            block ≡ slice_index counts block
+            = get_or-set_other counts (length items / 256) block (slice_index counts (length items / 256) + 1) 0
+            other in
             ⊎_elim
             (λ (before : block < length items / 256).
-            omega (arith, count, was, live_put_before items (Some item) (256 * (block + 1)) (omega (arith, before)), live_put_before items (Some item) (256 * block) (omega (arith, before))))
+            omega (
+              arith,
+              count,
+              was,
+              live_put_before items (Some item) (256 * (block + 1)) (omega (arith, before)),
+              live_put_before items (Some item) (256 * block) (omega (arith, before)),
+            ))
             (λ (after : length items / 256 ≤ block).
             let later : length items / 256 < block = omega (arith, after, other) in
-            omega (arith, count, was, live_put_after items item (256 * (block + 1)) (omega (arith, later)), live_put_after items item (256 * block) (omega (arith, later))))
+            omega (
+              arith,
+              count,
+              was,
+              live_put_after items item (256 * (block + 1)) (omega (arith, later)),
+              live_put_after items item (256 * block) (omega (arith, later)),
+            ))
             (cases_lt block (length items / 256)))
             (cases_eq block (length items / 256));
       }
 
-  pub put_counted_new : (items : List (Option X)) (counts : List ℕ) (item : X) → AreCounted items counts → length counts ≤ length items / 256 → AreCounted (items ++ Some item ∷ []) (counts ++ 1 ∷ [])
+  pub put_counted_new : (items : List (Option X)) (counts : List ℕ) (item : X) → AreCounted items counts
+      → length counts ≤ length items / 256 → AreCounted (items ++ Some item ∷ []) (counts ++ 1 ∷ [])
   put_counted_new items counts item counted full =
       let len : length items ≡ 256 * length counts = omega (arith, counted.enough, full) in
       record {
@@ -108,11 +191,19 @@ module _ {X : Type 0} where
         each = λ block fits.
             ⊎_elim
             (λ (before : block < length counts).
-            let count : slice_index (counts ++ 1 ∷ []) block ≡ slice_index counts block = get_or_append_left counts (1 ∷ []) 0 block before in
-            omega (arith, count, counted.each block before, live_put_before items (Some item) (256 * (block + 1)) (omega (arith, before, len)), live_put_before items (Some item) (256 * block) (omega (arith, before, len))))
+            let count : slice_index (counts ++ 1 ∷ []) block ≡ slice_index counts block =
+            get_or_append_left counts (1 ∷ []) 0 block before in
+            omega (
+              arith,
+              count,
+              counted.each block before,
+              live_put_before items (Some item) (256 * (block + 1)) (omega (arith, before, len)),
+              live_put_before items (Some item) (256 * block) (omega (arith, before, len)),
+            ))
             (λ (after : length counts ≤ block).
             let last : block ≡ length counts = omega (arith, after, fits, length-append counts (1 ∷ [])) in
-            let count : slice_index (counts ++ 1 ∷ []) (length counts) ≡ 1 = get_or_push counts 1 0 (length counts) refl in
+            let count : slice_index (counts ++ 1 ∷ []) (length counts) ≡ 1 =
+            get_or_push counts 1 0 (length counts) refl in
             rw last
             (omega (
               arith,
@@ -127,27 +218,40 @@ module _ {X : Type 0} where
 
   -- ---- each place has an item
 
-  live_min : (items : List (Option X)) (places : ℕ) → length (somes items) ≡ length items → live_to items places ≡ min places (length items)
+  live_min : (items : List (Option X)) (places : ℕ) → length (somes items) ≡ length items → live_to items places
+      ≡ min places (length items)
   live_min items places all =
       ⊎_elim
       (λ (within : places < length items). omega (arith, within, live_all items places all (omega (arith, within))))
       (λ (past : length items ≤ places). omega (arith, past, all, live_past items places past))
       (cases_lt places (length items))
 
-  pub all_counted : (items : List (Option X)) (counts : List ℕ) → length (somes items) ≡ length items → length items ≤ 256 * length counts
-      → ((block : ℕ) → block < length counts → slice_index counts block ≡ min 256 (length items - 256 * block)) → AreCounted items counts
+  pub all_counted : (items : List (Option X)) (counts : List ℕ) → length (somes items) ≡ length items
+      → length items ≤ 256 * length counts
+      → ((block : ℕ) → block < length counts → slice_index counts block ≡ min 256 (length items - 256 * block))
+      → AreCounted items counts
   all_counted items counts all enough are =
       record {
         enough = enough;
-        each = λ block fits. omega (arith, are block fits, live_min items (256 * (block + 1)) all, live_min items (256 * block) all);
+        each = λ block fits. omega (
+          arith,
+          are block fits,
+          live_min items (256 * (block + 1)) all,
+          live_min items (256 * block) all,
+        );
       }
 
 -- ---- counts of slots
 
 module _ {V : Type 0} (slots : List (Slot V)) (counts : List ℕ) (counted : AreCounted (keys_in slots) counts) where
-  pub count_put : (key : String Global) (count : ℕ) → length slots / 256 < length counts → count ≡ slice_index counts (length slots / 256)
+  pub count_put : (key : String Global) (count : ℕ) → length slots / 256 < length counts
+      → count ≡ slice_index counts (length slots / 256)
       → AreCounted (keys_in slots ++ Some key ∷ []) (set counts (length slots / 256) (count + 1))
-  count_put key count within is = rw (is, ← length_keys slots) (put_counted (keys_in slots) counts key counted (omega (arith, within, length_keys slots)))
+  count_put key count within is = rw (
+    is,
+    ← length_keys slots,
+  ) (put_counted (keys_in slots) counts key counted (omega (arith, within, length_keys slots)))
 
-  pub count_put_new : (key : String Global) → length counts ≤ length slots / 256 → AreCounted (keys_in slots ++ Some key ∷ []) (counts ++ 1 ∷ [])
+  pub count_put_new : (key : String Global) → length counts ≤ length slots / 256
+      → AreCounted (keys_in slots ++ Some key ∷ []) (counts ++ 1 ∷ [])
   count_put_new key full = put_counted_new (keys_in slots) counts key counted (omega (arith, full, length_keys slots))

@@ -10,7 +10,8 @@ use Rattle.ordered_map.proofs.SlotLemmas.{somes_at}
 module _ {K V : Type 0} (test : K → Bool) where
   -- One place alone has a key that passes.
   pub record IsOnly (items : List (Option (K × V))) (place : ℕ) : Type 0 where
-    pub only : (other : ℕ) (entry : K × V) → slice_get items other ≡ Some (Some entry) → test entry.0 ≡ true → other ≡ place
+    pub only : (other : ℕ) (entry : K × V) → slice_get items other ≡ Some (Some entry) → test entry.0 ≡ true
+        → other ≡ place
 
   -- No key passes.
   pub record HasNone (items : List (Option (K × V))) : Type 0 where
@@ -23,10 +24,15 @@ module _ {K V : Type 0} (test : K → Bool) where
     pub index : position_or_len test (keys_of (somes items)) ≡ live_to items place
     pub removed : remove_entry test (somes items) ≡ somes (set items place None)
 
-  later : (first : Option (K × V)) (items : List (Option (K × V))) (place : ℕ) → IsOnly (first ∷ items) (suc place) → IsOnly items place
-  later first items place is = record { only = λ other entry at passes. let next : suc other ≡ suc place = is.only (suc other) entry at passes in omega (arith, next) }
+  later : (first : Option (K × V)) (items : List (Option (K × V))) (place : ℕ) → IsOnly (first ∷ items) (suc place)
+      → IsOnly items place
+  later first items place is = record {
+    only = λ other entry at passes. let next : suc other ≡ suc place = is.only (suc other) entry at passes in
+        omega (arith, next);
+  }
 
-  pub found : (items : List (Option (K × V))) (place : ℕ) (entry : K × V) → slice_get items place ≡ Some (Some entry) → test entry.0 ≡ true → IsOnly items place → IsFound items place entry
+  pub found : (items : List (Option (K × V))) (place : ℕ) (entry : K × V) → slice_get items place ≡ Some (Some entry)
+      → test entry.0 ≡ true → IsOnly items place → IsFound items place entry
   found [] place entry at passes is = absurd (cc)
   found (None ∷ items) zero entry at passes is = absurd (cc)
   found (None ∷ items) (suc place) entry at passes is =
@@ -34,11 +40,17 @@ module _ {K V : Type 0} (test : K → Bool) where
       record { value = rest.value; key = rest.key; index = omega (arith, rest.index); removed = rest.removed }
   found (Some first ∷ items) zero entry at passes is =
       let same : first ≡ entry = cc in
-      record { value = rw (same, passes) refl; key = rw (same, passes) refl; index = rw (same, passes) refl; removed = rw (same, passes) refl }
+      record {
+        value = rw (same, passes) refl;
+        key = rw (same, passes) refl;
+        index = rw (same, passes) refl;
+        removed = rw (same, passes) refl;
+      }
   found (Some first ∷ items) (suc place) entry at passes is =
       let rest = found items place entry at passes (later (Some first) items place is) in
       let not : test first.0 ≡ false =
-      ⊎_elim (λ (yes : test first.0 ≡ true). absurd (let bad : 0 ≡ suc place = is.only 0 first refl yes in omega (arith, bad))) (λ (no : test first.0 ≡ false). no) (cases_Bool (test first.0)) in
+      ⊎_elim (λ (yes : test first.0 ≡ true). absurd (let bad : 0 ≡ suc place = is.only 0 first refl yes in
+      omega (arith, bad))) (λ (no : test first.0 ≡ false). no) (cases_Bool (test first.0)) in
       record {
         value = rw not rest.value;
         key = rw not rest.key;
@@ -70,9 +82,16 @@ module _ {K V : Type 0} (test : K → Bool) where
 
   -- ---- the index
 
-  pub position_found : (items : List (Option (K × V))) (place : ℕ) (entry : K × V) → slice_get items place ≡ Some (Some entry) → IsFound items place entry → position test (keys_of (somes items)) ≡ Some (live_to items place)
+  pub position_found : (items : List (Option (K × V))) (place : ℕ) (entry : K × V) → slice_get items place
+      ≡ Some (Some entry) → IsFound items place entry → position test (keys_of (somes items))
+      ≡ Some (live_to items place)
   position_found items place entry at is =
-      let within : live_to items place < length (keys_of (somes items)) = omega (arith, slice_get_within (somes items) (live_to items place) entry (somes_at items place entry at), length_keys_of (somes items)) in
+      let within : live_to items place < length (keys_of (somes items)) =
+      omega (
+        arith,
+        slice_get_within (somes items) (live_to items place) entry (somes_at items place entry at),
+        length_keys_of (somes items),
+      ) in
       rw (is.index, lt-ltb (live_to items place) (length (keys_of (somes items))) within) refl
     where
       length_keys_of : (entries : List (K × V)) → length (keys_of entries) ≡ length entries
@@ -80,4 +99,7 @@ module _ {K V : Type 0} (test : K → Bool) where
       length_keys_of (entry ∷ entries) = ap suc (length_keys_of entries)
 
   pub position_missing : (entries : List (K × V)) → IsMissing entries → position test (keys_of entries) ≡ None
-  position_missing entries is = rw (is.index, le-ltb (length (keys_of entries)) (length (keys_of entries)) (omega arith)) refl
+  position_missing entries is = rw (
+    is.index,
+    le-ltb (length (keys_of entries)) (length (keys_of entries)) (omega arith),
+  ) refl

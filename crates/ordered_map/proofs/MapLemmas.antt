@@ -17,42 +17,63 @@ use Rattle.ordered_map.proofs.PlaceLemmas.{no_place, only_place}
 module _ {V : Type 0} where
   -- ---- slots that change
 
-  pub vacated : (slots : List (Slot V)) (slot : ℕ) → entries_in (set slots slot Vacant) ≡ somes (set (map slot_entry slots) slot None)
+  pub vacated : (slots : List (Slot V)) (slot : ℕ) → entries_in (set slots slot Vacant)
+      ≡ somes (set (map slot_entry slots) slot None)
   vacated slots slot = entries_are (set slots slot Vacant) ∙ ap somes (map-set slot_entry slots slot Vacant)
 
-  pub keys_vacated : (slots : List (Slot V)) (slot : ℕ) → keys_in (set slots slot Vacant) ≡ set (keys_in slots) slot None
+  pub keys_vacated : (slots : List (Slot V)) (slot : ℕ) → keys_in (set slots slot Vacant)
+      ≡ set (keys_in slots) slot None
   keys_vacated [] slot = refl
   keys_vacated (first ∷ slots) zero = refl
-  keys_vacated (first ∷ slots) (suc slot) = ap (λ (rest : List (Option (String Global))). slot_key first ∷ rest) (keys_vacated slots slot)
+  keys_vacated (first ∷ slots) (suc slot) = ap (λ (rest : List (Option (String Global))). slot_key first ∷ rest)
+      (keys_vacated slots slot)
 
-  pub keys_put : (slots : List (Slot V)) (key : String Global) (value : V) → keys_in (slots ++ Live key value ∷ []) ≡ keys_in slots ++ Some key ∷ []
+  pub keys_put : (slots : List (Slot V)) (key : String Global) (value : V) → keys_in (slots ++ Live key value ∷ [])
+      ≡ keys_in slots ++ Some key ∷ []
   keys_put [] key value = refl
-  keys_put (first ∷ slots) key value = ap (λ (rest : List (Option (String Global))). slot_key first ∷ rest) (keys_put slots key value)
+  keys_put (first ∷ slots) key value = ap (λ (rest : List (Option (String Global))). slot_key first ∷ rest)
+      (keys_put slots key value)
 
-  pub entries_put : (slots : List (Slot V)) (key : String Global) (value : V) → entries_in (slots ++ Live key value ∷ []) ≡ entries_in slots ++ (key, value) ∷ []
+  pub entries_put : (slots : List (Slot V)) (key : String Global) (value : V)
+      → entries_in (slots ++ Live key value ∷ []) ≡ entries_in slots ++ (key, value) ∷ []
   entries_put [] key value = refl
   entries_put (Vacant ∷ slots) key value = entries_put slots key value
   entries_put (Live first old ∷ slots) key value = ap (λ rest. (first, old) ∷ rest) (entries_put slots key value)
 
-  pub entries_written : (slots : List (Slot V)) (slot : ℕ) (key : String Global) (old value : V) → slice_get slots slot ≡ Some (Live key old)
-      → entries_in (set slots slot (Live key value)) ≡ set_value_at (entries_in slots) (live_to (keys_in slots) slot) value
+  pub entries_written : (slots : List (Slot V)) (slot : ℕ) (key : String Global) (old value : V) → slice_get slots slot
+      ≡ Some (Live key old)
+      → entries_in (set slots slot (Live key value)) ≡ set_value_at (entries_in slots) (live_to (keys_in slots) slot)
+      value
   entries_written [] slot key old value at = absurd (cc)
   entries_written (first ∷ slots) zero key old value at = let same : first ≡ Live key old = cc in rw same refl
-  entries_written (Vacant ∷ slots) (suc slot) key old value at = rw zero-add (entries_written slots slot key old value at)
-  entries_written (Live first kept ∷ slots) (suc slot) key old value at = rw one-add (ap (λ rest. (first, kept) ∷ rest) (entries_written slots slot key old value at))
+  entries_written (Vacant ∷ slots) (suc slot) key old value at =
+      rw zero-add (entries_written slots slot key old value at)
+  entries_written (Live first kept ∷ slots) (suc slot) key old value at =
+      rw one-add (ap (λ rest. (first, kept) ∷ rest) (entries_written slots slot key old value at))
 
-  pub keys_written : (slots : List (Slot V)) (slot : ℕ) (key : String Global) (old value : V) → slice_get slots slot ≡ Some (Live key old) → keys_in (set slots slot (Live key value)) ≡ keys_in slots
+  pub keys_written : (slots : List (Slot V)) (slot : ℕ) (key : String Global) (old value : V) → slice_get slots slot
+      ≡ Some (Live key old) → keys_in (set slots slot (Live key value)) ≡ keys_in slots
   keys_written [] slot key old value at = refl
   keys_written (first ∷ slots) zero key old value at = let same : first ≡ Live key old = cc in rw same refl
-  keys_written (first ∷ slots) (suc slot) key old value at = ap (λ (rest : List (Option (String Global))). slot_key first ∷ rest) (keys_written slots slot key old value at)
+  keys_written (first ∷ slots) (suc slot) key old value at =
+      ap (λ (rest : List (Option (String Global))). slot_key first ∷ rest) (keys_written slots slot key old value at)
 
   -- the map of slots, with another value in one of them
-  pub view_written : (slots : List (Slot V)) (slot index : ℕ) (key : String Global) (old value : V) (now : Slot V) → slice_get slots slot ≡ Some (Live key old) → live_to (keys_in slots) slot ≡ index → now ≡ Live key old
-      → ◌≡◌ {A = Entries V} (record { entries = entries_in (set slots slot (with_value now value)) }) (with_value_at (record { entries = entries_in slots }) index value)
+  pub view_written : (slots : List (Slot V)) (slot index : ℕ) (key : String Global) (old value : V) (now : Slot V)
+      → slice_get slots slot ≡ Some (Live key old) → live_to (keys_in slots) slot ≡ index → now ≡ Live key old
+      → ◌≡◌ {A = Entries V} (record { entries = entries_in (set slots slot (with_value now value)) })
+      (with_value_at (record { entries = entries_in slots }) index value)
   view_written slots slot index key old value now at is same =
-      rw (same, ← is) (ap (λ (entries : List (String Global × V)). record { entries = entries }) (entries_written slots slot key old value at))
+      rw (
+        same,
+        ← is,
+      ) (ap (λ (entries : List (String Global × V)). record {
+        entries = entries;
+      }) (entries_written slots slot key old value at))
 
-  pub keys_kept : (slots : List (Slot V)) (slot : ℕ) (key : String Global) (old value : V) (now : Slot V) → slice_get slots slot ≡ Some (Live key old) → now ≡ Live key old → keys_in (set slots slot (with_value now value)) ≡ keys_in slots
+  pub keys_kept : (slots : List (Slot V)) (slot : ℕ) (key : String Global) (old value : V) (now : Slot V)
+      → slice_get slots slot ≡ Some (Live key old) → now ≡ Live key old
+      → keys_in (set slots slot (with_value now value)) ≡ keys_in slots
   keys_kept slots slot key old value now at same = rw same (keys_written slots slot key old value at)
 
   -- ---- an entry that is read
@@ -61,7 +82,8 @@ module _ {V : Type 0} where
     pub key_is : option_map (λ (pair : Bor (String Global) × Bor V). pair.0.now) entry ≡ Some key
     pub value_is : option_map (λ (pair : Bor (String Global) × Bor V). pair.1.now) entry ≡ Some value
 
-  pub seen : (entry : Option (Bor (String Global) × Bor V)) (key : String Global) (value : V) → option_map deref_pair entry ≡ Some (key, value) → IsSeen entry key value
+  pub seen : (entry : Option (Bor (String Global) × Bor V)) (key : String Global) (value : V)
+      → option_map deref_pair entry ≡ Some (key, value) → IsSeen entry key value
   seen None key value is = absurd (cc)
   seen (Some pair) key value is = record {
     key_is = ap (λ (found : Option (String Global × V)). option_map (λ (both : String Global × V). both.0) found) is;
@@ -78,7 +100,8 @@ module _ {V : Type 0} where
     pub within : slot < length slots
     pub entry : slice_get (entries_in slots) index ≡ Some (key, value)
 
-  pub indexed : (slots : List (Slot V)) (slot index : ℕ) → IsLive (keys_in slots) slot → live_to (keys_in slots) slot ≡ index → IsIndexed slots slot index
+  pub indexed : (slots : List (Slot V)) (slot index : ℕ) → IsLive (keys_in slots) slot → live_to (keys_in slots) slot
+      ≡ index → IsIndexed slots slot index
   indexed slots slot index live is =
       let there = slot_of_key slots slot live.item live.at in
       record {
@@ -88,10 +111,14 @@ module _ {V : Type 0} where
         within = slice_get_within slots slot (Live live.item there.value) there.at;
         entry =
             rw (entries_are slots, ← is, live_keys slots slot)
-            (somes_at (map slot_entry slots) slot (live.item, there.value) (entry_at slots slot live.item there.value there.at));
+            (somes_at (map slot_entry slots) slot (
+              live.item,
+              there.value,
+            ) (entry_at slots slot live.item there.value there.at));
       }
 
-  pub nothing_after : (slots : List (Slot V)) (index : ℕ) → length (somes (keys_in slots)) ≤ index → slice_get (entries_in slots) index ≡ None
+  pub nothing_after : (slots : List (Slot V)) (index : ℕ) → length (somes (keys_in slots)) ≤ index
+      → slice_get (entries_in slots) index ≡ None
   nothing_after [] index past = refl
   nothing_after (Vacant ∷ slots) index past = nothing_after slots index past
   nothing_after (Live key value ∷ slots) zero past = absurd (omega (arith, past))
@@ -99,7 +126,8 @@ module _ {V : Type 0} where
 
   -- ---- an entry of a key
 
-  module _ (slots : List (Slot V)) (counts : List ℕ) (place : List ℕ → Option ℕ) (live : ℕ) (is : IsOrderedMap (keys_in slots) counts place live) (bytes : List ℕ) where
+  module _ (slots : List (Slot V)) (counts : List ℕ) (place : List ℕ → Option ℕ) (live : ℕ)
+      (is : IsOrderedMap (keys_in slots) counts place live) (bytes : List ℕ) where
     -- what is found of a key with a place
     pub record IsPlaced (slot : ℕ) : Type 0 where
       pub key : String Global
@@ -117,10 +145,16 @@ module _ {V : Type 0} where
     placed_at slot there =
         let kept = is.placed.there bytes slot there in
         let full = slot_of_key slots slot kept.key kept.at in
-        let entry : slice_get (map slot_entry slots) slot ≡ Some (Some (kept.key, full.value)) = entry_at slots slot kept.key full.value full.at in
-        let passes : is_key bytes kept.key ≡ true = (bytes_eq-Decides bytes (string_bytes kept.key)).1 (sym kept.same) in
-        let all = found (is_key bytes) (map slot_entry slots) slot (kept.key, full.value) entry passes (only_place slots place is.placed bytes slot there) in
-        let index : position (is_key bytes) (keys_of (somes (map slot_entry slots))) ≡ Some (live_to (map slot_entry slots) slot)
+        let entry : slice_get (map slot_entry slots) slot ≡ Some (Some (kept.key, full.value)) =
+        entry_at slots slot kept.key full.value full.at in
+        let passes : is_key bytes kept.key ≡ true =
+        (bytes_eq-Decides bytes (string_bytes kept.key)).1 (sym kept.same) in
+        let all = found (is_key bytes) (map slot_entry slots) slot (
+          kept.key,
+          full.value,
+        ) entry passes (only_place slots place is.placed bytes slot there) in
+        let index : position (is_key bytes) (keys_of (somes (map slot_entry slots)))
+        ≡ Some (live_to (map slot_entry slots) slot)
         = position_found (is_key bytes) (map slot_entry slots) slot (kept.key, full.value) entry all in
         record {
           key = kept.key;
@@ -131,15 +165,23 @@ module _ {V : Type 0} where
           looked_up = ap (lookup (is_key bytes)) (entries_are slots) ∙ all.value;
           key_is = ap (lookup_key (is_key bytes)) (entries_are slots) ∙ all.key;
           index = rw (entries_are slots, live_keys slots slot) index;
-          entry = rw (entries_are slots, live_keys slots slot) (somes_at (map slot_entry slots) slot (kept.key, full.value) entry);
+          entry = rw (
+            entries_are slots,
+            live_keys slots slot,
+          ) (somes_at (map slot_entry slots) slot (kept.key, full.value) entry);
           removed = ap (remove_entry (is_key bytes)) (entries_are slots) ∙ (all.removed ∙ sym (vacated slots slot));
         }
 
     pub not_placed : place bytes ≡ None → IsMissing (is_key bytes) (entries_in slots)
-    not_placed none = subst (IsMissing (is_key bytes)) (sym (entries_are slots)) (missing (is_key bytes) (map slot_entry slots) (no_place slots place is.placed bytes none))
+    not_placed none =
+        subst (IsMissing (is_key bytes)) (sym (entries_are slots)) (missing (is_key bytes) (map slot_entry slots)
+        (no_place slots place is.placed bytes none))
 
   -- ---- an entry that is put in where its key was
 
   pub entries_moved : (slots : List (Slot V)) (key : String Global) (value : V) (slot : ℕ) → slot < length slots
-      → entries_in (set (slots ++ Live key value ∷ []) slot Vacant) ≡ entries_in (set slots slot Vacant) ++ (key, value) ∷ []
-  entries_moved slots key value slot within = ap entries_in (set-append_left slots (Live key value ∷ []) slot Vacant within) ∙ entries_put (set slots slot Vacant) key value
+      → entries_in (set (slots ++ Live key value ∷ []) slot Vacant) ≡ entries_in (set slots slot Vacant) ++ (key, value)
+      ∷ []
+  entries_moved slots key value slot within =
+      ap entries_in (set-append_left slots (Live key value ∷ []) slot Vacant within)
+      ∙ entries_put (set slots slot Vacant) key value

@@ -29,48 +29,66 @@ module _ {V : Type 0} where
     pub slot : ℕ
     pub at : slice_get (keys_in slots) slot ≡ Some (Some key)
 
-  pub unpacked : (slots : List (Slot V)) (slot : ℕ) (key : String Global) → slice_get (keys_in (packed slots)) slot ≡ Some (Some key) → HasKey slots key
+  pub unpacked : (slots : List (Slot V)) (slot : ℕ) (key : String Global) → slice_get (keys_in (packed slots)) slot
+      ≡ Some (Some key) → HasKey slots key
   unpacked [] slot key at = absurd (cc)
-  unpacked (Vacant ∷ slots) slot key at = let rest = unpacked slots slot key at in record { slot = suc rest.slot; at = rest.at }
+  unpacked (Vacant ∷ slots) slot key at = let rest = unpacked slots slot key at in
+      record { slot = suc rest.slot; at = rest.at }
   unpacked (Live first value ∷ slots) zero key at = record { slot = 0; at = at }
-  unpacked (Live first value ∷ slots) (suc slot) key at = let rest = unpacked slots slot key at in record { slot = suc rest.slot; at = rest.at }
+  unpacked (Live first value ∷ slots) (suc slot) key at = let rest = unpacked slots slot key at in
+      record { slot = suc rest.slot; at = rest.at }
 
-  pub kept : (slots : List (Slot V)) (slot : ℕ) (key : String Global) → slice_get (keys_in slots) slot ≡ Some (Some key) → HasKey (packed slots) key
+  pub kept : (slots : List (Slot V)) (slot : ℕ) (key : String Global) → slice_get (keys_in slots) slot ≡ Some (Some key)
+      → HasKey (packed slots) key
   kept [] slot key at = absurd (cc)
   kept (Vacant ∷ slots) zero key at = absurd (cc)
   kept (Vacant ∷ slots) (suc slot) key at = kept slots slot key at
   kept (Live first value ∷ slots) zero key at = record { slot = 0; at = at }
-  kept (Live first value ∷ slots) (suc slot) key at = let rest = kept slots slot key at in record { slot = suc rest.slot; at = rest.at }
+  kept (Live first value ∷ slots) (suc slot) key at = let rest = kept slots slot key at in
+      record { slot = suc rest.slot; at = rest.at }
 
   later : (first : Slot V) (slots : List (Slot V)) → AreUnlike (keys_in (first ∷ slots)) → AreUnlike (keys_in slots)
-  later first slots unlike = record { same = λ slot other key second at there equal. let next : suc slot ≡ suc other = unlike.same (suc slot) (suc other) key second at there equal in omega (arith, next) }
+  later first slots unlike = record {
+    same = λ slot other key second at there equal. let next : suc slot ≡ suc other =
+        unlike.same (suc slot) (suc other) key second at there equal in omega (arith, next);
+  }
 
   pub packed_unlike : (slots : List (Slot V)) → AreUnlike (keys_in slots) → AreUnlike (keys_in (packed slots))
-  packed_unlike slots unlike = record { same = λ slot other key second at there equal. by slots unlike slot other key second at there equal }
+  packed_unlike slots unlike = record {
+    same = λ slot other key second at there equal. by slots unlike slot other key second at there equal;
+  }
     where
-      by : (slots : List (Slot V)) → AreUnlike (keys_in slots) → (slot other : ℕ) (key second : String Global) → slice_get (keys_in (packed slots)) slot ≡ Some (Some key)
-          → slice_get (keys_in (packed slots)) other ≡ Some (Some second) → string_bytes key ≡ string_bytes second → slot ≡ other
+      by : (slots : List (Slot V)) → AreUnlike (keys_in slots) → (slot other : ℕ) (key second : String Global)
+          → slice_get (keys_in (packed slots)) slot ≡ Some (Some key)
+          → slice_get (keys_in (packed slots)) other ≡ Some (Some second) → string_bytes key ≡ string_bytes second
+          → slot ≡ other
       by [] unlike slot other key second at there equal = absurd (cc)
-      by (Vacant ∷ slots) unlike slot other key second at there equal = by slots (later Vacant slots unlike) slot other key second at there equal
+      by (Vacant ∷ slots) unlike slot other key second at there equal =
+          by slots (later Vacant slots unlike) slot other key second at there equal
       by (Live first value ∷ slots) unlike zero zero key second at there equal = refl
       by (Live first value ∷ slots) unlike zero (suc other) key second at there equal =
           let rest = unpacked slots other second there in
-          absurd (let bad : 0 ≡ suc rest.slot = unlike.same 0 (suc rest.slot) key second at rest.at equal in omega (arith, bad))
+          absurd (let bad : 0 ≡ suc rest.slot = unlike.same 0 (suc rest.slot) key second at rest.at equal in
+          omega (arith, bad))
       by (Live first value ∷ slots) unlike (suc slot) zero key second at there equal =
           let rest = unpacked slots slot key at in
-          absurd (let bad : suc rest.slot ≡ 0 = unlike.same (suc rest.slot) 0 key second rest.at there equal in omega (arith, bad))
-      by (Live first value ∷ slots) unlike (suc slot) (suc other) key second at there equal = ap suc (by slots (later (Live first value) slots unlike) slot other key second at there equal)
+          absurd (let bad : suc rest.slot ≡ 0 = unlike.same (suc rest.slot) 0 key second rest.at there equal in
+          omega (arith, bad))
+      by (Live first value ∷ slots) unlike (suc slot) (suc other) key second at there equal =
+          ap suc (by slots (later (Live first value) slots unlike) slot other key second at there equal)
 
   module _ (slots : List (Slot V)) (place next : List ℕ → Option ℕ) (placed : ArePlaced (keys_in slots) place) where
     -- each key has a place already
-    pub packed_placed : (slot : ℕ) (key : String Global) → slice_get (keys_in (packed slots)) slot ≡ Some (Some key) → IsSome (place (string_bytes key))
+    pub packed_placed : (slot : ℕ) (key : String Global) → slice_get (keys_in (packed slots)) slot ≡ Some (Some key)
+        → IsSome (place (string_bytes key))
     packed_placed slot key at =
         let was = unpacked slots slot key at in
         let there : place (string_bytes key) ≡ Some was.slot = placed.found was.slot key was.at in
         rw there refl
 
     -- once the places are set
-    pub packed_again : ((slot : ℕ) (key : String Global) → slice_get (keys_in (packed slots)) slot ≡ Some (Some key) → next (string_bytes key) ≡ Some slot)
+    pub packed_again : ((slot : ℕ) (key : String Global) → slice_get (keys_in (packed slots)) slot ≡ Some (Some key)
+        → next (string_bytes key) ≡ Some slot)
         → ((bytes : List ℕ) → is_some (next bytes) ≡ is_some (place bytes)) → ArePlaced (keys_in (packed slots)) next
     packed_again found same =
         record {
@@ -82,7 +100,11 @@ module _ {V : Type 0} where
               let goes : next (string_bytes was.key) ≡ Some now.slot = found now.slot was.key now.at in
               let both : Some now.slot ≡ Some slot = sym goes ∙ ap next was.same ∙ is in
               let equal : now.slot ≡ slot = cc in
-              record { key = was.key; at = subst (λ (n : ℕ). slice_get (keys_in (packed slots)) n ≡ Some (Some was.key)) equal now.at; same = was.same };
+              record {
+                key = was.key;
+                at = subst (λ (n : ℕ). slice_get (keys_in (packed slots)) n ≡ Some (Some was.key)) equal now.at;
+                same = was.same;
+              };
         }
       where
         slot_in : (found : Option ℕ) → is_some found ≡ true → ℕ

@@ -16,19 +16,23 @@ use Rattle.ordered_map.proofs.FindLemmas.{IsOnly, HasNone}
 -- ---- places of a list
 
 module _ {X : Type 0} where
-  pub set_here : (items : List X) (place : ℕ) (item other : X) → slice_get items place ≡ Some other → slice_get (set items place item) place ≡ Some item
+  pub set_here : (items : List X) (place : ℕ) (item other : X) → slice_get items place ≡ Some other
+      → slice_get (set items place item) place ≡ Some item
   set_here [] place item other at = absurd (cc)
   set_here (first ∷ items) zero item other at = refl
   set_here (first ∷ items) (suc place) item other at = set_here items place item other at
 
-  pub set_there : (items : List X) (place other : ℕ) (item : X) → (other ≡ place → ⊥) → slice_get (set items place item) other ≡ slice_get items other
+  pub set_there : (items : List X) (place other : ℕ) (item : X) → (other ≡ place → ⊥)
+      → slice_get (set items place item) other ≡ slice_get items other
   set_there [] place other item apart = refl
   set_there (first ∷ items) zero zero item apart = absurd (apart refl)
   set_there (first ∷ items) zero (suc other) item apart = refl
   set_there (first ∷ items) (suc place) zero item apart = refl
-  set_there (first ∷ items) (suc place) (suc other) item apart = set_there items place other item (λ same. apart (ap suc same))
+  set_there (first ∷ items) (suc place) (suc other) item apart =
+      set_there items place other item (λ same. apart (ap suc same))
 
-  pub put_before : (items : List X) (item : X) (place : ℕ) → place < length items → slice_get (items ++ item ∷ []) place ≡ slice_get items place
+  pub put_before : (items : List X) (item : X) (place : ℕ) → place < length items → slice_get (items ++ item ∷ []) place
+      ≡ slice_get items place
   put_before [] item place within = absurd (omega (arith, within))
   put_before (first ∷ items) item zero within = refl
   put_before (first ∷ items) item (suc place) within = put_before items item place (omega (arith, within))
@@ -37,28 +41,34 @@ module _ {X : Type 0} where
   put_last [] item = refl
   put_last (first ∷ items) item = put_last items item
 
-  pub put_past : (items : List X) (item found : X) (place : ℕ) → slice_get (items ++ item ∷ []) place ≡ Some found → length items ≤ place → (place ≡ length items) × (item ≡ found)
+  pub put_past : (items : List X) (item found : X) (place : ℕ) → slice_get (items ++ item ∷ []) place ≡ Some found
+      → length items ≤ place → (place ≡ length items) × (item ≡ found)
   put_past [] item found zero at past = (refl, let same : Some item ≡ Some found = at in cc)
   put_past [] item found (suc place) at past = absurd (cc)
   put_past (first ∷ items) item found zero at past = absurd (omega (arith, past))
-  put_past (first ∷ items) item found (suc place) at past = let rest = put_past items item found place at (omega (arith, past)) in (ap suc rest.0, rest.1)
+  put_past (first ∷ items) item found (suc place) at past = let rest =
+      put_past items item found place at (omega (arith, past)) in (ap suc rest.0, rest.1)
 
 -- ---- a key that is looked up
 
 module _ {V : Type 0} where
-  key_of_entry : (slots : List (Slot V)) (slot : ℕ) (entry : String Global × V) → slice_get (map slot_entry slots) slot ≡ Some (Some entry) → slice_get (keys_in slots) slot ≡ Some (Some entry.0)
+  key_of_entry : (slots : List (Slot V)) (slot : ℕ) (entry : String Global × V) → slice_get (map slot_entry slots) slot
+      ≡ Some (Some entry) → slice_get (keys_in slots) slot ≡ Some (Some entry.0)
   key_of_entry [] slot entry at = absurd (cc)
   key_of_entry (Vacant ∷ slots) zero entry at = absurd (cc)
-  key_of_entry (Live key value ∷ slots) zero entry at = let same : (key, value) ≡ entry = cc in ap (λ (pair : String Global × V). Some (Some pair.0)) same
+  key_of_entry (Live key value ∷ slots) zero entry at = let same : (key, value) ≡ entry = cc in
+      ap (λ (pair : String Global × V). Some (Some pair.0)) same
   key_of_entry (Vacant ∷ slots) (suc slot) entry at = key_of_entry slots slot entry at
   key_of_entry (Live key value ∷ slots) (suc slot) entry at = key_of_entry slots slot entry at
 
-module _ {V : Type 0} (slots : List (Slot V)) (place : List ℕ → Option ℕ) (placed : ArePlaced (keys_in slots) place) (bytes : List ℕ) where
+module _ {V : Type 0} (slots : List (Slot V)) (place : List ℕ → Option ℕ) (placed : ArePlaced (keys_in slots) place)
+    (bytes : List ℕ) where
   pub only_place : (slot : ℕ) → place bytes ≡ Some slot → IsOnly (is_key bytes) (map slot_entry slots) slot
   only_place slot is = record {
     only = λ other entry at passes.
         let same : bytes ≡ string_bytes entry.0 = (bytes_eq-Decides bytes (string_bytes entry.0)).0 passes in
-        let there : place (string_bytes entry.0) ≡ Some other = placed.found other entry.0 (key_of_entry slots other entry at) in
+        let there : place (string_bytes entry.0) ≡ Some other =
+        placed.found other entry.0 (key_of_entry slots other entry at) in
         let both : Some slot ≡ Some other = sym is ∙ ap place same ∙ there in
         let equal : slot ≡ other = cc in
         sym equal;
@@ -69,7 +79,8 @@ module _ {V : Type 0} (slots : List (Slot V)) (place : List ℕ → Option ℕ) 
     fails = λ other entry at.
         false_from_ne_true (bytes_eq bytes (string_bytes entry.0)) (λ passes.
         let same : bytes ≡ string_bytes entry.0 = (bytes_eq-Decides bytes (string_bytes entry.0)).0 passes in
-        let there : place (string_bytes entry.0) ≡ Some other = placed.found other entry.0 (key_of_entry slots other entry at) in
+        let there : place (string_bytes entry.0) ≡ Some other =
+        placed.found other entry.0 (key_of_entry slots other entry at) in
         let bad : None ≡ Some other = sym none ∙ ap place same ∙ there in
         absurd (cc));
   }
@@ -80,7 +91,8 @@ bytes_same : (bytes : List ℕ) → bytes_eq bytes bytes ≡ true
 bytes_same bytes = (bytes_eq-Decides bytes bytes).1 refl
 
 bytes_apart : (bytes others : List ℕ) → (bytes ≡ others → ⊥) → bytes_eq bytes others ≡ false
-bytes_apart bytes others apart = false_from_ne_true (bytes_eq bytes others) (λ same. apart ((bytes_eq-Decides bytes others).0 same))
+bytes_apart bytes others apart =
+    false_from_ne_true (bytes_eq bytes others) (λ same. apart ((bytes_eq-Decides bytes others).0 same))
 
 module _ (keys : List (Option (String Global))) (place next : List ℕ → Option ℕ) (placed : ArePlaced keys place) where
   -- no two slots have one key
@@ -94,31 +106,38 @@ module _ (keys : List (Option (String Global))) (place next : List ℕ → Optio
   }
 
   -- a key is taken out
-  pub placed_taken : (bytes : List ℕ) (slot : ℕ) → place bytes ≡ Some slot → ((others : List ℕ) → next others ≡ update bytes_eq place bytes None others) → ArePlaced (set keys slot None) next
+  pub placed_taken : (bytes : List ℕ) (slot : ℕ) → place bytes ≡ Some slot
+      → ((others : List ℕ) → next others ≡ update bytes_eq place bytes None others)
+      → ArePlaced (set keys slot None) next
   placed_taken bytes slot is updates =
       let there = placed.there bytes slot is in
       record {
         found = λ other key at.
             ⊎_elim
             (λ (same : other ≡ slot).
-            let gone : slice_get (set keys slot None) slot ≡ Some None = set_here keys slot None (Some there.key) there.at in
+            let gone : slice_get (set keys slot None) slot ≡ Some None =
+            set_here keys slot None (Some there.key) there.at in
             let bad : Some None ≡ Some (Some key) = sym gone ∙ ap (slice_get (set keys slot None)) (sym same) ∙ at in
             absurd (cc))
             (λ (apart : other ≡ slot → ⊥).
             let was : slice_get keys other ≡ Some (Some key) = sym (set_there keys slot other None apart) ∙ at in
             let stays : place (string_bytes key) ≡ Some other = placed.found other key was in
             let differ : bytes_eq bytes (string_bytes key) ≡ false
-            = bytes_apart bytes (string_bytes key) (λ same. apart (let both : Some slot ≡ Some other = sym is ∙ ap place same ∙ stays in let equal : slot ≡ other = cc in sym equal)) in
+            = bytes_apart bytes (string_bytes key)
+            (λ same. apart (let both : Some slot ≡ Some other = sym is ∙ ap place same ∙ stays in
+            let equal : slot ≡ other = cc in sym equal)) in
             updates (string_bytes key) ∙ rw differ stays)
             (cases_eq other slot);
         there = λ others other at.
             ⊎_elim
-            (λ (same : bytes_eq bytes others ≡ true). let bad : None ≡ Some other = rw same at (sym (updates others) ∙ at) in absurd (cc))
+            (λ (same : bytes_eq bytes others ≡ true). let bad : None ≡ Some other = rw same at (sym (updates others)
+            ∙ at) in absurd (cc))
             (λ (differ : bytes_eq bytes others ≡ false).
             let was : place others ≡ Some other = rw differ at (sym (updates others) ∙ at) in
             let kept = placed.there others other was in
             let apart : other ≡ slot → ⊥ = λ equal.
-            (let same_key : Some (Some there.key) ≡ Some (Some kept.key) = sym there.at ∙ ap (slice_get keys) (sym equal) ∙ kept.at in
+            (let same_key : Some (Some there.key) ≡ Some (Some kept.key) = sym there.at
+            ∙ ap (slice_get keys) (sym equal) ∙ kept.at in
             let equal_keys : there.key ≡ kept.key = cc in
             let equal_bytes : bytes ≡ others = sym there.same ∙ ap string_bytes equal_keys ∙ kept.same in
             let bad : true ≡ false = sym ((bytes_eq-Decides bytes others).1 equal_bytes) ∙ differ in
@@ -128,21 +147,25 @@ module _ (keys : List (Option (String Global))) (place next : List ℕ → Optio
       }
 
   -- a new key is put in last
-  pub placed_put : (key : String Global) → place (string_bytes key) ≡ None → ((others : List ℕ) → next others ≡ update bytes_eq place (string_bytes key) (Some (length keys)) others)
+  pub placed_put : (key : String Global) → place (string_bytes key) ≡ None
+      → ((others : List ℕ) → next others ≡ update bytes_eq place (string_bytes key) (Some (length keys)) others)
       → ArePlaced (keys ++ Some key ∷ []) next
   placed_put key none updates =
       record {
         found = λ slot other at.
             ⊎_elim
             (λ (within : slot < length keys).
-            let was : place (string_bytes other) ≡ Some slot = placed.found slot other (sym (put_before keys (Some key) slot within) ∙ at) in
+            let was : place (string_bytes other) ≡ Some slot =
+            placed.found slot other (sym (put_before keys (Some key) slot within) ∙ at) in
             let differ : bytes_eq (string_bytes key) (string_bytes other) ≡ false
-            = bytes_apart (string_bytes key) (string_bytes other) (λ same. let bad : None ≡ Some slot = sym none ∙ ap place same ∙ was in absurd (cc)) in
+            = bytes_apart (string_bytes key) (string_bytes other) (λ same. let bad : None ≡ Some slot = sym none
+            ∙ ap place same ∙ was in absurd (cc)) in
             updates (string_bytes other) ∙ rw differ was)
             (λ (past : length keys ≤ slot).
             let last = put_past keys (Some key) (Some other) slot at past in
             let same : key ≡ other = (let both : Some key ≡ Some other = last.1 in cc) in
-            let there : next (string_bytes key) ≡ Some (length keys) = updates (string_bytes key) ∙ rw (bytes_same (string_bytes key)) refl in
+            let there : next (string_bytes key) ≡ Some (length keys) =
+            updates (string_bytes key) ∙ rw (bytes_same (string_bytes key)) refl in
             rw (← same, last.0) there)
             (cases_lt slot (length keys));
         there = λ others slot at.
@@ -150,25 +173,38 @@ module _ (keys : List (Option (String Global))) (place next : List ℕ → Optio
             (λ (same : bytes_eq (string_bytes key) others ≡ true).
             let last : Some (length keys) ≡ Some slot = rw same at (sym (updates others) ∙ at) in
             let last_is : length keys ≡ slot = cc in
-            record { key = key; at = rw (← last_is) (put_last keys (Some key)); same = (bytes_eq-Decides (string_bytes key) others).0 same })
+            record {
+              key = key;
+              at = rw (← last_is) (put_last keys (Some key));
+              same = (bytes_eq-Decides (string_bytes key) others).0 same;
+            })
             (λ (differ : bytes_eq (string_bytes key) others ≡ false).
             let was : place others ≡ Some slot = rw differ at (sym (updates others) ∙ at) in
             let kept = placed.there others slot was in
-            record { key = kept.key; at = put_before keys (Some key) slot (slice_get_within keys slot (Some kept.key) kept.at) ∙ kept.at; same = kept.same })
+            record {
+              key = kept.key;
+              at = put_before keys (Some key) slot (slice_get_within keys slot (Some kept.key) kept.at) ∙ kept.at;
+              same = kept.same;
+            })
             (cases_Bool (bytes_eq (string_bytes key) others));
       }
 
 -- a key is put in last, and taken out where it was
-pub placed_moved : (keys : List (Option (String Global))) (place next : List ℕ → Option ℕ) → ArePlaced keys place → (key : String Global) (slot : ℕ) → place (string_bytes key) ≡ Some slot
-    → ((others : List ℕ) → next others ≡ update bytes_eq place (string_bytes key) (Some (length keys)) others) → ArePlaced (set (keys ++ Some key ∷ []) slot None) next
+pub placed_moved : (keys : List (Option (String Global))) (place next : List ℕ → Option ℕ) → ArePlaced keys place
+    → (key : String Global) (slot : ℕ) → place (string_bytes key) ≡ Some slot
+    → ((others : List ℕ) → next others ≡ update bytes_eq place (string_bytes key) (Some (length keys)) others)
+    → ArePlaced (set (keys ++ Some key ∷ []) slot None) next
 placed_moved keys place next placed key slot is updates =
     let there = placed.there (string_bytes key) slot is in
     let within : slot < length keys = slice_get_within keys slot (Some there.key) there.at in
     let between : List ℕ → Option ℕ = λ others. update bytes_eq place (string_bytes key) None others in
-    let taken : ArePlaced (set keys slot None) between = placed_taken keys place between placed (string_bytes key) slot is (λ others. refl) in
+    let taken : ArePlaced (set keys slot None) between =
+    placed_taken keys place between placed (string_bytes key) slot is (λ others. refl) in
     let gone : between (string_bytes key) ≡ None = rw (bytes_same (string_bytes key)) refl in
-    let put : ArePlaced (set keys slot None ++ Some key ∷ []) next = placed_put (set keys slot None) between next taken key gone (λ others.
-    updates others ∙ rw (length-set keys slot None) (twice (bytes_eq (string_bytes key) others) (Some (length keys)) None (place others))) in
+    let put : ArePlaced (set keys slot None ++ Some key ∷ []) next =
+    placed_put (set keys slot None) between next taken key gone (λ others.
+    updates others ∙ rw (length-set keys slot None) (twice (bytes_eq (string_bytes key) others) (Some (length keys))
+    None (place others))) in
     rw (set-append_left keys (Some key ∷ []) slot None within) put
   where
     twice : (b : Bool) (x y z : Option ℕ) → cond b x z ≡ cond b x (cond b y z)
@@ -178,7 +214,8 @@ placed_moved keys place next placed key slot is updates =
 -- ---- places that are set again
 
 -- a key with a place has another
-pub place_set : (place next : List ℕ → Option ℕ) (key : List ℕ) (slot : ℕ) → is_some (place key) ≡ true → ((others : List ℕ) → next others ≡ update bytes_eq place key (Some slot) others)
+pub place_set : (place next : List ℕ → Option ℕ) (key : List ℕ) (slot : ℕ) → is_some (place key) ≡ true
+    → ((others : List ℕ) → next others ≡ update bytes_eq place key (Some slot) others)
     → (bytes : List ℕ) → next bytes ≡ (if bytes_eq key bytes && is_some (place bytes) then Some slot else place bytes)
 place_set place next key slot found updates bytes =
     ⊎_elim
@@ -191,7 +228,8 @@ place_set place next key slot found updates bytes =
 
 -- the keys of the first slots have them as their places, and each key that had a place has one
 pub record IsNumbered (keys : List (Option (String Global))) (old place : List ℕ → Option ℕ) (slots : ℕ) : Type 0 where
-  pub found : (slot : ℕ) (key : String Global) → slot < slots → slice_get keys slot ≡ Some (Some key) → place (string_bytes key) ≡ Some slot
+  pub found : (slot : ℕ) (key : String Global) → slot < slots → slice_get keys slot ≡ Some (Some key)
+      → place (string_bytes key) ≡ Some slot
   pub same : (bytes : List ℕ) → is_some (place bytes) ≡ is_some (old bytes)
 
 module _ (keys : List (Option (String Global))) (old : List ℕ → Option ℕ) where
@@ -203,14 +241,17 @@ module _ (keys : List (Option (String Global))) (old : List ℕ → Option ℕ) 
     numbered_vacant vacant = record {
       found = λ other key below at.
           ⊎_elim
-          (λ (same : other ≡ slot). let bad : Some None ≡ Some (Some key) = sym vacant ∙ ap (slice_get keys) (sym same) ∙ at in absurd (cc))
+          (λ (same : other ≡ slot). let bad : Some None ≡ Some (Some key) = sym vacant ∙ ap (slice_get keys) (sym same)
+          ∙ at in absurd (cc))
           (λ (apart : other ≡ slot → ⊥). is.found other key (omega (arith, below, apart)) at)
           (cases_eq other slot);
       same = is.same;
     }
 
-    pub numbered_live : AreUnlike keys → (key : String Global) → slice_get keys slot ≡ Some (Some key) → is_some (old (string_bytes key)) ≡ true
-        → ((bytes : List ℕ) → next bytes ≡ (if bytes_eq (string_bytes key) bytes && is_some (place bytes) then Some slot else place bytes)) → IsNumbered keys old next (slot + 1)
+    pub numbered_live : AreUnlike keys → (key : String Global) → slice_get keys slot ≡ Some (Some key)
+        → is_some (old (string_bytes key)) ≡ true
+        → ((bytes : List ℕ) → next bytes ≡ (if bytes_eq (string_bytes key) bytes && is_some (place bytes) then Some slot
+        else place bytes)) → IsNumbered keys old next (slot + 1)
     numbered_live unlike key here had sets = record {
       found = λ other second below at.
           ⊎_elim
@@ -218,11 +259,13 @@ module _ (keys : List (Option (String Global))) (old : List ℕ → Option ℕ) 
           let both : Some (Some key) ≡ Some (Some second) = sym here ∙ ap (slice_get keys) (sym same) ∙ at in
           let equal : key ≡ second = cc in
           let has : is_some (place (string_bytes key)) ≡ true = is.same (string_bytes key) ∙ had in
-          let goes : next (string_bytes key) ≡ Some slot = sets (string_bytes key) ∙ rw (bytes_same (string_bytes key), has) refl in
+          let goes : next (string_bytes key) ≡ Some slot =
+          sets (string_bytes key) ∙ rw (bytes_same (string_bytes key), has) refl in
           rw (← equal, same) goes)
           (λ (apart : other ≡ slot → ⊥).
           let differ : bytes_eq (string_bytes key) (string_bytes second) ≡ false
-          = bytes_apart (string_bytes key) (string_bytes second) (λ equal. apart (sym (unlike.same slot other key second here at equal))) in
+          = bytes_apart (string_bytes key) (string_bytes second)
+          (λ equal. apart (sym (unlike.same slot other key second here at equal))) in
           sets (string_bytes second) ∙ rw differ (is.found other second (omega (arith, below, apart)) at))
           (cases_eq other slot);
       same = λ bytes. ap is_some (sets bytes) ∙ (by (bytes_eq (string_bytes key) bytes) (place bytes) ∙ is.same bytes);

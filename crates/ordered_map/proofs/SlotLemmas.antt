@@ -27,7 +27,8 @@ module _ {X : Type 0} where
   live_none [] = refl
   live_none (item ∷ items) = refl
 
-  live_suc : (items : List (Option X)) (place : ℕ) (item : Option X) → slice_get items place ≡ Some item → live_to items (suc place) ≡ live_to items place + here item
+  live_suc : (items : List (Option X)) (place : ℕ) (item : Option X) → slice_get items place ≡ Some item
+      → live_to items (suc place) ≡ live_to items place + here item
   live_suc [] place item at = absurd (cc)
   live_suc (first ∷ items) zero item at =
       let same : first ≡ item = cc in
@@ -37,10 +38,12 @@ module _ {X : Type 0} where
       let rest : live_to items (suc place) ≡ live_to items place + here item = live_suc items place item at in
       omega (arith, rest)
 
-  pub live_next : (items : List (Option X)) (place : ℕ) (item : Option X) → slice_get items place ≡ Some item → live_to items (place + 1) ≡ live_to items place + here item
+  pub live_next : (items : List (Option X)) (place : ℕ) (item : Option X) → slice_get items place ≡ Some item
+      → live_to items (place + 1) ≡ live_to items place + here item
   live_next items place item at = rw add-one (live_suc items place item at)
 
-  pub live_past : (items : List (Option X)) (places : ℕ) → length items ≤ places → live_to items places ≡ length (somes items)
+  pub live_past : (items : List (Option X)) (places : ℕ) → length items ≤ places → live_to items places
+      ≡ length (somes items)
   live_past [] places past = refl
   live_past (None ∷ items) zero past = absurd (omega (arith, past))
   live_past (Some item ∷ items) zero past = absurd (omega (arith, past))
@@ -60,7 +63,8 @@ module _ {X : Type 0} where
   live_below (Some item ∷ items) (suc places) = omega (arith, live_below items places)
 
   -- later places have at most one item each
-  pub live_gap : (items : List (Option X)) (few many : ℕ) → few ≤ many → live_to items many + few ≤ live_to items few + many
+  pub live_gap : (items : List (Option X)) (few many : ℕ) → few ≤ many → live_to items many + few ≤ live_to items few
+      + many
   live_gap [] few many less = omega (arith, less)
   live_gap (item ∷ items) zero many less = omega (arith, live_below (item ∷ items) many)
   live_gap (item ∷ items) (suc few) zero less = absurd (omega (arith, less))
@@ -73,17 +77,21 @@ module _ {X : Type 0} where
   live_within (Some item ∷ items) (suc places) = omega (arith, live_within items places)
 
   -- where each place has an item
-  pub live_all : (items : List (Option X)) (places : ℕ) → length (somes items) ≡ length items → places ≤ length items → live_to items places ≡ places
+  pub live_all : (items : List (Option X)) (places : ℕ) → length (somes items) ≡ length items → places ≤ length items
+      → live_to items places ≡ places
   live_all [] places all within = omega (arith, within)
   live_all (item ∷ items) zero all within = refl
   live_all (None ∷ items) (suc places) all within = absurd (omega (arith, all, somes_short items))
-  live_all (Some item ∷ items) (suc places) all within = omega (arith, live_all items places (omega (arith, all)) (omega (arith, within)))
+  live_all (Some item ∷ items) (suc places) all within =
+      omega (arith, live_all items places (omega (arith, all)) (omega (arith, within)))
 
-  pub all_live : (items : List (Option X)) (place : ℕ) → length (somes items) ≡ length items → place < length items → IsLive items place
+  pub all_live : (items : List (Option X)) (place : ℕ) → length (somes items) ≡ length items → place < length items
+      → IsLive items place
   all_live [] place all within = absurd (omega (arith, within))
   all_live (None ∷ items) place all within = absurd (omega (arith, all, somes_short items))
   all_live (Some first ∷ items) zero all within = record { item = first; at = refl }
-  all_live (Some first ∷ items) (suc place) all within = let rest = all_live items place (omega (arith, all)) (omega (arith, within)) in record { item = rest.item; at = rest.at }
+  all_live (Some first ∷ items) (suc place) all within = let rest =
+      all_live items place (omega (arith, all)) (omega (arith, within)) in record { item = rest.item; at = rest.at }
 
   pub here_some : (item : Option X) → is_some item ≡ true → here item ≡ 1
   here_some None is = absurd (let bad : false ≡ true = is in cc)
@@ -94,7 +102,8 @@ module _ {X : Type 0} where
   here_none (Some item) is = absurd (let bad : true ≡ false = is in cc)
 
   -- an item is in the list of items, after as many as there are before it
-  pub somes_at : (items : List (Option X)) (place : ℕ) (item : X) → slice_get items place ≡ Some (Some item) → slice_get (somes items) (live_to items place) ≡ Some item
+  pub somes_at : (items : List (Option X)) (place : ℕ) (item : X) → slice_get items place ≡ Some (Some item)
+      → slice_get (somes items) (live_to items place) ≡ Some item
   somes_at [] place item at = absurd (cc)
   somes_at (None ∷ items) zero item at = absurd (cc)
   somes_at (Some first ∷ items) zero item at = let same : first ≡ item = cc in rw same refl
@@ -103,20 +112,26 @@ module _ {X : Type 0} where
 
   -- ---- an item that is taken out
 
-  pub live_taken_after : (items : List (Option X)) (place : ℕ) (item : X) (places : ℕ) → slice_get items place ≡ Some (Some item) → place < places → live_to (set items place None) places + 1 ≡ live_to items places
+  pub live_taken_after : (items : List (Option X)) (place : ℕ) (item : X) (places : ℕ) → slice_get items place
+      ≡ Some (Some item) → place < places → live_to (set items place None) places + 1 ≡ live_to items places
   live_taken_after [] place item places at after = absurd (cc)
   live_taken_after (first ∷ items) place item zero at after = absurd (omega (arith, after))
-  live_taken_after (first ∷ items) zero item (suc places) at after = let same : first ≡ Some item = cc in rw same (omega arith)
-  live_taken_after (first ∷ items) (suc place) item (suc places) at after = omega (arith, live_taken_after items place item places at (omega (arith, after)))
+  live_taken_after (first ∷ items) zero item (suc places) at after = let same : first ≡ Some item = cc in
+      rw same (omega arith)
+  live_taken_after (first ∷ items) (suc place) item (suc places) at after =
+      omega (arith, live_taken_after items place item places at (omega (arith, after)))
 
-  pub live_taken_before : (items : List (Option X)) (place places : ℕ) → places ≤ place → live_to (set items place None) places ≡ live_to items places
+  pub live_taken_before : (items : List (Option X)) (place places : ℕ) → places ≤ place
+      → live_to (set items place None) places ≡ live_to items places
   live_taken_before [] place places before = refl
   live_taken_before (first ∷ items) zero zero before = refl
   live_taken_before (first ∷ items) (suc place) zero before = refl
   live_taken_before (first ∷ items) zero (suc places) before = absurd (omega (arith, before))
-  live_taken_before (first ∷ items) (suc place) (suc places) before = omega (arith, live_taken_before items place places (omega (arith, before)))
+  live_taken_before (first ∷ items) (suc place) (suc places) before =
+      omega (arith, live_taken_before items place places (omega (arith, before)))
 
-  pub somes_taken : (items : List (Option X)) (place : ℕ) (item : X) → slice_get items place ≡ Some (Some item) → length (somes (set items place None)) + 1 ≡ length (somes items)
+  pub somes_taken : (items : List (Option X)) (place : ℕ) (item : X) → slice_get items place ≡ Some (Some item)
+      → length (somes (set items place None)) + 1 ≡ length (somes items)
   somes_taken [] place item at = absurd (cc)
   somes_taken (first ∷ items) zero item at = let same : first ≡ Some item = cc in rw same (omega arith)
   somes_taken (None ∷ items) (suc place) item at = somes_taken items place item at
@@ -124,27 +139,33 @@ module _ {X : Type 0} where
 
   -- ---- an item that is put in last
 
-  pub live_put_before : (items : List (Option X)) (item : Option X) (places : ℕ) → places ≤ length items → live_to (items ++ item ∷ []) places ≡ live_to items places
+  pub live_put_before : (items : List (Option X)) (item : Option X) (places : ℕ) → places ≤ length items
+      → live_to (items ++ item ∷ []) places ≡ live_to items places
   live_put_before [] item zero before = refl
   live_put_before [] item (suc places) before = absurd (omega (arith, before))
   live_put_before (first ∷ items) item zero before = refl
-  live_put_before (first ∷ items) item (suc places) before = omega (arith, live_put_before items item places (omega (arith, before)))
+  live_put_before (first ∷ items) item (suc places) before =
+      omega (arith, live_put_before items item places (omega (arith, before)))
 
-  pub live_put_after : (items : List (Option X)) (item : X) (places : ℕ) → length items < places → live_to (items ++ Some item ∷ []) places ≡ live_to items places + 1
+  pub live_put_after : (items : List (Option X)) (item : X) (places : ℕ) → length items < places
+      → live_to (items ++ Some item ∷ []) places ≡ live_to items places + 1
   live_put_after [] item zero after = absurd (omega (arith, after))
   live_put_after [] item (suc places) after = refl
   live_put_after (first ∷ items) item zero after = absurd (omega (arith, after))
-  live_put_after (first ∷ items) item (suc places) after = omega (arith, live_put_after items item places (omega (arith, after)))
+  live_put_after (first ∷ items) item (suc places) after =
+      omega (arith, live_put_after items item places (omega (arith, after)))
 
 -- ---- keys and entries of the same slots
 
 module _ {V : Type 0} where
-  pub key_at : (slots : List (Slot V)) (slot : ℕ) (key : String Global) (value : V) → slice_get slots slot ≡ Some (Live key value) → slice_get (keys_in slots) slot ≡ Some (Some key)
+  pub key_at : (slots : List (Slot V)) (slot : ℕ) (key : String Global) (value : V) → slice_get slots slot
+      ≡ Some (Live key value) → slice_get (keys_in slots) slot ≡ Some (Some key)
   key_at [] slot key value at = absurd (cc)
   key_at (first ∷ slots) zero key value at = let same : first ≡ Live key value = cc in rw same refl
   key_at (first ∷ slots) (suc slot) key value at = key_at slots slot key value at
 
-  pub entry_at : (slots : List (Slot V)) (slot : ℕ) (key : String Global) (value : V) → slice_get slots slot ≡ Some (Live key value) → slice_get (map slot_entry slots) slot ≡ Some (Some (key, value))
+  pub entry_at : (slots : List (Slot V)) (slot : ℕ) (key : String Global) (value : V) → slice_get slots slot
+      ≡ Some (Live key value) → slice_get (map slot_entry slots) slot ≡ Some (Some (key, value))
   entry_at [] slot key value at = absurd (cc)
   entry_at (first ∷ slots) zero key value at = let same : first ≡ Live key value = cc in rw same refl
   entry_at (first ∷ slots) (suc slot) key value at = entry_at slots slot key value at
@@ -154,32 +175,43 @@ module _ {V : Type 0} where
     pub value : V
     pub at : slice_get slots slot ≡ Some (Live key value)
 
-  pub slot_of_key : (slots : List (Slot V)) (slot : ℕ) (key : String Global) → slice_get (keys_in slots) slot ≡ Some (Some key) → IsEntryAt slots slot key
+  pub slot_of_key : (slots : List (Slot V)) (slot : ℕ) (key : String Global) → slice_get (keys_in slots) slot
+      ≡ Some (Some key) → IsEntryAt slots slot key
   slot_of_key [] slot key at = absurd (cc)
   slot_of_key (Vacant ∷ slots) zero key at = absurd (cc)
-  slot_of_key (Live first value ∷ slots) zero key at = let same : first ≡ key = cc in record { value = value; at = rw same refl }
-  slot_of_key (Vacant ∷ slots) (suc slot) key at = let rest = slot_of_key slots slot key at in record { value = rest.value; at = rest.at }
-  slot_of_key (Live first value ∷ slots) (suc slot) key at = let rest = slot_of_key slots slot key at in record { value = rest.value; at = rest.at }
+  slot_of_key (Live first value ∷ slots) zero key at = let same : first ≡ key = cc in
+      record { value = value; at = rw same refl }
+  slot_of_key (Vacant ∷ slots) (suc slot) key at = let rest = slot_of_key slots slot key at in
+      record { value = rest.value; at = rest.at }
+  slot_of_key (Live first value ∷ slots) (suc slot) key at = let rest = slot_of_key slots slot key at in
+      record { value = rest.value; at = rest.at }
 
   pub length_keys : (slots : List (Slot V)) → length (keys_in slots) ≡ length slots
   length_keys [] = refl
   length_keys (first ∷ slots) = ap suc (length_keys slots)
 
   -- what is read at an index
-  pub key_read : (slots : List (Slot V)) (place : ℕ) (slot : Slot V) → place < length slots → slot ≡ get_or slots place slot → slice_get (keys_in slots) place ≡ Some (slot_key slot)
-  key_read slots place slot within is = slice_get-map slot_key slots place ∙ ap (option_map slot_key) (slice_get_read slots (length slots) place slot refl within is)
+  pub key_read : (slots : List (Slot V)) (place : ℕ) (slot : Slot V) → place < length slots
+      → slot ≡ get_or slots place slot → slice_get (keys_in slots) place ≡ Some (slot_key slot)
+  key_read slots place slot within is =
+      slice_get-map slot_key slots place ∙ ap (option_map slot_key) (slice_get_read slots (length slots) place slot refl
+      within is)
 
-  pub live_read : (slots : List (Slot V)) (place : ℕ) (slot : Slot V) → place < length slots → slot ≡ get_or slots place slot → is_some (slot_key slot) ≡ true → IsLive (keys_in slots) place
+  pub live_read : (slots : List (Slot V)) (place : ℕ) (slot : Slot V) → place < length slots
+      → slot ≡ get_or slots place slot → is_some (slot_key slot) ≡ true → IsLive (keys_in slots) place
   live_read slots place slot within is some = by (slot_key slot) some (key_read slots place slot within is)
     where
-      by : (key : Option (String Global)) → is_some key ≡ true → slice_get (keys_in slots) place ≡ Some key → IsLive (keys_in slots) place
+      by : (key : Option (String Global)) → is_some key ≡ true → slice_get (keys_in slots) place ≡ Some key
+          → IsLive (keys_in slots) place
       by None none at = absurd (let bad : false ≡ true = none in cc)
       by (Some key) there at = record { item = key; at = at }
 
   -- the key of a slot whose entry is known
-  pub key_of_slot : (slot : Slot V) (key : String Global) (value : V) → Some (key, value) ≡ slot_entry slot → slot_key slot ≡ Some key
+  pub key_of_slot : (slot : Slot V) (key : String Global) (value : V) → Some (key, value) ≡ slot_entry slot
+      → slot_key slot ≡ Some key
   key_of_slot Vacant key value is = absurd (cc)
-  key_of_slot (Live first old) key value is = ap (λ (entry : Option (String Global × V)). option_map (λ (pair : String Global × V). pair.0) entry) (sym is)
+  key_of_slot (Live first old) key value is =
+      ap (λ (entry : Option (String Global × V)). option_map (λ (pair : String Global × V). pair.0) entry) (sym is)
 
   pub no_key_of_slot : (slot : Slot V) → None ≡ slot_entry slot → slot_key slot ≡ None
   no_key_of_slot Vacant is = refl
@@ -196,7 +228,8 @@ module _ {V : Type 0} where
   count_keys (Vacant ∷ slots) = count_keys slots
   count_keys (Live key value ∷ slots) = ap suc (count_keys slots)
 
-  pub live_keys : (slots : List (Slot V)) (places : ℕ) → live_to (keys_in slots) places ≡ live_to (map slot_entry slots) places
+  pub live_keys : (slots : List (Slot V)) (places : ℕ) → live_to (keys_in slots) places ≡ live_to (map slot_entry slots)
+      places
   live_keys [] places = refl
   live_keys (first ∷ slots) zero = refl
   live_keys (Vacant ∷ slots) (suc places) = ap (λ n. 0 + n) (live_keys slots places)
@@ -205,25 +238,36 @@ module _ {V : Type 0} where
 -- ---- the last slot of some
 
 module _ {V : Type 0} where
-  last_slot : (slots : List (Slot V)) (last : Slot V) → entries_in (slots ++ last ∷ []) ≡ entries_in slots ++ entries_in (last ∷ [])
+  last_slot : (slots : List (Slot V)) (last : Slot V) → entries_in (slots ++ last ∷ []) ≡ entries_in slots
+      ++ entries_in (last ∷ [])
   last_slot [] last = refl
   last_slot (Vacant ∷ slots) last = last_slot slots last
   last_slot (Live key value ∷ slots) last = ap (λ rest. (key, value) ∷ rest) (last_slot slots last)
 
   -- the last slot has an entry, of so many
-  pub record HasLast (rest : List (Slot V)) (left : ℕ) (key : String Global) (value : V) (all : List (String Global × V)) : Type 0 where
+  pub record HasLast (rest : List (Slot V)) (left : ℕ) (key : String Global) (value : V)
+      (all : List (String Global × V)) : Type 0 where
     pub some : 1 ≤ left
     pub counted : left - 1 ≡ length (entries_in rest)
     pub steps : all ≡ entries_in rest ++ (key, value) ∷ []
     pub shorter : length (entries_in rest) < length all
 
-  module _ (slots rest : List (Slot V)) (left : ℕ) (all : List (String Global × V)) (counted : left ≡ length (entries_in slots)) (are : entries_in slots ≡ all) where
-    pub last_live : (key : String Global) (value : V) → slots ≡ rest ++ Live key value ∷ [] → HasLast rest left key value all
+  module _ (slots rest : List (Slot V)) (left : ℕ) (all : List (String Global × V))
+      (counted : left ≡ length (entries_in slots)) (are : entries_in slots ≡ all) where
+    pub last_live : (key : String Global) (value : V) → slots ≡ rest ++ Live key value ∷ []
+        → HasLast rest left key value all
     last_live key value split =
-        let steps : all ≡ entries_in rest ++ (key, value) ∷ [] = sym are ∙ (ap entries_in split ∙ last_slot rest (Live key value)) in
-        let longer : length all ≡ length (entries_in rest) + 1 = ap length steps ∙ length_push (entries_in rest) (key, value) in
+        let steps : all ≡ entries_in rest ++ (key, value) ∷ [] =
+        sym are ∙ (ap entries_in split ∙ last_slot rest (Live key value)) in
+        let longer : length all ≡ length (entries_in rest) + 1 =
+        ap length steps ∙ length_push (entries_in rest) (key, value) in
         let total : left ≡ length all = counted ∙ ap length are in
-        record { some = omega (arith, longer, total); counted = omega (arith, longer, total); steps = steps; shorter = omega (arith, longer) }
+        record {
+          some = omega (arith, longer, total);
+          counted = omega (arith, longer, total);
+          steps = steps;
+          shorter = omega (arith, longer);
+        }
 
     pub last_vacant : slots ≡ rest ++ Vacant ∷ [] → entries_in rest ≡ all
     last_vacant split = sym (append-nil (entries_in rest)) ∙ (sym (ap entries_in split ∙ last_slot rest Vacant) ∙ are)

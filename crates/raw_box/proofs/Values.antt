@@ -44,7 +44,8 @@ module _ (R A : RattleType) (laws : Laws A) (g : Ghosts A.Denot) where
   module _ {M : Type 1} {𝓤 : Ura M} {𝓛 : Logic 𝓤} {K : Type 0} {Γ : List (Item 𝓤)} {G : Goal 𝓤 𝓛.H} where
     pub opens_raw : K → (raw : Row.Denot) (vs : List Val)
         → ((b o : ℕ) (h : Val) → raw.pointer ≡ block_ptr b o → vs ≡ pair b o h ∷ [] → Good (layout A) h
-        → Seq K 𝓛 (‵ (box_owns (g.dealloc_token raw.alloc) R (block_ptr b o) raw.value) ∷ ‵ (A.own_val raw.alloc (h ∷ [])) ∷ Γ) G)
+        → Seq K 𝓛 (‵ (box_owns (g.dealloc_token raw.alloc) R (block_ptr b o) raw.value)
+        ∷ ‵ (A.own_val raw.alloc (h ∷ [])) ∷ Γ) G)
         → Seq K 𝓛 (‵ (Row.own_val raw vs) ∷ Γ) G
     opens_raw t raw vs next =
         let stored : List Val → List Val → Type 0 = λ ps hs. vs ≡ vstruct (of_list (ps ++ (hs ++ []))) ∷ [] in
@@ -57,14 +58,19 @@ module _ (R A : RattleType) (laws : Laws A) (g : Ghosts A.Denot) where
         (fst∗ 𝓤 (never 𝓤) (sem 𝓛 (g.dealloc_token raw.alloc (bare (lone R.mir)) null_ptr)))
         (λ b o at. next b o h at
         (subst (λ (p : Ptr). vs ≡ vstruct (of_list (ptr_val p ∷ h ∷ [])) ∷ []) at
-        (subst (λ (hs : List Val). stored (ptr_val raw.pointer ∷ []) hs) handle (subst (λ (ps : List Val). stored ps vss.1.0) pointer whole)))
+        (subst (λ (hs : List Val). stored (ptr_val raw.pointer ∷ []) hs) handle
+        (subst (λ (ps : List Val). stored ps vss.1.0) pointer whole)))
         fits)))))
 
     pub closes_raw : K → (b o : ℕ) (h : Val) (alloc : A.Denot) (value : R.Denot)
-        → Step K 𝓛 (‵ (Row.own_val (record { pointer = block_ptr b o; alloc = alloc; value = value }) (pair b o h ∷ [])) ∷ Γ) G
+        → Step K 𝓛 (‵ (Row.own_val (record { pointer = block_ptr b o; alloc = alloc; value = value }) (pair b o h ∷ []))
+        ∷ Γ) G
         (‵ (box_owns (g.dealloc_token alloc) R (block_ptr b o) value) ∷ ‵ (A.own_val alloc (h ∷ [])) ∷ Γ) G
     closes_raw t b o h alloc value = step (λ next. let v : Val = pair b o h in
         nothing t $ move t (2 ∷ 0 ∷ []) $ fjoin t $ feq_i t (List Val) (vptr b o ∷ []) (vptr b o ∷ []) refl $ fjoin t $
         feq_i t (List Val) (v ∷ []) (v ∷ []) refl $ fjoin t $
-        fpack t (Valss (RawPtr ∷ A ∷ [])) (within (shape (raw_box.the_type R A g)) (block_ptr b o, (alloc, tt)) (v ∷ []))
+        fpack t (Valss (RawPtr ∷ A ∷ [])) (within (shape (raw_box.the_type R A g)) (
+          block_ptr b o,
+          (alloc, tt),
+        ) (v ∷ []))
         (vptr b o ∷ [], (h ∷ [], tt)) $ fjoin t $ next)

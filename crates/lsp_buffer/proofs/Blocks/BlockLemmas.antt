@@ -20,7 +20,9 @@ ends_join a b ends = record {
   some = omega (arith, length-append a b, ends.some);
   clear = λ e.
       let at : length (a ++ b) - 1 ≡ length a + (length b - 1) = omega (arith, length-append a b, ends.some) in
-      ends.clear (ap (λ i. get_or b i 0) (omega arith) ∙ (sym (get_or-append_right a b (length a) (length a + (length b - 1)) 0 refl (omega arith)) ∙ (ap (slice_index (a ++ b)) (sym at) ∙ e)));
+      ends.clear (ap (λ i. get_or b i 0) (omega arith)
+      ∙ (sym (get_or-append_right a b (length a) (length a + (length b - 1)) 0 refl (omega arith))
+      ∙ (ap (slice_index (a ++ b)) (sym at) ∙ e)));
 }
 
 pub ends_tail : (a b : List ℕ) → 0 < length b → EndsClear (a ++ b) → EndsClear b
@@ -28,7 +30,9 @@ ends_tail a b some ends = record {
   some = some;
   clear = λ e.
       let at : length a + (length b - 1) ≡ length (a ++ b) - 1 = omega (arith, length-append a b) in
-      ends.clear (ap (slice_index (a ++ b)) (sym at) ∙ (get_or-append_right a b (length a) (length a + (length b - 1)) 0 refl (omega arith) ∙ (ap (λ i. get_or b i 0) (omega arith) ∙ e)));
+      ends.clear (ap (slice_index (a ++ b)) (sym at)
+      ∙ (get_or-append_right a b (length a) (length a + (length b - 1)) 0 refl (omega arith)
+      ∙ (ap (λ i. get_or b i 0) (omega arith) ∙ e)));
 }
 
 clear_text : (text : List ℕ) → EndsClear (encode_utf8_all text) → EndsClear text
@@ -41,7 +45,8 @@ clear_text (x ∷ []) ends = record {
       ends.clear (ap (λ bs. slice_index bs (length bs - 1)) bytes);
 }
 clear_text (x ∷ y ∷ text) ends =
-    let some : 0 < length (encode_utf8_all (y ∷ text)) = omega (arith, length-append (encode y) (encode_utf8_all text), length-encode y, (len_utf8_bounds y).0) in
+    let some : 0 < length (encode_utf8_all (y ∷ text)) =
+    omega (arith, length-append (encode y) (encode_utf8_all text), length-encode y, (len_utf8_bounds y).0) in
     ends_join (x ∷ []) (y ∷ text) (clear_text (y ∷ text) (ends_tail (encode x) (encode_utf8_all (y ∷ text)) some ends))
 
 -- What doesn't end with the byte of a carriage return doesn't end with the character.
@@ -84,7 +89,12 @@ full_ends (b ∷ blocks) full =
 
 pub full_length : (blocks : List (List ℕ)) → length (concat blocks) ≡ sum (map length blocks)
 full_length [] = refl
-full_length (b ∷ blocks) = omega (arith, length-append b (concat blocks), full_length blocks, sum_by-cons (λ x. x) (length b) (map length blocks))
+full_length (b ∷ blocks) = omega (
+  arith,
+  length-append b (concat blocks),
+  full_length blocks,
+  sum_by-cons (λ x. x) (length b) (map length blocks),
+)
 
 -- ---- one of the blocks
 
@@ -93,7 +103,8 @@ pub record IsSplit (blocks : List (List ℕ)) (index : ℕ) : Type 0 where
   pub whole : blocks ≡ take index blocks ++ get_or blocks index [] ∷ drop (index + 1) blocks
   pub full : AreFull (take index blocks)
   pub utf8 : is_utf8 (get_or blocks index []) ≡ true
-  pub after : (drop (index + 1) blocks ≡ []) ⊎ (EndsClear (get_or blocks index []) × AreBlocks (drop (index + 1) blocks))
+  pub after : (drop (index + 1) blocks ≡ [])
+      ⊎ (EndsClear (get_or blocks index []) × AreBlocks (drop (index + 1) blocks))
 
 pub split : (blocks : List (List ℕ)) (index : ℕ) → AreBlocks blocks → index < length blocks → IsSplit blocks index
 split [] index are h = absurd are
@@ -110,16 +121,19 @@ split (b ∷ c ∷ blocks) (suc index) are h =
       after = rw at later.after;
     }
 
-put_first : (b : List ℕ) (blocks : List (List ℕ)) → is_utf8 b ≡ true → EndsClear b → AreBlocks blocks → AreBlocks (b ∷ blocks)
+put_first : (b : List ℕ) (blocks : List (List ℕ)) → is_utf8 b ≡ true → EndsClear b → AreBlocks blocks
+    → AreBlocks (b ∷ blocks)
 put_first b [] utf8 feed are = absurd are
 put_first b (c ∷ blocks) utf8 feed are = (utf8, feed, are)
 
 pub full_front : (front blocks : List (List ℕ)) → AreFull front → AreBlocks blocks → AreBlocks (front ++ blocks)
 full_front [] blocks full are = are
-full_front (b ∷ front) blocks full are = put_first b (front ++ blocks) full.0 full.1 (full_front front blocks full.2 are)
+full_front (b ∷ front) blocks full are =
+    put_first b (front ++ blocks) full.0 full.1 (full_front front blocks full.2 are)
 
 -- Blocks in three parts.
-pub joined_blocks : (front fresh rest : List (List ℕ)) → AreFull front → AreBlocks fresh → (rest ≡ []) ⊎ (AreFull fresh × AreBlocks rest) → AreBlocks (front ++ (fresh ++ rest))
+pub joined_blocks : (front fresh rest : List (List ℕ)) → AreFull front → AreBlocks fresh → (rest ≡ [])
+    ⊎ (AreFull fresh × AreBlocks rest) → AreBlocks (front ++ (fresh ++ rest))
 joined_blocks front fresh rest full are after =
     full_front front (fresh ++ rest) full
     (⊎_elim
@@ -128,19 +142,23 @@ joined_blocks front fresh rest full are after =
     after)
 
 -- The last of some blocks is another one.
-pub full_last : (front : List (List ℕ)) (b : List ℕ) → AreFull front → is_utf8 b ≡ true → EndsClear b → AreFull (front ++ b ∷ [])
+pub full_last : (front : List (List ℕ)) (b : List ℕ) → AreFull front → is_utf8 b ≡ true → EndsClear b
+    → AreFull (front ++ b ∷ [])
 full_last [] b full utf8 feed = (utf8, feed, tt)
 full_last (c ∷ front) b full utf8 feed = (full.0, full.1, full_last front b full.2 utf8 feed)
 
 pub blocks_utf8 : (blocks : List (List ℕ)) → AreBlocks blocks → IsUtf8 (concat blocks)
 blocks_utf8 [] are = absurd are
 blocks_utf8 (b ∷ []) are = subst IsUtf8 (sym (append-nil b)) (IsUtf8-from_is_utf8 b are)
-blocks_utf8 (b ∷ c ∷ blocks) are = IsUtf8-append b (concat (c ∷ blocks)) (IsUtf8-from_is_utf8 b are.0) (blocks_utf8 (c ∷ blocks) are.2)
+blocks_utf8 (b ∷ c ∷ blocks) are = IsUtf8-append b (concat (c ∷ blocks)) (IsUtf8-from_is_utf8 b are.0)
+    (blocks_utf8 (c ∷ blocks) are.2)
 
 pub blocks_some : (blocks : List (List ℕ)) → AreBlocks blocks → 0 < length blocks
 blocks_some [] are = absurd are
 blocks_some (b ∷ blocks) are = omega arith
 
 -- The text in three parts.
-pub split_text : (blocks : List (List ℕ)) (index : ℕ) → IsSplit blocks index → concat blocks ≡ concat (take index blocks) ++ (get_or blocks index [] ++ concat (drop (index + 1) blocks))
-split_text blocks index is = ap concat is.whole ∙ concat-append (take index blocks) (get_or blocks index [] ∷ drop (index + 1) blocks)
+pub split_text : (blocks : List (List ℕ)) (index : ℕ) → IsSplit blocks index → concat blocks
+    ≡ concat (take index blocks) ++ (get_or blocks index [] ++ concat (drop (index + 1) blocks))
+split_text blocks index is =
+    ap concat is.whole ∙ concat-append (take index blocks) (get_or blocks index [] ∷ drop (index + 1) blocks)

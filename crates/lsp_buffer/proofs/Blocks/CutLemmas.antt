@@ -22,13 +22,16 @@ cut_ends rest cut is =
     let size : length (take cut rest) ≡ cut = length-take-le cut rest (omega (arith, is.within)) in
     record {
       some = omega (arith, is.some);
-      clear = λ e. is.clear (sym (ap (λ n. get_or (take cut rest) (n - 1) 0) size ∙ get_or-take cut rest (cut - 1) 0 (omega (arith, is.some))) ∙ e);
+      clear = λ e. is.clear
+          (sym (ap (λ n. get_or (take cut rest) (n - 1) 0) size ∙ get_or-take cut rest (cut - 1) 0
+          (omega (arith, is.some))) ∙ e);
     }
 
 one_block : (blocks : List (List ℕ)) (b : List ℕ) → concat (blocks ++ b ∷ []) ≡ concat blocks ++ b
 one_block blocks b = concat-append blocks (b ∷ []) ∙ ap (λ x. concat blocks ++ x) (append-nil b)
 
-pub cut_more : (text rest : List ℕ) (blocks now : List (List ℕ)) (block : List ℕ) (cut : ℕ) → IsUtf8 rest → IsCut rest cut → IsCharBoundary rest cut → block ≡ take cut rest → now ≡ blocks ++ block ∷ [] →
+pub cut_more : (text rest : List ℕ) (blocks now : List (List ℕ)) (block : List ℕ) (cut : ℕ) → IsUtf8 rest
+    → IsCut rest cut → IsCharBoundary rest cut → block ≡ take cut rest → now ≡ blocks ++ block ∷ [] →
     IsCutSoFar text rest blocks → IsCutSoFar text (drop cut rest) now
 cut_more text rest blocks now block cut utf8 is boundary block_is now_is so_far =
     let now_same : now ≡ blocks ++ take cut rest ∷ [] = now_is ∙ ap (λ b. blocks ++ b ∷ []) block_is in
@@ -36,8 +39,10 @@ cut_more text rest blocks now block cut utf8 is boundary block_is now_is so_far 
     (record {
       whole =
           ap (λ x. x ++ drop cut rest) (one_block blocks (take cut rest)) ∙
-          (append_assoc (concat blocks) (take cut rest) (drop cut rest) ∙ (ap (λ x. concat blocks ++ x) (take-append-drop cut rest) ∙ so_far.whole));
-      full = full_last blocks (take cut rest) so_far.full (is_utf8-from_IsUtf8 (take cut rest) (IsUtf8-take rest cut utf8 boundary)) (cut_ends rest cut is);
+          (append_assoc (concat blocks) (take cut rest) (drop cut rest)
+          ∙ (ap (λ x. concat blocks ++ x) (take-append-drop cut rest) ∙ so_far.whole));
+      full = full_last blocks (take cut rest) so_far.full
+          (is_utf8-from_IsUtf8 (take cut rest) (IsUtf8-take rest cut utf8 boundary)) (cut_ends rest cut is);
       some = λ h. omega (arith, length-drop cut rest, is.within);
     })
 
@@ -46,22 +51,28 @@ pub record IsCutAll (text : List ℕ) (blocks : List (List ℕ)) : Type 0 where
   pub are : AreBlocks blocks
   pub full : EndsClear text → AreFull blocks
 
-pub cut_all : (text rest : List ℕ) (blocks now : List (List ℕ)) (block : List ℕ) → IsUtf8 rest → block ≡ rest → now ≡ blocks ++ block ∷ [] → IsCutSoFar text rest blocks → IsCutAll text now
+pub cut_all : (text rest : List ℕ) (blocks now : List (List ℕ)) (block : List ℕ) → IsUtf8 rest → block ≡ rest
+    → now ≡ blocks ++ block ∷ [] → IsCutSoFar text rest blocks → IsCutAll text now
 cut_all text rest blocks now block utf8 block_is now_is so_far =
     let now_same : now ≡ blocks ++ rest ∷ [] = now_is ∙ ap (λ b. blocks ++ b ∷ []) block_is in
     subst (IsCutAll text) (sym now_same)
     (record {
       whole = one_block blocks rest ∙ so_far.whole;
       are = full_front blocks (rest ∷ []) so_far.full (is_utf8-from_IsUtf8 rest utf8);
-      full = λ ends. full_last blocks rest so_far.full (is_utf8-from_IsUtf8 rest utf8) (ends_tail (concat blocks) rest (so_far.some ends.some) (subst EndsClear (sym so_far.whole) ends));
+      full = λ ends. full_last blocks rest so_far.full (is_utf8-from_IsUtf8 rest utf8)
+          (ends_tail (concat blocks) rest (so_far.some ends.some) (subst EndsClear (sym so_far.whole) ends));
     })
 
 -- One block more.
-pub concat_more : (blocks : List (List ℕ)) (index : ℕ) (block : List ℕ) → index < length blocks → block ≡ get_or blocks index block → concat (take (index + 1) blocks) ≡ concat (take index blocks) ++ block
+pub concat_more : (blocks : List (List ℕ)) (index : ℕ) (block : List ℕ) → index < length blocks
+    → block ≡ get_or blocks index block → concat (take (index + 1) blocks) ≡ concat (take index blocks) ++ block
 concat_more blocks index block within at =
-    ap concat (take_more blocks index block within) ∙ (one_block (take index blocks) (get_or blocks index block) ∙ ap (λ b. concat (take index blocks) ++ b) (sym at))
+    ap concat (take_more blocks index block within) ∙ (one_block (take index blocks) (get_or blocks index block)
+    ∙ ap (λ b. concat (take index blocks) ++ b) (sym at))
 
 -- A text alone is one block.
-pub one_are : (before blocks : List (List ℕ)) (block bytes : List ℕ) → before ≡ [] → blocks ≡ before ++ block ∷ [] → block ≡ bytes → IsUtf8 bytes → AreBlocks blocks
+pub one_are : (before blocks : List (List ℕ)) (block bytes : List ℕ) → before ≡ [] → blocks ≡ before ++ block ∷ []
+    → block ≡ bytes → IsUtf8 bytes → AreBlocks blocks
 one_are before blocks block bytes none is same utf8 =
-    subst AreBlocks (sym (is ∙ ap (λ bs. bs ++ block ∷ []) none)) (is_utf8-from_IsUtf8 block (subst IsUtf8 (sym same) utf8))
+    subst AreBlocks (sym (is ∙ ap (λ bs. bs ++ block ∷ []) none))
+    (is_utf8-from_IsUtf8 block (subst IsUtf8 (sym same) utf8))

@@ -26,7 +26,8 @@ ends_join a b feed = record {
   some = omega (arith, length-append a b, feed.some);
   feed =
       let at : length (a ++ b) - 1 ≡ length a + (length b - 1) = omega (arith, length-append a b, feed.some) in
-      ap (slice_index (a ++ b)) at ∙ (get_or-append_right a b (length a) (length a + (length b - 1)) 0 refl (omega arith) ∙ (ap (λ i. get_or b i 0) (omega arith) ∙ feed.feed));
+      ap (slice_index (a ++ b)) at ∙ (get_or-append_right a b (length a) (length a + (length b - 1)) 0 refl
+      (omega arith) ∙ (ap (λ i. get_or b i 0) (omega arith) ∙ feed.feed));
 }
 
 ends_tail : (a b : List ℕ) → 0 < length b → EndsLine (a ++ b) → EndsLine b
@@ -34,7 +35,9 @@ ends_tail a b some feed = record {
   some = some;
   feed =
       let at : length a + (length b - 1) ≡ length (a ++ b) - 1 = omega (arith, length-append a b) in
-      ap (λ i. get_or b i 0) (omega arith) ∙ (sym (get_or-append_right a b (length a) (length a + (length b - 1)) 0 refl (omega arith)) ∙ (ap (slice_index (a ++ b)) at ∙ feed.feed));
+      ap (λ i. get_or b i 0) (omega arith)
+      ∙ (sym (get_or-append_right a b (length a) (length a + (length b - 1)) 0 refl (omega arith))
+      ∙ (ap (slice_index (a ++ b)) at ∙ feed.feed));
 }
 
 high_get : (bytes : List ℕ) (k : ℕ) → AllHigh bytes → k < length bytes → 128 ≤ get_or bytes k 0
@@ -46,7 +49,11 @@ last_char : (x : ℕ) → EndsLine (encode x) → x ≡ 10
 last_char x feed =
     ⊎_elim
     (λ (h : x < 128). let feed_at = rw (encode_ascii x h) at feed in feed_at.feed)
-    (λ (h : 128 ≤ x). absurd (omega (arith, feed.feed, high_get (encode x) (length (encode x) - 1) (encode_high x h) (omega (arith, feed.some)))))
+    (λ (h : 128 ≤ x). absurd (omega (
+      arith,
+      feed.feed,
+      high_get (encode x) (length (encode x) - 1) (encode_high x h) (omega (arith, feed.some)),
+    )))
     (cases_lt x 128)
 
 feed_text : (text : List ℕ) → EndsLine (encode_utf8_all text) → EndsLine text
@@ -55,7 +62,8 @@ feed_text (x ∷ []) feed =
     let here : EndsLine (encode x) = subst EndsLine (append-nil (encode x)) feed in
     record { some = omega arith; feed = last_char x here }
 feed_text (x ∷ y ∷ text) feed =
-    let some : 0 < length (encode_utf8_all (y ∷ text)) = omega (arith, length-append (encode y) (encode_utf8_all text), length-encode y, (len_utf8_bounds y).0) in
+    let some : 0 < length (encode_utf8_all (y ∷ text)) =
+    omega (arith, length-append (encode y) (encode_utf8_all text), length-encode y, (len_utf8_bounds y).0) in
     ends_join (x ∷ []) (y ∷ text) (feed_text (y ∷ text) (ends_tail (encode x) (encode_utf8_all (y ∷ text)) some feed))
 
 -- After a line feed begins an empty line.
@@ -65,23 +73,37 @@ empty_line units text feed =
     let ends : ends_line text (suc (length text - 1)) ≡ true = rw feed.feed refl in
     let last : line_at text (suc (length text - 1)) ≡ suc (line_at text (length text - 1)) = rw ends refl in
     let start = line_has_start text (line_ends text) (omega arith) in
-    let at : line_at text (line_start text (line_ends text)) ≡ line_ends text = in_content_line text (line_ends text) (line_start text (line_ends text)) start.passes in
+    let at : line_at text (line_start text (line_ends text)) ≡ line_ends text =
+    in_content_line text (line_ends text) (line_start text (line_ends text)) start.passes in
     let end : line_start text (line_ends text) ≡ length text =
     ⊎_elim
     (λ (h : line_start text (line_ends text) < length text).
-    absurd (omega (arith, at, ap (line_at text) count, last, line_rises text (line_start text (line_ends text)) (length text - 1) (omega (arith, h)))))
+    absurd (omega (
+      arith,
+      at,
+      ap (line_at text) count,
+      last,
+      line_rises text (line_start text (line_ends text)) (length text - 1) (omega (arith, h)),
+    )))
     (λ (h : length text ≤ line_start text (line_ends text)). omega (arith, start.in_row, h))
     (cases_lt (line_start text (line_ends text)) (length text)) in
     ap (λ s. units_between units text s (length text)) end ∙
     ap (λ n. sum_by units (take n (drop (length text) text))) (let e : length text - length text ≡ 0 = omega arith in e)
 
-pub feed_head : (units : ℕ → ℕ) (bytes : List ℕ) → IsUtf8 bytes → 0 < length bytes → slice_index bytes (length bytes - 1) ≡ 10 → head_of units bytes ≡ 0
+pub feed_head : (units : ℕ → ℕ) (bytes : List ℕ) → IsUtf8 bytes → 0 < length bytes
+    → slice_index bytes (length bytes - 1) ≡ 10 → head_of units bytes ≡ 0
 feed_head units bytes utf8 some feed =
-    empty_line units (chars bytes) (feed_text (chars bytes) (subst EndsLine (sym (encodes-chars bytes utf8)) (record { some = some; feed = feed })))
+    empty_line units (chars bytes)
+    (feed_text (chars bytes) (subst EndsLine (sym (encodes-chars bytes utf8)) (record { some = some; feed = feed })))
 
 -- The end of a text is a place.
 pub end_at : (bytes : List ℕ) → IsUtf8 bytes → place_of (chars bytes) (length (chars bytes)) ≡ length bytes
 end_at bytes utf8 = place_end (chars bytes) ∙ ap length (encodes-chars bytes utf8)
 
 pub end_place : (bytes : List ℕ) → IsUtf8 bytes → IsPlace (chars bytes) (length bytes)
-end_place bytes utf8 = (length (chars bytes), omega arith, splits_none_past (chars bytes) (length (chars bytes)) (omega arith), end_at bytes utf8)
+end_place bytes utf8 = (
+  length (chars bytes),
+  omega arith,
+  splits_none_past (chars bytes) (length (chars bytes)) (omega arith),
+  end_at bytes utf8,
+)

@@ -1,4 +1,5 @@
--- A text in three parts: what comes before a block, the block, and what comes after it. Positions, boundaries and changes of the text by those of the block.
+-- A text in three parts: what comes before a block, the block, and what comes after it. Positions, boundaries and
+-- changes of the text by those of the block.
 use Rattle.std.proofs.Common.{ℕ, zero, suc, ◌≡◌, ◌+◌, ◌-◌, ◌<◌, ◌≤◌, ◌⊎◌, false, List, [], ◌++◌, length, take, drop, get_or, slice_index, Option, Some, None, option_map, ⊎_elim, inl, inr, refl, sym, ap, ◌∙◌, arith, subst}
 use Rattle.std.specs.Prelude.{encode_utf8_all}
 use Rattle.std.specs.Str.{chars, IsUtf8, IsCharBoundary}
@@ -23,7 +24,8 @@ pub carried_none : (line : ℕ) → carried line 0 ≡ 0
 carried_none zero = refl
 carried_none (suc line) = refl
 
-pub carried_low : (line head : ℕ) (p : Position) → IsAtOrAfter line head p → (line ≤ p.line) × (carried (p.line - line) head ≤ p.character)
+pub carried_low : (line head : ℕ) (p : Position) → IsAtOrAfter line head p → (line ≤ p.line)
+    × (carried (p.line - line) head ≤ p.character)
 carried_low line head p =
     ⊎_elim
     (λ (h : line < p.line).
@@ -33,45 +35,57 @@ carried_low line head p =
     let here : p.line - line ≡ 0 = omega (arith, h.0) in
     (omega (arith, h.0), omega (arith, h.1, ap (λ (n : ℕ). carried n head) here)))
 
-pub position_back : (line head : ℕ) (p : Position) → IsAtOrAfter line head p → ◌≡◌ {A = Position} p (position_from line head (position_after line head p))
+pub position_back : (line head : ℕ) (p : Position) → IsAtOrAfter line head p
+    → ◌≡◌ {A = Position} p (position_from line head (position_after line head p))
 position_back line head p after =
     let low = carried_low line head p after in
     let l : p.line ≡ line + (p.line - line) = omega (arith, low.0) in
-    let c : p.character ≡ carried (p.line - line) head + (p.character - carried (p.line - line) head) = omega (arith, low.1) in
+    let c : p.character ≡ carried (p.line - line) head + (p.character - carried (p.line - line) head) =
+    omega (arith, low.1) in
     λ i. record { line = l i; character = c i }
 
 -- Characters: the first part is empty or ends with no carriage return.
 module _ (a r : List ℕ) (closes : Closes a) where
-  pub denoted_after : (units : ℕ → ℕ) → ((c : ℕ) → 1 ≤ units c) → (p : Position) → IsAtOrAfter (line_ends a) (head units a) p → denoted units (a ++ r) p ≡ option_map (λ k. length a + k) (denoted units r (position_after (line_ends a) (head units a) p))
+  pub denoted_after : (units : ℕ → ℕ) → ((c : ℕ) → 1 ≤ units c) → (p : Position)
+      → IsAtOrAfter (line_ends a) (head units a) p → denoted units (a ++ r) p ≡ option_map (λ k. length a + k)
+      (denoted units r (position_after (line_ends a) (head units a) p))
   denoted_after units some p after =
       ⊎_elim
       (λ (e : a ≡ []). at_none e)
       (λ (e : EndsClear a).
       ap (denoted units (a ++ r)) (position_back (line_ends a) (head units a) p after) ∙
-      denoted_right a r e units some (p.line - line_ends a) (p.character - carried (p.line - line_ends a) (head units a)))
+      denoted_right a r e units some (p.line - line_ends a) (p.character - carried (p.line - line_ends a)
+      (head units a)))
       closes
     where
       same : (o : Option ℕ) → o ≡ option_map (λ k. 0 + k) o
       same None = refl
       same (Some k) = ap Some (omega arith)
 
-      at_none : a ≡ [] → denoted units (a ++ r) p ≡ option_map (λ k. length a + k) (denoted units r (position_after (line_ends a) (head units a) p))
+      at_none : a ≡ [] → denoted units (a ++ r) p ≡ option_map (λ k. length a + k)
+          (denoted units r (position_after (line_ends a) (head units a) p))
       at_none e =
           let l : p.line - 0 ≡ p.line = omega arith in
           let c : p.character - carried (p.line - 0) 0 ≡ p.character = omega (arith, carried_none (p.line - 0)) in
           let q : ◌≡◌ {A = Position} (position_after 0 0 p) p = λ i. record { line = l i; character = c i } in
-          subst (λ (x : List ℕ). denoted units (x ++ r) p ≡ option_map (λ k. length x + k) (denoted units r (position_after (line_ends x) (head units x) p))) (sym e)
+          subst (λ (x : List ℕ). denoted units (x ++ r) p ≡ option_map (λ k. length x + k)
+          (denoted units r (position_after (line_ends x) (head units x) p))) (sym e)
           (same (denoted units r p) ∙ ap (λ (p : Position). option_map (λ k. 0 + k) (denoted units r p)) (sym q))
 
-  pub exact_after : (units : ℕ → ℕ) (k : ℕ) → k ≤ length r → ◌≡◌ {A = Position} (exact_position units (a ++ r) (length a + k)) (position_from (line_ends a) (head units a) (exact_position units r k))
+  pub exact_after : (units : ℕ → ℕ) (k : ℕ) → k ≤ length r
+      → ◌≡◌ {A = Position} (exact_position units (a ++ r) (length a + k))
+      (position_from (line_ends a) (head units a) (exact_position units r k))
   exact_after units k h =
       ⊎_elim
       (λ (e : a ≡ []).
       let n : 0 + k ≡ k = omega arith in
       let l : line_at r k ≡ 0 + line_at r k = omega arith in
-      let c : (exact_position units r k).character ≡ carried (line_at r k) 0 + (exact_position units r k).character = omega (arith, carried_none (line_at r k)) in
-      let moved : ◌≡◌ {A = Position} (exact_position units r k) (position_from 0 0 (exact_position units r k)) = λ i. record { line = l i; character = c i } in
-      subst (λ (x : List ℕ). ◌≡◌ {A = Position} (exact_position units (x ++ r) (length x + k)) (position_from (line_ends x) (head units x) (exact_position units r k))) (sym e)
+      let c : (exact_position units r k).character ≡ carried (line_at r k) 0 + (exact_position units r k).character =
+      omega (arith, carried_none (line_at r k)) in
+      let moved : ◌≡◌ {A = Position} (exact_position units r k) (position_from 0 0 (exact_position units r k)) =
+      λ i. record { line = l i; character = c i } in
+      subst (λ (x : List ℕ). ◌≡◌ {A = Position} (exact_position units (x ++ r) (length x + k))
+      (position_from (line_ends x) (head units x) (exact_position units r k))) (sym e)
       (ap (exact_position units r) n ∙ moved))
       (λ (e : EndsClear a). exact_right a r e units k h)
       closes
@@ -103,10 +117,12 @@ abbrev pub IsClearSeam : List ℕ → List ℕ → Type 0
 IsClearSeam b c = (c ≡ []) ⊎ EndsClear b
 
 module _ (b c : List ℕ) where
-  pub denoted_before : (units : ℕ → ℕ) → ((c : ℕ) → 1 ≤ units c) → (p : Position) → (c ≡ []) ⊎ (EndsClear b × IsBefore (line_ends b) (head units b) p) → denoted units (b ++ c) p ≡ denoted units b p
+  pub denoted_before : (units : ℕ → ℕ) → ((c : ℕ) → 1 ≤ units c) → (p : Position) → (c ≡ [])
+      ⊎ (EndsClear b × IsBefore (line_ends b) (head units b) p) → denoted units (b ++ c) p ≡ denoted units b p
   denoted_before units some p after =
       ⊎_elim
-      (λ (e : c ≡ []). subst (λ (x : List ℕ). denoted units (b ++ x) p ≡ denoted units b p) (sym e) (ap (λ t. denoted units t p) (append-nil b)))
+      (λ (e : c ≡ []). subst (λ (x : List ℕ). denoted units (b ++ x) p ≡ denoted units b p) (sym e)
+      (ap (λ t. denoted units t p) (append-nil b)))
       (λ (e : EndsClear b × IsBefore (line_ends b) (head units b) p).
       ⊎_elim
       (λ (h : p.line < line_ends b). denoted_left b c e.0 units p h)
@@ -143,7 +159,8 @@ module _ (bytes front block rest : List ℕ) (are : AreThree bytes front block r
   c = chars rest
 
   chars_are : chars bytes ≡ chars front ++ (chars block ++ chars rest)
-  chars_are = ap chars are.whole ∙ (chars-append front (block ++ rest) are.front_utf8 ∙ ap (λ cs. chars front ++ cs) (chars-append block rest are.block_utf8))
+  chars_are = ap chars are.whole ∙ (chars-append front (block ++ rest) are.front_utf8 ∙ ap (λ cs. chars front ++ cs)
+      (chars-append block rest are.block_utf8))
 
   closes_chars : Closes (chars front)
   closes_chars = chars_close front are.front_utf8 are.closes
@@ -162,22 +179,32 @@ module _ (bytes front block rest : List ℕ) (are : AreThree bytes front block r
   block_len = ap length (encodes-chars block are.block_utf8)
 
   -- What a position denotes in all is what it denotes in the block.
-  pub resolved_three : (units : ℕ → ℕ) → ((c : ℕ) → 1 ≤ units c) → (p : Position) → IsAtOrAfter (line_ends (chars front)) (head units (chars front)) p →
-      (rest ≡ []) ⊎ IsBefore (line_ends (chars block)) (head units (chars block)) (position_after (line_ends (chars front)) (head units (chars front)) p) →
-      option_map (place_of (chars bytes)) (denoted units (chars bytes) p) ≡ option_map (λ n. length front + n) (option_map (place_of (chars block)) (denoted units (chars block) (position_after (line_ends (chars front)) (head units (chars front)) p)))
+  pub resolved_three : (units : ℕ → ℕ) → ((c : ℕ) → 1 ≤ units c) → (p : Position)
+      → IsAtOrAfter (line_ends (chars front)) (head units (chars front)) p →
+      (rest ≡ []) ⊎ IsBefore (line_ends (chars block)) (head units (chars block))
+      (position_after (line_ends (chars front)) (head units (chars front)) p) →
+      option_map (place_of (chars bytes)) (denoted units (chars bytes) p) ≡ option_map (λ n. length front + n)
+      (option_map (place_of (chars block))
+      (denoted units (chars block) (position_after (line_ends (chars front)) (head units (chars front)) p)))
   resolved_three units some p low high =
       ap (λ cs. option_map (place_of cs) (denoted units cs p)) chars_are ∙
-      (ap (option_map (place_of (chars front ++ (chars block ++ chars rest)))) (denoted_after (chars front) (chars block ++ chars rest) closes_chars units some p low ∙ ap (option_map (λ k. length (chars front) + k)) (denoted_before (chars block) (chars rest) units some q inside)) ∙
+      (ap (option_map (place_of (chars front ++ (chars block ++ chars rest))))
+      (denoted_after (chars front) (chars block ++ chars rest) closes_chars units some p low
+      ∙ ap (option_map (λ k. length (chars front) + k)) (denoted_before (chars block) (chars rest) units some q inside))
+      ∙
       placed (denoted units (chars block) q) refl)
     where
       q : Position
       q = position_after (line_ends (chars front)) (head units (chars front)) p
 
-      inside : (chars rest ≡ []) ⊎ (EndsClear (chars block) × IsBefore (line_ends (chars block)) (head units (chars block)) (position_after (line_ends (chars front)) (head units (chars front)) p))
+      inside : (chars rest ≡ [])
+          ⊎ (EndsClear (chars block) × IsBefore (line_ends (chars block)) (head units (chars block))
+          (position_after (line_ends (chars front)) (head units (chars front)) p))
       inside =
           ⊎_elim
           (λ (e : rest ≡ []). inl (ap chars e ∙ chars-nil))
-          (λ (h : IsBefore (line_ends (chars block)) (head units (chars block)) (position_after (line_ends (chars front)) (head units (chars front)) p)).
+          (λ (h : IsBefore (line_ends (chars block)) (head units (chars block))
+          (position_after (line_ends (chars front)) (head units (chars front)) p)).
           ⊎_elim
           (λ (e : chars rest ≡ []). inl e)
           (λ (e : EndsClear (chars block)). inr (e, h))
@@ -185,18 +212,21 @@ module _ (bytes front block rest : List ℕ) (are : AreThree bytes front block r
           high
 
       placed : (o : Option ℕ) → denoted units (chars block) q ≡ o →
-          option_map (place_of (chars front ++ (chars block ++ chars rest))) (option_map (λ k. length (chars front) + k) o) ≡ option_map (λ n. length front + n) (option_map (place_of (chars block)) o)
+          option_map (place_of (chars front ++ (chars block ++ chars rest))) (option_map (λ k. length (chars front) + k)
+          o) ≡ option_map (λ n. length front + n) (option_map (place_of (chars block)) o)
       placed None e = refl
       placed (Some k) e =
           let within : k ≤ length (chars block) = (denoted_whole units (chars block) q k e).within in
           ap Some
           (place_after (chars front) (chars block ++ chars rest) closes_chars k ∙
-          (ap (λ n. n + place_of (chars block ++ chars rest) k) front_len ∙ ap (λ n. length front + n) (place_before (chars block) (chars rest) k within)))
+          (ap (λ n. n + place_of (chars block ++ chars rest) k) front_len ∙ ap (λ n. length front + n)
+          (place_before (chars block) (chars rest) k within)))
 
   -- The lines of all.
   pub ends_three : rest ≡ [] → line_ends (chars bytes) ≡ line_ends (chars front) + line_ends (chars block)
   ends_three none =
-      let tail : chars block ++ chars rest ≡ chars block = ap (λ cs. chars block ++ cs) (ap chars none ∙ chars-nil) ∙ append-nil (chars block) in
+      let tail : chars block ++ chars rest ≡ chars block = ap (λ cs. chars block ++ cs) (ap chars none ∙ chars-nil)
+      ∙ append-nil (chars block) in
       rw (chars_are, tail)
       (⊎_elim
       (λ (e : chars front ≡ []). rw e (omega arith))
@@ -211,14 +241,17 @@ module _ (bytes front block rest : List ℕ) (are : AreThree bytes front block r
     pub place_is : place_of (chars block) inner ≡ place - length front
     pub splits : splits_crlf (chars bytes) index ≡ splits_crlf (chars block) inner
 
-  pub inner_index : (place index : ℕ) → length front ≤ place → (rest ≡ []) ⊎ (place - length front < length block) → index ≤ length (chars bytes) → place_of (chars bytes) index ≡ place → IsInner place index
+  pub inner_index : (place index : ℕ) → length front ≤ place → (rest ≡ []) ⊎ (place - length front < length block)
+      → index ≤ length (chars bytes) → place_of (chars bytes) index ≡ place → IsInner place index
   inner_index place index low high within at =
       record {
         inner = index - length (chars front);
         index_is = back;
         within = inside;
         place_is = sym (place_before (chars block) (chars rest) j inside) ∙ omega (arith, placed);
-        splits = ap (splits_crlf (chars bytes)) back ∙ (ap (λ cs. splits_crlf cs (length (chars front) + j)) chars_are ∙ (splits_after (chars front) (chars block ++ chars rest) closes_chars j ∙ splits_before (chars block) (chars rest) j inside seam_chars));
+        splits = ap (splits_crlf (chars bytes)) back ∙ (ap (λ cs. splits_crlf cs (length (chars front) + j)) chars_are
+            ∙ (splits_after (chars front) (chars block ++ chars rest) closes_chars j ∙ splits_before (chars block)
+            (chars rest) j inside seam_chars));
       }
     where
       j : ℕ
@@ -230,10 +263,12 @@ module _ (bytes front block rest : List ℕ) (are : AreThree bytes front block r
       start_at : place_of (chars bytes) (length (chars front)) ≡ length front
       start_at =
           ap (λ cs. place_of cs (length (chars front))) chars_are ∙
-          (ap (λ cs. length (encode_utf8_all cs)) (take_at (chars front) (chars block ++ chars rest) (length (chars front)) refl) ∙ front_len)
+          (ap (λ cs. length (encode_utf8_all cs)) (take_at (chars front) (chars block ++ chars rest)
+          (length (chars front)) refl) ∙ front_len)
 
       order : length (chars front) ≤ index
-      order = place_order (chars bytes) (length (chars front)) index (omega (arith, size)) (omega (arith, start_at, at, low))
+      order = place_order (chars bytes) (length (chars front)) index (omega (arith, size))
+          (omega (arith, start_at, at, low))
 
       back : index ≡ length (chars front) + j
       back = omega (arith, order)
@@ -241,10 +276,12 @@ module _ (bytes front block rest : List ℕ) (are : AreThree bytes front block r
       placed : place ≡ length front + place_of (chars block ++ chars rest) j
       placed =
           sym at ∙ (ap (place_of (chars bytes)) back ∙ (ap (λ cs. place_of cs (length (chars front) + j)) chars_are ∙
-          (place_after (chars front) (chars block ++ chars rest) closes_chars j ∙ ap (λ n. n + place_of (chars block ++ chars rest) j) front_len)))
+          (place_after (chars front) (chars block ++ chars rest) closes_chars j
+          ∙ ap (λ n. n + place_of (chars block ++ chars rest) j) front_len)))
 
       block_end : place_of (chars block ++ chars rest) (length (chars block)) ≡ length block
-      block_end = place_before (chars block) (chars rest) (length (chars block)) (omega arith) ∙ (place_end (chars block) ∙ block_len)
+      block_end = place_before (chars block) (chars rest) (length (chars block)) (omega arith)
+          ∙ (place_end (chars block) ∙ block_len)
 
       tail : length (chars block ++ chars rest) ≡ length (chars block) + length (chars rest)
       tail = length-append (chars block) (chars rest)
@@ -254,19 +291,27 @@ module _ (bytes front block rest : List ℕ) (are : AreThree bytes front block r
           ⊎_elim
           (λ (e : rest ≡ []). omega (arith, size, tail, within, order, ap length (ap chars e ∙ chars-nil)))
           (λ (h : place - length front < length block).
-          place_order (chars block ++ chars rest) j (length (chars block)) (omega (arith, size, within, order)) (omega (arith, placed, block_end, low, h)))
+          place_order (chars block ++ chars rest) j (length (chars block)) (omega (arith, size, within, order))
+          (omega (arith, placed, block_end, low, h)))
           high
 
-  pub exact_three : (units : ℕ → ℕ) (place index : ℕ) (is : IsInner place index) → splits_crlf (chars bytes) index ≡ false →
-      ◌≡◌ {A = Position} (exact_position units (chars bytes) index) (position_from (line_ends (chars front)) (head units (chars front)) (exact_position units (chars block) is.inner))
+  pub exact_three : (units : ℕ → ℕ) (place index : ℕ) (is : IsInner place index) → splits_crlf (chars bytes) index
+      ≡ false →
+      ◌≡◌ {A = Position} (exact_position units (chars bytes) index)
+      (position_from (line_ends (chars front)) (head units (chars front)) (exact_position units (chars block) is.inner))
   exact_three units place index is whole =
-      let tail : length (chars block ++ chars rest) ≡ length (chars block) + length (chars rest) = length-append (chars block) (chars rest) in
-      let same : exact_position units (chars block ++ chars rest) is.inner ≡ exact_position units (chars block) is.inner =
-      exact_near units (chars block ++ chars rest) (chars block) is.inner (take-append-le is.inner (chars block) (chars rest) is.within) (omega (arith, tail, is.within)) is.within
-      (splits_before (chars block) (chars rest) is.inner is.within seam_chars ∙ (sym is.splits ∙ whole)) (sym is.splits ∙ whole) in
+      let tail : length (chars block ++ chars rest) ≡ length (chars block) + length (chars rest) =
+      length-append (chars block) (chars rest) in
+      let same : exact_position units (chars block ++ chars rest) is.inner ≡ exact_position units (chars block)
+      is.inner =
+      exact_near units (chars block ++ chars rest) (chars block) is.inner
+      (take-append-le is.inner (chars block) (chars rest) is.within) (omega (arith, tail, is.within)) is.within
+      (splits_before (chars block) (chars rest) is.inner is.within seam_chars ∙ (sym is.splits ∙ whole))
+      (sym is.splits ∙ whole) in
       ap (exact_position units (chars bytes)) is.index_is ∙
       (ap (λ cs. exact_position units cs (length (chars front) + is.inner)) chars_are ∙
-      (exact_after (chars front) (chars block ++ chars rest) closes_chars units is.inner (omega (arith, tail, is.within)) ∙
+      (exact_after (chars front) (chars block ++ chars rest) closes_chars units is.inner
+      (omega (arith, tail, is.within)) ∙
       ap (position_from (line_ends (chars front)) (head units (chars front))) same))
 
   -- Boundaries.
@@ -276,39 +321,55 @@ module _ (bytes front block rest : List ℕ) (are : AreThree bytes front block r
       (get_or-append_right front (block ++ rest) (length front) (length front + i) 0 refl (omega arith) ∙
       (ap (λ k. get_or (block ++ rest) k 0) (omega arith) ∙ get_or_append_left block rest 0 i h))
 
-  pub boundary_in : (place : ℕ) → length front ≤ place → (rest ≡ []) ⊎ (place - length front < length block) → IsCharBoundary bytes place → IsCharBoundary block (place - length front)
+  pub boundary_in : (place : ℕ) → length front ≤ place → (rest ≡ []) ⊎ (place - length front < length block)
+      → IsCharBoundary bytes place → IsCharBoundary block (place - length front)
   boundary_in place low high at =
-      let size : length bytes ≡ length front + length (block ++ rest) = ap length are.whole ∙ length-append front (block ++ rest) in
+      let size : length bytes ≡ length front + length (block ++ rest) =
+      ap length are.whole ∙ length-append front (block ++ rest) in
       let tail : length (block ++ rest) ≡ length block + length rest = length-append block rest in
       let within : place - length front ≤ length block =
-      ⊎_elim (λ (e : rest ≡ []). omega (arith, at.0, size, tail, ap length e)) (λ (h : place - length front < length block). omega (arith, h)) high in (
+      ⊎_elim (λ (e : rest ≡ []). omega (arith, at.0, size, tail, ap length e))
+      (λ (h : place - length front < length block). omega (arith, h)) high in (
         within,
         λ inside big.
-            let here : slice_index bytes place ≡ slice_index block (place - length front) = ap (slice_index bytes) (let e : place ≡ length front + (place - length front) = omega arith in e) ∙ byte_in (place - length front) inside in
+            let here : slice_index bytes place ≡ slice_index block (place - length front) =
+            ap (slice_index bytes) (let e : place ≡ length front + (place - length front) = omega arith in e)
+            ∙ byte_in (place - length front) inside in
             omega (arith, here, at.1 (omega (arith, size, tail, inside)) (omega (arith, here, big))),
       )
 
   -- What stands from a place on, and before it.
   pub drop_three : (n : ℕ) → n ≤ length block → drop (length front + n) bytes ≡ drop n block ++ rest
-  drop_three n h = ap (drop (length front + n)) are.whole ∙ (drop-append-add front (block ++ rest) n ∙ drop-append-le n block rest h)
+  drop_three n h = ap (drop (length front + n)) are.whole
+      ∙ (drop-append-add front (block ++ rest) n ∙ drop-append-le n block rest h)
 
   pub take_three : (n : ℕ) → n ≤ length block → take (length front + n) bytes ≡ front ++ take n block
-  take_three n h = ap (take (length front + n)) are.whole ∙ (take-append-add front (block ++ rest) n ∙ ap (λ bs. front ++ bs) (take-append-le n block rest h))
+  take_three n h = ap (take (length front + n)) are.whole
+      ∙ (take-append-add front (block ++ rest) n ∙ ap (λ bs. front ++ bs) (take-append-le n block rest h))
 
   -- A place of the block is one of all, and so is the block's end.
   pub place_outer : (inner : ℕ) → IsPlace (chars block) inner → IsPlace (chars bytes) (length front + inner)
   place_outer inner at =
       let j = at.0 in
-      let tail : length (chars block ++ chars rest) ≡ length (chars block) + length (chars rest) = length-append (chars block) (chars rest) in
-      let size : length (chars bytes) ≡ length (chars front) + length (chars block ++ chars rest) = ap length chars_are ∙ length-append (chars front) (chars block ++ chars rest) in (
+      let tail : length (chars block ++ chars rest) ≡ length (chars block) + length (chars rest) =
+      length-append (chars block) (chars rest) in
+      let size : length (chars bytes) ≡ length (chars front) + length (chars block ++ chars rest) =
+      ap length chars_are ∙ length-append (chars front) (chars block ++ chars rest) in (
         length (chars front) + j,
         omega (arith, size, tail, at.1),
         ap (λ cs. splits_crlf cs (length (chars front) + j)) chars_are ∙
-            (splits_after (chars front) (chars block ++ chars rest) closes_chars j ∙ (splits_before (chars block) (chars rest) j at.1 seam_chars ∙ at.2)),
+            (splits_after (chars front) (chars block ++ chars rest) closes_chars j
+            ∙ (splits_before (chars block) (chars rest) j at.1 seam_chars ∙ at.2)),
         ap (λ cs. place_of cs (length (chars front) + j)) chars_are ∙
             (place_after (chars front) (chars block ++ chars rest) closes_chars j ∙
-            (ap (λ n. n + place_of (chars block ++ chars rest) j) front_len ∙ ap (λ n. length front + n) (place_before (chars block) (chars rest) j at.1 ∙ at.3))),
+            (ap (λ n. n + place_of (chars block ++ chars rest) j) front_len ∙ ap (λ n. length front + n)
+            (place_before (chars block) (chars rest) j at.1 ∙ at.3))),
       )
 
   pub place_last : IsPlace (chars block) (length block)
-  place_last = (length (chars block), omega arith, splits_none_past (chars block) (length (chars block)) (omega arith), place_end (chars block) ∙ block_len)
+  place_last = (
+    length (chars block),
+    omega arith,
+    splits_none_past (chars block) (length (chars block)) (omega arith),
+    place_end (chars block) ∙ block_len,
+  )

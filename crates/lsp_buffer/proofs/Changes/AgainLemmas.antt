@@ -14,13 +14,16 @@ use Rattle.lsp_buffer.proofs.Blocks.BufferLemmas.{starts_count, next_start, star
 use Rattle.lsp_buffer.proofs.Reads.FoundLemmas.{IsPlaceFound, found_place, blocks_ends, chunk_boundary}
 use Rattle.lsp_buffer.proofs.Changes.ChangeLemmas.{replaced_parts, back_ends, sums_three}
 
-sum_three : (f : List ℕ → ℕ) (front fresh rest : List (List ℕ)) → sum (map f (front ++ (fresh ++ rest))) ≡ sum (map f front) + (sum (map f fresh) + sum (map f rest))
+sum_three : (f : List ℕ → ℕ) (front fresh rest : List (List ℕ)) → sum (map f (front ++ (fresh ++ rest)))
+    ≡ sum (map f front) + (sum (map f fresh) + sum (map f rest))
 sum_three f front fresh rest =
     ap sum (map-append f front (fresh ++ rest)) ∙ (sum_by-append (λ x. x) (map f front) (map f (fresh ++ rest)) ∙
-    ap (λ n. sum (map f front) + n) (ap sum (map-append f fresh rest) ∙ sum_by-append (λ x. x) (map f fresh) (map f rest)))
+    ap (λ n. sum (map f front) + n) (ap sum (map-append f fresh rest) ∙ sum_by-append (λ x. x) (map f fresh)
+    (map f rest)))
 
 -- What the change has to begin with.
-pub record IsAgain (blocks : List (List ℕ)) (starts lines : List ℕ) (first last : ℕ) (block block' : List ℕ) (from from' start stop : ℕ) (new : List ℕ) : Type 0 where
+pub record IsAgain (blocks : List (List ℕ)) (starts lines : List ℕ) (first last : ℕ) (block block' : List ℕ)
+    (from from' start stop : ℕ) (new : List ℕ) : Type 0 where
   pub is : IsBuffer blocks starts lines
   pub block_is : block ≡ get_or blocks first block
   pub block_is' : block' ≡ get_or blocks last block'
@@ -33,7 +36,9 @@ pub record IsAgain (blocks : List (List ℕ)) (starts lines : List ℕ) (first l
   pub at_end : IsCharBoundary (concat blocks) stop
   pub room : length (replace_range (concat blocks) start stop new) ≤ 2147483648
 
-module _ (blocks : List (List ℕ)) (starts lines : List ℕ) (first last : ℕ) (block block' : List ℕ) (from from' start stop : ℕ) (new : List ℕ) (again : IsAgain blocks starts lines first last block block' from from' start stop new) where
+module _ (blocks : List (List ℕ)) (starts lines : List ℕ) (first last : ℕ) (block block' : List ℕ)
+    (from from' start stop : ℕ) (new : List ℕ) (again : IsAgain blocks starts lines first last block block' from from'
+    start stop new) where
   first_within : first < length blocks
   first_within = omega (arith, again.at_first.within, starts_count blocks starts lines again.is)
 
@@ -43,24 +48,36 @@ module _ (blocks : List (List ℕ)) (starts lines : List ℕ) (first last : ℕ)
   pub first_last : first ≤ last
   first_last =
       ⊎_elim
-      (λ (h : last < first). absurd (omega (arith, again.at_last.greatest first h again.at_first.within, again.at_first.at_most, again.order)))
+      (λ (h : last < first). absurd (omega (
+        arith,
+        again.at_last.greatest first h again.at_first.within,
+        again.at_first.at_most,
+        again.order,
+      )))
       (λ (h : first ≤ last). h)
       (cases_lt last first)
 
   one : IsPlaceFound (concat blocks) (concat (take first blocks)) block (concat (drop (first + 1) blocks)) start from
-  one = found_place blocks starts lines (concat blocks) again.is refl first block again.block_is start from starts refl again.at_first again.from_is
+  one = found_place blocks starts lines (concat blocks) again.is refl first block again.block_is start from starts refl
+      again.at_first again.from_is
 
   two : IsPlaceFound (concat blocks) (concat (take last blocks)) block' (concat (drop (last + 1) blocks)) stop from'
-  two = found_place blocks starts lines (concat blocks) again.is refl last block' again.block_is' stop from' starts refl again.at_last again.from_is'
+  two = found_place blocks starts lines (concat blocks) again.is refl last block' again.block_is' stop from' starts refl
+      again.at_last again.from_is'
 
   pub again_start : IsCharBoundary block (start - from)
-  again_start = chunk_boundary (concat blocks) (concat (take first blocks)) block (concat (drop (first + 1) blocks)) start from block refl one again.at_start
+  again_start = chunk_boundary (concat blocks) (concat (take first blocks)) block (concat (drop (first + 1) blocks))
+      start from block refl one again.at_start
 
   pub again_stop : IsCharBoundary block' (stop - from')
-  again_stop = chunk_boundary (concat blocks) (concat (take last blocks)) block' (concat (drop (last + 1) blocks)) stop from' block' refl two again.at_end
+  again_stop = chunk_boundary (concat blocks) (concat (take last blocks)) block' (concat (drop (last + 1) blocks)) stop
+      from' block' refl two again.at_end
 
-  whole : concat (take first blocks) ++ ((take (start - from) block ++ (new ++ drop (stop - from') block')) ++ concat (drop (last + 1) blocks)) ≡ replace_range (concat blocks) start stop new
-  whole = replaced_parts (concat blocks) (concat (take first blocks)) block (concat (drop (first + 1) blocks)) (concat (take last blocks)) block' (concat (drop (last + 1) blocks)) new start stop from from' one two again.at_start again.at_end
+  whole : concat (take first blocks) ++ ((take (start - from) block ++ (new ++ drop (stop - from') block'))
+      ++ concat (drop (last + 1) blocks)) ≡ replace_range (concat blocks) start stop new
+  whole = replaced_parts (concat blocks) (concat (take first blocks)) block (concat (drop (first + 1) blocks))
+      (concat (take last blocks)) block' (concat (drop (last + 1) blocks)) new start stop from from' one two
+      again.at_start again.at_end
 
   pub text_small : length (take (start - from) block ++ (new ++ drop (stop - from') block')) ≤ 2147483648
   text_small =
@@ -68,16 +85,22 @@ module _ (blocks : List (List ℕ)) (starts lines : List ℕ) (first last : ℕ)
         arith,
         ap length whole,
         again.room,
-        length-append (concat (take first blocks)) ((take (start - from) block ++ (new ++ drop (stop - from') block')) ++ concat (drop (last + 1) blocks)),
-        length-append (take (start - from) block ++ (new ++ drop (stop - from') block')) (concat (drop (last + 1) blocks)),
+        length-append (concat (take first blocks)) ((take (start - from) block ++ (new ++ drop (stop - from') block'))
+            ++ concat (drop (last + 1) blocks)),
+        length-append (take (start - from) block ++ (new ++ drop (stop - from') block'))
+            (concat (drop (last + 1) blocks)),
       )
 
   -- The blocks that the text is cut into.
-  module _ (text : List ℕ) (fresh : List (List ℕ)) (text_is : text ≡ take (start - from) block ++ (new ++ drop (stop - from') block')) (fresh_is : concat fresh ≡ text) (fresh_are : AreBlocks fresh) (fresh_full : EndsClear text → AreFull fresh) where
-    pub again_text : concat (take first blocks ++ (fresh ++ drop (last + 1) blocks)) ≡ replace_range (concat blocks) start stop new
+  module _ (text : List ℕ) (fresh : List (List ℕ))
+      (text_is : text ≡ take (start - from) block ++ (new ++ drop (stop - from') block'))
+      (fresh_is : concat fresh ≡ text) (fresh_are : AreBlocks fresh) (fresh_full : EndsClear text → AreFull fresh) where
+    pub again_text : concat (take first blocks ++ (fresh ++ drop (last + 1) blocks)) ≡ replace_range (concat blocks)
+        start stop new
     again_text =
         concat-append (take first blocks) (fresh ++ drop (last + 1) blocks) ∙
-        (ap (λ x. concat (take first blocks) ++ x) (concat-append fresh (drop (last + 1) blocks) ∙ ap (λ x. x ++ concat (drop (last + 1) blocks)) (fresh_is ∙ text_is)) ∙ whole)
+        (ap (λ x. concat (take first blocks) ++ x) (concat-append fresh (drop (last + 1) blocks)
+        ∙ ap (λ x. x ++ concat (drop (last + 1) blocks)) (fresh_is ∙ text_is)) ∙ whole)
 
     pub again_size : length (concat (take first blocks ++ (fresh ++ drop (last + 1) blocks))) ≤ 2147483648
     again_size = omega (arith, ap length again_text, again.room)
@@ -87,10 +110,26 @@ module _ (blocks : List (List ℕ)) (starts lines : List ℕ) (first last : ℕ)
 
     inside_stop : AreBlocks (drop (last + 1) blocks) → stop - from' < length block'
     inside_stop are =
-        let more : last + 1 < length blocks = omega (arith, blocks_some (drop (last + 1) blocks) are, length-drop (last + 1) blocks) in
-        let next_is : slice_index starts (last + 1) ≡ slice_index starts last + length block' = next_start blocks starts lines again.is last block' last_within again.block_is' more in
-        let at : slice_index starts last ≡ from' = get_or_default starts last 0 from' again.at_last.within ∙ sym again.from_is' in
-        omega (arith, next_is, at, again.at_last.greatest (last + 1) (omega arith) (omega (arith, more, starts_count blocks starts lines again.is)), again.at_last.at_most)
+        let more : last + 1 < length blocks = omega (
+          arith,
+          blocks_some (drop (last + 1) blocks) are,
+          length-drop (last + 1) blocks,
+        ) in
+        let next_is : slice_index starts (last + 1) ≡ slice_index starts last + length block' =
+        next_start blocks starts lines again.is last block' last_within again.block_is' more in
+        let at : slice_index starts last ≡ from' = get_or_default starts last 0 from' again.at_last.within
+        ∙ sym again.from_is' in
+        omega (
+          arith,
+          next_is,
+          at,
+          again.at_last.greatest (last + 1) (omega arith) (omega (
+            arith,
+            more,
+            starts_count blocks starts lines again.is,
+          )),
+          again.at_last.at_most,
+        )
 
     text_ends : EndsClear block' → AreBlocks (drop (last + 1) blocks) → EndsClear text
     text_ends feed are =
@@ -101,29 +140,54 @@ module _ (blocks : List (List ℕ)) (starts lines : List ℕ) (first last : ℕ)
     after =
         ⊎_elim
         (λ (e : drop (last + 1) blocks ≡ []). inl e)
-        (λ (e : EndsClear (get_or blocks last []) × AreBlocks (drop (last + 1) blocks)). inr (fresh_full (text_ends (subst EndsClear same e.0) e.1), e.1))
+        (λ (e : EndsClear (get_or blocks last []) × AreBlocks (drop (last + 1) blocks)). inr (
+          fresh_full (text_ends (subst EndsClear same e.0) e.1),
+          e.1,
+        ))
         (split blocks last again.is.are last_within).after
 
     pub again_are : AreBlocks (take first blocks ++ (fresh ++ drop (last + 1) blocks))
-    again_are = joined_blocks (take first blocks) fresh (drop (last + 1) blocks) (split blocks first again.is.are first_within).full fresh_are after
+    again_are = joined_blocks (take first blocks) fresh (drop (last + 1) blocks)
+        (split blocks first again.is.are first_within).full fresh_are after
 
-    pub starts_room : slice_index starts first + sum (map length fresh) + sum (map length (drop (last + 1) blocks)) ≤ 2147483648
+    pub starts_room : slice_index starts first + sum (map length fresh) + sum (map length (drop (last + 1) blocks))
+        ≤ 2147483648
     starts_room =
-        omega (arith, again_size, full_length (take first blocks ++ (fresh ++ drop (last + 1) blocks)), sum_three length (take first blocks) fresh (drop (last + 1) blocks), starts_sum blocks starts lines again.is first first_within)
+        omega (
+          arith,
+          again_size,
+          full_length (take first blocks ++ (fresh ++ drop (last + 1) blocks)),
+          sum_three length (take first blocks) fresh (drop (last + 1) blocks),
+          starts_sum blocks starts lines again.is first first_within,
+        )
 
-    pub lines_room : slice_index lines first + sum (map ends_of fresh) + sum (map ends_of (drop (last + 1) blocks)) ≤ 2147483648
+    pub lines_room : slice_index lines first + sum (map ends_of fresh) + sum (map ends_of (drop (last + 1) blocks))
+        ≤ 2147483648
     lines_room =
-        omega (arith, again_size, blocks_ends (take first blocks ++ (fresh ++ drop (last + 1) blocks)) again_are, sum_three ends_of (take first blocks) fresh (drop (last + 1) blocks), lines_sum blocks starts lines again.is first first_within)
+        omega (
+          arith,
+          again_size,
+          blocks_ends (take first blocks ++ (fresh ++ drop (last + 1) blocks)) again_are,
+          sum_three ends_of (take first blocks) fresh (drop (last + 1) blocks),
+          lines_sum blocks starts lines again.is first first_within,
+        )
 
-    pub again_is : (next : List (List ℕ)) (next_starts next_lines : List ℕ) → next ≡ take first blocks ++ (fresh ++ drop (last + 1) blocks) →
-        next_starts ≡ take first starts ++ (sums_from (slice_index starts first) (map length fresh) ++ sums_from (slice_index starts first + sum (map length fresh)) (map length (drop (last + 1) blocks))) →
-        next_lines ≡ take first lines ++ (sums_from (slice_index lines first) (map ends_of fresh) ++ sums_from (slice_index lines first + sum (map ends_of fresh)) (map ends_of (drop (last + 1) blocks))) →
+    pub again_is : (next : List (List ℕ)) (next_starts next_lines : List ℕ) → next ≡ take first blocks
+        ++ (fresh ++ drop (last + 1) blocks) →
+        next_starts ≡ take first starts ++ (sums_from (slice_index starts first) (map length fresh)
+        ++ sums_from (slice_index starts first + sum (map length fresh)) (map length (drop (last + 1) blocks))) →
+        next_lines ≡ take first lines ++ (sums_from (slice_index lines first) (map ends_of fresh)
+        ++ sums_from (slice_index lines first + sum (map ends_of fresh)) (map ends_of (drop (last + 1) blocks))) →
         IsBuffer next next_starts next_lines
     again_is next next_starts next_lines next_same starts_same lines_same =
         subst (λ (bs : List (List ℕ)). IsBuffer bs next_starts next_lines) (sym next_same)
         (record {
           are = again_are;
-          starts_are = starts_same ∙ sums_three length starts blocks (take first blocks) fresh (drop (last + 1) blocks) first (slice_index starts first) again.is.starts_are refl (omega (arith, first_within)) (starts_sum blocks starts lines again.is first first_within);
-          lines_are = lines_same ∙ sums_three ends_of lines blocks (take first blocks) fresh (drop (last + 1) blocks) first (slice_index lines first) again.is.lines_are refl (omega (arith, first_within)) (lines_sum blocks starts lines again.is first first_within);
+          starts_are = starts_same ∙ sums_three length starts blocks (take first blocks) fresh (drop (last + 1) blocks)
+              first (slice_index starts first) again.is.starts_are refl (omega (arith, first_within))
+              (starts_sum blocks starts lines again.is first first_within);
+          lines_are = lines_same ∙ sums_three ends_of lines blocks (take first blocks) fresh (drop (last + 1) blocks)
+              first (slice_index lines first) again.is.lines_are refl (omega (arith, first_within))
+              (lines_sum blocks starts lines again.is first first_within);
           size = again_size;
         })

@@ -16,12 +16,14 @@ assoc a b c = simp append_assoc
 split : (bytes : List ℕ) (place : ℕ) → IsCharBoundary bytes place → IsSplitPoint bytes place
 split bytes place b = (b.0, λ _. b.1)
 
-module _ (old : List ℕ) (utf8 : IsUtf8 old) (start stop : ℕ) (new : List ℕ) (new_utf8 : IsUtf8 new) (order : start ≤ stop) (at_start : IsCharBoundary old start) (at_end : IsCharBoundary old stop) where
+module _ (old : List ℕ) (utf8 : IsUtf8 old) (start stop : ℕ) (new : List ℕ) (new_utf8 : IsUtf8 new)
+    (order : start ≤ stop) (at_start : IsCharBoundary old start) (at_end : IsCharBoundary old stop) where
   front_len : length (take start old) ≡ start
   front_len = length-take-le start old at_start.0
 
   front_at : take start (replace_range old start stop new) ≡ take start old
-  front_at = ap (take start) (assoc (take start old) new (drop stop old)) ∙ take_at (take start old) (new ++ drop stop old) start front_len
+  front_at = ap (take start) (assoc (take start old) new (drop stop old))
+      ∙ take_at (take start old) (new ++ drop stop old) start front_len
 
   both_len : length (take start old ++ new) ≡ start + length new
   both_len = omega (arith, length-append (take start old) new, front_len)
@@ -45,14 +47,18 @@ module _ (old : List ℕ) (utf8 : IsUtf8 old) (start stop : ℕ) (new : List ℕ
   start_again =
       split (replace_range old start stop new) start
       (subst (IsCharBoundary (replace_range old start stop new)) front_len
-      (IsCharBoundary-at_seam (replace_range old start stop new) (take start old) (new ++ drop stop old) (assoc (take start old) new (drop stop old)) (IsUtf8-append new (drop stop old) new_utf8 rest_utf8)))
+      (IsCharBoundary-at_seam (replace_range old start stop new) (take start old) (new ++ drop stop old)
+      (assoc (take start old) new (drop stop old)) (IsUtf8-append new (drop stop old) new_utf8 rest_utf8)))
 
   pub end_again : IsSplitPoint (replace_range old start stop new) (start + length new)
   end_again =
       split (replace_range old start stop new) (start + length new)
-      (subst (IsCharBoundary (replace_range old start stop new)) both_len (IsCharBoundary-at_seam (replace_range old start stop new) (take start old ++ new) (drop stop old) refl rest_utf8))
+      (subst (IsCharBoundary (replace_range old start stop new)) both_len
+      (IsCharBoundary-at_seam (replace_range old start stop new) (take start old ++ new) (drop stop old) refl
+      rest_utf8))
 
-  pub is_spliced : (lines : List ℕ) → Indexes lines old → IsSpliced lines (replace_range old start stop new) start stop (length new)
+  pub is_spliced : (lines : List ℕ) → Indexes lines old → IsSpliced lines (replace_range old start stop new) start stop
+      (length new)
   is_spliced lines indexed = record {
     old = old;
     utf8 = utf8;
@@ -66,18 +72,22 @@ module _ (old : List ℕ) (utf8 : IsUtf8 old) (start stop : ℕ) (new : List ℕ
     };
   }
 
-  pub undone : replace_range (replace_range old start stop new) start (start + length new) (slice_range old start stop) ≡ old
+  pub undone : replace_range (replace_range old start stop new) start (start + length new) (slice_range old start stop)
+      ≡ old
   undone =
       ap₂ (λ (x y : List ℕ). x ++ slice_range old start stop ++ y) front_at back_at
       ∙ (assoc (take start old) (slice_range old start stop) (drop stop old)
       ∙ (ap (λ (x : List ℕ). take start old ++ (slice_range old start stop ++ x)) rest_after
-      ∙ (ap (λ (x : List ℕ). take start old ++ x) (take-append-drop (stop - start) (drop start old)) ∙ take-append-drop start old)))
+      ∙ (ap (λ (x : List ℕ). take start old ++ x) (take-append-drop (stop - start) (drop start old))
+      ∙ take-append-drop start old)))
     where
       rest_after : drop stop old ≡ drop (stop - start) (drop start old)
-      rest_after = let n : stop ≡ start + (stop - start) = omega (arith, order) in ap (λ (k : ℕ). drop k old) n ∙ sym (drop-drop (stop - start) start old)
+      rest_after = let n : stop ≡ start + (stop - start) = omega (arith, order) in
+          ap (λ (k : ℕ). drop k old) n ∙ sym (drop-drop (stop - start) start old)
 
 -- What was removed fits where it was.
-pub put_back : {A E : Type 0} (r : Result A E) (now wanted : List ℕ) (capacity needed : ℕ) → OnOk r (now ≡ wanted) → OnErr r (capacity < needed) → needed ≤ capacity → now ≡ wanted
+pub put_back : {A E : Type 0} (r : Result A E) (now wanted : List ℕ) (capacity needed : ℕ) → OnOk r (now ≡ wanted)
+    → OnErr r (capacity < needed) → needed ≤ capacity → now ≡ wanted
 put_back (Ok a) now wanted capacity needed ok err room = ok
 put_back (Err e) now wanted capacity needed ok err room = absurd (omega (arith, err, room))
 

@@ -24,31 +24,46 @@ no_units : (units : ℕ → ℕ) (text : List ℕ) (k : ℕ) → units_between u
 no_units units text k = ap (λ n. sum_by units (take n (drop k text))) (let e : k - k ≡ 0 = omega arith in e)
 
 -- The first character of a line denotes its start.
-pub first_denotes : (text : List ℕ) (line : ℕ) → line ≤ line_ends text → denoted (units_in Utf8) text (record { line = line; character = 0 }) ≡ Some (line_start text line)
+pub first_denotes : (text : List ℕ) (line : ℕ) → line ≤ line_ends text
+    → denoted (units_in Utf8) text (record { line = line; character = 0 }) ≡ Some (line_start text line)
 first_denotes text line there =
     let start = line_has_start text line there in
-    let here : line_at text (line_start text line) ≡ line = in_content_line text line (line_start text line) start.passes in
-    let none : units_between (units_in Utf8) text (line_start text (line_at text (line_start text line))) (line_start text line) ≡ 0 =
-    ap (λ n. units_between (units_in Utf8) text (line_start text n) (line_start text line)) here ∙ no_units (units_in Utf8) text (line_start text line) in
-    let same : ◌≡◌ {A = Position} (exact_position (units_in Utf8) text (line_start text line)) (record { line = line; character = 0 }) =
+    let here : line_at text (line_start text line) ≡ line =
+    in_content_line text line (line_start text line) start.passes in
+    let none : units_between (units_in Utf8) text (line_start text (line_at text (line_start text line)))
+    (line_start text line) ≡ 0 =
+    ap (λ n. units_between (units_in Utf8) text (line_start text n) (line_start text line)) here
+    ∙ no_units (units_in Utf8) text (line_start text line) in
+    let same : ◌≡◌ {A = Position} (exact_position (units_in Utf8) text (line_start text line))
+    (record { line = line; character = 0 }) =
     λ i. record { line = here i; character = none i } in
     ap (denoted (units_in Utf8) text) (sym same) ∙
-    exact_denotes (units_in Utf8) (units_some Utf8) text (line_start text line) (omega (arith, start.in_row)) (in_content_whole text line (line_start text line) start.passes)
+    exact_denotes (units_in Utf8) (units_some Utf8) text (line_start text line) (omega (arith, start.in_row))
+    (in_content_whole text line (line_start text line) start.passes)
 
 -- No line has so many bytes that its end isn't denoted by the greatest character.
-pub last_denotes : (bytes : List ℕ) (line : ℕ) → IsUtf8 bytes → length bytes ≤ 2147483648 → line ≤ line_ends (chars bytes) →
-    denoted (units_in Utf8) (chars bytes) (record { line = line; character = 4294967295 }) ≡ Some (line_stop (chars bytes) line)
+pub last_denotes : (bytes : List ℕ) (line : ℕ) → IsUtf8 bytes → length bytes ≤ 2147483648
+    → line ≤ line_ends (chars bytes) →
+    denoted (units_in Utf8) (chars bytes) (record { line = line; character = 4294967295 })
+    ≡ Some (line_stop (chars bytes) line)
 last_denotes bytes line utf8 size there =
     past_line (units_in Utf8) (chars bytes) (record { line = line; character = 4294967295 }) there
-    (omega (arith, units_total Utf8 (chars bytes) (line_start (chars bytes) line) (line_stop (chars bytes) line), ap length (encodes-chars bytes utf8), size))
+    (omega (
+      arith,
+      units_total Utf8 (chars bytes) (line_start (chars bytes) line) (line_stop (chars bytes) line),
+      ap length (encodes-chars bytes utf8),
+      size,
+    ))
 
 -- A result that is there is taken, and not the default.
-pub value_of : {E : Type 0} (found : Result ℕ E) (default value : ℕ) → result_ok found ≡ Some value → result_unwrap_or found default ≡ value
+pub value_of : {E : Type 0} (found : Result ℕ E) (default value : ℕ) → result_ok found ≡ Some value
+    → result_unwrap_or found default ≡ value
 value_of (Ok x) default value is = cc
 value_of (Err e) default value is = cc
 
 -- The content of a line is a part of the text.
-pub content_is : (text : List ℕ) (line : ℕ) (range : Range ℕ) → IsUtf8 text → line ≤ line_ends (chars text) → range.start ≡ place_of (chars text) (line_start (chars text) line) →
+pub content_is : (text : List ℕ) (line : ℕ) (range : Range ℕ) → IsUtf8 text → line ≤ line_ends (chars text)
+    → range.start ≡ place_of (chars text) (line_start (chars text) line) →
     range.end ≡ place_of (chars text) (line_stop (chars text) line) → IsContentOf text line range
 content_is text line range utf8 there start_is end_is =
     let start = line_start (chars text) line in

@@ -17,13 +17,22 @@ pub record IsEnd (bytes old : List ℕ) (start end : ℕ) : Type 0 where
   pub room : end ≤ length old
   pub some : end ≤ length bytes - start
 
-module _ (bytes old now chunk : List ℕ) (start end copied n : ℕ) (ends : IsEnd bytes old start end) (so_far : IsCopied bytes old now start end copied)
+module _ (bytes old now chunk : List ℕ) (start end copied n : ℕ) (ends : IsEnd bytes old start end)
+    (so_far : IsCopied bytes old now start end copied)
     (n_is : n ≡ min (length chunk) (length (take (end - copied) (drop copied now)))) where
   taken : length (take copied (drop start bytes)) ≡ copied
   taken = length-take-le copied (drop start bytes) (omega (arith, so_far.within, ends.some, length-drop start bytes))
 
   pub now_length : length now ≡ length old
-  now_length = omega (arith, ap length so_far.is, length-append (take copied (drop start bytes)) (drop copied old), taken, length-drop copied old, so_far.within, ends.room)
+  now_length = omega (
+    arith,
+    ap length so_far.is,
+    length-append (take copied (drop start bytes)) (drop copied old),
+    taken,
+    length-drop copied old,
+    so_far.within,
+    ends.room,
+  )
 
   part_room : length (take (end - copied) (drop copied now)) ≡ end - copied
   part_room = omega (arith, length-take (end - copied) (drop copied now), length-drop copied now, now_length, ends.room)
@@ -39,27 +48,34 @@ module _ (bytes old now chunk : List ℕ) (start end copied n : ℕ) (ends : IsE
 
   tail : drop n (take (end - copied) (drop copied now)) ++ drop (end - copied) (drop copied now) ≡ drop (copied + n) old
   tail =
-      sym (drop-append-le n (take (end - copied) (drop copied now)) (drop (end - copied) (drop copied now)) (omega (arith, n_is)))
+      sym (drop-append-le n (take (end - copied) (drop copied now)) (drop (end - copied) (drop copied now))
+      (omega (arith, n_is)))
       ∙ (ap (drop n) (take-append-drop (end - copied) (drop copied now)) ∙ (ap (drop n) back ∙ drop-drop n copied old))
 
   module _ (chunk_is : chunk ≡ take (length chunk) (drop (start + copied) bytes)) where
     piece : take n chunk ≡ take n (drop copied (drop start bytes))
     piece =
         ap (take n) chunk_is
-        ∙ (take-take n (length chunk) (drop (start + copied) bytes) (omega (arith, n_is)) ∙ ap (take n) (sym (drop-drop copied start bytes)))
+        ∙ (take-take n (length chunk) (drop (start + copied) bytes) (omega (arith, n_is))
+        ∙ ap (take n) (sym (drop-drop copied start bytes)))
 
     head : take copied now ++ take n chunk ≡ take (copied + n) (drop start bytes)
     head =
-        ap (λ (xs : List ℕ). xs ++ take n chunk) (ap (take copied) so_far.is ∙ take_at (take copied (drop start bytes)) (drop copied old) copied taken)
-        ∙ (ap (λ (xs : List ℕ). take copied (drop start bytes) ++ xs) piece ∙ sym (take-add copied n (drop start bytes)))
+        ap (λ (xs : List ℕ). xs ++ take n chunk) (ap (take copied) so_far.is ∙ take_at (take copied (drop start bytes))
+        (drop copied old) copied taken)
+        ∙ (ap (λ (xs : List ℕ). take copied (drop start bytes) ++ xs) piece
+        ∙ sym (take-add copied n (drop start bytes)))
 
     -- One chunk more.
-    pub copied_more : (part : List ℕ) → part ≡ take n chunk ++ drop n (take (end - copied) (drop copied now)) → IsCopied bytes old (put_mid copied (end - copied) now part) start end (copied + n)
+    pub copied_more : (part : List ℕ) → part ≡ take n chunk ++ drop n (take (end - copied) (drop copied now))
+        → IsCopied bytes old (put_mid copied (end - copied) now part) start end (copied + n)
     copied_more part part_is = record {
       within = copied_few;
       is =
           ap (λ (xs : List ℕ). take copied now ++ (xs ++ drop (end - copied) (drop copied now))) part_is
           ∙ (ap (λ (xs : List ℕ). take copied now ++ xs)
-          (append_assoc (take n chunk) (drop n (take (end - copied) (drop copied now))) (drop (end - copied) (drop copied now)) ∙ ap (λ (xs : List ℕ). take n chunk ++ xs) tail)
-          ∙ (sym (append_assoc (take copied now) (take n chunk) (drop (copied + n) old)) ∙ ap (λ (xs : List ℕ). xs ++ drop (copied + n) old) head));
+          (append_assoc (take n chunk) (drop n (take (end - copied) (drop copied now)))
+          (drop (end - copied) (drop copied now)) ∙ ap (λ (xs : List ℕ). take n chunk ++ xs) tail)
+          ∙ (sym (append_assoc (take copied now) (take n chunk) (drop (copied + n) old))
+          ∙ ap (λ (xs : List ℕ). xs ++ drop (copied + n) old) head));
     }

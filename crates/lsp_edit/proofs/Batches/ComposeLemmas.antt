@@ -15,21 +15,27 @@ use Rattle.lsp_edit.proofs.Canonical.KeepsLemmas.{meaning_keeps}
 use Rattle.lsp_edit.proofs.Canonical.RebuiltLemmas.{canonical_makes}
 
 -- an item of a mapped list, also past its end
-pub at_mapped : {X Y : Type 0} (f : X → Y) (xs : List X) (k : ℕ) (default : X) → get_or (map f xs) k (f default) ≡ f (get_or xs k default)
+pub at_mapped : {X Y : Type 0} (f : X → Y) (xs : List X) (k : ℕ) (default : X) → get_or (map f xs) k (f default)
+    ≡ f (get_or xs k default)
 at_mapped f [] k default = refl
 at_mapped f (x ∷ xs) zero default = refl
 at_mapped f (x ∷ xs) (suc k) default = at_mapped f xs k default
 
-pub text_of-then : (old : List ℕ) (first second : List Item) → text_of old (then_items first second) ≡ text_of (text_of old first) second
+pub text_of-then : (old : List ℕ) (first second : List Item) → text_of old (then_items first second)
+    ≡ text_of (text_of old first) second
 text_of-then old first [] = refl
-text_of-then old first (Old index ∷ second) = ap₂ (λ (c : ℕ) (cs : List ℕ). c ∷ cs) (sym (at_mapped (character_of old) first index (New 0))) (text_of-then old first second)
+text_of-then old first (Old index ∷ second) =
+    ap₂ (λ (c : ℕ) (cs : List ℕ). c ∷ cs) (sym (at_mapped (character_of old) first index (New 0)))
+    (text_of-then old first second)
 text_of-then old first (New character ∷ second) = ap (λ (cs : List ℕ). character ∷ cs) (text_of-then old first second)
 
-pub told_row : (first : List Item) (low count : ℕ) → low + count ≤ length first → then_items first (map Old (numbers_from low count)) ≡ take count (drop low first)
+pub told_row : (first : List Item) (low count : ℕ) → low + count ≤ length first
+    → then_items first (map Old (numbers_from low count)) ≡ take count (drop low first)
 told_row first low zero within = refl
 told_row first low (suc count) within =
     let inside : low < length first = omega arith in
-    rw (drop-cons first low (New 0)) (ap (λ (is : List Item). get_or first low (New 0) ∷ is) (told_row first (suc low) count (omega arith)))
+    rw (drop-cons first low (New 0)) (ap (λ (is : List Item). get_or first low (New 0) ∷ is)
+    (told_row first (suc low) count (omega arith)))
 
 pub then-plain : (old : List ℕ) (first : List Item) → then_items first (plain (text_of old first)) ≡ first
 then-plain old first =
@@ -40,66 +46,98 @@ pub told_new : (first : List Item) (characters : List ℕ) → then_items first 
 told_new first [] = refl
 told_new first (c ∷ characters) = ap (λ (is : List Item). New c ∷ is) (told_new first characters)
 
-pub then_associative : (first second third : List Item) → then_items (then_items first second) third ≡ then_items first (then_items second third)
+pub then_associative : (first second third : List Item) → then_items (then_items first second) third
+    ≡ then_items first (then_items second third)
 then_associative first second [] = refl
-then_associative first second (Old index ∷ third) = ap₂ (λ (i : Item) (is : List Item). i ∷ is) (at_mapped (item_through first) second index (New 0)) (then_associative first second third)
-then_associative first second (New character ∷ third) = ap (λ (is : List Item). New character ∷ is) (then_associative first second third)
+then_associative first second (Old index ∷ third) =
+    ap₂ (λ (i : Item) (is : List Item). i ∷ is) (at_mapped (item_through first) second index (New 0))
+    (then_associative first second third)
+then_associative first second (New character ∷ third) =
+    ap (λ (is : List Item). New character ∷ is) (then_associative first second third)
 
 module _ (units : ℕ → ℕ) (old : List ℕ) (first : List Item) where
-  told_replaced : (items : List Item) (characters : List ℕ) (a b : ℕ) → take a (then_items first items) ++ (map New characters ++ drop b (then_items first items)) ≡ then_items first (take a items ++ (map New characters ++ drop b items))
+  told_replaced : (items : List Item) (characters : List ℕ) (a b : ℕ) → take a (then_items first items)
+      ++ (map New characters ++ drop b (then_items first items))
+      ≡ then_items first (take a items ++ (map New characters ++ drop b items))
   told_replaced items characters a b =
-      let front : take a (then_items first items) ≡ then_items first (take a items) = take-map (item_through first) a items in
-      let back : drop b (then_items first items) ≡ then_items first (drop b items) = drop-map (item_through first) b items in
-      let inner : then_items first (map New characters ++ drop b items) ≡ then_items first (map New characters) ++ then_items first (drop b items) = map-append (item_through first) (map New characters) (drop b items) in
-      let outer : then_items first (take a items ++ (map New characters ++ drop b items)) ≡ then_items first (take a items) ++ then_items first (map New characters ++ drop b items) = map-append (item_through first) (take a items) (map New characters ++ drop b items) in
+      let front : take a (then_items first items) ≡ then_items first (take a items) =
+      take-map (item_through first) a items in
+      let back : drop b (then_items first items) ≡ then_items first (drop b items) =
+      drop-map (item_through first) b items in
+      let inner : then_items first (map New characters ++ drop b items) ≡ then_items first (map New characters)
+      ++ then_items first (drop b items) = map-append (item_through first) (map New characters) (drop b items) in
+      let outer : then_items first (take a items ++ (map New characters ++ drop b items))
+      ≡ then_items first (take a items) ++ then_items first (map New characters ++ drop b items) =
+      map-append (item_through first) (take a items) (map New characters ++ drop b items) in
       rw (front, back, outer, inner, told_new first characters) refl
 
-  then-changed : (items next : List Item) (change : Edit) → after_change units (text_of old first) items change ≡ Ok next → after_change units old (then_items first items) change ≡ Ok (then_items first next)
+  then-changed : (items next : List Item) (change : Edit) → after_change units (text_of old first) items change
+      ≡ Ok next → after_change units old (then_items first items) change ≡ Ok (then_items first next)
   then-changed items next change is = by_range change.range is
     where
-      at_indexes : (start stop : Option ℕ) → replaced items change.text start stop ≡ Ok next → replaced (then_items first items) change.text start stop ≡ Ok (then_items first next)
+      at_indexes : (start stop : Option ℕ) → replaced items change.text start stop ≡ Ok next
+          → replaced (then_items first items) change.text start stop ≡ Ok (then_items first next)
       at_indexes None stop r = absurd (cc)
       at_indexes (Some a) None r = absurd (cc)
       at_indexes (Some a) (Some b) r =
           ⊎_elim
           (λ (e : nat_le a b ≡ true).
-          let made : ◌≡◌ {A = Result (List Item) Fault} (Ok (take a items ++ (map New change.text ++ drop b items))) (Ok next) = rw e at r in
+          let made : ◌≡◌ {A = Result (List Item) Fault} (Ok (take a items ++ (map New change.text ++ drop b items)))
+          (Ok next) = rw e at r in
           let is_next : take a items ++ (map New change.text ++ drop b items) ≡ next = cc in
-          let error : take a (then_items first items) ++ (map New change.text ++ drop b (then_items first items)) ≡ then_items first next = told_replaced items change.text a b ∙ ap (then_items first) is_next in
+          let error : take a (then_items first items) ++ (map New change.text ++ drop b (then_items first items))
+          ≡ then_items first next = told_replaced items change.text a b ∙ ap (then_items first) is_next in
           rw e (ap (λ (is : List Item). Ok is) error))
-          (λ (e : nat_le a b ≡ false). absurd (let f : ◌≡◌ {A = Result (List Item) Fault} (Err Reversed) (Ok next) = rw e at r in cc))
+          (λ (e : nat_le a b ≡ false). absurd (let f : ◌≡◌ {A = Result (List Item) Fault} (Err Reversed) (Ok next) = rw
+          e at r in cc))
           (cases_Bool (nat_le a b))
 
-      by_range : (range : Option Range) → changed_in units (text_of old first) items change.text range ≡ Ok next → changed_in units old (then_items first items) change.text range ≡ Ok (then_items first next)
-      by_range None r = let e : map New change.text ≡ next = cc in ap (λ (is : List Item). Ok is) (sym (told_new first change.text) ∙ ap (then_items first) e)
+      by_range : (range : Option Range) → changed_in units (text_of old first) items change.text range ≡ Ok next
+          → changed_in units old (then_items first items) change.text range ≡ Ok (then_items first next)
+      by_range None r = let e : map New change.text ≡ next = cc in
+          ap (λ (is : List Item). Ok is) (sym (told_new first change.text) ∙ ap (then_items first) e)
       by_range (Some range) r =
-          subst (λ (met : List ℕ). replaced (then_items first items) change.text (denoted units met range.start) (denoted units met range.stop) ≡ Ok (then_items first next)) (sym (text_of-then old first items))
-          (at_indexes (denoted units (text_of (text_of old first) items) range.start) (denoted units (text_of (text_of old first) items) range.stop) r)
+          subst (λ (met : List ℕ). replaced (then_items first items) change.text (denoted units met range.start)
+          (denoted units met range.stop) ≡ Ok (then_items first next)) (sym (text_of-then old first items))
+          (at_indexes (denoted units (text_of (text_of old first) items) range.start)
+          (denoted units (text_of (text_of old first) items) range.stop) r)
 
-  then-changes : (number : ℕ) (items last : List Item) (batch : List Edit) → after_changes units (text_of old first) number items batch ≡ Ok last → after_changes units old number (then_items first items) batch ≡ Ok (then_items first last)
-  then-changes number items last [] is = let e : items ≡ last = cc in ap (λ (is : List Item). Ok (then_items first is)) e
+  then-changes : (number : ℕ) (items last : List Item) (batch : List Edit) → after_changes units (text_of old first)
+      number items batch ≡ Ok last → after_changes units old number (then_items first items) batch
+      ≡ Ok (then_items first last)
+  then-changes number items last [] is = let e : items ≡ last = cc in
+      ap (λ (is : List Item). Ok (then_items first is)) e
   then-changes number items last (change ∷ batch) is =
-      rest_after (after_change units (text_of old first) items change) refl (λ next. then-changes (suc number) next last batch) is
+      rest_after (after_change units (text_of old first) items change) refl
+      (λ next. then-changes (suc number) next last batch) is
     where
       rest_after : (made : Result (List Item) Fault) → after_change units (text_of old first) items change ≡ made
-          → ((next : List Item) → after_changes units (text_of old first) (suc number) next batch ≡ Ok last → after_changes units old (suc number) (then_items first next) batch ≡ Ok (then_items first last))
-          → continue_with (λ next. after_changes units (text_of old first) (suc number) next batch) number made ≡ Ok last
+          → ((next : List Item) → after_changes units (text_of old first) (suc number) next batch ≡ Ok last
+          → after_changes units old (suc number) (then_items first next) batch ≡ Ok (then_items first last))
+          → continue_with (λ next. after_changes units (text_of old first) (suc number) next batch) number made
+          ≡ Ok last
           → after_changes units old number (then_items first items) (change ∷ batch) ≡ Ok (then_items first last)
       rest_after (Ok next) e more r = rw (then-changed items next change e) (more next r)
       rest_after (Err fault) e more r = absurd (cc)
 
 -- What two batches mean, one after the other.
-pub then_means : (units : ℕ → ℕ) (old : List ℕ) (first second : List Edit) (items others : List Item) → meaning units old first ≡ Ok items → meaning units (text_of old items) second ≡ Ok others → meaning units old (first ++ second) ≡ Ok (then_items items others)
+pub then_means : (units : ℕ → ℕ) (old : List ℕ) (first second : List Edit) (items others : List Item)
+    → meaning units old first ≡ Ok items → meaning units (text_of old items) second ≡ Ok others
+    → meaning units old (first ++ second) ≡ Ok (then_items items others)
 then_means units old first second items others is are =
-    let on : after_changes units old 0 (plain old) (first ++ second) ≡ after_changes units old (0 + length first) items second = after_changes-append units old 0 (plain old) items first second is in
-    let error : after_changes units old 0 (then_items items (plain (text_of old items))) second ≡ Ok (then_items items others) = then-changes units old items 0 (plain (text_of old items)) others second are in
+    let on : after_changes units old 0 (plain old) (first ++ second) ≡ after_changes units old (0 + length first) items
+    second = after_changes-append units old 0 (plain old) items first second is in
+    let error : after_changes units old 0 (then_items items (plain (text_of old items))) second
+    ≡ Ok (then_items items others) = then-changes units old items 0 (plain (text_of old items)) others second are in
     let here : after_changes units old 0 items second ≡ Ok (then_items items others) = rw then-plain at error in
     on ∙ any_number units old 0 (0 + length first) items (then_items items others) second here
 
 -- Items that keep each CRLF whole do so composed.
-pub then_keeps : (units : ℕ → ℕ) → ((c : ℕ) → 1 ≤ units c) → (old : List ℕ) (first second : List Item) → Keeps old 0 first → Keeps (text_of old first) 0 second → Keeps old 0 (then_items first second)
+pub then_keeps : (units : ℕ → ℕ) → ((c : ℕ) → 1 ≤ units c) → (old : List ℕ) (first second : List Item)
+    → Keeps old 0 first → Keeps (text_of old first) 0 second → Keeps old 0 (then_items first second)
 then_keeps units some old first second one two =
-    meaning_keeps old units (canonical units old first ++ canonical units (text_of old first) second) (then_items first second)
+    meaning_keeps old units (canonical units old first ++ canonical units (text_of old first) second)
+    (then_items first second)
     (then_means units old (canonical units old first) (canonical units (text_of old first) second) first second
     ((canonical_makes units some old first one).leaves 0)
     ((canonical_makes units some (text_of old first) second two).leaves 0))

@@ -34,48 +34,64 @@ use Rattle.lsp_edit.proofs.Canonical.RebuiltLemmas.{numbers-append}
 use Rattle.lsp_edit.proofs.Composing.RoomLemmas.{Applying, change_longer}
 use Rattle.lsp_edit.proofs.Canonical.WalkLemmas.{changes_of, changes_of-cons}
 
-pub item_rest : (items : List PlainItem) (index : ℕ) (default : PlainItem) (first : Item) → index < length items → item_of (get_or items index default) ≡ first → items_in_order (drop index items) ≡ first ∷ items_in_order (drop (index + 1) items)
-item_rest items index default first within is = ap items_in_order (drop_more items index default within) ∙ ap (λ (i : Item). i ∷ items_in_order (drop (index + 1) items)) is
+pub item_rest : (items : List PlainItem) (index : ℕ) (default : PlainItem) (first : Item) → index < length items
+    → item_of (get_or items index default) ≡ first → items_in_order (drop index items)
+    ≡ first ∷ items_in_order (drop (index + 1) items)
+item_rest items index default first within is = ap items_in_order (drop_more items index default within)
+    ∙ ap (λ (i : Item). i ∷ items_in_order (drop (index + 1) items)) is
 
 pub item_none : (items : List PlainItem) (index : ℕ) → length items ≤ index → items_in_order (drop index items) ≡ []
 item_none items index past = ap items_in_order (drop_all index items past)
 
-pub numbered_on : (items : List PlainItem) (index : ℕ) (item : PlainItem) → item_of item ≡ Old index → items_in_order items ≡ map Old (numbers_from 0 index) → items_in_order (items ++ item ∷ []) ≡ map Old (numbers_from 0 (index + 1))
+pub numbered_on : (items : List PlainItem) (index : ℕ) (item : PlainItem) → item_of item ≡ Old index
+    → items_in_order items ≡ map Old (numbers_from 0 index) → items_in_order (items ++ item ∷ [])
+    ≡ map Old (numbers_from 0 (index + 1))
 numbered_on items index item is error =
     let e : 0 + index ≡ index = omega arith in
     map-append item_of items (item ∷ [])
     ∙ (ap₂ (λ (is : List Item) (i : Item). is ++ i ∷ []) error is
-    ∙ sym (ap (map Old) (numbers-append 0 index 1) ∙ (map-append Old (numbers_from 0 index) (numbers_from (0 + index) 1) ∙ ap (λ (n : ℕ). map Old (numbers_from 0 index) ++ Old n ∷ []) e)))
+    ∙ sym (ap (map Old) (numbers-append 0 index 1) ∙ (map-append Old (numbers_from 0 index) (numbers_from (0 + index) 1)
+    ∙ ap (λ (n : ℕ). map Old (numbers_from 0 index) ++ Old n ∷ []) e)))
 
 -- The index of a place that is an index's.
-pub index_found : (bytes text : List ℕ) (index place : ℕ) → IsUtf8 bytes → chars bytes ≡ text → index ≤ length text → place_of text index ≡ place → length (chars (take place bytes)) ≡ index
+pub index_found : (bytes text : List ℕ) (index place : ℕ) → IsUtf8 bytes → chars bytes ≡ text → index ≤ length text
+    → place_of text index ≡ place → length (chars (take place bytes)) ≡ index
 index_found bytes text index place utf8 same within is =
     let here : place_of (chars bytes) index ≡ place = ap (λ (t : List ℕ). place_of t index) same ∙ is in
     ap (λ (p : ℕ). length (chars (take p bytes))) (sym here)
-    ∙ (ap length (chars_front bytes index utf8 (omega (arith, ap length same))) ∙ length-take-le index (chars bytes) (omega (arith, ap length same)))
+    ∙ (ap length (chars_front bytes index utf8 (omega (arith, ap length same))) ∙ length-take-le index (chars bytes)
+    (omega (arith, ap length same)))
 
 -- The items with those of a range replaced, where its ends were found.
-pub range_made : (units : ℕ → ℕ) (old : List ℕ) (items : List Item) (characters : List ℕ) (range : Range) (start stop : ℕ) (ends : AreEnds units (text_of old items) range start stop)
-    → changed_in units old items characters (Some range) ≡ Ok (take ends.low items ++ (map New characters ++ drop ends.high items))
-range_made units old items characters range start stop ends = rw (ends.low_is, ends.high_is, le-leb ends.low ends.high ends.order) refl
+pub range_made : (units : ℕ → ℕ) (old : List ℕ) (items : List Item) (characters : List ℕ) (range : Range)
+    (start stop : ℕ) (ends : AreEnds units (text_of old items) range start stop)
+    → changed_in units old items characters (Some range)
+    ≡ Ok (take ends.low items ++ (map New characters ++ drop ends.high items))
+range_made units old items characters range start stop ends =
+    rw (ends.low_is, ends.high_is, le-leb ends.low ends.high ends.order) refl
 
 -- How far the changes of items were written: those of the items that are left complete them.
-pub record Writes (units : ℕ → ℕ) (old : List ℕ) (all made : List Edit) (low : ℕ) (text : List ℕ) (rest : List Item) : Type 0 where
+pub record Writes (units : ℕ → ℕ) (old : List ℕ) (all made : List Edit) (low : ℕ) (text : List ℕ)
+    (rest : List Item) : Type 0 where
   pub error : made ++ changes_of units old (gaps_from old low text rest) ≡ all
   pub ends : AllHaveExactEnds old (gaps_from old low text rest)
   pub keeps : Keeps old low rest
 
-pub write_begins : (units : ℕ → ℕ) (old : List ℕ) (items : List Item) → Keeps old 0 items → Writes units old (changes_of units old (gaps old items)) [] 0 [] items
+pub write_begins : (units : ℕ → ℕ) (old : List ℕ) (items : List Item) → Keeps old 0 items
+    → Writes units old (changes_of units old (gaps old items)) [] 0 [] items
 write_begins units old items keeps = record {
   error = ap (changes_of units old) (sym (gaps_are old items));
   ends = subst (AllHaveExactEnds old) (gaps_are old items) (ends_exact old items keeps);
   keeps = keeps;
 }
 
-module _ (units : ℕ → ℕ) (old : List ℕ) (all made : List Edit) (low : ℕ) (text : List ℕ) (rest : List Item) (writes : Writes units old all made low text rest) where
-  pub write_new : (character : ℕ) (more : List Item) → rest ≡ New character ∷ more → Writes units old all made low (text ++ character ∷ []) more
+module _ (units : ℕ → ℕ) (old : List ℕ) (all made : List Edit) (low : ℕ) (text : List ℕ) (rest : List Item)
+    (writes : Writes units old all made low text rest) where
+  pub write_new : (character : ℕ) (more : List Item) → rest ≡ New character ∷ more
+      → Writes units old all made low (text ++ character ∷ []) more
   write_new character more is =
-      let w : Writes units old all made low text (New character ∷ more) = subst (Writes units old all made low text) is writes in
+      let w : Writes units old all made low text (New character ∷ more) =
+      subst (Writes units old all made low text) is writes in
       record { error = w.error; ends = w.ends; keeps = w.keeps.1 }
 
   module _ (index : ℕ) (more : List Item) (is : rest ≡ Old index ∷ more) where
@@ -88,12 +104,16 @@ module _ (units : ℕ → ℕ) (old : List ℕ) (all made : List Edit) (low : �
     pub write_ends : is_changed (gap_at low index text) ≡ true → HasExactEnds old (gap_at low index text)
     write_ends = here.ends.0
 
-    pub write_old : (next : ℕ) → next ≡ suc index → Writes units old all (made ++ change_at units old (gap_at low index text)) next [] more
+    pub write_old : (next : ℕ) → next ≡ suc index
+        → Writes units old all (made ++ change_at units old (gap_at low index text)) next [] more
     write_old next next_is =
         rw next_is
         (record {
-          error = append_assoc made (change_at units old (gap_at low index text)) (changes_of units old (gaps_from old (suc index) [] more))
-              ∙ (ap (λ (es : List Edit). made ++ es) (sym (changes_of-cons units old (gap_at low index text) (gaps_from old (suc index) [] more))) ∙ here.error);
+          error = append_assoc made (change_at units old (gap_at low index text))
+              (changes_of units old (gaps_from old (suc index) [] more))
+              ∙ (ap (λ (es : List Edit). made ++ es)
+              (sym (changes_of-cons units old (gap_at low index text) (gaps_from old (suc index) [] more)))
+              ∙ here.error);
           ends = here.ends.1;
           keeps = here.keeps.3;
         })
@@ -102,12 +122,14 @@ module _ (units : ℕ → ℕ) (old : List ℕ) (all made : List Edit) (low : �
     last : Writes units old all made low text []
     last = subst (Writes units old all made low text) is writes
 
-    pub write_last_ends : is_changed (gap_at low (length old) text) ≡ true → HasExactEnds old (gap_at low (length old) text)
+    pub write_last_ends : is_changed (gap_at low (length old) text) ≡ true
+        → HasExactEnds old (gap_at low (length old) text)
     write_last_ends = last.ends.0
 
     pub write_end : made ++ change_at units old (gap_at low (length old) text) ≡ all
     write_end =
-        ap (λ (es : List Edit). made ++ es) (sym (changes_of-cons units old (gap_at low (length old) text) [] ∙ append-nil (change_at units old (gap_at low (length old) text)))) ∙ last.error
+        ap (λ (es : List Edit). made ++ es) (sym (changes_of-cons units old (gap_at low (length old) text) []
+        ∙ append-nil (change_at units old (gap_at low (length old) text)))) ∙ last.error
 
 -- The change of a gap, as it is written.
 module _ (units : ℕ → ℕ) (old : List ℕ) (low high : ℕ) (text : List ℕ) where
@@ -118,28 +140,41 @@ module _ (units : ℕ → ℕ) (old : List ℕ) (low high : ℕ) (text : List �
       (λ (l : 0 < length text). or_right (nat_lt low high) (nat_lt 0 (length text)) (lt-ltb 0 (length text) l))
       some
 
-  pub gap_none : (changes : List Change) → high ≤ low → length text ≡ 0 → map edit_of changes ≡ map edit_of changes ++ change_at units old (gap_at low high text)
-  gap_none changes falls none = rw (or_from (nat_lt low high) (nat_lt 0 (length text)) (le-ltb low high falls) (le-ltb 0 (length text) (omega arith))) (sym (append-nil (map edit_of changes)))
+  pub gap_none : (changes : List Change) → high ≤ low → length text ≡ 0 → map edit_of changes ≡ map edit_of changes
+      ++ change_at units old (gap_at low high text)
+  gap_none changes falls none =
+      rw (or_from (nat_lt low high) (nat_lt 0 (length text)) (le-ltb low high falls)
+      (le-ltb 0 (length text) (omega arith))) (sym (append-nil (map edit_of changes)))
 
-  pub gap_one : (changes : List Change) (change : Change) (start stop : Position) → (low < high) ⊎ (0 < length text) → change.range ≡ Some (record { start = start; stop = stop }) → string_bytes change.text ≡ encode_utf8_all text
-      → start ≡ exact_position units old low → stop ≡ exact_position units old high → map edit_of (changes ++ change ∷ []) ≡ map edit_of changes ++ change_at units old (gap_at low high text)
+  pub gap_one : (changes : List Change) (change : Change) (start stop : Position) → (low < high) ⊎ (0 < length text)
+      → change.range ≡ Some (record { start = start; stop = stop }) → string_bytes change.text ≡ encode_utf8_all text
+      → start ≡ exact_position units old low → stop ≡ exact_position units old high
+      → map edit_of (changes ++ change ∷ []) ≡ map edit_of changes ++ change_at units old (gap_at low high text)
   gap_one changes change start stop some range same at_start at_stop =
-      let own : chars (string_bytes change.text) ≡ text = sym (chars_from_encodes text (string_bytes change.text) (IsUtf8-string_bytes change.text) (sym same)) in
+      let own : chars (string_bytes change.text) ≡ text =
+      sym (chars_from_encodes text (string_bytes change.text) (IsUtf8-string_bytes change.text) (sym same)) in
       let e : edit_of change ≡ change_of units old (gap_at low high text)
-      = λ i. record { range = (range ∙ ap₂ (λ (x y : Position). Some (record { start = x; stop = y })) at_start at_stop) i; text = own i } in
+      = λ i. record {
+        range = (range ∙ ap₂ (λ (x y : Position). Some (record { start = x; stop = y })) at_start at_stop) i;
+        text = own i;
+      } in
       map-append edit_of changes (change ∷ [])
       ∙ rw (gap_some some) (ap (λ (x : Edit). map edit_of changes ++ x ∷ []) e)
 
 -- An end of a changed gap is a place of the old text.
-pub end_place : (old : List ℕ) (index place : ℕ) → index ≤ length old → splits_crlf old index ≡ false → place ≡ length (encode_utf8_all (take index old)) → IsPlace old place
+pub end_place : (old : List ℕ) (index place : ℕ) → index ≤ length old → splits_crlf old index ≡ false
+    → place ≡ length (encode_utf8_all (take index old)) → IsPlace old place
 end_place old index place within whole is = (index, within, whole, sym is)
 
 -- The fields before any change, and what callers see of them.
-pub plain_begins : (before old : List ℕ) (items : List Item) (count : ℕ) → IsUtf8 before → length before ≤ 2147483648 → old ≡ chars before → count ≡ length old → items ≡ map Old (numbers_from 0 count) → ArePlain before old items
+pub plain_begins : (before old : List ℕ) (items : List Item) (count : ℕ) → IsUtf8 before → length before ≤ 2147483648
+    → old ≡ chars before → count ≡ length old → items ≡ map Old (numbers_from 0 count) → ArePlain before old items
 plain_begins before old items count utf8 size old_is count_is items_are =
-    let same : items ≡ plain (chars before) = items_are ∙ ap (λ (n : ℕ). map Old (numbers_from 0 n)) (count_is ∙ ap length old_is) in
+    let same : items ≡ plain (chars before) =
+    items_are ∙ ap (λ (n : ℕ). map Old (numbers_from 0 n)) (count_is ∙ ap length old_is) in
     let long : length (encode_utf8_all (text_of (chars before) items)) ≡ length before
-    = ap (λ (i : List Item). length (encode_utf8_all (text_of (chars before) i))) same ∙ ap length (ap encode_utf8_all (plain_text (chars before)) ∙ encodes-chars before utf8) in
+    = ap (λ (i : List Item). length (encode_utf8_all (text_of (chars before) i))) same
+    ∙ ap length (ap encode_utf8_all (plain_text (chars before)) ∙ encodes-chars before utf8) in
     record {
       utf8 = is_utf8-from_IsUtf8 before utf8;
       old_is = old_is;
@@ -148,15 +183,25 @@ plain_begins before old items count utf8 size old_is count_is items_are =
       room = omega arith;
     }
 
-pub plain_seen : (before old : List ℕ) (items : List Item) (changes : ℕ) (edited : PlainData) → ArePlain before old items → record { before = chars before; items = items; changes = changes } ≡ edited → Keeps edited.before 0 edited.items
+pub plain_seen : (before old : List ℕ) (items : List Item) (changes : ℕ) (edited : PlainData)
+    → ArePlain before old items → record { before = chars before; items = items; changes = changes } ≡ edited
+    → Keeps edited.before 0 edited.items
 plain_seen before old items changes edited are view = subst (λ (e : PlainData). Keeps e.before 0 e.items) view are.keeps
 
 -- The fields after a change.
-pub plain_next : (units : ℕ → ℕ) (before old : List ℕ) (items next : List Item) (changes : ℕ) (edited : PlainData) (change : Edit) (more : ℕ) → ArePlain before old items → record { before = chars before; items = items; changes = changes } ≡ edited
-    → after_change units edited.before edited.items change ≡ Ok next → length (encode_utf8_all change.text) ≡ more → length (edited_bytes edited) + more ≤ 2147483648 → ArePlain before old next
+pub plain_next : (units : ℕ → ℕ) (before old : List ℕ) (items next : List Item) (changes : ℕ) (edited : PlainData)
+    (change : Edit) (more : ℕ) → ArePlain before old items → record {
+      before = chars before;
+      items = items;
+      changes = changes;
+    } ≡ edited
+    → after_change units edited.before edited.items change ≡ Ok next → length (encode_utf8_all change.text) ≡ more
+    → length (edited_bytes edited) + more ≤ 2147483648 → ArePlain before old next
 plain_next units before old items next changes edited change more are view made own fits =
-    let here : after_change units (chars before) items change ≡ Ok next = subst (λ (e : PlainData). after_change units e.before e.items change ≡ Ok next) (sym view) made in
-    let long : length (edited_bytes edited) ≡ length (encode_utf8_all (text_of (chars before) items)) = ap (λ (e : PlainData). length (edited_bytes e)) (sym view) in
+    let here : after_change units (chars before) items change ≡ Ok next =
+    subst (λ (e : PlainData). after_change units e.before e.items change ≡ Ok next) (sym view) made in
+    let long : length (edited_bytes edited) ≡ length (encode_utf8_all (text_of (chars before) items)) =
+    ap (λ (e : PlainData). length (edited_bytes e)) (sym view) in
     record {
       utf8 = are.utf8;
       old_is = are.old_is;
@@ -165,8 +210,10 @@ plain_next units before old items next changes edited change more are view made 
       room = omega (arith, change_longer units (chars before) items next change here);
     }
 
-pub applying_begins : (units : ℕ → ℕ) (before : List ℕ) (changes : List Change) (edited : PlainData) → IsUtf8 before → edited ≡ record { before = chars before; items = plain (chars before); changes = 0 } → length before ≤ 1073741824
-    → sum_by (λ change. string_len change.text) changes ≤ 1073741824 → Applying units (chars before) (meaning units (chars before) (map edit_of changes)) 0 changes edited
+pub applying_begins : (units : ℕ → ℕ) (before : List ℕ) (changes : List Change) (edited : PlainData) → IsUtf8 before
+    → edited ≡ record { before = chars before; items = plain (chars before); changes = 0 } → length before ≤ 1073741824
+    → sum_by (λ change. string_len change.text) changes ≤ 1073741824
+    → Applying units (chars before) (meaning units (chars before) (map edit_of changes)) 0 changes edited
 applying_begins units before changes edited utf8 is size fits = record {
   left = ap (λ (e : PlainData). after_changes units (chars before) e.changes e.items (map edit_of changes)) is;
   same = ap (λ (e : PlainData). e.before) is;
@@ -175,28 +222,38 @@ applying_begins units before changes edited utf8 is size fits = record {
 }
 
 -- A place that was found for an index is a boundary of characters.
-pub boundary_found : (bytes text : List ℕ) (index place : ℕ) → IsUtf8 bytes → chars bytes ≡ text → index ≤ length text → place_of text index ≡ place → IsCharBoundary bytes place
+pub boundary_found : (bytes text : List ℕ) (index place : ℕ) → IsUtf8 bytes → chars bytes ≡ text → index ≤ length text
+    → place_of text index ≡ place → IsCharBoundary bytes place
 boundary_found bytes text index place utf8 same within is =
-    subst (IsCharBoundary bytes) (ap (λ (t : List ℕ). place_of t index) same ∙ is) (place_boundary bytes index utf8 (omega (arith, ap length same)))
+    subst (IsCharBoundary bytes) (ap (λ (t : List ℕ). place_of t index) same ∙ is)
+    (place_boundary bytes index utf8 (omega (arith, ap length same)))
 
 -- The places of a range in a text with these bytes.
-pub places_on : (number : ℕ) (units : ℕ → ℕ) (range : Range) (r : Result (ℕ × ℕ) EditFault) (seen bytes : List ℕ) → seen ≡ bytes → r ≡ places_at number (chars seen) (ends_of units (chars seen) range) → r ≡ places_at number (chars bytes) (ends_of units (chars bytes) range)
-places_on number units range r seen bytes same error = subst (λ (b : List ℕ). r ≡ places_at number (chars b) (ends_of units (chars b) range)) same error
+pub places_on : (number : ℕ) (units : ℕ → ℕ) (range : Range) (r : Result (ℕ × ℕ) EditFault) (seen bytes : List ℕ)
+    → seen ≡ bytes → r ≡ places_at number (chars seen) (ends_of units (chars seen) range)
+    → r ≡ places_at number (chars bytes) (ends_of units (chars bytes) range)
+places_on number units range r seen bytes same error =
+    subst (λ (b : List ℕ). r ≡ places_at number (chars b) (ends_of units (chars b) range)) same error
 
 -- Items put between others.
-pub between_is : (items made pushed now : List PlainItem) (start stop : ℕ) (text : List ℕ) → made ≡ take start items → items_in_order pushed ≡ items_in_order made ++ map New text → now ≡ pushed ++ take (length items - stop) (drop stop items)
+pub between_is : (items made pushed now : List PlainItem) (start stop : ℕ) (text : List ℕ) → made ≡ take start items
+    → items_in_order pushed ≡ items_in_order made ++ map New text → now ≡ pushed ++ take (length items - stop)
+    (drop stop items)
     → items_in_order now ≡ take start (items_in_order items) ++ (map New text ++ drop stop (items_in_order items))
 between_is items made pushed now start stop text made_is pushed_is now_is =
-    let rest : take (length items - stop) (drop stop items) ≡ drop stop items = take_all (length items - stop) (drop stop items) (omega (arith, length-drop stop items)) in
+    let rest : take (length items - stop) (drop stop items) ≡ drop stop items =
+    take_all (length items - stop) (drop stop items) (omega (arith, length-drop stop items)) in
     ap items_in_order (now_is ∙ ap (λ (r : List PlainItem). pushed ++ r) rest)
     ∙ (map-append item_of pushed (drop stop items)
     ∙ (ap₂ (λ (x y : List Item). x ++ y)
-    (pushed_is ∙ ap (λ (i : List Item). i ++ map New text) (ap items_in_order made_is ∙ sym (take-map item_of start items)))
+    (pushed_is ∙ ap (λ (i : List Item). i ++ map New text) (ap items_in_order made_is
+    ∙ sym (take-map item_of start items)))
     (sym (drop-map item_of stop items))
     ∙ append_assoc (take start (items_in_order items)) (map New text) (drop stop (items_in_order items))))
 
 -- What is known where a range's ends were found in the text as it is now.
-pub record AreFound (units : ℕ → ℕ) (old : List ℕ) (items : List Item) (range : Range) (bytes : List ℕ) (start stop : ℕ) : Type 0 where
+pub record AreFound (units : ℕ → ℕ) (old : List ℕ) (items : List Item) (range : Range) (bytes : List ℕ)
+    (start stop : ℕ) : Type 0 where
   pub ends : AreEnds units (text_of old items) range start stop
   pub start_at : IsCharBoundary bytes start
   pub stop_at : IsCharBoundary bytes stop
@@ -204,11 +261,17 @@ pub record AreFound (units : ℕ → ℕ) (old : List ℕ) (items : List Item) (
   pub high : length (chars (take stop bytes)) ≡ ends.high
   pub within : ends.high ≤ length items
 
-pub found : (units : ℕ → ℕ) (edited : PlainData) (range : Range) (number start stop : ℕ) (bytes : List ℕ) → IsUtf8 bytes → bytes ≡ edited_bytes edited → Ok (start, stop) ≡ places_at number (chars bytes) (ends_of units (chars bytes) range)
+pub found : (units : ℕ → ℕ) (edited : PlainData) (range : Range) (number start stop : ℕ) (bytes : List ℕ) → IsUtf8 bytes
+    → bytes ≡ edited_bytes edited → Ok (
+      start,
+      stop,
+    ) ≡ places_at number (chars bytes) (ends_of units (chars bytes) range)
     → AreFound units edited.before edited.items range bytes start stop
 found units edited range number start stop bytes utf8 is error =
     let same : chars bytes ≡ edited_text edited = edited_chars edited bytes utf8 is in
-    let e : AreEnds units (edited_text edited) range start stop = subst (λ (t : List ℕ). AreEnds units t range start stop) same (ends_told units (chars bytes) range number start stop error) in
+    let e : AreEnds units (edited_text edited) range start stop =
+    subst (λ (t : List ℕ). AreEnds units t range start stop) same (ends_told units (chars bytes) range number start stop
+    error) in
     let low : e.low ≤ length (edited_text edited) = omega (arith, e.order, e.within) in
     record {
       ends = e;
@@ -219,35 +282,68 @@ found units edited range number start stop bytes utf8 is error =
       within = omega (arith, e.within, length-map edited.items (character_of edited.before));
     }
 
-pub range_put : (units : ℕ → ℕ) (old : List ℕ) (items own made : List Item) (characters : List ℕ) (range : Range) (start stop low high : ℕ) (ends : AreEnds units (text_of old items) range start stop) → own ≡ items → low ≡ ends.low → high ≡ ends.high
-    → made ≡ take low own ++ (map New characters ++ drop high own) → changed_in units old items characters (Some range) ≡ Ok made
+pub range_put : (units : ℕ → ℕ) (old : List ℕ) (items own made : List Item) (characters : List ℕ) (range : Range)
+    (start stop low high : ℕ) (ends : AreEnds units (text_of old items) range start stop) → own ≡ items → low ≡ ends.low
+    → high ≡ ends.high
+    → made ≡ take low own ++ (map New characters ++ drop high own) → changed_in units old items characters (Some range)
+    ≡ Ok made
 range_put units old items own made characters range start stop low high ends own_is low_is high_is made_is =
     range_made units old items characters range start stop ends
-    ∙ ap (λ (i : List Item). Ok i) (sym (made_is ∙ (λ i. take (low_is i) (own_is i) ++ (map New characters ++ drop (high_is i) (own_is i)))))
+    ∙ ap (λ (i : List Item). Ok i)
+    (sym (made_is ∙ (λ i. take (low_is i) (own_is i) ++ (map New characters ++ drop (high_is i) (own_is i)))))
 
 -- The fields of what two runs of changes make together.
-pub then_plain : (before old mid over : List ℕ) (items others : List Item) (made : List Item) → ArePlain before old items → ArePlain mid over others → chars mid ≡ text_of (chars before) items → made ≡ then_items items others → ArePlain before old made
+pub then_plain : (before old mid over : List ℕ) (items others : List Item) (made : List Item)
+    → ArePlain before old items → ArePlain mid over others → chars mid ≡ text_of (chars before) items
+    → made ≡ then_items items others → ArePlain before old made
 then_plain before old mid over items others made are were same is =
     let text : text_of (chars before) made ≡ text_of (chars mid) others
-    = ap (text_of (chars before)) is ∙ (text_of-then (chars before) items others ∙ ap (λ (t : List ℕ). text_of t others) (sym same)) in
+    = ap (text_of (chars before)) is ∙ (text_of-then (chars before) items others ∙ ap (λ (t : List ℕ). text_of t others)
+    (sym same)) in
     record {
       utf8 = are.utf8;
       old_is = are.old_is;
       size = are.size;
-      keeps = subst (Keeps (chars before) 0) (sym is) (then_keeps (λ c. 1) (λ c. omega arith) (chars before) items others are.keeps (subst (λ (t : List ℕ). Keeps t 0 others) same were.keeps));
+      keeps = subst (Keeps (chars before) 0) (sym is) (then_keeps (λ c. 1) (λ c. omega arith) (chars before) items
+          others are.keeps (subst (λ (t : List ℕ). Keeps t 0 others) same were.keeps));
       room = omega (arith, were.room, ap (λ (t : List ℕ). length (encode_utf8_all t)) text);
     }
 
-pub over_plain : (before mid : List ℕ) (items others : List Item) (changes more : ℕ) (first second : PlainData) → record { before = chars before; items = items; changes = changes } ≡ first → record { before = chars mid; items = others; changes = more } ≡ second → second.before ≡ edited_text first
+pub over_plain : (before mid : List ℕ) (items others : List Item) (changes more : ℕ) (first second : PlainData)
+    → record { before = chars before; items = items; changes = changes } ≡ first → record {
+      before = chars mid;
+      items = others;
+      changes = more;
+    } ≡ second → second.before ≡ edited_text first
     → chars mid ≡ text_of (chars before) items
-over_plain before mid items others changes more first second view other over = ap (λ (e : PlainData). e.before) other ∙ (over ∙ sym (ap edited_text view))
+over_plain before mid items others changes more first second view other over = ap (λ (e : PlainData). e.before) other
+    ∙ (over ∙ sym (ap edited_text view))
 
-pub then_told : (before mid : List ℕ) (items others made : List Item) (changes more count : ℕ) (first second : PlainData) → record { before = chars before; items = items; changes = changes } ≡ first → record { before = chars mid; items = others; changes = more } ≡ second
+pub then_told : (before mid : List ℕ) (items others made : List Item) (changes more count : ℕ)
+    (first second : PlainData) → record { before = chars before; items = items; changes = changes } ≡ first
+    → record { before = chars mid; items = others; changes = more } ≡ second
     → made ≡ then_items items others → count ≡ both_counts changes more
-    → ◌≡◌ {A = PlainData} (record { before = chars before; items = made; changes = count }) (record { before = first.before; items = then_items first.items second.items; changes = both_counts first.changes second.changes })
+    → ◌≡◌ {A = PlainData} (record { before = chars before; items = made; changes = count }) (record {
+      before = first.before;
+      items = then_items first.items second.items;
+      changes = both_counts first.changes second.changes;
+    })
 then_told before mid items others made changes more count first second view other is counted =
-    let a : ◌≡◌ {A = PlainData} (record { before = chars before; items = made; changes = count }) (record { before = chars before; items = then_items items others; changes = both_counts changes more })
+    let a : ◌≡◌ {A = PlainData} (record { before = chars before; items = made; changes = count })
+    (record { before = chars before; items = then_items items others; changes = both_counts changes more })
     = λ i. record { before = chars before; items = is i; changes = counted i } in
-    let b : ◌≡◌ {A = PlainData} (record { before = chars before; items = then_items items others; changes = both_counts changes more }) (record { before = first.before; items = then_items first.items second.items; changes = both_counts first.changes second.changes })
-    = λ i. record { before = (view i).before; items = then_items (view i).items (other i).items; changes = both_counts (view i).changes (other i).changes } in
+    let b : ◌≡◌ {A = PlainData} (record {
+      before = chars before;
+      items = then_items items others;
+      changes = both_counts changes more;
+    }) (record {
+      before = first.before;
+      items = then_items first.items second.items;
+      changes = both_counts first.changes second.changes;
+    })
+    = λ i. record {
+      before = (view i).before;
+      items = then_items (view i).items (other i).items;
+      changes = both_counts (view i).changes (other i).changes;
+    } in
     a ∙ b

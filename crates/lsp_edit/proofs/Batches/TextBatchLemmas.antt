@@ -34,31 +34,43 @@ text_result old (Err fault) = Err fault
 
 -- ---- items and texts agree
 
-replaced_text : (old : List ℕ) (items : List Item) (new : List ℕ) (start stop : Option ℕ) → text_replaced (text_of old items) new start stop ≡ text_result old (replaced items new start stop)
+replaced_text : (old : List ℕ) (items : List Item) (new : List ℕ) (start stop : Option ℕ)
+    → text_replaced (text_of old items) new start stop ≡ text_result old (replaced items new start stop)
 replaced_text old items new None stop = refl
 replaced_text old items new (Some start) None = refl
 replaced_text old items new (Some start) (Some stop) =
-    let text : text_of old (take start items ++ (map New new ++ drop stop items)) ≡ take start (text_of old items) ++ (new ++ drop stop (text_of old items))
+    let text : text_of old (take start items ++ (map New new ++ drop stop items)) ≡ take start (text_of old items)
+    ++ (new ++ drop stop (text_of old items))
     = map-append (character_of old) (take start items) (map New new ++ drop stop items)
     ∙ ap₂ (λ (x y : List ℕ). x ++ y) (sym (take-map (character_of old) start items))
-    (map-append (character_of old) (map New new) (drop stop items) ∙ ap₂ (λ (x y : List ℕ). x ++ y) (text_of-new old new) (sym (drop-map (character_of old) stop items))) in
+    (map-append (character_of old) (map New new) (drop stop items) ∙ ap₂ (λ (x y : List ℕ). x ++ y)
+    (text_of-new old new) (sym (drop-map (character_of old) stop items))) in
     ⊎_elim
     (λ (e : nat_le start stop ≡ true). rw e (ap (λ (t : List ℕ). Ok t) (sym text)))
     (λ (e : nat_le start stop ≡ false). rw e refl)
     (cases_Bool (nat_le start stop))
 
-change_text : (units : ℕ → ℕ) (old : List ℕ) (items : List Item) (new : List ℕ) (range : Option Range) → text_changed units (text_of old items) new range ≡ text_result old (changed_in units old items new range)
+change_text : (units : ℕ → ℕ) (old : List ℕ) (items : List Item) (new : List ℕ) (range : Option Range)
+    → text_changed units (text_of old items) new range ≡ text_result old (changed_in units old items new range)
 change_text units old items new None = ap (λ (t : List ℕ). Ok t) (sym (text_of-new old new))
-change_text units old items new (Some range) = replaced_text old items new (denoted units (text_of old items) range.start) (denoted units (text_of old items) range.stop)
+change_text units old items new (Some range) =
+    replaced_text old items new (denoted units (text_of old items) range.start)
+    (denoted units (text_of old items) range.stop)
 
-pub changes_text : (units : ℕ → ℕ) (old : List ℕ) (number : ℕ) (items : List Item) (batch : List Edit) → text_after_changes units number (text_of old items) batch ≡ text_result old (after_changes units old number items batch)
+pub changes_text : (units : ℕ → ℕ) (old : List ℕ) (number : ℕ) (items : List Item) (batch : List Edit)
+    → text_after_changes units number (text_of old items) batch
+    ≡ text_result old (after_changes units old number items batch)
 changes_text units old number items [] = refl
 changes_text units old number items (change ∷ batch) =
-    ap (text_continue_with (λ (next : List ℕ). text_after_changes units (suc number) next batch) number) (change_text units old items change.text change.range)
+    ap (text_continue_with (λ (next : List ℕ). text_after_changes units (suc number) next batch) number)
+    (change_text units old items change.text change.range)
     ∙ go_on_text (after_change units old items change) (λ next. changes_text units old (suc number) next batch)
   where
-    go_on_text : (made : Result (List Item) Fault) → ((next : List Item) → text_after_changes units (suc number) (text_of old next) batch ≡ text_result old (after_changes units old (suc number) next batch))
-        → text_continue_with (λ (next : List ℕ). text_after_changes units (suc number) next batch) number (text_result old made)
+    go_on_text : (made : Result (List Item) Fault)
+        → ((next : List Item) → text_after_changes units (suc number) (text_of old next) batch
+        ≡ text_result old (after_changes units old (suc number) next batch))
+        → text_continue_with (λ (next : List ℕ). text_after_changes units (suc number) next batch) number
+        (text_result old made)
         ≡ text_result old (continue_with (λ next. after_changes units old (suc number) next batch) number made)
     go_on_text (Ok next) more = more next
     go_on_text (Err fault) more = refl
@@ -69,67 +81,94 @@ fault_edit number InsideStop = refl
 fault_edit number Reversed = refl
 
 module _ (units : ℕ → ℕ) (before : List ℕ) (batch : List Edit) where
-  batch_text : text_after_changes units 0 (chars before) batch ≡ text_result (chars before) (meaning units (chars before) batch)
-  batch_text = ap (λ (t : List ℕ). text_after_changes units 0 t batch) (sym (plain_text (chars before))) ∙ changes_text units (chars before) 0 (plain (chars before)) batch
+  batch_text : text_after_changes units 0 (chars before) batch ≡ text_result (chars before)
+      (meaning units (chars before) batch)
+  batch_text = ap (λ (t : List ℕ). text_after_changes units 0 t batch) (sym (plain_text (chars before)))
+      ∙ changes_text units (chars before) 0 (plain (chars before)) batch
 
-  module _ (left : List ℕ) (utf8 : IsUtf8 left) (is : text_after_changes units 0 (chars before) batch ≡ Ok (chars left)) where
-    by_meaning : (P : Result (List Item) (ℕ × Fault) → Type 0) → ((items : List Item) → bytes_left before items ≡ left → P (Ok items)) → P (meaning units (chars before) batch)
+  module _ (left : List ℕ) (utf8 : IsUtf8 left) (is : text_after_changes units 0 (chars before) batch
+      ≡ Ok (chars left)) where
+    by_meaning : (P : Result (List Item) (ℕ × Fault) → Type 0) → ((items : List Item) → bytes_left before items ≡ left
+        → P (Ok items)) → P (meaning units (chars before) batch)
     by_meaning P some = found (meaning units (chars before) batch) (sym batch_text ∙ is)
       where
         found : (meant : Result (List Item) (ℕ × Fault)) → text_result (chars before) meant ≡ Ok (chars left) → P meant
-        found (Ok items) e = let f : text_of (chars before) items ≡ chars left = cc in some items (ap encode_utf8_all f ∙ encodes-chars left utf8)
+        found (Ok items) e = let f : text_of (chars before) items ≡ chars left = cc in
+            some items (ap encode_utf8_all f ∙ encodes-chars left utf8)
         found (Err fault) e = absurd (cc)
 
-    pub left_too_long : (max_len : ℕ) → max_len < length left → text_within max_len before (meaning units (chars before) batch) ≡ Err TooLong
+    pub left_too_long : (max_len : ℕ) → max_len < length left
+        → text_within max_len before (meaning units (chars before) batch) ≡ Err TooLong
     left_too_long max_len above =
-        by_meaning (λ meant. text_within max_len before meant ≡ Err TooLong) (λ items same. rw (same, lt-ltb max_len (length left) above) refl)
+        by_meaning (λ meant. text_within max_len before meant ≡ Err TooLong)
+        (λ items same. rw (same, lt-ltb max_len (length left) above) refl)
 
-    pub left_within : (max_len : ℕ) → length left ≤ max_len → text_within max_len before (meaning units (chars before) batch) ≡ Ok left
+    pub left_within : (max_len : ℕ) → length left ≤ max_len
+        → text_within max_len before (meaning units (chars before) batch) ≡ Ok left
     left_within max_len fits =
-        by_meaning (λ meant. text_within max_len before meant ≡ Ok left) (λ items same. rw (same, le-ltb max_len (length left) fits) refl)
+        by_meaning (λ meant. text_within max_len before meant ≡ Ok left) (λ items same. rw (
+          same,
+          le-ltb max_len (length left) fits,
+        ) refl)
 
-  pub left_fault : (max_len : ℕ) (fault : EditFault) → IsFaultOfBatch (text_after_changes units 0 (chars before) batch) fault
-      → (text_fault_of fault ≡ OutOfMemory) ⊎ (text_within max_len before (meaning units (chars before) batch) ≡ Err (text_fault_of fault))
+  pub left_fault : (max_len : ℕ) (fault : EditFault) → IsFaultOfBatch (text_after_changes units 0 (chars before) batch)
+      fault
+      → (text_fault_of fault ≡ OutOfMemory) ⊎ (text_within max_len before (meaning units (chars before) batch)
+      ≡ Err (text_fault_of fault))
   left_fault max_len fault error =
       ⊎_elim
       (λ (memory : fault ≡ NoMemory). inl (ap text_fault_of memory))
-      (λ (t : (number : ℕ) × (why : Fault) × (text_after_changes units 0 (chars before) batch ≡ Err (number, why)) × (fault ≡ fault_at number why)).
+      (λ (t : (number : ℕ) × (why : Fault) × (text_after_changes units 0 (chars before) batch ≡ Err (number, why))
+      × (fault ≡ fault_at number why)).
       inr (found (meaning units (chars before) batch) t.0 t.1 t.3 (sym batch_text ∙ t.2)))
       error
     where
       found : (meant : Result (List Item) (ℕ × Fault)) (number : ℕ) (why : Fault) → fault ≡ fault_at number why
-          → ◌≡◌ {A = Result (List ℕ) (ℕ × Fault)} (text_result (chars before) meant) (Err (number, why)) → text_within max_len before meant ≡ Err (text_fault_of fault)
+          → ◌≡◌ {A = Result (List ℕ) (ℕ × Fault)} (text_result (chars before) meant) (Err (number, why))
+          → text_within max_len before meant ≡ Err (text_fault_of fault)
       found (Ok items) number why is e = absurd (cc)
       found (Err x) number why is e =
           let f : x ≡ (number, why) = cc in
-          ap (λ (y : ℕ × Fault). text_within max_len before (Err y)) f ∙ (ap (λ (y : TextFault). Err y) (fault_edit number why) ∙ ap (λ (y : EditFault). Err (text_fault_of y)) (sym is))
+          ap (λ (y : ℕ × Fault). text_within max_len before (Err y)) f
+          ∙ (ap (λ (y : TextFault). Err y) (fault_edit number why) ∙ ap (λ (y : EditFault). Err (text_fault_of y))
+          (sym is))
 
 -- ---- one change of a range
 
 -- places are the same, whatever the number of the change
-pub places_any : (number : ℕ) (text : List ℕ) (start stop : ℕ) (ends : Result (ℕ × ℕ) Fault) → Ok (start, stop) ≡ places_at number text ends → Ok (start, stop) ≡ places_at 0 text ends
+pub places_any : (number : ℕ) (text : List ℕ) (start stop : ℕ) (ends : Result (ℕ × ℕ) Fault) → Ok (start, stop)
+    ≡ places_at number text ends → Ok (start, stop) ≡ places_at 0 text ends
 places_any number text start stop (Ok ends) e = cc
 places_any number text start stop (Err why) e = absurd (cc)
 
 -- what was found of the places in a text, said of its bytes
-pub places_seen : (units : ℕ → ℕ) (number : ℕ) (range : Range) (r : Result (ℕ × ℕ) EditFault) (seen bytes : List ℕ) → seen ≡ bytes → r ≡ places_at number (chars seen) (ends_of units (chars seen) range)
+pub places_seen : (units : ℕ → ℕ) (number : ℕ) (range : Range) (r : Result (ℕ × ℕ) EditFault) (seen bytes : List ℕ)
+    → seen ≡ bytes → r ≡ places_at number (chars seen) (ends_of units (chars seen) range)
     → r ≡ places_at number (chars bytes) (ends_of units (chars bytes) range)
-places_seen units number range r seen bytes same found = subst (λ (b : List ℕ). r ≡ places_at number (chars b) (ends_of units (chars b) range)) same found
+places_seen units number range r seen bytes same found =
+    subst (λ (b : List ℕ). r ≡ places_at number (chars b) (ends_of units (chars b) range)) same found
 
 -- A range's places in a text, and what a text in their place leaves.
 pub record IsRanged (units : ℕ → ℕ) (before : List ℕ) (range : Range) (new : List ℕ) (start stop : ℕ) : Type 0 where
   pub order : start ≤ stop
   pub at_start : IsCharBoundary before start
   pub at_stop : IsCharBoundary before stop
-  pub left : text_after_change units (chars before) (record { range = Some range; text = chars new }) ≡ Ok (chars (replace_range before start stop new))
+  pub left : text_after_change units (chars before) (record { range = Some range; text = chars new })
+      ≡ Ok (chars (replace_range before start stop new))
   pub longer : length (replace_range before start stop new) ≤ length before + length new
   pub room : length before - (stop - start) + length new ≤ length before + length new
 
-module _ (units : ℕ → ℕ) (number : ℕ) (before : List ℕ) (utf8 : IsUtf8 before) (range : Range) (new : List ℕ) (new_utf8 : IsUtf8 new) where
-  range_left : (start stop : ℕ) → Ok (start, stop) ≡ places_at number (chars before) (ends_of units (chars before) range)
-      → IsCharBoundary before start → IsCharBoundary before stop → text_after_change units (chars before) (record { range = Some range; text = chars new }) ≡ Ok (chars (replace_range before start stop new))
+module _ (units : ℕ → ℕ) (number : ℕ) (before : List ℕ) (utf8 : IsUtf8 before) (range : Range) (new : List ℕ)
+    (new_utf8 : IsUtf8 new) where
+  range_left : (start stop : ℕ) → Ok (
+    start,
+    stop,
+  ) ≡ places_at number (chars before) (ends_of units (chars before) range)
+      → IsCharBoundary before start → IsCharBoundary before stop → text_after_change units (chars before)
+      (record { range = Some range; text = chars new }) ≡ Ok (chars (replace_range before start stop new))
   range_left start stop error at_start at_stop =
-      let ends : AreEnds units (chars before) range start stop = ends_told units (chars before) range number start stop error in
+      let ends : AreEnds units (chars before) range start stop =
+      ends_told units (chars before) range number start stop error in
       let cs : List ℕ = take ends.low (chars before) ++ (chars new ++ drop ends.high (chars before)) in
       let front : encode_utf8_all (take ends.low (chars before)) ≡ take start before
       = sym (take_place (chars before) ends.low) ∙ rw (ends.start_is, encodes-chars before utf8) refl in
@@ -137,18 +176,29 @@ module _ (units : ℕ → ℕ) (number : ℕ) (before : List ℕ) (utf8 : IsUtf8
       = sym (drop_place (chars before) ends.high) ∙ rw (ends.stop_is, encodes-chars before utf8) refl in
       let bytes : encode_utf8_all cs ≡ replace_range before start stop new
       = encodes-append (take ends.low (chars before)) (chars new ++ drop ends.high (chars before))
-      ∙ (ap₂ (λ (x y : List ℕ). x ++ y) front (encodes-append (chars new) (drop ends.high (chars before)) ∙ ap₂ (λ (x y : List ℕ). x ++ y) (encodes-chars new new_utf8) back)
+      ∙ (ap₂ (λ (x y : List ℕ). x ++ y) front (encodes-append (chars new) (drop ends.high (chars before))
+      ∙ ap₂ (λ (x y : List ℕ). x ++ y) (encodes-chars new new_utf8) back)
       ∙ sym (assoc (take start before) new (drop stop before))) in
       let whole : IsUtf8 (replace_range before start stop new)
-      = IsUtf8-append (take start before ++ new) (drop stop before) (IsUtf8-append (take start before) new (IsUtf8-take before start utf8 at_start) new_utf8) (IsUtf8-drop before stop utf8 at_stop) in
-      rw (ends.low_is, ends.high_is, le-leb ends.low ends.high ends.order) (ap (λ (t : List ℕ). Ok t) (chars_from_encodes cs (replace_range before start stop new) whole bytes))
+      = IsUtf8-append (take start before ++ new) (drop stop before)
+      (IsUtf8-append (take start before) new (IsUtf8-take before start utf8 at_start) new_utf8)
+      (IsUtf8-drop before stop utf8 at_stop) in
+      rw (
+        ends.low_is,
+        ends.high_is,
+        le-leb ends.low ends.high ends.order,
+      ) (ap (λ (t : List ℕ). Ok t) (chars_from_encodes cs (replace_range before start stop new) whole bytes))
     where
       assoc : (a b c : List ℕ) → a ++ b ++ c ≡ a ++ (b ++ c)
       assoc a b c = simp append_assoc
 
-  pub is_ranged : (start stop : ℕ) → Ok (start, stop) ≡ places_at number (chars before) (ends_of units (chars before) range) → IsRanged units before range new start stop
+  pub is_ranged : (start stop : ℕ) → Ok (
+    start,
+    stop,
+  ) ≡ places_at number (chars before) (ends_of units (chars before) range) → IsRanged units before range new start stop
   is_ranged start stop error =
-      let first : Ok (start, stop) ≡ places_at 0 (chars before) (ends_of units (chars before) range) = places_any number (chars before) start stop (ends_of units (chars before) range) error in
+      let first : Ok (start, stop) ≡ places_at 0 (chars before) (ends_of units (chars before) range) =
+      places_any number (chars before) start stop (ends_of units (chars before) range) error in
       let order : start ≤ stop = range_order units before utf8 range new new_utf8 start stop first in
       let at_start : IsCharBoundary before start = range_start units before utf8 range new new_utf8 start stop first in
       let at_stop : IsCharBoundary before stop = range_stop units before utf8 range new new_utf8 start stop first in
@@ -157,55 +207,89 @@ module _ (units : ℕ → ℕ) (number : ℕ) (before : List ℕ) (utf8 : IsUtf8
         at_start = at_start;
         at_stop = at_stop;
         left = range_left start stop error at_start at_stop;
-        longer = omega (arith, replaced_len before utf8 start stop new new_utf8 order at_start at_stop, order, at_stop.0);
+        longer = omega (
+          arith,
+          replaced_len before utf8 start stop new new_utf8 order at_start at_stop,
+          order,
+          at_stop.0,
+        );
         room = omega (arith, order);
       }
 
-  pub range_faulted : (fault : EditFault) → Err fault ≡ places_at number (chars before) (ends_of units (chars before) range)
-      → IsFaultOf number (text_after_change units (chars before) (record { range = Some range; text = chars new })) fault
-  range_faulted fault error = by_ends (denoted units (chars before) range.start) (denoted units (chars before) range.stop) error
+  pub range_faulted : (fault : EditFault) → Err fault ≡ places_at number (chars before)
+      (ends_of units (chars before) range)
+      → IsFaultOf number (text_after_change units (chars before) (record { range = Some range; text = chars new }))
+      fault
+  range_faulted fault error =
+      by_ends (denoted units (chars before) range.start) (denoted units (chars before) range.stop) error
     where
-      by_ends : (a b : Option ℕ) → ◌≡◌ {A = Result (ℕ × ℕ) EditFault} (Err fault) (places_at number (chars before) (in_order a b)) → IsFaultOf number (text_replaced (chars before) (chars new) a b) fault
+      by_ends : (a b : Option ℕ) → ◌≡◌ {A = Result (ℕ × ℕ) EditFault} (Err fault)
+          (places_at number (chars before) (in_order a b))
+          → IsFaultOf number (text_replaced (chars before) (chars new) a b) fault
       by_ends None b e = inr (InsideStart, refl, cc)
       by_ends (Some a) None e = inr (InsideStop, refl, cc)
       by_ends (Some a) (Some b) e =
           ⊎_elim
-          (λ (o : nat_le a b ≡ true). absurd (let f : ◌≡◌ {A = Result (ℕ × ℕ) EditFault} (Err fault) (Ok (place_of (chars before) a, place_of (chars before) b)) = rw o at e in cc))
-          (λ (o : nat_le a b ≡ false). inr (Reversed, rw o refl, (let f : ◌≡◌ {A = Result (ℕ × ℕ) EditFault} (Err fault) (Err (fault_at number Reversed)) = rw o at e in cc)))
+          (λ (o : nat_le a b ≡ true). absurd (let f : ◌≡◌ {A = Result (ℕ × ℕ) EditFault} (Err fault)
+          (Ok (place_of (chars before) a, place_of (chars before) b)) = rw o at e in cc))
+          (λ (o : nat_le a b ≡ false). inr (
+            Reversed,
+            rw o refl,
+            (let f : ◌≡◌ {A = Result (ℕ × ℕ) EditFault} (Err fault) (Err (fault_at number Reversed)) = rw o at e in cc),
+          ))
           (cases_Bool (nat_le a b))
 
 -- ---- a batch, change by change
 
 -- How far a batch was applied: what is left of it leaves the same text, and there is room for it.
-pub record Drafting (units : ℕ → ℕ) (left : Result (List ℕ) (ℕ × Fault)) (number : ℕ) (rest : List Change) (draft : List ℕ) : Type 0 where
+pub record Drafting (units : ℕ → ℕ) (left : Result (List ℕ) (ℕ × Fault)) (number : ℕ) (rest : List Change)
+    (draft : List ℕ) : Type 0 where
   pub same : text_after_changes units number (chars draft) (map edit_of rest) ≡ left
   pub room : length draft + texts_len rest ≤ 2147483648
 
-module _ (units : ℕ → ℕ) (left : Result (List ℕ) (ℕ × Fault)) (number : ℕ) (change : Change) (rest more : List Change) (draft : List ℕ) (is : rest ≡ change ∷ more) (drafting : Drafting units left number rest draft) where
-  same_here : text_continue_with (λ next. text_after_changes units (suc number) next (map edit_of more)) number (text_after_change units (chars draft) (edit_of change)) ≡ left
+module _ (units : ℕ → ℕ) (left : Result (List ℕ) (ℕ × Fault)) (number : ℕ) (change : Change) (rest more : List Change)
+    (draft : List ℕ) (is : rest ≡ change ∷ more) (drafting : Drafting units left number rest draft) where
+  same_here : text_continue_with (λ next. text_after_changes units (suc number) next (map edit_of more)) number
+      (text_after_change units (chars draft) (edit_of change)) ≡ left
   same_here = rw is at drafting.same
 
   pub draft_room : length draft + string_len change.text ≤ 2147483648
-  draft_room = omega (arith, drafting.room, ap texts_len is, sum_by-cons (λ (c : Change). string_len c.text) change more)
+  draft_room = omega (
+    arith,
+    drafting.room,
+    ap texts_len is,
+    sum_by-cons (λ (c : Change). string_len c.text) change more,
+  )
 
-  pub drafting_on : (next : List ℕ) → text_after_change units (chars draft) (edit_of change) ≡ Ok (chars next) → length next ≤ length draft + string_len change.text → Drafting units left (number + 1) more next
+  pub drafting_on : (next : List ℕ) → text_after_change units (chars draft) (edit_of change) ≡ Ok (chars next)
+      → length next ≤ length draft + string_len change.text → Drafting units left (number + 1) more next
   drafting_on next made longer =
       let n : number + 1 ≡ suc number = omega arith in
       let l : text_after_changes units (suc number) (chars next) (map edit_of more) ≡ left = rw made at same_here in
       record {
         same = ap (λ (m : ℕ). text_after_changes units m (chars next) (map edit_of more)) n ∙ l;
-        room = omega (arith, drafting.room, ap texts_len is, sum_by-cons (λ (c : Change). string_len c.text) change more, longer);
+        room = omega (
+          arith,
+          drafting.room,
+          ap texts_len is,
+          sum_by-cons (λ (c : Change). string_len c.text) change more,
+          longer,
+        );
       }
 
-  pub draft_faulted : (fault : EditFault) → IsFaultOf number (text_after_change units (chars draft) (edit_of change)) fault → IsFaultOfBatch left fault
+  pub draft_faulted : (fault : EditFault) → IsFaultOf number (text_after_change units (chars draft) (edit_of change))
+      fault → IsFaultOfBatch left fault
   draft_faulted fault error =
       ⊎_elim
       (λ (memory : fault ≡ NoMemory). inl memory)
-      (λ (t : (why : Fault) × (text_after_change units (chars draft) (edit_of change) ≡ Err why) × (fault ≡ fault_at number why)).
+      (λ (t : (why : Fault) × (text_after_change units (chars draft) (edit_of change) ≡ Err why)
+      × (fault ≡ fault_at number why)).
       let l : Err (number, t.0) ≡ left = rw t.1 at same_here in
       inr (number, t.0, sym l, t.2))
       error
 
 -- A batch that begins with a whole text leaves the same of every text.
-pub any_text : (units : ℕ → ℕ) (text other new : List ℕ) (batch : List Edit) → text_after_changes units 0 text (record { range = None; text = new } ∷ batch) ≡ text_after_changes units 0 other (record { range = None; text = new } ∷ batch)
+pub any_text : (units : ℕ → ℕ) (text other new : List ℕ) (batch : List Edit)
+    → text_after_changes units 0 text (record { range = None; text = new } ∷ batch) ≡ text_after_changes units 0 other
+    (record { range = None; text = new } ∷ batch)
 any_text units text other new batch = refl

@@ -14,7 +14,8 @@ abbrev one_if : Bool → ℕ
 one_if true = 1
 one_if false = 0
 
--- How many gaps are changed, behind the old index `low`, in an old text of `size` characters, where `new` says whether a new
+-- How many gaps are changed, behind the old index `low`, in an old text of `size` characters, where `new` says whether
+-- a new
 -- character came before in the first gap.
 abbrev hunks : ℕ → Bool → ℕ → List Item → ℕ
 hunks size new low [] = one_if (nat_lt low size || new)
@@ -33,84 +34,122 @@ module _ (size : ℕ) where
   one_if_rises false false = (omega arith, omega arith)
 
   -- a new character in the first gap counts once, wherever that gap begins
-  new_rises : (new : Bool) (low : ℕ) (items : List Item) → (hunks size new low items ≤ hunks size true low items) × (hunks size true low items ≤ suc (hunks size new low items))
-  new_rises new low [] = (omega (arith, one_if_rises (nat_lt low size) new, one_if_new (nat_lt low size)), omega (arith, one_if_rises (nat_lt low size) new, one_if_new (nat_lt low size)))
-  new_rises new low (Old index ∷ items) =
-      (omega (arith, one_if_rises (nat_lt low index) new, one_if_new (nat_lt low index)), omega (arith, one_if_rises (nat_lt low index) new, one_if_new (nat_lt low index)))
+  new_rises : (new : Bool) (low : ℕ) (items : List Item) → (hunks size new low items ≤ hunks size true low items)
+      × (hunks size true low items ≤ suc (hunks size new low items))
+  new_rises new low [] = (
+    omega (arith, one_if_rises (nat_lt low size) new, one_if_new (nat_lt low size)),
+    omega (arith, one_if_rises (nat_lt low size) new, one_if_new (nat_lt low size)),
+  )
+  new_rises new low (Old index ∷ items) = (
+    omega (arith, one_if_rises (nat_lt low index) new, one_if_new (nat_lt low index)),
+    omega (arith, one_if_rises (nat_lt low index) new, one_if_new (nat_lt low index)),
+  )
   new_rises new low (New character ∷ items) = (omega arith, omega arith)
 
   new_anywhere : (low other : ℕ) (items : List Item) → hunks size true low items ≡ hunks size true other items
   new_anywhere low other [] = one_if_new (nat_lt low size) ∙ sym (one_if_new (nat_lt other size))
-  new_anywhere low other (Old index ∷ items) = omega (arith, one_if_new (nat_lt low index), one_if_new (nat_lt other index))
+  new_anywhere low other (Old index ∷ items) =
+      omega (arith, one_if_new (nat_lt low index), one_if_new (nat_lt other index))
   new_anywhere low other (New character ∷ items) = new_anywhere low other items
 
-  put_in : (new : Bool) (low : ℕ) (characters : List ℕ) (items : List Item) → hunks size new low (map New characters ++ items) ≤ hunks size true low items
+  put_in : (new : Bool) (low : ℕ) (characters : List ℕ) (items : List Item)
+      → hunks size new low (map New characters ++ items) ≤ hunks size true low items
   put_in new low [] items = (new_rises new low items).0
   put_in new low (c ∷ characters) items = put_in true low characters items
 
-  taken_out : (new : Bool) (low : ℕ) (middle rest : List Item) → hunks size true low rest ≤ suc (hunks size new low (middle ++ rest))
+  taken_out : (new : Bool) (low : ℕ) (middle rest : List Item) → hunks size true low rest
+      ≤ suc (hunks size new low (middle ++ rest))
   taken_out new low [] rest = (new_rises new low rest).1
   taken_out new low (Old index ∷ middle) rest =
-      let t : hunks size true (suc index) rest ≤ suc (hunks size false (suc index) (middle ++ rest)) = taken_out false (suc index) middle rest in
+      let t : hunks size true (suc index) rest ≤ suc (hunks size false (suc index) (middle ++ rest)) =
+      taken_out false (suc index) middle rest in
       omega (arith, new_anywhere low (suc index) rest)
   taken_out new low (New character ∷ middle) rest = taken_out true low middle rest
 
-  one_more : (new : Bool) (low : ℕ) (front items others : List Item) → ((b : Bool) (l : ℕ) → hunks size b l items ≤ suc (hunks size b l others)) → hunks size new low (front ++ items) ≤ suc (hunks size new low (front ++ others))
+  one_more : (new : Bool) (low : ℕ) (front items others : List Item)
+      → ((b : Bool) (l : ℕ) → hunks size b l items ≤ suc (hunks size b l others)) → hunks size new low (front ++ items)
+      ≤ suc (hunks size new low (front ++ others))
   one_more new low [] items others more = more new low
-  one_more new low (Old index ∷ front) items others more = let ih : hunks size false (suc index) (front ++ items) ≤ suc (hunks size false (suc index) (front ++ others)) = one_more false (suc index) front items others more in omega arith
+  one_more new low (Old index ∷ front) items others more = let ih : hunks size false (suc index) (front ++ items)
+      ≤ suc (hunks size false (suc index) (front ++ others)) = one_more false (suc index) front items others more in
+      omega arith
   one_more new low (New character ∷ front) items others more = one_more true low front items others more
 
-  replaced_adds : (items : List Item) (characters : List ℕ) (start stop : ℕ) → start ≤ stop → hunks size false 0 (take start items ++ (map New characters ++ drop stop items)) ≤ suc (hunks size false 0 items)
+  replaced_adds : (items : List Item) (characters : List ℕ) (start stop : ℕ) → start ≤ stop
+      → hunks size false 0 (take start items ++ (map New characters ++ drop stop items))
+      ≤ suc (hunks size false 0 items)
   replaced_adds items characters start stop order =
       let split : take start items ++ drop start items ≡ items = take-append-drop start items in
       let e : start + (stop - start) ≡ stop = omega arith in
-      let back : drop (stop - start) (drop start items) ≡ drop stop items = drop-drop (stop - start) start items ∙ ap (λ (n : ℕ). drop n items) e in
-      let middle : take (stop - start) (drop start items) ++ drop stop items ≡ drop start items = ap (λ (r : List Item). take (stop - start) (drop start items) ++ r) (sym back) ∙ take-append-drop (stop - start) (drop start items) in
-      subst (λ (is : List Item). hunks size false 0 (take start items ++ (map New characters ++ drop stop items)) ≤ suc (hunks size false 0 is)) split
+      let back : drop (stop - start) (drop start items) ≡ drop stop items = drop-drop (stop - start) start items
+      ∙ ap (λ (n : ℕ). drop n items) e in
+      let middle : take (stop - start) (drop start items) ++ drop stop items ≡ drop start items =
+      ap (λ (r : List Item). take (stop - start) (drop start items) ++ r) (sym back) ∙ take-append-drop (stop - start)
+      (drop start items) in
+      subst (λ (is : List Item). hunks size false 0 (take start items ++ (map New characters ++ drop stop items))
+      ≤ suc (hunks size false 0 is)) split
       (one_more false 0 (take start items) (map New characters ++ drop stop items) (drop start items)
       (λ b l.
-      let p : hunks size b l (map New characters ++ drop stop items) ≤ hunks size true l (drop stop items) = put_in b l characters (drop stop items) in
-      let t : hunks size true l (drop stop items) ≤ suc (hunks size b l (take (stop - start) (drop start items) ++ drop stop items)) = taken_out b l (take (stop - start) (drop start items)) (drop stop items) in
-      let m : hunks size b l (take (stop - start) (drop start items) ++ drop stop items) ≡ hunks size b l (drop start items) = ap (hunks size b l) middle in
+      let p : hunks size b l (map New characters ++ drop stop items) ≤ hunks size true l (drop stop items) =
+      put_in b l characters (drop stop items) in
+      let t : hunks size true l (drop stop items)
+      ≤ suc (hunks size b l (take (stop - start) (drop start items) ++ drop stop items)) =
+      taken_out b l (take (stop - start) (drop start items)) (drop stop items) in
+      let m : hunks size b l (take (stop - start) (drop start items) ++ drop stop items)
+      ≡ hunks size b l (drop start items) = ap (hunks size b l) middle in
       omega arith))
 
-  all_new : (characters : List ℕ) (items : List Item) → hunks size false 0 (map New characters) ≤ suc (hunks size false 0 items)
+  all_new : (characters : List ℕ) (items : List Item) → hunks size false 0 (map New characters)
+      ≤ suc (hunks size false 0 items)
   all_new characters items =
       let p : hunks size false 0 (map New characters ++ []) ≤ hunks size true 0 [] = put_in false 0 characters [] in
-      let q : hunks size false 0 (map New characters ++ []) ≡ hunks size false 0 (map New characters) = ap (hunks size false 0) (append-nil (map New characters)) in
+      let q : hunks size false 0 (map New characters ++ []) ≡ hunks size false 0 (map New characters) =
+      ap (hunks size false 0) (append-nil (map New characters)) in
       omega (arith, one_if_new (nat_lt 0 size))
 
   none_at_first : (low count : ℕ) → low + count ≡ size → hunks size false low (map Old (numbers_from low count)) ≡ 0
   none_at_first low zero all = let e : low ≡ size = omega arith in rw (le-ltb low size (omega arith)) refl
-  none_at_first low (suc count) all = rw (le-ltb low low (omega arith)) (omega (arith, none_at_first (suc low) count (omega arith)))
+  none_at_first low (suc count) all =
+      rw (le-ltb low low (omega arith)) (omega (arith, none_at_first (suc low) count (omega arith)))
 
   module _ (units : ℕ → ℕ) (old : List ℕ) where
-    change_adds : (items next : List Item) (change : Edit) → after_change units old items change ≡ Ok next → hunks size false 0 next ≤ suc (hunks size false 0 items)
+    change_adds : (items next : List Item) (change : Edit) → after_change units old items change ≡ Ok next
+        → hunks size false 0 next ≤ suc (hunks size false 0 items)
     change_adds items next change is = by_range change.range is
       where
-        at_indexes : (start stop : Option ℕ) → replaced items change.text start stop ≡ Ok next → hunks size false 0 next ≤ suc (hunks size false 0 items)
+        at_indexes : (start stop : Option ℕ) → replaced items change.text start stop ≡ Ok next → hunks size false 0 next
+            ≤ suc (hunks size false 0 items)
         at_indexes None stop r = absurd (cc)
         at_indexes (Some a) None r = absurd (cc)
         at_indexes (Some a) (Some b) r =
             ⊎_elim
             (λ (e : nat_le a b ≡ true).
-            let made : ◌≡◌ {A = Result (List Item) Fault} (Ok (take a items ++ (map New change.text ++ drop b items))) (Ok next) = rw e at r in
+            let made : ◌≡◌ {A = Result (List Item) Fault} (Ok (take a items ++ (map New change.text ++ drop b items)))
+            (Ok next) = rw e at r in
             let is_next : take a items ++ (map New change.text ++ drop b items) ≡ next = cc in
-            subst (λ (n : List Item). hunks size false 0 n ≤ suc (hunks size false 0 items)) is_next (replaced_adds items change.text a b (leb-true a b e)))
-            (λ (e : nat_le a b ≡ false). absurd (let f : ◌≡◌ {A = Result (List Item) Fault} (Err Reversed) (Ok next) = rw e at r in cc))
+            subst (λ (n : List Item). hunks size false 0 n ≤ suc (hunks size false 0 items)) is_next
+            (replaced_adds items change.text a b (leb-true a b e)))
+            (λ (e : nat_le a b ≡ false). absurd (let f : ◌≡◌ {A = Result (List Item) Fault} (Err Reversed)
+            (Ok next) = rw e at r in cc))
             (cases_Bool (nat_le a b))
 
-        by_range : (range : Option Range) → changed_in units old items change.text range ≡ Ok next → hunks size false 0 next ≤ suc (hunks size false 0 items)
-        by_range None r = let e : map New change.text ≡ next = cc in subst (λ (n : List Item). hunks size false 0 n ≤ suc (hunks size false 0 items)) e (all_new change.text items)
-        by_range (Some range) r = at_indexes (denoted units (text_of old items) range.start) (denoted units (text_of old items) range.stop) r
+        by_range : (range : Option Range) → changed_in units old items change.text range ≡ Ok next
+            → hunks size false 0 next ≤ suc (hunks size false 0 items)
+        by_range None r = let e : map New change.text ≡ next = cc in
+            subst (λ (n : List Item). hunks size false 0 n ≤ suc (hunks size false 0 items)) e
+            (all_new change.text items)
+        by_range (Some range) r =
+            at_indexes (denoted units (text_of old items) range.start) (denoted units (text_of old items) range.stop) r
 
-    changes_add : (number : ℕ) (items last : List Item) (batch : List Edit) → after_changes units old number items batch ≡ Ok last → hunks size false 0 last ≤ hunks size false 0 items + length batch
+    changes_add : (number : ℕ) (items last : List Item) (batch : List Edit) → after_changes units old number items batch
+        ≡ Ok last → hunks size false 0 last ≤ hunks size false 0 items + length batch
     changes_add number items last [] is = let e : items ≡ last = cc in omega (arith, ap (hunks size false 0) e)
     changes_add number items last (change ∷ batch) is =
         rest_after (after_change units old items change) refl (λ next. changes_add (suc number) next last batch) is
       where
         rest_after : (made : Result (List Item) Fault) → after_change units old items change ≡ made
-            → ((next : List Item) → after_changes units old (suc number) next batch ≡ Ok last → hunks size false 0 last ≤ hunks size false 0 next + length batch)
+            → ((next : List Item) → after_changes units old (suc number) next batch ≡ Ok last → hunks size false 0 last
+            ≤ hunks size false 0 next + length batch)
             → continue_with (λ next. after_changes units old (suc number) next batch) number made ≡ Ok last
             → hunks size false 0 last ≤ hunks size false 0 items + suc (length batch)
         rest_after (Ok next) e more r = omega (arith, change_adds items next change e, more next r)
@@ -120,21 +159,33 @@ one_longer : (b : Bool) (g : Gap) (gs : List Gap) → length (cond b (g ∷ gs) 
 one_longer true g gs = omega arith
 one_longer false g gs = omega arith
 
-hunks_are : (old : List ℕ) (low : ℕ) (text : List ℕ) (items : List Item) → length (filter is_changed (gaps_from old low text items)) ≡ hunks (length old) (nat_lt 0 (length text)) low items
-hunks_are old low text [] = one_longer (is_changed (gap low (length old) text)) (gap low (length old) text) [] ∙ omega arith
+hunks_are : (old : List ℕ) (low : ℕ) (text : List ℕ) (items : List Item)
+    → length (filter is_changed (gaps_from old low text items)) ≡ hunks (length old) (nat_lt 0 (length text)) low items
+hunks_are old low text [] = one_longer (is_changed (gap low (length old) text)) (gap low (length old) text) []
+    ∙ omega arith
 hunks_are old low text (Old index ∷ items) =
-    one_longer (is_changed (gap low index text)) (gap low index text) (filter is_changed (gaps_from old (suc index) [] items))
+    one_longer (is_changed (gap low index text)) (gap low index text)
+    (filter is_changed (gaps_from old (suc index) [] items))
     ∙ ap (λ (n : ℕ). one_if (is_changed (gap low index text)) + n) (hunks_are old (suc index) [] items)
 hunks_are old low text (New character ∷ items) =
-    let e : nat_lt 0 (length (text ++ character ∷ [])) ≡ true = lt-ltb 0 (length (text ++ character ∷ [])) (simp length-append (omega arith)) in
+    let e : nat_lt 0 (length (text ++ character ∷ [])) ≡ true =
+    lt-ltb 0 (length (text ++ character ∷ [])) (simp length-append (omega arith)) in
     hunks_are old low (text ++ character ∷ []) items ∙ ap (λ (b : Bool). hunks (length old) b low items) e
 
-pub no_more_changes : (units : ℕ → ℕ) (old : List ℕ) (batch : List Edit) (items : List Item) → meaning units old batch ≡ Ok items → length (canonical units old items) ≤ length batch
+pub no_more_changes : (units : ℕ → ℕ) (old : List ℕ) (batch : List Edit) (items : List Item) → meaning units old batch
+    ≡ Ok items → length (canonical units old items) ≤ length batch
 no_more_changes units old batch items is =
-    let r : length (canonical units old items) ≡ length (map (change_of units old) (filter is_changed (gaps old items))) = length-reverse (map (change_of units old) (filter is_changed (gaps old items))) in
-    let m : length (map (change_of units old) (filter is_changed (gaps old items))) ≡ length (filter is_changed (gaps old items)) = length-map (filter is_changed (gaps old items)) (change_of units old) in
-    let g : length (filter is_changed (gaps old items)) ≡ length (filter is_changed (gaps_from old 0 [] items)) = ap (λ (gs : List Gap). length (filter is_changed gs)) (gaps_are old items) in
-    let h : length (filter is_changed (gaps_from old 0 [] items)) ≡ hunks (length old) false 0 items = hunks_are old 0 [] items in
+    let r : length (canonical units old items)
+    ≡ length (map (change_of units old) (filter is_changed (gaps old items))) =
+    length-reverse (map (change_of units old) (filter is_changed (gaps old items))) in
+    let m : length (map (change_of units old) (filter is_changed (gaps old items)))
+    ≡ length (filter is_changed (gaps old items)) =
+    length-map (filter is_changed (gaps old items)) (change_of units old) in
+    let g : length (filter is_changed (gaps old items)) ≡ length (filter is_changed (gaps_from old 0 [] items)) =
+    ap (λ (gs : List Gap). length (filter is_changed gs)) (gaps_are old items) in
+    let h : length (filter is_changed (gaps_from old 0 [] items)) ≡ hunks (length old) false 0 items =
+    hunks_are old 0 [] items in
     let z : hunks (length old) false 0 (plain old) ≡ 0 = none_at_first (length old) 0 (length old) (omega arith) in
-    let c : hunks (length old) false 0 items ≤ hunks (length old) false 0 (plain old) + length batch = changes_add (length old) units old 0 (plain old) items batch is in
+    let c : hunks (length old) false 0 items ≤ hunks (length old) false 0 (plain old) + length batch =
+    changes_add (length old) units old 0 (plain old) items batch is in
     omega arith

@@ -26,33 +26,53 @@ unfolding put_before
 put_nothing [] = refl
 put_nothing (first ∷ rest) = refl
 
-put_one_more : (text : List ℕ) (character : ℕ) (texts : List (List ℕ)) → put_before text (put_first character texts) ≡ put_before (text ++ character ∷ []) texts
+put_one_more : (text : List ℕ) (character : ℕ) (texts : List (List ℕ)) → put_before text (put_first character texts)
+    ≡ put_before (text ++ character ∷ []) texts
 unfolding put_before
 put_one_more text character [] = refl
-put_one_more text character (first ∷ rest) = ap (λ (x : List ℕ). x ∷ rest) (sym (append_assoc text (character ∷ []) first))
+put_one_more text character (first ∷ rest) =
+    ap (λ (x : List ℕ). x ∷ rest) (sym (append_assoc text (character ∷ []) first))
 
-gaps_told : (old : List ℕ) (low : ℕ) (text : List ℕ) (items : List Item) → gaps_between (low ∷ map suc (kept items)) (kept items ++ length old ∷ []) (put_before text (gap_texts items)) ≡ gaps_from old low text items
+gaps_told : (old : List ℕ) (low : ℕ) (text : List ℕ) (items : List Item) → gaps_between (low ∷ map suc (kept items))
+    (kept items ++ length old ∷ []) (put_before text (gap_texts items)) ≡ gaps_from old low text items
 unfolding put_before
 gaps_told old low text [] = ap (λ (t : List ℕ). gap low (length old) t ∷ []) (append-nil text)
 gaps_told old low text (Old index ∷ items) =
     ap₂
     (λ (t : List ℕ) (rest : List Gap). gap low index t ∷ rest)
     (append-nil text)
-    (ap (λ (ts : List (List ℕ)). gaps_between (suc index ∷ map suc (kept items)) (kept items ++ length old ∷ []) ts) (sym (put_nothing (gap_texts items))) ∙ gaps_told old (suc index) [] items)
+    (ap (λ (ts : List (List ℕ)). gaps_between (suc index ∷ map suc (kept items)) (kept items ++ length old ∷ []) ts)
+    (sym (put_nothing (gap_texts items))) ∙ gaps_told old (suc index) [] items)
 gaps_told old low text (New character ∷ items) =
-    ap (λ (ts : List (List ℕ)). gaps_between (low ∷ map suc (kept items)) (kept items ++ length old ∷ []) ts) (put_one_more text character (gap_texts items)) ∙ gaps_told old low (text ++ character ∷ []) items
+    ap (λ (ts : List (List ℕ)). gaps_between (low ∷ map suc (kept items)) (kept items ++ length old ∷ []) ts)
+    (put_one_more text character (gap_texts items)) ∙ gaps_told old low (text ++ character ∷ []) items
 
 pub gaps_are : (old : List ℕ) (items : List Item) → gaps old items ≡ gaps_from old 0 [] items
 unfolding put_before
 gaps_are old items =
-    ap (λ (ts : List (List ℕ)). gaps_between (0 ∷ map suc (kept items)) (kept items ++ length old ∷ []) ts) (sym (put_nothing (gap_texts items))) ∙ gaps_told old 0 [] items
+    ap (λ (ts : List (List ℕ)). gaps_between (0 ∷ map suc (kept items)) (kept items ++ length old ∷ []) ts)
+    (sym (put_nothing (gap_texts items))) ∙ gaps_told old 0 [] items
 
 -- Both ends of a changed gap split no CRLF, where the items keep each CRLF whole.
-ends_from : (old : List ℕ) (low : ℕ) (text : List ℕ) (items : List Item) → (0 < length text → splits_crlf old low ≡ false) → Keeps old low items → AllHaveExactEnds old (gaps_from old low text items)
-ends_from old low text [] whole keeps =
-    ((λ changed. record { order = keeps.0; within = omega arith; low_whole = keeps.1; high_whole = splits_none_past old (length old) (omega arith) }), tt)
+ends_from : (old : List ℕ) (low : ℕ) (text : List ℕ) (items : List Item)
+    → (0 < length text → splits_crlf old low ≡ false) → Keeps old low items
+    → AllHaveExactEnds old (gaps_from old low text items)
+ends_from old low text [] whole keeps = (
+  (λ changed. record {
+    order = keeps.0;
+    within = omega arith;
+    low_whole = keeps.1;
+    high_whole = splits_none_past old (length old) (omega arith);
+  }),
+  tt,
+)
 ends_from old low text (Old index ∷ items) whole keeps = (
-  (λ changed. record { order = keeps.0; within = omega (arith, keeps.1); low_whole = low_whole changed; high_whole = high_whole (low_whole changed) }),
+  (λ changed. record {
+    order = keeps.0;
+    within = omega (arith, keeps.1);
+    low_whole = low_whole changed;
+    high_whole = high_whole (low_whole changed);
+  }),
   ends_from old (suc index) [] items (λ h. absurd (omega arith)) keeps.3,
 )
   where
@@ -74,7 +94,9 @@ ends_from old low text (Old index ∷ items) whole keeps = (
         (λ (same : low ≡ index). ap (splits_crlf old) (sym same) ∙ e)
         (λ (both : (splits_crlf old low ≡ false) × (splits_crlf old index ≡ false)). both.1)
         keeps.2
-ends_from old low text (New character ∷ items) whole keeps = ends_from old low (text ++ character ∷ []) items (λ h. keeps.0) keeps.1
+ends_from old low text (New character ∷ items) whole keeps =
+    ends_from old low (text ++ character ∷ []) items (λ h. keeps.0) keeps.1
 
 pub ends_exact : (old : List ℕ) (items : List Item) → Keeps old 0 items → AllHaveExactEnds old (gaps old items)
-ends_exact old items keeps = subst (AllHaveExactEnds old) (sym (gaps_are old items)) (ends_from old 0 [] items (λ h. refl) keeps)
+ends_exact old items keeps =
+    subst (AllHaveExactEnds old) (sym (gaps_are old items)) (ends_from old 0 [] items (λ h. refl) keeps)

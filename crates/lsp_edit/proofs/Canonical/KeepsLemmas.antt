@@ -23,7 +23,8 @@ after-append low (Old index ∷ front) rest = after-append (suc index) front res
 after-append low (New character ∷ front) rest = after-append low front rest
 
 -- The old text keeps itself.
-pub row_keeps : (old : List ℕ) (low count : ℕ) → low + count ≡ length old → Keeps old low (map Old (numbers_from low count))
+pub row_keeps : (old : List ℕ) (low count : ℕ) → low + count ≡ length old
+    → Keeps old low (map Old (numbers_from low count))
 row_keeps old low zero all = (omega arith, splits_none_past old low (omega arith))
 row_keeps old low (suc count) all = (omega arith, omega arith, inl refl, row_keeps old (suc low) count (omega arith))
 
@@ -32,17 +33,24 @@ plain_keeps old = row_keeps old 0 (length old) (omega arith)
 
 module _ (old : List ℕ) where
   -- from an earlier index on, if neither splits a CRLF
-  pub keeps_from_lower : (low high : ℕ) (items : List Item) → low ≤ high → splits_crlf old low ≡ false → splits_crlf old high ≡ false → Keeps old high items → Keeps old low items
+  pub keeps_from_lower : (low high : ℕ) (items : List Item) → low ≤ high → splits_crlf old low ≡ false
+      → splits_crlf old high ≡ false → Keeps old high items → Keeps old low items
   keeps_from_lower low high [] order whole high_whole k = (omega arith, whole)
-  keeps_from_lower low high (New character ∷ items) order whole high_whole k = (whole, keeps_from_lower low high items order whole high_whole k.1)
+  keeps_from_lower low high (New character ∷ items) order whole high_whole k =
+      (whole, keeps_from_lower low high items order whole high_whole k.1)
   keeps_from_lower low high (Old index ∷ items) order whole high_whole k = (
     omega arith,
     k.1,
-    inr (whole, ⊎_elim (λ (e : high ≡ index). ap (splits_crlf old) (sym e) ∙ high_whole) (λ (e : (splits_crlf old high ≡ false) × (splits_crlf old index ≡ false)). e.1) k.2),
+    inr (
+      whole,
+      ⊎_elim (λ (e : high ≡ index). ap (splits_crlf old) (sym e) ∙ high_whole)
+          (λ (e : (splits_crlf old high ≡ false) × (splits_crlf old index ≡ false)). e.1) k.2,
+    ),
     k.3,
   )
 
-  pub new_keeps : (low : ℕ) (characters : List ℕ) (items : List Item) → splits_crlf old low ≡ false → Keeps old low items → Keeps old low (map New characters ++ items)
+  pub new_keeps : (low : ℕ) (characters : List ℕ) (items : List Item) → splits_crlf old low ≡ false
+      → Keeps old low items → Keeps old low (map New characters ++ items)
   new_keeps low [] items whole k = k
   new_keeps low (c ∷ characters) items whole k = (whole, new_keeps low characters items whole k)
 
@@ -55,18 +63,23 @@ module _ (old : List ℕ) where
   rest_keeps low (Old index ∷ front) rest k = rest_keeps (suc index) front rest k.3
   rest_keeps low (New character ∷ front) rest k = rest_keeps low front rest k.1
 
-  pub other_rest_keeps : (low : ℕ) (front rest other : List Item) → Keeps old low (front ++ rest) → Keeps old (after low front) other → Keeps old low (front ++ other)
+  pub other_rest_keeps : (low : ℕ) (front rest other : List Item) → Keeps old low (front ++ rest)
+      → Keeps old (after low front) other → Keeps old low (front ++ other)
   other_rest_keeps low [] rest other k o = o
-  other_rest_keeps low (Old index ∷ front) rest other k o = (k.0, k.1, k.2, other_rest_keeps (suc index) front rest other k.3 o)
+  other_rest_keeps low (Old index ∷ front) rest other k o =
+      (k.0, k.1, k.2, other_rest_keeps (suc index) front rest other k.3 o)
   other_rest_keeps low (New character ∷ front) rest other k o = (k.0, other_rest_keeps low front rest other k.1 o)
 
   pub after_later : (low : ℕ) (front rest : List Item) → Keeps old low (front ++ rest) → low ≤ after low front
   after_later low [] rest k = omega arith
-  after_later low (Old index ∷ front) rest k = let l : suc index ≤ after (suc index) front = after_later (suc index) front rest k.3 in omega (arith, k.0)
+  after_later low (Old index ∷ front) rest k = let l : suc index ≤ after (suc index) front =
+      after_later (suc index) front rest k.3 in omega (arith, k.0)
   after_later low (New character ∷ front) rest k = after_later low front rest k.1
 
-  -- An index of the items' text that splits no CRLF of that text stands behind an index that splits none of the old text.
-  last_whole : (low : ℕ) (item : Item) (rest : List Item) → Keeps old low (item ∷ rest) → splits_crlf (text_of old (item ∷ rest)) 1 ≡ false → splits_crlf old (after low (item ∷ [])) ≡ false
+  -- An index of the items' text that splits no CRLF of that text stands behind an index that splits none of the old
+  -- text.
+  last_whole : (low : ℕ) (item : Item) (rest : List Item) → Keeps old low (item ∷ rest)
+      → splits_crlf (text_of old (item ∷ rest)) 1 ≡ false → splits_crlf old (after low (item ∷ [])) ≡ false
   last_whole low (New character) rest k whole = k.0
   last_whole low (Old index) [] k whole = k.3.1
   last_whole low (Old index) (New character ∷ rest) k whole = k.3.0
@@ -76,29 +89,39 @@ module _ (old : List ℕ) where
       (λ (e : (splits_crlf old (suc index) ≡ false) × (splits_crlf old next ≡ false)). e.0)
       k.3.2
 
-  pub place_whole : (low : ℕ) (item : Item) (front rest : List Item) → Keeps old low (item ∷ front ++ rest) → splits_crlf (text_of old (item ∷ front ++ rest)) (suc (length front)) ≡ false → splits_crlf old (after low (item ∷ front)) ≡ false
+  pub place_whole : (low : ℕ) (item : Item) (front rest : List Item) → Keeps old low (item ∷ front ++ rest)
+      → splits_crlf (text_of old (item ∷ front ++ rest)) (suc (length front)) ≡ false
+      → splits_crlf old (after low (item ∷ front)) ≡ false
   place_whole low item [] rest k whole = last_whole low item rest k whole
   place_whole low (Old index) (next ∷ front) rest k whole = place_whole (suc index) next front rest k.3 whole
   place_whole low (New character) (next ∷ front) rest k whole = place_whole low next front rest k.1 whole
 
-  place_at : (item : Item) (front rest items : List Item) (n : ℕ) → front ++ rest ≡ items → length front ≡ n → Keeps old 0 (item ∷ items) → splits_crlf (text_of old (item ∷ items)) (suc n) ≡ false → splits_crlf old (after 0 (item ∷ front)) ≡ false
+  place_at : (item : Item) (front rest items : List Item) (n : ℕ) → front ++ rest ≡ items → length front ≡ n
+      → Keeps old 0 (item ∷ items) → splits_crlf (text_of old (item ∷ items)) (suc n) ≡ false
+      → splits_crlf old (after 0 (item ∷ front)) ≡ false
   place_at item front rest items n all here k whole =
       place_whole 0 item front rest
       (subst (λ (is : List Item). Keeps old 0 (item ∷ is)) (sym all) k)
-      (subst (λ (is : List Item). splits_crlf (text_of old (item ∷ is)) (suc (length front)) ≡ false) (sym all) (subst (λ (m : ℕ). splits_crlf (text_of old (item ∷ items)) (suc m) ≡ false) (sym here) whole))
+      (subst (λ (is : List Item). splits_crlf (text_of old (item ∷ is)) (suc (length front)) ≡ false) (sym all)
+      (subst (λ (m : ℕ). splits_crlf (text_of old (item ∷ items)) (suc m) ≡ false) (sym here) whole))
 
-  pub index_whole : (items : List Item) (k : ℕ) → Keeps old 0 items → k ≤ length items → splits_crlf (text_of old items) k ≡ false → splits_crlf old (after 0 (take k items)) ≡ false
+  pub index_whole : (items : List Item) (k : ℕ) → Keeps old 0 items → k ≤ length items
+      → splits_crlf (text_of old items) k ≡ false → splits_crlf old (after 0 (take k items)) ≡ false
   index_whole items zero keeps within whole = refl
   index_whole [] (suc k) keeps within whole = absurd (omega arith)
   index_whole (item ∷ items) (suc k) keeps within whole =
-      place_at item (take k items) (drop k items) items k (take-append-drop k items) (length-take-le k items (omega arith)) keeps whole
+      place_at item (take k items) (drop k items) items k (take-append-drop k items)
+      (length-take-le k items (omega arith)) keeps whole
 
   -- Items between two indexes that split no CRLF may be replaced by new ones.
-  pub replaced_keeps : (items : List Item) (characters : List ℕ) (start stop : ℕ) → Keeps old 0 items → start ≤ stop → stop ≤ length items → splits_crlf (text_of old items) start ≡ false → splits_crlf (text_of old items) stop ≡ false → Keeps old 0 (take start items ++ (map New characters ++ drop stop items))
+  pub replaced_keeps : (items : List Item) (characters : List ℕ) (start stop : ℕ) → Keeps old 0 items → start ≤ stop
+      → stop ≤ length items → splits_crlf (text_of old items) start ≡ false → splits_crlf (text_of old items) stop
+      ≡ false → Keeps old 0 (take start items ++ (map New characters ++ drop stop items))
   replaced_keeps items characters start stop keeps order within start_whole stop_whole =
       other_rest_keeps 0 (take start items) (drop start items) (map New characters ++ drop stop items) split_start
       (new_keeps (after 0 (take start items)) characters (drop stop items) low_whole
-      (keeps_from_lower (after 0 (take start items)) (after 0 (take stop items)) (drop stop items) rises low_whole high_whole (rest_keeps 0 (take stop items) (drop stop items) split_stop)))
+      (keeps_from_lower (after 0 (take start items)) (after 0 (take stop items)) (drop stop items) rises low_whole
+      high_whole (rest_keeps 0 (take stop items) (drop stop items) split_stop)))
     where
       split_start : Keeps old 0 (take start items ++ drop start items)
       split_start = subst (Keeps old 0) (sym (take-append-drop start items)) keeps
@@ -121,24 +144,32 @@ module _ (old : List ℕ) where
       rises : after 0 (take start items) ≤ after 0 (take stop items)
       rises =
           rw (middle, after-append 0 (take start items) (take (stop - start) (drop start items)))
-          (after_later (after 0 (take start items)) (take (stop - start) (drop start items)) (drop (stop - start) (drop start items))
-          (subst (Keeps old (after 0 (take start items))) (sym rest_split) (rest_keeps 0 (take start items) (drop start items) split_start)))
+          (after_later (after 0 (take start items)) (take (stop - start) (drop start items))
+          (drop (stop - start) (drop start items))
+          (subst (Keeps old (after 0 (take start items))) (sym rest_split)
+          (rest_keeps 0 (take start items) (drop start items) split_start)))
 
   -- A change keeps what the items before it keep.
-  pub after_change_keeps : (units : ℕ → ℕ) (items next : List Item) (change : Edit) → Keeps old 0 items → after_change units old items change ≡ Ok next → Keeps old 0 next
+  pub after_change_keeps : (units : ℕ → ℕ) (items next : List Item) (change : Edit) → Keeps old 0 items
+      → after_change units old items change ≡ Ok next → Keeps old 0 next
   after_change_keeps units items next change keeps is = by_range change.range is
     where
-      at_indexes : (start stop : Option ℕ) → ((k : ℕ) → start ≡ Some k → IsWhole (text_of old items) k) → ((k : ℕ) → stop ≡ Some k → IsWhole (text_of old items) k) → replaced items change.text start stop ≡ Ok next → Keeps old 0 next
+      at_indexes : (start stop : Option ℕ) → ((k : ℕ) → start ≡ Some k → IsWhole (text_of old items) k)
+          → ((k : ℕ) → stop ≡ Some k → IsWhole (text_of old items) k) → replaced items change.text start stop ≡ Ok next
+          → Keeps old 0 next
       at_indexes None stop start_whole stop_whole r = absurd (cc)
       at_indexes (Some a) None start_whole stop_whole r = absurd (cc)
       at_indexes (Some a) (Some b) start_whole stop_whole r =
           ⊎_elim
           (λ (e : nat_le a b ≡ true).
-          let made : ◌≡◌ {A = Result (List Item) Fault} (Ok (take a items ++ (map New change.text ++ drop b items))) (Ok next) = rw e at r in
+          let made : ◌≡◌ {A = Result (List Item) Fault} (Ok (take a items ++ (map New change.text ++ drop b items)))
+          (Ok next) = rw e at r in
           let is_next : take a items ++ (map New change.text ++ drop b items) ≡ next = cc in
           let long : length (text_of old items) ≡ length items = length-map items (character_of old) in
-          subst (Keeps old 0) is_next (replaced_keeps items change.text a b keeps (leb-true a b e) (omega (arith, (stop_whole b refl).within)) (start_whole a refl).whole (stop_whole b refl).whole))
-          (λ (e : nat_le a b ≡ false). absurd (let f : ◌≡◌ {A = Result (List Item) Fault} (Err Reversed) (Ok next) = rw e at r in cc))
+          subst (Keeps old 0) is_next (replaced_keeps items change.text a b keeps (leb-true a b e)
+          (omega (arith, (stop_whole b refl).within)) (start_whole a refl).whole (stop_whole b refl).whole))
+          (λ (e : nat_le a b ≡ false). absurd (let f : ◌≡◌ {A = Result (List Item) Fault} (Err Reversed) (Ok next) = rw
+          e at r in cc))
           (cases_Bool (nat_le a b))
 
       by_range : (range : Option Range) → changed_in units old items change.text range ≡ Ok next → Keeps old 0 next
@@ -151,17 +182,22 @@ module _ (old : List ℕ) where
           (denoted_whole units (text_of old items) range.stop)
           r
 
-  pub after_changes_keeps : (units : ℕ → ℕ) (number : ℕ) (items last : List Item) (batch : List Edit) → Keeps old 0 items → after_changes units old number items batch ≡ Ok last → Keeps old 0 last
+  pub after_changes_keeps : (units : ℕ → ℕ) (number : ℕ) (items last : List Item) (batch : List Edit)
+      → Keeps old 0 items → after_changes units old number items batch ≡ Ok last → Keeps old 0 last
   after_changes_keeps units number items last [] keeps is = let e : items ≡ last = cc in subst (Keeps old 0) e keeps
   after_changes_keeps units number items last (change ∷ batch) keeps is =
-      rest_after (after_change units old items change) refl (λ next k. after_changes_keeps units (suc number) next last batch k) is
+      rest_after (after_change units old items change) refl (λ next k. after_changes_keeps units (suc number) next last
+      batch k) is
     where
       rest_after : (made : Result (List Item) Fault) → after_change units old items change ≡ made
-          → ((next : List Item) → Keeps old 0 next → after_changes units old (suc number) next batch ≡ Ok last → Keeps old 0 last)
-          → continue_with (λ next. after_changes units old (suc number) next batch) number made ≡ Ok last → Keeps old 0 last
+          → ((next : List Item) → Keeps old 0 next → after_changes units old (suc number) next batch ≡ Ok last
+          → Keeps old 0 last)
+          → continue_with (λ next. after_changes units old (suc number) next batch) number made ≡ Ok last
+          → Keeps old 0 last
       rest_after (Ok next) e more r = more next (after_change_keeps units items next change keeps e) r
       rest_after (Err fault) e more r = absurd (cc)
 
   -- What a batch means keeps both characters of each CRLF or neither.
-  pub meaning_keeps : (units : ℕ → ℕ) (batch : List Edit) (items : List Item) → meaning units old batch ≡ Ok items → Keeps old 0 items
+  pub meaning_keeps : (units : ℕ → ℕ) (batch : List Edit) (items : List Item) → meaning units old batch ≡ Ok items
+      → Keeps old 0 items
   meaning_keeps units batch items is = after_changes_keeps units 0 (plain old) items batch (plain_keeps old) is

@@ -1,4 +1,5 @@
--- The canonical batch of items makes them of the old text again, and each of its ranges denotes in the text that it meets what it
+-- The canonical batch of items makes them of the old text again, and each of its ranges denotes in the text that it
+-- meets what it
 -- denotes in the old text.
 use Rattle.std.proofs.Common.{ℕ, zero, suc, ◌≡◌, ◌+◌, ◌-◌, ◌<◌, ◌≤◌, true, false, nat_lt, cond, List, [], ◌∷◌, ◌++◌, length, map, reverse, filter, take, drop, slice_index, Some, Ok, ⊎_elim, refl, sym, ap, ◌∙◌, subst, arith, append_assoc, append-nil, take_at, drop_at, take-take, drop-cons, length-take-le, le-leb}
 use Rattle.std.proofs.lemmas.Bool.{cases_Bool, cases_eq, or_parts, ltb-false}
@@ -19,8 +20,10 @@ use Rattle.lsp_edit.proofs.Batches.BatchLemmas.{Makes, makes_nothing, makes_join
 abbrev pub plain_to : ℕ → List Item
 plain_to high = map Old (numbers_from 0 high)
 
-pub numbers-append : (low count more : ℕ) → numbers_from low (count + more) ≡ numbers_from low count ++ numbers_from (low + count) more
-numbers-append low zero more = let e : 0 + more ≡ more = omega arith in let l : low + 0 ≡ low = omega arith in rw (e, l) refl
+pub numbers-append : (low count more : ℕ) → numbers_from low (count + more) ≡ numbers_from low count ++ numbers_from
+    (low + count) more
+numbers-append low zero more = let e : 0 + more ≡ more = omega arith in let l : low + 0 ≡ low = omega arith in
+    rw (e, l) refl
 numbers-append low (suc count) more =
     let e : suc count + more ≡ suc (count + more) = omega arith in
     let l : suc low + count ≡ low + suc count = omega arith in
@@ -36,7 +39,8 @@ length-plain_to high = length-map (numbers_from 0 high) Old ∙ length-numbers 0
 plain_to_split : (low high : ℕ) → low ≤ high → plain_to high ≡ plain_to low ++ map Old (numbers_from low (high - low))
 plain_to_split low high order =
     let e : low + (high - low) ≡ high = omega arith in
-    let n : numbers_from 0 (low + (high - low)) ≡ numbers_from 0 low ++ numbers_from (0 + low) (high - low) = numbers-append 0 low (high - low) in
+    let n : numbers_from 0 (low + (high - low)) ≡ numbers_from 0 low ++ numbers_from (0 + low) (high - low) =
+    numbers-append 0 low (high - low) in
     let z : 0 + low ≡ low = omega arith in
     let m : numbers_from 0 high ≡ numbers_from 0 low ++ numbers_from low (high - low) = rw (e, z) at n in
     ap (map Old) m ∙ map-append Old (numbers_from 0 low) (numbers_from low (high - low))
@@ -44,28 +48,34 @@ plain_to_split low high order =
 plain_to_next : (index : ℕ) (rest : List Item) → plain_to (suc index) ++ rest ≡ plain_to index ++ (Old index ∷ rest)
 plain_to_next index rest =
     let one : suc index - index ≡ 1 = omega arith in
-    let s : plain_to (suc index) ≡ plain_to index ++ map Old (numbers_from index (suc index - index)) = plain_to_split index (suc index) (omega arith) in
+    let s : plain_to (suc index) ≡ plain_to index ++ map Old (numbers_from index (suc index - index)) =
+    plain_to_split index (suc index) (omega arith) in
     let t : plain_to (suc index) ≡ plain_to index ++ (Old index ∷ []) = rw one at s in
     ap (λ (items : List Item). items ++ rest) t ∙ append_assoc (plain_to index) (Old index ∷ []) rest
 
 module _ (old : List ℕ) where
-  pub text_row : (low count : ℕ) → low + count ≤ length old → text_of old (map Old (numbers_from low count)) ≡ take count (drop low old)
+  pub text_row : (low count : ℕ) → low + count ≤ length old → text_of old (map Old (numbers_from low count))
+      ≡ take count (drop low old)
   text_row low zero within = refl
   text_row low (suc count) within =
       let inside : low < length old = omega arith in
       rw (drop-cons old low 0) (ap (λ (cs : List ℕ). slice_index old low ∷ cs) (text_row (suc low) count (omega arith)))
 
-  text_met : (high : ℕ) (rest : List Item) → high ≤ length old → text_of old (plain_to high ++ rest) ≡ take high old ++ text_of old rest
-  text_met high rest within = map-append (character_of old) (plain_to high) rest ∙ ap (λ (cs : List ℕ). cs ++ text_of old rest) (text_row 0 high (omega arith))
+  text_met : (high : ℕ) (rest : List Item) → high ≤ length old → text_of old (plain_to high ++ rest) ≡ take high old
+      ++ text_of old rest
+  text_met high rest within = map-append (character_of old) (plain_to high) rest
+      ∙ ap (λ (cs : List ℕ). cs ++ text_of old rest) (text_row 0 high (omega arith))
 
-  -- What a text that a change meets has in common with the old text: all characters up to that at `high`, or both end there.
+  -- What a text that a change meets has in common with the old text: all characters up to that at `high`, or both end
+  -- there.
   record IsMet (met : List ℕ) (high : ℕ) : Type 0 where
     within : high ≤ length old
     long : high ≤ length met
     same : take high met ≡ take high old
     at_high : slice_index met high ≡ slice_index old high
 
-  is_met : (high : ℕ) (rest : List Item) → high ≤ length old → slice_index (text_of old rest) 0 ≡ slice_index old high → IsMet (text_of old (plain_to high ++ rest)) high
+  is_met : (high : ℕ) (rest : List Item) → high ≤ length old → slice_index (text_of old rest) 0 ≡ slice_index old high
+      → IsMet (text_of old (plain_to high ++ rest)) high
   is_met high rest within first =
       let t : text_of old (plain_to high ++ rest) ≡ take high old ++ text_of old rest = text_met high rest within in
       let len : length (take high old) ≡ high = length-take-le high old within in
@@ -73,7 +83,8 @@ module _ (old : List ℕ) where
         within = within;
         long = simp length-append (omega arith);
         same = take_at (take high old) (text_of old rest) high len;
-        at_high = let z : length (take high old) + 0 ≡ high = omega arith in (rw z at (get_or-append-add (take high old) (text_of old rest) 0 0)) ∙ first;
+        at_high = let z : length (take high old) + 0 ≡ high = omega arith in
+            (rw z at (get_or-append-add (take high old) (text_of old rest) 0 0)) ∙ first;
       })
 
   agree_to : (met : List ℕ) (high : ℕ) → IsMet met high → AgreeBelow met old (suc high)
@@ -85,24 +96,32 @@ module _ (old : List ℕ) where
 
   module _ (units : ℕ → ℕ) (some : (c : ℕ) → 1 ≤ units c) where
     -- an index up to `high` is denoted in the text that a change meets by its exact position in the old text
-    index_met : (met : List ℕ) (high k : ℕ) → IsMet met high → k ≤ high → splits_crlf old k ≡ false → denoted units met (exact_position units old k) ≡ Some k
+    index_met : (met : List ℕ) (high k : ℕ) → IsMet met high → k ≤ high → splits_crlf old k ≡ false
+        → denoted units met (exact_position units old k) ≡ Some k
     index_met met high k is order whole =
-        let near : splits_crlf met k ≡ splits_crlf old k = splits_near met old (suc high) k (agree_to met high is) (omega arith) in
+        let near : splits_crlf met k ≡ splits_crlf old k =
+        splits_near met old (suc high) k (agree_to met high is) (omega arith) in
         let met_whole : splits_crlf met k ≡ false = near ∙ whole in
         let met_take : take k (take high met) ≡ take k met = take-take k high met order in
         let old_take : take k (take high old) ≡ take k old = take-take k high old order in
         let both : take k (take high met) ≡ take k (take high old) = ap (take k) is.same in
         let same : take k met ≡ take k old = cc in
-        let e : exact_position units met k ≡ exact_position units old k = exact_near units met old k same (omega (arith, is.long)) (omega (arith, is.within)) met_whole whole in
+        let e : exact_position units met k ≡ exact_position units old k =
+        exact_near units met old k same (omega (arith, is.long)) (omega (arith, is.within)) met_whole whole in
         ap (denoted units met) (sym e) ∙ exact_denotes units some met k (omega (arith, is.long)) met_whole
 
     -- The change of a gap, on items that are old up to the gap's end, puts the gap's text in its place.
-    gap_changed : (low high : ℕ) (text : List ℕ) (rest : List Item) → HasExactEnds old (gap low high text) → slice_index (text_of old rest) 0 ≡ slice_index old high → Makes units old (plain_to high ++ rest) (change_of units old (gap low high text) ∷ []) (plain_to low ++ (map New text ++ rest))
+    gap_changed : (low high : ℕ) (text : List ℕ) (rest : List Item) → HasExactEnds old (gap low high text)
+        → slice_index (text_of old rest) 0 ≡ slice_index old high → Makes units old (plain_to high ++ rest)
+        (change_of units old (gap low high text) ∷ []) (plain_to low ++ (map New text ++ rest))
     gap_changed low high text rest ends first =
         let is : IsMet (text_of old (plain_to high ++ rest)) high = is_met high rest ends.within first in
-        let low_met : denoted units (text_of old (plain_to high ++ rest)) (exact_position units old low) ≡ Some low = index_met (text_of old (plain_to high ++ rest)) high low is ends.order ends.low_whole in
-        let high_met : denoted units (text_of old (plain_to high ++ rest)) (exact_position units old high) ≡ Some high = index_met (text_of old (plain_to high ++ rest)) high high is (omega arith) ends.high_whole in
-        let made : after_change units old (plain_to high ++ rest) (change_of units old (gap low high text)) ≡ Ok (plain_to low ++ (map New text ++ rest)) = rw (low_met, high_met) replaced_here in
+        let low_met : denoted units (text_of old (plain_to high ++ rest)) (exact_position units old low) ≡ Some low =
+        index_met (text_of old (plain_to high ++ rest)) high low is ends.order ends.low_whole in
+        let high_met : denoted units (text_of old (plain_to high ++ rest)) (exact_position units old high) ≡ Some high =
+        index_met (text_of old (plain_to high ++ rest)) high high is (omega arith) ends.high_whole in
+        let made : after_change units old (plain_to high ++ rest) (change_of units old (gap low high text))
+        ≡ Ok (plain_to low ++ (map New text ++ rest)) = rw (low_met, high_met) replaced_here in
         record {
           leaves = λ number. rw made refl;
           ranges = (
@@ -120,13 +139,18 @@ module _ (old : List ℕ) where
       where
         front : take low (plain_to high ++ rest) ≡ plain_to low
         front =
-            let s : plain_to high ≡ plain_to low ++ map Old (numbers_from low (high - low)) = plain_to_split low high ends.order in
-            rw (s, append_assoc (plain_to low) (map Old (numbers_from low (high - low))) rest) (take_at (plain_to low) (map Old (numbers_from low (high - low)) ++ rest) low (length-plain_to low))
+            let s : plain_to high ≡ plain_to low ++ map Old (numbers_from low (high - low)) =
+            plain_to_split low high ends.order in
+            rw (
+              s,
+              append_assoc (plain_to low) (map Old (numbers_from low (high - low))) rest,
+            ) (take_at (plain_to low) (map Old (numbers_from low (high - low)) ++ rest) low (length-plain_to low))
 
         back : drop high (plain_to high ++ rest) ≡ rest
         back = drop_at (plain_to high) rest high (length-plain_to high)
 
-        replaced_here : replaced (plain_to high ++ rest) text (Some low) (Some high) ≡ Ok (plain_to low ++ (map New text ++ rest))
+        replaced_here : replaced (plain_to high ++ rest) text (Some low) (Some high)
+            ≡ Ok (plain_to low ++ (map New text ++ rest))
         replaced_here = rw (le-leb low high ends.order, front, back) refl
 
 -- the batch of a row of gaps
@@ -137,49 +161,70 @@ batch_of units old gs = reverse (map (change_of units old) (filter is_changed gs
 abbrev pub change_if : (ℕ → ℕ) → List ℕ → Gap → List Edit
 change_if units old g = cond (is_changed g) (change_of units old g ∷ []) []
 
-pub batch_of-cons : (units : ℕ → ℕ) (old : List ℕ) (g : Gap) (gs : List Gap) → batch_of units old (g ∷ gs) ≡ batch_of units old gs ++ change_if units old g
+pub batch_of-cons : (units : ℕ → ℕ) (old : List ℕ) (g : Gap) (gs : List Gap) → batch_of units old (g ∷ gs)
+    ≡ batch_of units old gs ++ change_if units old g
 batch_of-cons units old g gs =
     ⊎_elim
-    (λ (e : is_changed g ≡ true). rw e (reverse-append (change_of units old g ∷ []) (map (change_of units old) (filter is_changed gs))))
+    (λ (e : is_changed g ≡ true). rw e
+    (reverse-append (change_of units old g ∷ []) (map (change_of units old) (filter is_changed gs))))
     (λ (e : is_changed g ≡ false). rw e (sym (append-nil (batch_of units old gs))))
     (cases_Bool (is_changed g))
 
 module _ (units : ℕ → ℕ) (some : (c : ℕ) → 1 ≤ units c) (old : List ℕ) where
-  gap_made : (low high : ℕ) (text : List ℕ) (rest : List Item) → low ≤ high → (is_changed (gap low high text) ≡ true → HasExactEnds old (gap low high text)) → slice_index (text_of old rest) 0 ≡ slice_index old high → Makes units old (plain_to high ++ rest) (change_if units old (gap low high text)) (plain_to low ++ (map New text ++ rest))
+  gap_made : (low high : ℕ) (text : List ℕ) (rest : List Item) → low ≤ high
+      → (is_changed (gap low high text) ≡ true → HasExactEnds old (gap low high text))
+      → slice_index (text_of old rest) 0 ≡ slice_index old high → Makes units old (plain_to high ++ rest)
+      (change_if units old (gap low high text)) (plain_to low ++ (map New text ++ rest))
   gap_made low high text rest order ends first =
       ⊎_elim
-      (λ (e : is_changed (gap low high text) ≡ true). rw e (gap_changed old units some low high text rest (ends e) first))
-      (λ (e : is_changed (gap low high text) ≡ false). rw e (subst (λ (made : List Item). Makes units old (plain_to high ++ rest) [] made) (same e) (makes_nothing units old (plain_to high ++ rest))))
+      (λ (e : is_changed (gap low high text) ≡ true). rw e (gap_changed old units some low high text rest (ends e)
+      first))
+      (λ (e : is_changed (gap low high text) ≡ false). rw e
+      (subst (λ (made : List Item). Makes units old (plain_to high ++ rest) [] made) (same e)
+      (makes_nothing units old (plain_to high ++ rest))))
       (cases_Bool (is_changed (gap low high text)))
     where
       same : is_changed (gap low high text) ≡ false → plain_to high ++ rest ≡ plain_to low ++ (map New text ++ rest)
       same e =
-          let parts : (nat_lt low high ≡ false) × (nat_lt 0 (length text) ≡ false) = or_parts (nat_lt low high) (nat_lt 0 (length text)) e in
+          let parts : (nat_lt low high ≡ false) × (nat_lt 0 (length text) ≡ false) =
+          or_parts (nat_lt low high) (nat_lt 0 (length text)) e in
           let no_more : high ≤ low = ltb-false low high parts.0 in
           let here : high ≡ low = omega arith in
           let none : length text ≤ 0 = ltb-false 0 (length text) parts.1 in
           let empty : text ≡ [] = nil_from_length text (omega arith) in
           rw (here, empty) refl
 
-  -- The changes of the gaps from an old index on, made from the last to the first, leave the items behind the old text before it.
-  pub rebuilt : (low : ℕ) (text : List ℕ) (items : List Item) → Keeps old low items → AllHaveExactEnds old (gaps_from old low text items) → Makes units old (plain old) (batch_of units old (gaps_from old low text items)) (plain_to low ++ (map New text ++ items))
+  -- The changes of the gaps from an old index on, made from the last to the first, leave the items behind the old text
+  -- before it.
+  pub rebuilt : (low : ℕ) (text : List ℕ) (items : List Item) → Keeps old low items
+      → AllHaveExactEnds old (gaps_from old low text items)
+      → Makes units old (plain old) (batch_of units old (gaps_from old low text items))
+      (plain_to low ++ (map New text ++ items))
   rebuilt low text [] keeps ends =
       rw (batch_of-cons units old (gap low (length old) text) [])
-      (subst (λ (from : List Item). Makes units old from (change_if units old (gap low (length old) text)) (plain_to low ++ (map New text ++ []))) (append-nil (plain old))
+      (subst (λ (from : List Item). Makes units old from (change_if units old (gap low (length old) text))
+      (plain_to low ++ (map New text ++ []))) (append-nil (plain old))
       (gap_made low (length old) text [] keeps.0 ends.0 (sym (get_or_past old (length old) 0 (omega arith)))))
   rebuilt low text (Old index ∷ items) keeps ends =
       rw (batch_of-cons units old (gap low index text) (gaps_from old (suc index) [] items))
-      (makes_joined units old (plain old) (plain_to index ++ (Old index ∷ items)) (plain_to low ++ (map New text ++ (Old index ∷ items)))
+      (makes_joined units old (plain old) (plain_to index ++ (Old index ∷ items))
+      (plain_to low ++ (map New text ++ (Old index ∷ items)))
       (batch_of units old (gaps_from old (suc index) [] items))
       (change_if units old (gap low index text))
-      (subst (λ (made : List Item). Makes units old (plain old) (batch_of units old (gaps_from old (suc index) [] items)) made) (plain_to_next index items) (rebuilt (suc index) [] items keeps.3 ends.1))
+      (subst (λ (made : List Item). Makes units old (plain old)
+      (batch_of units old (gaps_from old (suc index) [] items)) made) (plain_to_next index items)
+      (rebuilt (suc index) [] items keeps.3 ends.1))
       (gap_made low index text (Old index ∷ items) keeps.0 ends.0 refl))
   rebuilt low text (New character ∷ items) keeps ends =
-      let e : map New (text ++ character ∷ []) ++ items ≡ map New text ++ (New character ∷ items) = ap (λ (new : List Item). new ++ items) (map-append New text (character ∷ [])) ∙ append_assoc (map New text) (New character ∷ []) items in
-      subst (λ (rest : List Item). Makes units old (plain old) (batch_of units old (gaps_from old low (text ++ character ∷ []) items)) (plain_to low ++ rest)) e
+      let e : map New (text ++ character ∷ []) ++ items ≡ map New text ++ (New character ∷ items) =
+      ap (λ (new : List Item). new ++ items) (map-append New text (character ∷ [])) ∙ append_assoc (map New text)
+      (New character ∷ []) items in
+      subst (λ (rest : List Item). Makes units old (plain old)
+      (batch_of units old (gaps_from old low (text ++ character ∷ []) items)) (plain_to low ++ rest)) e
       (rebuilt low (text ++ character ∷ []) items keeps.1 ends)
 
-  pub canonical_makes : (items : List Item) → Keeps old 0 items → Makes units old (plain old) (canonical units old items) items
+  pub canonical_makes : (items : List Item) → Keeps old 0 items
+      → Makes units old (plain old) (canonical units old items) items
   canonical_makes items keeps =
       subst (λ (gs : List Gap). Makes units old (plain old) (batch_of units old gs) items) (sym (gaps_are old items))
       (rebuilt 0 [] items keeps (subst (AllHaveExactEnds old) (gaps_are old items) (ends_exact old items keeps)))

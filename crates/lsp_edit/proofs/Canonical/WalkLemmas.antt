@@ -27,7 +27,8 @@ use Rattle.lsp_edit.proofs.Parts.IndexLemmas.{index_of-place, index_rises, index
 abbrev pub changes_of : (ℕ → ℕ) → List ℕ → List Gap → List Edit
 changes_of units old gs = map (change_of units old) (filter is_changed gs)
 
-pub changes_of-cons : (units : ℕ → ℕ) (old : List ℕ) (g : Gap) (gs : List Gap) → changes_of units old (g ∷ gs) ≡ cond (is_changed g) (change_of units old g ∷ []) [] ++ changes_of units old gs
+pub changes_of-cons : (units : ℕ → ℕ) (old : List ℕ) (g : Gap) (gs : List Gap) → changes_of units old (g ∷ gs)
+    ≡ cond (is_changed g) (change_of units old g ∷ []) [] ++ changes_of units old gs
 changes_of-cons units old g gs =
     ⊎_elim
     (λ (e : is_changed g ≡ true). rw e refl)
@@ -35,26 +36,35 @@ changes_of-cons units old g gs =
     (cases_Bool (is_changed g))
 
 -- Gaps inside a row of kept characters aren't changed.
-row_gaps : (units : ℕ → ℕ) (old : List ℕ) (low count : ℕ) (rest : List Item) → changes_of units old (gaps_from old low [] (map Old (numbers_from low count) ++ rest)) ≡ changes_of units old (gaps_from old (low + count) [] rest)
+row_gaps : (units : ℕ → ℕ) (old : List ℕ) (low count : ℕ) (rest : List Item)
+    → changes_of units old (gaps_from old low [] (map Old (numbers_from low count) ++ rest))
+    ≡ changes_of units old (gaps_from old (low + count) [] rest)
 row_gaps units old low zero rest = let e : low + 0 ≡ low = omega arith in rw e refl
 row_gaps units old low (suc count) rest =
     let none : nat_lt low low ≡ false = le-ltb low low (omega arith) in
     let e : suc low + count ≡ low + suc count = omega arith in
-    let ih : changes_of units old (gaps_from old (suc low) [] (map Old (numbers_from (suc low) count) ++ rest)) ≡ changes_of units old (gaps_from old (suc low + count) [] rest) = row_gaps units old (suc low) count rest in
+    let ih : changes_of units old (gaps_from old (suc low) [] (map Old (numbers_from (suc low) count) ++ rest))
+    ≡ changes_of units old (gaps_from old (suc low + count) [] rest) = row_gaps units old (suc low) count rest in
     rw none (ih ∙ ap (λ (n : ℕ). changes_of units old (gaps_from old n [] rest)) e)
 
-row_ends : (old : List ℕ) (low count : ℕ) (rest : List Item) → AllHaveExactEnds old (gaps_from old low [] (map Old (numbers_from low count) ++ rest)) → AllHaveExactEnds old (gaps_from old (low + count) [] rest)
-row_ends old low zero rest ends = let e : low ≡ low + 0 = omega arith in subst (λ (n : ℕ). AllHaveExactEnds old (gaps_from old n [] rest)) e ends
+row_ends : (old : List ℕ) (low count : ℕ) (rest : List Item)
+    → AllHaveExactEnds old (gaps_from old low [] (map Old (numbers_from low count) ++ rest))
+    → AllHaveExactEnds old (gaps_from old (low + count) [] rest)
+row_ends old low zero rest ends = let e : low ≡ low + 0 = omega arith in
+    subst (λ (n : ℕ). AllHaveExactEnds old (gaps_from old n [] rest)) e ends
 row_ends old low (suc count) rest ends =
     let e : suc low + count ≡ low + suc count = omega arith in
     subst (λ (n : ℕ). AllHaveExactEnds old (gaps_from old n [] rest)) e (row_ends old (suc low) count rest ends.1)
 
-new_gaps : (old : List ℕ) (low : ℕ) (text characters : List ℕ) (rest : List Item) → gaps_from old low text (map New characters ++ rest) ≡ gaps_from old low (text ++ characters) rest
+new_gaps : (old : List ℕ) (low : ℕ) (text characters : List ℕ) (rest : List Item)
+    → gaps_from old low text (map New characters ++ rest) ≡ gaps_from old low (text ++ characters) rest
 new_gaps old low text [] rest = ap (λ (t : List ℕ). gaps_from old low t rest) (sym (append-nil text))
-new_gaps old low text (c ∷ characters) rest = new_gaps old low (text ++ c ∷ []) characters rest ∙ ap (λ (t : List ℕ). gaps_from old low t rest) (append_assoc text (c ∷ []) characters)
+new_gaps old low text (c ∷ characters) rest = new_gaps old low (text ++ c ∷ []) characters rest
+    ∙ ap (λ (t : List ℕ). gaps_from old low t rest) (append_assoc text (c ∷ []) characters)
 
 -- A gap that isn't changed adds nothing.
-gap_unchanged : (before : List ℕ) (low high : ℕ) (text : List ℕ) → high ≤ low → length text ≡ 0 → is_changed (gap_between before low high text) ≡ false
+gap_unchanged : (before : List ℕ) (low high : ℕ) (text : List ℕ) → high ≤ low → length text ≡ 0
+    → is_changed (gap_between before low high text) ≡ false
 gap_unchanged before low high text falls none =
     let e : chars text ≡ [] = ap chars (nil_from_length text none) ∙ chars-nil in
     let n : length (chars text) ≡ 0 = ap length e in
@@ -62,15 +72,21 @@ gap_unchanged before low high text falls none =
     (le-ltb (index_of (chars before) low) (index_of (chars before) high) (index_rises (chars before) high low falls))
     (le-ltb 0 (length (chars text)) (omega arith))
 
-pub gap_skipped : (before : List ℕ) (units : ℕ → ℕ) (low high : ℕ) (changes : List Change) (text : List ℕ) → high ≤ low → length text ≡ 0 → map edit_of changes ≡ map edit_of changes ++ gap_change units before low high text
-gap_skipped before units low high changes text falls none = rw (gap_unchanged before low high text falls none) (sym (append-nil (map edit_of changes)))
+pub gap_skipped : (before : List ℕ) (units : ℕ → ℕ) (low high : ℕ) (changes : List Change) (text : List ℕ) → high ≤ low
+    → length text ≡ 0 → map edit_of changes ≡ map edit_of changes ++ gap_change units before low high text
+gap_skipped before units low high changes text falls none =
+    rw (gap_unchanged before low high text falls none) (sym (append-nil (map edit_of changes)))
 
 module _ (before : List ℕ) (utf8 : IsUtf8 before) where
-  gap_changed : (low high : ℕ) (text : List ℕ) → IsUtf8 text → IsCharBoundary before low → IsCharBoundary before high → (low < high) ⊎ (0 < length text) → is_changed (gap_between before low high text) ≡ true
+  gap_changed : (low high : ℕ) (text : List ℕ) → IsUtf8 text → IsCharBoundary before low → IsCharBoundary before high
+      → (low < high) ⊎ (0 < length text) → is_changed (gap_between before low high text) ≡ true
   gap_changed low high text text_utf8 at_low at_high changed =
       ⊎_elim
-      (λ (l : low < high). or_left (nat_lt (index_of (chars before) low) (index_of (chars before) high)) (nat_lt 0 (length (chars text))) (lt-ltb (index_of (chars before) low) (index_of (chars before) high) (indexes_less before utf8 low high at_low at_high l)))
-      (λ (s : 0 < length text). or_right (nat_lt (index_of (chars before) low) (index_of (chars before) high)) (nat_lt 0 (length (chars text))) (lt-ltb 0 (length (chars text)) (some_chars text text_utf8 s)))
+      (λ (l : low < high). or_left (nat_lt (index_of (chars before) low) (index_of (chars before) high))
+      (nat_lt 0 (length (chars text))) (lt-ltb (index_of (chars before) low) (index_of (chars before) high)
+      (indexes_less before utf8 low high at_low at_high l)))
+      (λ (s : 0 < length text). or_right (nat_lt (index_of (chars before) low) (index_of (chars before) high))
+      (nat_lt 0 (length (chars text))) (lt-ltb 0 (length (chars text)) (some_chars text text_utf8 s)))
       changed
     where
       some_chars : (bytes : List ℕ) → IsUtf8 bytes → 0 < length bytes → 0 < length (chars bytes)
@@ -83,68 +99,96 @@ module _ (before : List ℕ) (utf8 : IsUtf8 before) where
           absurd (omega arith))
           (cases_lt 0 (length (chars bytes)))
 
-  position_exact : (units : ℕ → ℕ) (place : ℕ) (p : Position) → IsCharBoundary before place → ((k : ℕ) → k ≤ length (chars before) → place_of (chars before) k ≡ place → p ≡ exact_position units (chars before) k) → p ≡ exact_position units (chars before) (index_of (chars before) place)
+  position_exact : (units : ℕ → ℕ) (place : ℕ) (p : Position) → IsCharBoundary before place
+      → ((k : ℕ) → k ≤ length (chars before) → place_of (chars before) k ≡ place
+      → p ≡ exact_position units (chars before) k) → p ≡ exact_position units (chars before)
+      (index_of (chars before) place)
   position_exact units place p at exact = by_index (index_at before place utf8 at)
     where
       by_index : IsIndexAt before place → p ≡ exact_position units (chars before) (index_of (chars before) place)
       by_index a =
-          let at_a : index_of (chars before) place ≡ a.index = ap (index_of (chars before)) (sym a.place_is) ∙ index_of-place (chars before) a.index a.within in
+          let at_a : index_of (chars before) place ≡ a.index = ap (index_of (chars before)) (sym a.place_is)
+          ∙ index_of-place (chars before) a.index a.within in
           exact a.index a.within a.place_is ∙ ap (exact_position units (chars before)) (sym at_a)
 
   -- What a gap adds to the changes.
-  pub gap_put : (units : ℕ → ℕ) (low high : ℕ) (changes : List Change) (change : Change) (start stop : Position) → IsCharBoundary before low → IsCharBoundary before high → (low < high) ⊎ (0 < length (string_bytes change.text))
+  pub gap_put : (units : ℕ → ℕ) (low high : ℕ) (changes : List Change) (change : Change) (start stop : Position)
+      → IsCharBoundary before low → IsCharBoundary before high → (low < high) ⊎ (0 < length (string_bytes change.text))
       → change.range ≡ Some (record { start = start; stop = stop })
-      → ((k : ℕ) → k ≤ length (chars before) → place_of (chars before) k ≡ low → start ≡ exact_position units (chars before) k)
-      → ((k : ℕ) → k ≤ length (chars before) → place_of (chars before) k ≡ high → stop ≡ exact_position units (chars before) k)
-      → map edit_of (changes ++ change ∷ []) ≡ map edit_of changes ++ gap_change units before low high (string_bytes change.text)
+      → ((k : ℕ) → k ≤ length (chars before) → place_of (chars before) k ≡ low
+      → start ≡ exact_position units (chars before) k)
+      → ((k : ℕ) → k ≤ length (chars before) → place_of (chars before) k ≡ high
+      → stop ≡ exact_position units (chars before) k)
+      → map edit_of (changes ++ change ∷ []) ≡ map edit_of changes ++ gap_change units before low high
+      (string_bytes change.text)
   gap_put units low high changes change start stop at_low at_high changed range low_exact high_exact =
-      let s : start ≡ exact_position units (chars before) (index_of (chars before) low) = position_exact units low start at_low low_exact in
-      let t : stop ≡ exact_position units (chars before) (index_of (chars before) high) = position_exact units high stop at_high high_exact in
+      let s : start ≡ exact_position units (chars before) (index_of (chars before) low) =
+      position_exact units low start at_low low_exact in
+      let t : stop ≡ exact_position units (chars before) (index_of (chars before) high) =
+      position_exact units high stop at_high high_exact in
       let e : edit_of change ≡ change_of units (chars before) (gap_between before low high (string_bytes change.text))
-      = λ i. record { range = (range ∙ ap₂ (λ (x y : Position). Some (record { start = x; stop = y })) s t) i; text = chars (string_bytes change.text) } in
+      = λ i. record {
+        range = (range ∙ ap₂ (λ (x y : Position). Some (record { start = x; stop = y })) s t) i;
+        text = chars (string_bytes change.text);
+      } in
       map-append edit_of changes (change ∷ [])
-      ∙ rw (gap_changed low high (string_bytes change.text) (IsUtf8-string_bytes change.text) at_low at_high changed) (ap (λ (x : Edit). map edit_of changes ++ x ∷ []) e)
+      ∙ rw (gap_changed low high (string_bytes change.text) (IsUtf8-string_bytes change.text) at_low at_high changed)
+      (ap (λ (x : Edit). map edit_of changes ++ x ∷ []) e)
 
 -- whether a text has bytes
 pub text_some : {Z : Type 0} (text : String Z) → false ≡ (string_len text == 0) → 0 < length (string_bytes text)
 text_some text e =
     ⊎_elim
     (λ (l : 0 < length (string_bytes text)). l)
-    (λ (l : length (string_bytes text) ≤ 0). absurd (eqb-false (string_len text) 0 (sym e) (omega (arith, text.bytes.ok.0))))
+    (λ (l : length (string_bytes text) ≤ 0). absurd
+    (eqb-false (string_len text) 0 (sym e) (omega (arith, text.bytes.ok.0))))
     (cases_lt 0 (length (string_bytes text)))
 
 pub text_none : {Z : Type 0} (text : String Z) → true ≡ (string_len text == 0) → length (string_bytes text) ≡ 0
 text_none text e = sym text.bytes.ok.0 ∙ eqb-true (string_len text) 0 (sym e)
 
 -- How far the changes of parts were written: those of the parts that are left complete them.
-pub record Walks (units : ℕ → ℕ) (before : List ℕ) (all made : List Edit) (low : ℕ) (text : List ℕ) (parts : List Part) : Type 0 where
-  pub error : made ++ changes_of units (chars before) (gaps_from (chars before) (index_of (chars before) low) (chars text) (items_of (chars before) parts)) ≡ all
-  pub ends : AllHaveExactEnds (chars before) (gaps_from (chars before) (index_of (chars before) low) (chars text) (items_of (chars before) parts))
+pub record Walks (units : ℕ → ℕ) (before : List ℕ) (all made : List Edit) (low : ℕ) (text : List ℕ)
+    (parts : List Part) : Type 0 where
+  pub error : made ++ changes_of units (chars before) (gaps_from (chars before) (index_of (chars before) low)
+      (chars text) (items_of (chars before) parts)) ≡ all
+  pub ends : AllHaveExactEnds (chars before) (gaps_from (chars before) (index_of (chars before) low) (chars text)
+      (items_of (chars before) parts))
   pub at : IsCharBoundary before low
   pub are : AreParts before parts
 
 module _ (units : ℕ → ℕ) (before : List ℕ) (utf8 : IsUtf8 before) where
-  place_is : (place : ℕ) → IsCharBoundary before place → splits_crlf (chars before) (index_of (chars before) place) ≡ false → IsPlace (chars before) place
+  place_is : (place : ℕ) → IsCharBoundary before place → splits_crlf (chars before) (index_of (chars before) place)
+      ≡ false → IsPlace (chars before) place
   place_is place at whole = by_index (index_at before place utf8 at)
     where
       by_index : IsIndexAt before place → IsPlace (chars before) place
       by_index a =
-          let at_a : index_of (chars before) place ≡ a.index = ap (index_of (chars before)) (sym a.place_is) ∙ index_of-place (chars before) a.index a.within in
+          let at_a : index_of (chars before) place ≡ a.index = ap (index_of (chars before)) (sym a.place_is)
+          ∙ index_of-place (chars before) a.index a.within in
           (a.index, a.within, ap (splits_crlf (chars before)) (sym at_a) ∙ whole, a.place_is)
 
   last_index : index_of (chars before) (length before) ≡ length (chars before)
   last_index =
-      let e : place_of (chars before) (length (chars before)) ≡ length before = place_end (chars before) ∙ ap length (encodes-chars before utf8) in
+      let e : place_of (chars before) (length (chars before)) ≡ length before =
+      place_end (chars before) ∙ ap length (encodes-chars before utf8) in
       ap (index_of (chars before)) (sym e) ∙ index_of-place (chars before) (length (chars before)) (omega arith)
 
-  module _ (all made : List Edit) (low : ℕ) (text : List ℕ) (text_utf8 : IsUtf8 text) (rest : List Part) (walks : Walks units before all made low text rest) where
+  module _ (all made : List Edit) (low : ℕ) (text : List ℕ) (text_utf8 : IsUtf8 text) (rest : List Part)
+      (walks : Walks units before all made low text rest) where
     -- behind a part of a new text
-    pub walk_new : (bytes : List ℕ) (more : List Part) → rest ≡ NewPart bytes ∷ more → Walks units before all made low (text ++ bytes) more
+    pub walk_new : (bytes : List ℕ) (more : List Part) → rest ≡ NewPart bytes ∷ more
+        → Walks units before all made low (text ++ bytes) more
     walk_new bytes more is =
-        let w : Walks units before all made low text (NewPart bytes ∷ more) = subst (Walks units before all made low text) is walks in
-        let gs : gaps_from (chars before) (index_of (chars before) low) (chars text) (map New (chars bytes) ++ items_of (chars before) more) ≡ gaps_from (chars before) (index_of (chars before) low) (chars (text ++ bytes)) (items_of (chars before) more)
-        = new_gaps (chars before) (index_of (chars before) low) (chars text) (chars bytes) (items_of (chars before) more)
-        ∙ ap (λ (t : List ℕ). gaps_from (chars before) (index_of (chars before) low) t (items_of (chars before) more)) (sym (chars-append text bytes text_utf8)) in
+        let w : Walks units before all made low text (NewPart bytes ∷ more) =
+        subst (Walks units before all made low text) is walks in
+        let gs : gaps_from (chars before) (index_of (chars before) low) (chars text)
+        (map New (chars bytes) ++ items_of (chars before) more) ≡ gaps_from (chars before) (index_of (chars before) low)
+        (chars (text ++ bytes)) (items_of (chars before) more)
+        = new_gaps (chars before) (index_of (chars before) low) (chars text) (chars bytes)
+        (items_of (chars before) more)
+        ∙ ap (λ (t : List ℕ). gaps_from (chars before) (index_of (chars before) low) t (items_of (chars before) more))
+        (sym (chars-append text bytes text_utf8)) in
         record {
           error = ap (λ (g : List Gap). made ++ changes_of units (chars before) g) (sym gs) ∙ w.error;
           ends = subst (AllHaveExactEnds (chars before)) gs w.ends;
@@ -163,49 +207,78 @@ module _ (units : ℕ → ℕ) (before : List ℕ) (utf8 : IsUtf8 before) where
       count : ℕ
       count = (index_of (chars before) to - index_of (chars before) from) - 1
 
-      row : items_in (chars before) (OldPart from to) ≡ Old (index_of (chars before) from) ∷ map Old (numbers_from (suc (index_of (chars before) from)) count)
+      row : items_in (chars before) (OldPart from to) ≡ Old (index_of (chars before) from)
+          ∷ map Old (numbers_from (suc (index_of (chars before) from)) count)
       unfolding count
       row =
-          let less : index_of (chars before) from < index_of (chars before) to = indexes_less before utf8 from to part.1 part.2 part.0 in
-          let e : index_of (chars before) to - index_of (chars before) from ≡ suc ((index_of (chars before) to - index_of (chars before) from) - 1) = omega arith in
+          let less : index_of (chars before) from < index_of (chars before) to =
+          indexes_less before utf8 from to part.1 part.2 part.0 in
+          let e : index_of (chars before) to - index_of (chars before) from
+          ≡ suc ((index_of (chars before) to - index_of (chars before) from) - 1) = omega arith in
           ap (λ (n : ℕ). map Old (numbers_from (index_of (chars before) from) n)) e
 
       after_row : suc (index_of (chars before) from) + count ≡ index_of (chars before) to
       unfolding count
-      after_row = let less : index_of (chars before) from < index_of (chars before) to = indexes_less before utf8 from to part.1 part.2 part.0 in omega arith
+      after_row = let less : index_of (chars before) from < index_of (chars before) to =
+          indexes_less before utf8 from to part.1 part.2 part.0 in omega arith
 
-      first_gap : gaps_from (chars before) (index_of (chars before) low) (chars text) (items_of (chars before) (OldPart from to ∷ more))
-          ≡ gap_between before low from text ∷ gaps_from (chars before) (suc (index_of (chars before) from)) [] (map Old (numbers_from (suc (index_of (chars before) from)) count) ++ items_of (chars before) more)
-      first_gap = ap (λ (i : List Item). gaps_from (chars before) (index_of (chars before) low) (chars text) (i ++ items_of (chars before) more)) row
+      first_gap : gaps_from (chars before) (index_of (chars before) low) (chars text)
+          (items_of (chars before) (OldPart from to ∷ more))
+          ≡ gap_between before low from text ∷ gaps_from (chars before) (suc (index_of (chars before) from)) []
+          (map Old (numbers_from (suc (index_of (chars before) from)) count) ++ items_of (chars before) more)
+      first_gap = ap (λ (i : List Item). gaps_from (chars before) (index_of (chars before) low) (chars text)
+          (i ++ items_of (chars before) more)) row
 
-      empty_chars : gaps_from (chars before) (suc (index_of (chars before) from) + count) [] (items_of (chars before) more) ≡ gaps_from (chars before) (index_of (chars before) to) (chars []) (items_of (chars before) more)
-      empty_chars = ap₂ (λ (n : ℕ) (t : List ℕ). gaps_from (chars before) n t (items_of (chars before) more)) after_row (sym chars-nil)
+      empty_chars : gaps_from (chars before) (suc (index_of (chars before) from) + count) []
+          (items_of (chars before) more) ≡ gaps_from (chars before) (index_of (chars before) to) (chars [])
+          (items_of (chars before) more)
+      empty_chars = ap₂ (λ (n : ℕ) (t : List ℕ). gaps_from (chars before) n t (items_of (chars before) more)) after_row
+          (sym chars-nil)
 
-      here_ends : AllHaveExactEnds (chars before) (gap_between before low from text ∷ gaps_from (chars before) (suc (index_of (chars before) from)) [] (map Old (numbers_from (suc (index_of (chars before) from)) count) ++ items_of (chars before) more))
+      here_ends : AllHaveExactEnds (chars before) (gap_between before low from text ∷ gaps_from (chars before)
+          (suc (index_of (chars before) from)) [] (map Old (numbers_from (suc (index_of (chars before) from)) count)
+          ++ items_of (chars before) more))
       here_ends = subst (AllHaveExactEnds (chars before)) first_gap here.ends
 
       pub walk_old : Walks units before all (made ++ gap_change units before low from text) to [] more
       walk_old =
-          let rows : changes_of units (chars before) (gaps_from (chars before) (suc (index_of (chars before) from)) [] (map Old (numbers_from (suc (index_of (chars before) from)) count) ++ items_of (chars before) more))
-          ≡ changes_of units (chars before) (gaps_from (chars before) (suc (index_of (chars before) from) + count) [] (items_of (chars before) more))
+          let rows : changes_of units (chars before) (gaps_from (chars before) (suc (index_of (chars before) from)) []
+          (map Old (numbers_from (suc (index_of (chars before) from)) count) ++ items_of (chars before) more))
+          ≡ changes_of units (chars before) (gaps_from (chars before) (suc (index_of (chars before) from) + count) []
+          (items_of (chars before) more))
           = row_gaps units (chars before) (suc (index_of (chars before) from)) count (items_of (chars before) more) in
-          let cons : changes_of units (chars before) (gap_between before low from text ∷ gaps_from (chars before) (suc (index_of (chars before) from)) [] (map Old (numbers_from (suc (index_of (chars before) from)) count) ++ items_of (chars before) more))
-          ≡ gap_change units before low from text ++ changes_of units (chars before) (gaps_from (chars before) (suc (index_of (chars before) from)) [] (map Old (numbers_from (suc (index_of (chars before) from)) count) ++ items_of (chars before) more))
-          = changes_of-cons units (chars before) (gap_between before low from text) (gaps_from (chars before) (suc (index_of (chars before) from)) [] (map Old (numbers_from (suc (index_of (chars before) from)) count) ++ items_of (chars before) more)) in
-          let both : changes_of units (chars before) (gaps_from (chars before) (index_of (chars before) low) (chars text) (items_of (chars before) (OldPart from to ∷ more)))
-          ≡ gap_change units before low from text ++ changes_of units (chars before) (gaps_from (chars before) (index_of (chars before) to) (chars []) (items_of (chars before) more))
-          = ap (changes_of units (chars before)) first_gap ∙ (cons ∙ ap (λ (es : List Edit). gap_change units before low from text ++ es) (rows ∙ ap (changes_of units (chars before)) empty_chars)) in
+          let cons : changes_of units (chars before) (gap_between before low from text ∷ gaps_from (chars before)
+          (suc (index_of (chars before) from)) [] (map Old (numbers_from (suc (index_of (chars before) from)) count)
+          ++ items_of (chars before) more))
+          ≡ gap_change units before low from text ++ changes_of units (chars before)
+          (gaps_from (chars before) (suc (index_of (chars before) from)) []
+          (map Old (numbers_from (suc (index_of (chars before) from)) count) ++ items_of (chars before) more))
+          = changes_of-cons units (chars before) (gap_between before low from text)
+          (gaps_from (chars before) (suc (index_of (chars before) from)) []
+          (map Old (numbers_from (suc (index_of (chars before) from)) count) ++ items_of (chars before) more)) in
+          let both : changes_of units (chars before) (gaps_from (chars before) (index_of (chars before) low)
+          (chars text) (items_of (chars before) (OldPart from to ∷ more)))
+          ≡ gap_change units before low from text ++ changes_of units (chars before)
+          (gaps_from (chars before) (index_of (chars before) to) (chars []) (items_of (chars before) more))
+          = ap (changes_of units (chars before)) first_gap
+          ∙ (cons ∙ ap (λ (es : List Edit). gap_change units before low from text ++ es)
+          (rows ∙ ap (changes_of units (chars before)) empty_chars)) in
           record {
-            error = append_assoc made (gap_change units before low from text) (changes_of units (chars before) (gaps_from (chars before) (index_of (chars before) to) (chars []) (items_of (chars before) more)))
+            error = append_assoc made (gap_change units before low from text)
+                (changes_of units (chars before) (gaps_from (chars before) (index_of (chars before) to) (chars [])
+                (items_of (chars before) more)))
                 ∙ (ap (λ (es : List Edit). made ++ es) (sym both) ∙ here.error);
-            ends = subst (AllHaveExactEnds (chars before)) empty_chars (row_ends (chars before) (suc (index_of (chars before) from)) count (items_of (chars before) more) here_ends.1);
+            ends = subst (AllHaveExactEnds (chars before)) empty_chars
+                (row_ends (chars before) (suc (index_of (chars before) from)) count (items_of (chars before) more)
+                here_ends.1);
             at = part.2;
             are = here.are.1;
           }
 
       pub walk_old_ends : (low < from) ⊎ (0 < length text) → IsPlace (chars before) low × IsPlace (chars before) from
       walk_old_ends changed =
-          let e : HasExactEnds (chars before) (gap_between before low from text) = here_ends.0 (gap_changed before utf8 low from text text_utf8 walks.at part.1 changed) in
+          let e : HasExactEnds (chars before) (gap_between before low from text) =
+          here_ends.0 (gap_changed before utf8 low from text text_utf8 walks.at part.1 changed) in
           (place_is low walks.at e.low_whole, place_is from part.1 e.high_whole)
 
       pub walk_old_from : IsCharBoundary before from
@@ -216,28 +289,40 @@ module _ (units : ℕ → ℕ) (before : List ℕ) (utf8 : IsUtf8 before) where
       last : Walks units before all made low text []
       last = subst (Walks units before all made low text) is walks
 
-      last_gap : gap (index_of (chars before) low) (length (chars before)) (chars text) ≡ gap_between before low (length before) text
+      last_gap : gap (index_of (chars before) low) (length (chars before)) (chars text)
+          ≡ gap_between before low (length before) text
       last_gap = ap (λ (n : ℕ). gap (index_of (chars before) low) n (chars text)) (sym last_index)
 
       pub walk_end : made ++ gap_change units before low (length before) text ≡ all
       walk_end =
-          let one : changes_of units (chars before) (gap_between before low (length before) text ∷ []) ≡ gap_change units before low (length before) text
-          = changes_of-cons units (chars before) (gap_between before low (length before) text) [] ∙ append-nil (gap_change units before low (length before) text) in
-          ap (λ (es : List Edit). made ++ es) (sym (ap (λ (g : Gap). changes_of units (chars before) (g ∷ [])) last_gap ∙ one)) ∙ last.error
+          let one : changes_of units (chars before) (gap_between before low (length before) text ∷ [])
+          ≡ gap_change units before low (length before) text
+          = changes_of-cons units (chars before) (gap_between before low (length before) text) []
+          ∙ append-nil (gap_change units before low (length before) text) in
+          ap (λ (es : List Edit). made ++ es) (sym (ap (λ (g : Gap). changes_of units (chars before) (g ∷ [])) last_gap
+          ∙ one)) ∙ last.error
 
-      pub walk_end_ends : (low < length before) ⊎ (0 < length text) → IsPlace (chars before) low × IsPlace (chars before) (length before)
+      pub walk_end_ends : (low < length before) ⊎ (0 < length text) → IsPlace (chars before) low
+          × IsPlace (chars before) (length before)
       walk_end_ends changed =
           let at_end : IsCharBoundary before (length before) = IsCharBoundary-end before in
-          let ends : AllHaveExactEnds (chars before) (gap_between before low (length before) text ∷ []) = subst (λ (g : Gap). AllHaveExactEnds (chars before) (g ∷ [])) last_gap last.ends in
-          let e : HasExactEnds (chars before) (gap_between before low (length before) text) = ends.0 (gap_changed before utf8 low (length before) text text_utf8 walks.at at_end changed) in
+          let ends : AllHaveExactEnds (chars before) (gap_between before low (length before) text ∷ []) =
+          subst (λ (g : Gap). AllHaveExactEnds (chars before) (g ∷ [])) last_gap last.ends in
+          let e : HasExactEnds (chars before) (gap_between before low (length before) text) =
+          ends.0 (gap_changed before utf8 low (length before) text text_utf8 walks.at at_end changed) in
           (place_is low walks.at e.low_whole, place_is (length before) at_end e.high_whole)
 
 -- What was written, turned round, is the canonical batch.
-pub walk_begins : (units : ℕ → ℕ) (before : List ℕ) → IsUtf8 before → (parts : List Part) → AreParts before parts → AllHaveExactEnds (chars before) (gaps (chars before) (items_of (chars before) parts))
-    → Walks units before (changes_of units (chars before) (gaps (chars before) (items_of (chars before) parts))) [] 0 [] parts
+pub walk_begins : (units : ℕ → ℕ) (before : List ℕ) → IsUtf8 before → (parts : List Part) → AreParts before parts
+    → AllHaveExactEnds (chars before) (gaps (chars before) (items_of (chars before) parts))
+    → Walks units before (changes_of units (chars before) (gaps (chars before) (items_of (chars before) parts))) [] 0 []
+    parts
 walk_begins units before utf8 parts are ends =
-    let e : gaps (chars before) (items_of (chars before) parts) ≡ gaps_from (chars before) (index_of (chars before) 0) (chars []) (items_of (chars before) parts)
-    = gaps_are (chars before) (items_of (chars before) parts) ∙ ap₂ (λ (n : ℕ) (t : List ℕ). gaps_from (chars before) n t (items_of (chars before) parts)) (sym (index_first (chars before))) (sym chars-nil) in
+    let e : gaps (chars before) (items_of (chars before) parts) ≡ gaps_from (chars before) (index_of (chars before) 0)
+    (chars []) (items_of (chars before) parts)
+    = gaps_are (chars before) (items_of (chars before) parts)
+    ∙ ap₂ (λ (n : ℕ) (t : List ℕ). gaps_from (chars before) n t (items_of (chars before) parts))
+    (sym (index_first (chars before))) (sym chars-nil) in
     record {
       error = ap (changes_of units (chars before)) (sym e);
       ends = subst (AllHaveExactEnds (chars before)) e ends;
@@ -250,11 +335,14 @@ walk_turned [] = refl
 walk_turned (change ∷ changes) =
     ap (map edit_of) (reverse-append (change ∷ []) changes)
     ∙ (map-append edit_of (reverse changes) (change ∷ [])
-    ∙ (ap (λ (es : List Edit). es ++ edit_of change ∷ []) (walk_turned changes) ∙ sym (reverse-append (edit_of change ∷ []) (map edit_of changes))))
+    ∙ (ap (λ (es : List Edit). es ++ edit_of change ∷ []) (walk_turned changes)
+    ∙ sym (reverse-append (edit_of change ∷ []) (map edit_of changes))))
 
 -- the parts that are left of spans
-pub rest_is : (spans : List Span) (i : ℕ) (default : Span) (first : Part) → i < length spans → part_of (get_or spans i default) ≡ first → parts_of (drop i spans) ≡ first ∷ parts_of (drop (i + 1) spans)
-rest_is spans i default first within is = ap parts_of (drop_more spans i default within) ∙ ap (λ (p : Part). p ∷ parts_of (drop (i + 1) spans)) is
+pub rest_is : (spans : List Span) (i : ℕ) (default : Span) (first : Part) → i < length spans
+    → part_of (get_or spans i default) ≡ first → parts_of (drop i spans) ≡ first ∷ parts_of (drop (i + 1) spans)
+rest_is spans i default first within is = ap parts_of (drop_more spans i default within)
+    ∙ ap (λ (p : Part). p ∷ parts_of (drop (i + 1) spans)) is
 
 pub rest_none : (spans : List Span) (i : ℕ) → length spans ≤ i → parts_of (drop i spans) ≡ []
 rest_none spans i past = ap parts_of (drop_all i spans past)

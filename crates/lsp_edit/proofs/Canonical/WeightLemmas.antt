@@ -1,4 +1,5 @@
--- The texts of a canonical batch are together the new characters, so they are no longer than the final text, whatever a character
+-- The texts of a canonical batch are together the new characters, so they are no longer than the final text, whatever a
+-- character
 -- weighs.
 use Rattle.std.proofs.Common.{ℕ, suc, ◌≡◌, ◌+◌, ◌≤◌, true, false, nat_lt, List, [], ◌∷◌, ◌++◌, length, map, reverse, filter, sum_by, ⊎_elim, refl, ap, ◌∙◌, arith}
 use Rattle.std.proofs.lemmas.Bool.{cases_Bool, or_parts, ltb-false}
@@ -13,7 +14,8 @@ sum_by-reverse : {X : Type 0} (f : X → ℕ) (xs : List X) → sum_by f (revers
 sum_by-reverse f [] = refl
 sum_by-reverse f (x ∷ xs) =
     let r : reverse (x ∷ xs) ≡ reverse xs ++ (x ∷ []) = reverse-append (x ∷ []) xs in
-    let s : sum_by f (reverse xs ++ (x ∷ [])) ≡ sum_by f (reverse xs) + sum_by f (x ∷ []) = sum_by-append f (reverse xs) (x ∷ []) in
+    let s : sum_by f (reverse xs ++ (x ∷ [])) ≡ sum_by f (reverse xs) + sum_by f (x ∷ []) =
+    sum_by-append f (reverse xs) (x ∷ []) in
     let one : sum_by f (x ∷ []) ≡ f x + sum_by f [] = sum_by-cons f x [] in
     let all : sum_by f (x ∷ xs) ≡ f x + sum_by f xs = sum_by-cons f x xs in
     let ih : sum_by f (reverse xs) ≡ sum_by f xs = sum_by-reverse f xs in
@@ -32,41 +34,80 @@ module _ (weight : ℕ → ℕ) where
   new_weight (Old index ∷ items) = new_weight items
   new_weight (New character ∷ items) = weight character + new_weight items
 
-  gaps_weigh : (old : List ℕ) (low : ℕ) (text : List ℕ) (items : List Item) → sum_by gap_weight (gaps_from old low text items) ≡ sum_by weight text + new_weight items
+  gaps_weigh : (old : List ℕ) (low : ℕ) (text : List ℕ) (items : List Item)
+      → sum_by gap_weight (gaps_from old low text items) ≡ sum_by weight text + new_weight items
   gaps_weigh old low text [] = sum_by-cons gap_weight (gap low (length old) text) []
   gaps_weigh old low text (Old index ∷ items) =
       let none : sum_by weight [] ≡ 0 = refl in
-      omega (arith, sum_by-cons gap_weight (gap low index text) (gaps_from old (suc index) [] items), gaps_weigh old (suc index) [] items)
+      omega (
+        arith,
+        sum_by-cons gap_weight (gap low index text) (gaps_from old (suc index) [] items),
+        gaps_weigh old (suc index) [] items,
+      )
   gaps_weigh old low text (New character ∷ items) =
-      omega (arith, gaps_weigh old low (text ++ character ∷ []) items, sum_by-append weight text (character ∷ []), sum_by-cons weight character [])
+      omega (
+        arith,
+        gaps_weigh old low (text ++ character ∷ []) items,
+        sum_by-append weight text (character ∷ []),
+        sum_by-cons weight character [],
+      )
 
   changed_weigh : (gs : List Gap) → sum_by gap_weight (filter is_changed gs) ≡ sum_by gap_weight gs
   changed_weigh [] = refl
   changed_weigh (g ∷ gs) =
       ⊎_elim
-      (λ (e : is_changed g ≡ true). rw e (omega (arith, sum_by-cons gap_weight g (filter is_changed gs), sum_by-cons gap_weight g gs, changed_weigh gs)))
+      (λ (e : is_changed g ≡ true). rw e (omega (
+        arith,
+        sum_by-cons gap_weight g (filter is_changed gs),
+        sum_by-cons gap_weight g gs,
+        changed_weigh gs,
+      )))
       (λ (e : is_changed g ≡ false). rw e (omega (arith, sum_by-cons gap_weight g gs, changed_weigh gs, no_weight e)))
       (cases_Bool (is_changed g))
     where
       no_weight : is_changed g ≡ false → sum_by weight g.text ≡ 0
       no_weight e =
-          let none : length g.text ≤ 0 = ltb-false 0 (length g.text) (or_parts (nat_lt g.low g.high) (nat_lt 0 (length g.text)) e).1 in
+          let none : length g.text ≤ 0 =
+          ltb-false 0 (length g.text) (or_parts (nat_lt g.low g.high) (nat_lt 0 (length g.text)) e).1 in
           let empty : g.text ≡ [] = nil_from_length g.text (omega arith) in
           ap (sum_by weight) empty
 
-  changes_weigh : (units : ℕ → ℕ) (old : List ℕ) (gs : List Gap) → sum_by change_weight (map (change_of units old) gs) ≡ sum_by gap_weight gs
+  changes_weigh : (units : ℕ → ℕ) (old : List ℕ) (gs : List Gap) → sum_by change_weight (map (change_of units old) gs)
+      ≡ sum_by gap_weight gs
   changes_weigh units old [] = refl
   changes_weigh units old (g ∷ gs) =
-      omega (arith, sum_by-cons change_weight (change_of units old g) (map (change_of units old) gs), sum_by-cons gap_weight g gs, changes_weigh units old gs)
+      omega (
+        arith,
+        sum_by-cons change_weight (change_of units old g) (map (change_of units old) gs),
+        sum_by-cons gap_weight g gs,
+        changes_weigh units old gs,
+      )
 
   new_lighter : (old : List ℕ) (items : List Item) → new_weight items ≤ sum_by weight (text_of old items)
   new_lighter old [] = omega arith
-  new_lighter old (Old index ∷ items) = omega (arith, sum_by-cons weight (character_of old (Old index)) (text_of old items), new_lighter old items)
-  new_lighter old (New character ∷ items) = omega (arith, sum_by-cons weight character (text_of old items), new_lighter old items)
+  new_lighter old (Old index ∷ items) = omega (
+    arith,
+    sum_by-cons weight (character_of old (Old index)) (text_of old items),
+    new_lighter old items,
+  )
+  new_lighter old (New character ∷ items) =
+      omega (arith, sum_by-cons weight character (text_of old items), new_lighter old items)
 
-  pub no_longer : (units : ℕ → ℕ) (old : List ℕ) (items : List Item) → sum_by (λ change. sum_by weight change.text) (canonical units old items) ≤ sum_by weight (text_of old items)
+  pub no_longer : (units : ℕ → ℕ) (old : List ℕ) (items : List Item) → sum_by (λ change. sum_by weight change.text)
+      (canonical units old items) ≤ sum_by weight (text_of old items)
   no_longer units old items =
-      let turned : sum_by change_weight (canonical units old items) ≡ sum_by change_weight (map (change_of units old) (filter is_changed (gaps old items))) = sum_by-reverse change_weight (map (change_of units old) (filter is_changed (gaps old items))) in
-      let error : sum_by gap_weight (gaps old items) ≡ sum_by gap_weight (gaps_from old 0 [] items) = ap (sum_by gap_weight) (gaps_are old items) in
+      let turned : sum_by change_weight (canonical units old items)
+      ≡ sum_by change_weight (map (change_of units old) (filter is_changed (gaps old items))) =
+      sum_by-reverse change_weight (map (change_of units old) (filter is_changed (gaps old items))) in
+      let error : sum_by gap_weight (gaps old items) ≡ sum_by gap_weight (gaps_from old 0 [] items) =
+      ap (sum_by gap_weight) (gaps_are old items) in
       let none : sum_by weight [] ≡ 0 = refl in
-      omega (arith, turned, error, changes_weigh units old (filter is_changed (gaps old items)), changed_weigh (gaps old items), gaps_weigh old 0 [] items, new_lighter old items)
+      omega (
+        arith,
+        turned,
+        error,
+        changes_weigh units old (filter is_changed (gaps old items)),
+        changed_weigh (gaps old items),
+        gaps_weigh old 0 [] items,
+        new_lighter old items,
+      )

@@ -38,16 +38,21 @@ pub record AreEnds (units : ℕ → ℕ) (text : List ℕ) (range : Range) (star
   pub start_is : place_of text low ≡ start
   pub stop_is : place_of text high ≡ stop
 
-pub ends_told : (units : ℕ → ℕ) (text : List ℕ) (range : Range) (number start stop : ℕ) → Ok (start, stop) ≡ places_at number text (ends_of units text range) → AreEnds units text range start stop
-ends_told units text range number start stop is = by_ends (denoted units text range.start) (denoted units text range.stop) refl refl is
+pub ends_told : (units : ℕ → ℕ) (text : List ℕ) (range : Range) (number start stop : ℕ) → Ok (start, stop)
+    ≡ places_at number text (ends_of units text range) → AreEnds units text range start stop
+ends_told units text range number start stop is =
+    by_ends (denoted units text range.start) (denoted units text range.stop) refl refl is
   where
-    by_ends : (a b : Option ℕ) → denoted units text range.start ≡ a → denoted units text range.stop ≡ b → ◌≡◌ {A = Result (ℕ × ℕ) EditFault} (Ok (start, stop)) (places_at number text (in_order a b)) → AreEnds units text range start stop
+    by_ends : (a b : Option ℕ) → denoted units text range.start ≡ a → denoted units text range.stop ≡ b
+        → ◌≡◌ {A = Result (ℕ × ℕ) EditFault} (Ok (start, stop)) (places_at number text (in_order a b))
+        → AreEnds units text range start stop
     by_ends None b at_a at_b e = absurd (cc)
     by_ends (Some a) None at_a at_b e = absurd (cc)
     by_ends (Some a) (Some b) at_a at_b e =
         ⊎_elim
         (λ (o : nat_le a b ≡ true).
-        let f : ◌≡◌ {A = Result (ℕ × ℕ) EditFault} (Ok (start, stop)) (Ok (place_of text a, place_of text b)) = rw o at e in
+        let f : ◌≡◌ {A = Result (ℕ × ℕ) EditFault} (Ok (start, stop)) (Ok (place_of text a, place_of text b)) =
+        rw o at e in
         let g : ◌≡◌ {A = ℕ × ℕ} (start, stop) (place_of text a, place_of text b) = cc in
         record {
           low = a;
@@ -59,28 +64,40 @@ ends_told units text range number start stop is = by_ends (denoted units text ra
           start_is = sym (ap (λ (p : ℕ × ℕ). p.0) g);
           stop_is = sym (ap (λ (p : ℕ × ℕ). p.1) g);
         })
-        (λ (o : nat_le a b ≡ false). absurd (let f : ◌≡◌ {A = Result (ℕ × ℕ) EditFault} (Ok (start, stop)) (Err (fault_at number Reversed)) = rw o at e in cc))
+        (λ (o : nat_le a b ≡ false). absurd (let f : ◌≡◌ {A = Result (ℕ × ℕ) EditFault} (Ok (start, stop))
+        (Err (fault_at number Reversed)) = rw o at e in cc))
         (cases_Bool (nat_le a b))
 
 -- A fault of the places is that of the change.
-pub fault_told : (units : ℕ → ℕ) (old : List ℕ) (items : List Item) (characters : List ℕ) (range : Range) (number : ℕ) (fault : EditFault)
-    → IsPlaces (Err fault) (places_at number (text_of old items) (ends_of units (text_of old items) range)) → IsFaultOfChange number (after_change units old items (record { range = Some range; text = characters })) fault
+pub fault_told : (units : ℕ → ℕ) (old : List ℕ) (items : List Item) (characters : List ℕ) (range : Range) (number : ℕ)
+    (fault : EditFault)
+    → IsPlaces (Err fault) (places_at number (text_of old items) (ends_of units (text_of old items) range))
+    → IsFaultOfChange number (after_change units old items (record { range = Some range; text = characters })) fault
 fault_told units old items characters range number fault error =
     ⊎_elim
     (λ (e : Err fault ≡ Err NoMemory). inl (cc))
-    (λ (e : Err fault ≡ places_at number (text_of old items) (ends_of units (text_of old items) range)). by_ends (denoted units (text_of old items) range.start) (denoted units (text_of old items) range.stop) e)
+    (λ (e : Err fault ≡ places_at number (text_of old items) (ends_of units (text_of old items) range)). by_ends
+    (denoted units (text_of old items) range.start) (denoted units (text_of old items) range.stop) e)
     error
   where
-    by_ends : (a b : Option ℕ) → ◌≡◌ {A = Result (ℕ × ℕ) EditFault} (Err fault) (places_at number (text_of old items) (in_order a b)) → IsFaultOfChange number (replaced items characters a b) fault
+    by_ends : (a b : Option ℕ) → ◌≡◌ {A = Result (ℕ × ℕ) EditFault} (Err fault)
+        (places_at number (text_of old items) (in_order a b)) → IsFaultOfChange number (replaced items characters a b)
+        fault
     by_ends None b e = inr (InsideStart, refl, cc)
     by_ends (Some a) None e = inr (InsideStop, refl, cc)
     by_ends (Some a) (Some b) e =
         ⊎_elim
-        (λ (o : nat_le a b ≡ true). absurd (let f : ◌≡◌ {A = Result (ℕ × ℕ) EditFault} (Err fault) (Ok (place_of (text_of old items) a, place_of (text_of old items) b)) = rw o at e in cc))
-        (λ (o : nat_le a b ≡ false). inr (Reversed, rw o refl, (let f : ◌≡◌ {A = Result (ℕ × ℕ) EditFault} (Err fault) (Err (fault_at number Reversed)) = rw o at e in cc)))
+        (λ (o : nat_le a b ≡ true). absurd (let f : ◌≡◌ {A = Result (ℕ × ℕ) EditFault} (Err fault)
+        (Ok (place_of (text_of old items) a, place_of (text_of old items) b)) = rw o at e in cc))
+        (λ (o : nat_le a b ≡ false). inr (
+          Reversed,
+          rw o refl,
+          (let f : ◌≡◌ {A = Result (ℕ × ℕ) EditFault} (Err fault) (Err (fault_at number Reversed)) = rw o at e in cc),
+        ))
         (cases_Bool (nat_le a b))
 
-pub bytes_split : (text : List ℕ) (k : ℕ) → length (encode_utf8_all (take k text)) + length (encode_utf8_all (drop k text)) ≡ length (encode_utf8_all text)
+pub bytes_split : (text : List ℕ) (k : ℕ) → length (encode_utf8_all (take k text))
+    + length (encode_utf8_all (drop k text)) ≡ length (encode_utf8_all text)
 bytes_split text k =
     sym (length-append (encode_utf8_all (take k text)) (encode_utf8_all (drop k text)))
     ∙ ap length (sym (encodes-append (take k text) (drop k text)) ∙ ap encode_utf8_all (take-append-drop k text))
@@ -93,23 +110,31 @@ abbrev pub seen : List ℕ → List Part → ℕ → PlainData
 seen before parts changes = record { before = chars before; items = items_of (chars before) parts; changes = changes }
 
 -- The fields after a change.
-pub record IsNext (units : ℕ → ℕ) (before : List ℕ) (parts : List Part) (changes : ℕ) (change : Edit) (next : List Part) (len : ℕ) : Type 0 where
-  pub made : after_change units (chars before) (items_of (chars before) parts) change ≡ Ok (items_of (chars before) next)
+pub record IsNext (units : ℕ → ℕ) (before : List ℕ) (parts : List Part) (changes : ℕ) (change : Edit) (next : List Part)
+    (len : ℕ) : Type 0 where
+  pub made : after_change units (chars before) (items_of (chars before) parts) change
+      ≡ Ok (items_of (chars before) next)
   pub are : ArePieces before next len (next_number changes)
 
-module _ (units : ℕ → ℕ) (before : List ℕ) (parts : List Part) (len changes : ℕ) (are : ArePieces before parts len changes) (new : List ℕ) (utf8 : IsUtf8 new) (room : len + length new ≤ 2147483648) where
+module _ (units : ℕ → ℕ) (before : List ℕ) (parts : List Part) (len changes : ℕ)
+    (are : ArePieces before parts len changes) (new : List ℕ) (utf8 : IsUtf8 new)
+    (room : len + length new ≤ 2147483648) where
   now_long : len ≡ length (encode_utf8_all (text_of (chars before) (items_of (chars before) parts)))
   now_long = are.long ∙ ap length (parts_bytes before (IsUtf8-from_is_utf8 before are.utf8) parts are.are)
 
-  next_of : (change : Edit) (next : List Part) (next_len : ℕ) → after_change units (chars before) (items_of (chars before) parts) change ≡ Ok (items_of (chars before) next) → AreParts before next → NoneTouch next
-      → next_len ≡ length (bytes_of before next) → next_len ≤ 2147483648 → length next ≤ length parts + 2 → length next < 18446744073709551616 → IsNext units before parts changes change next next_len
+  next_of : (change : Edit) (next : List Part) (next_len : ℕ)
+      → after_change units (chars before) (items_of (chars before) parts) change ≡ Ok (items_of (chars before) next)
+      → AreParts before next → NoneTouch next
+      → next_len ≡ length (bytes_of before next) → next_len ≤ 2147483648 → length next ≤ length parts + 2
+      → length next < 18446744073709551616 → IsNext units before parts changes change next next_len
   next_of change next next_len made next_are next_apart long fits few small = record {
     made = made;
     are = record {
       utf8 = are.utf8;
       are = next_are;
       apart = next_apart;
-      keeps = after_change_keeps (chars before) units (items_of (chars before) parts) (items_of (chars before) next) change are.keeps made;
+      keeps = after_change_keeps (chars before) units (items_of (chars before) parts) (items_of (chars before) next)
+          change are.keeps made;
       long = long;
       room = fits;
       few = omega (arith, are.few);
@@ -117,11 +142,16 @@ module _ (units : ℕ → ℕ) (before : List ℕ) (parts : List Part) (len chan
     };
   }
 
-  pub all_next : length (new_parts new) < 18446744073709551616 → IsNext units before parts changes (record { range = None; text = chars new }) (new_parts new) (length new)
+  pub all_next : length (new_parts new) < 18446744073709551616
+      → IsNext units before parts changes (record { range = None; text = chars new }) (new_parts new) (length new)
   all_next small =
-      let n : (items_of (chars before) (new_parts new) ≡ map New (chars new)) × AreParts before (new_parts new) = new_items before new (is_utf8-from_IsUtf8 new utf8) in
-      let text : text_of (chars before) (items_of (chars before) (new_parts new)) ≡ chars new = ap (text_of (chars before)) n.0 ∙ text_of-new (chars before) (chars new) in
-      let bytes : bytes_of before (new_parts new) ≡ new = parts_bytes before (IsUtf8-from_is_utf8 before are.utf8) (new_parts new) n.1 ∙ (ap encode_utf8_all text ∙ encodes-chars new utf8) in
+      let n : (items_of (chars before) (new_parts new) ≡ map New (chars new)) × AreParts before (new_parts new) =
+      new_items before new (is_utf8-from_IsUtf8 new utf8) in
+      let text : text_of (chars before) (items_of (chars before) (new_parts new)) ≡ chars new =
+      ap (text_of (chars before)) n.0 ∙ text_of-new (chars before) (chars new) in
+      let bytes : bytes_of before (new_parts new) ≡ new =
+      parts_bytes before (IsUtf8-from_is_utf8 before are.utf8) (new_parts new) n.1
+      ∙ (ap encode_utf8_all text ∙ encodes-chars new utf8) in
       next_of (record { range = None; text = chars new }) (new_parts new) (length new)
       (ap (λ (i : List Item). Ok i) (sym n.0))
       n.1
@@ -138,66 +168,90 @@ module _ (units : ℕ → ℕ) (before : List ℕ) (parts : List Part) (len chan
       ordered [] is = tt
       ordered (part ∷ ps) is = (part_ordered before (IsUtf8-from_is_utf8 before are.utf8) part is.0, ordered ps is.1)
 
-  module _ (range : Range) (start stop : ℕ) (ends : AreEnds units (text_of (chars before) (items_of (chars before) parts)) range start stop) where
-    items_long : length (text_of (chars before) (items_of (chars before) parts)) ≡ length (items_of (chars before) parts)
+  module _ (range : Range) (start stop : ℕ)
+      (ends : AreEnds units (text_of (chars before) (items_of (chars before) parts)) range start stop) where
+    items_long : length (text_of (chars before) (items_of (chars before) parts))
+        ≡ length (items_of (chars before) parts)
     items_long = length-map (items_of (chars before) parts) (character_of (chars before))
 
     pub start_cut : AreCut parts start
-    start_cut = subst (AreCut parts) ends.start_is (cut_parts before (IsUtf8-from_is_utf8 before are.utf8) parts ends.low are.are (omega (arith, ends.order, ends.within, items_long))).cut
+    start_cut = subst (AreCut parts) ends.start_is (cut_parts before (IsUtf8-from_is_utf8 before are.utf8) parts
+        ends.low are.are (omega (arith, ends.order, ends.within, items_long))).cut
 
     pub stop_cut : AreCut parts stop
-    stop_cut = subst (AreCut parts) ends.stop_is (cut_parts before (IsUtf8-from_is_utf8 before are.utf8) parts ends.high are.are (omega (arith, ends.within, items_long))).cut
+    stop_cut = subst (AreCut parts) ends.stop_is (cut_parts before (IsUtf8-from_is_utf8 before are.utf8) parts ends.high
+        are.are (omega (arith, ends.within, items_long))).cut
 
     pub in_order_places : (start ≤ stop) × (stop ≤ len)
     in_order_places =
-        let r : place_of (text_of (chars before) (items_of (chars before) parts)) ends.low + (ends.high - ends.low) ≤ place_of (text_of (chars before) (items_of (chars before) parts)) ends.high
-        = place_rises (text_of (chars before) (items_of (chars before) parts)) ends.low ends.high ends.order ends.within in
-        let w : place_of (text_of (chars before) (items_of (chars before) parts)) ends.high ≤ length (encode_utf8_all (text_of (chars before) (items_of (chars before) parts)))
+        let r : place_of (text_of (chars before) (items_of (chars before) parts)) ends.low + (ends.high - ends.low)
+        ≤ place_of (text_of (chars before) (items_of (chars before) parts)) ends.high
+        = place_rises (text_of (chars before) (items_of (chars before) parts)) ends.low ends.high ends.order
+        ends.within in
+        let w : place_of (text_of (chars before) (items_of (chars before) parts)) ends.high
+        ≤ length (encode_utf8_all (text_of (chars before) (items_of (chars before) parts)))
         = place_within (text_of (chars before) (items_of (chars before) parts)) ends.high ends.within in
         (omega (arith, ends.start_is, ends.stop_is), omega (arith, ends.stop_is, now_long))
 
-    both : (items_of (chars before) (replaced_parts parts start stop new) ≡ take ends.low (items_of (chars before) parts) ++ (map New (chars new) ++ drop ends.high (items_of (chars before) parts))) × AreParts before (replaced_parts parts start stop new)
+    both : (items_of (chars before) (replaced_parts parts start stop new)
+        ≡ take ends.low (items_of (chars before) parts)
+        ++ (map New (chars new) ++ drop ends.high (items_of (chars before) parts)))
+        × AreParts before (replaced_parts parts start stop new)
     both =
         rw (ends.start_is, ends.stop_is) at
-        (replaced_items before (IsUtf8-from_is_utf8 before are.utf8) parts ends.low ends.high new are.are (is_utf8-from_IsUtf8 new utf8) ends.order (omega (arith, ends.within, items_long)))
+        (replaced_items before (IsUtf8-from_is_utf8 before are.utf8) parts ends.low ends.high new are.are
+        (is_utf8-from_IsUtf8 new utf8) ends.order (omega (arith, ends.within, items_long)))
 
-    items : items_of (chars before) (replaced_parts parts start stop new) ≡ take ends.low (items_of (chars before) parts) ++ (map New (chars new) ++ drop ends.high (items_of (chars before) parts))
+    items : items_of (chars before) (replaced_parts parts start stop new)
+        ≡ take ends.low (items_of (chars before) parts)
+        ++ (map New (chars new) ++ drop ends.high (items_of (chars before) parts))
     items = both.0
 
     are_parts : AreParts before (replaced_parts parts start stop new)
     are_parts = both.1
 
     text : text_of (chars before) (items_of (chars before) (replaced_parts parts start stop new))
-        ≡ take ends.low (text_of (chars before) (items_of (chars before) parts)) ++ (chars new ++ drop ends.high (text_of (chars before) (items_of (chars before) parts)))
+        ≡ take ends.low (text_of (chars before) (items_of (chars before) parts))
+        ++ (chars new ++ drop ends.high (text_of (chars before) (items_of (chars before) parts)))
     text =
         ap (text_of (chars before)) items
-        ∙ (map-append (character_of (chars before)) (take ends.low (items_of (chars before) parts)) (map New (chars new) ++ drop ends.high (items_of (chars before) parts))
+        ∙ (map-append (character_of (chars before)) (take ends.low (items_of (chars before) parts))
+        (map New (chars new) ++ drop ends.high (items_of (chars before) parts))
         ∙ ap₂ (λ (x y : List ℕ). x ++ y)
         (sym (take-map (character_of (chars before)) ends.low (items_of (chars before) parts)))
         (map-append (character_of (chars before)) (map New (chars new)) (drop ends.high (items_of (chars before) parts))
-        ∙ ap₂ (λ (x y : List ℕ). x ++ y) (text_of-new (chars before) (chars new)) (sym (drop-map (character_of (chars before)) ends.high (items_of (chars before) parts)))))
+        ∙ ap₂ (λ (x y : List ℕ). x ++ y) (text_of-new (chars before) (chars new))
+        (sym (drop-map (character_of (chars before)) ends.high (items_of (chars before) parts)))))
 
     now_bytes_are : bytes_of before parts ≡ encode_utf8_all (text_of (chars before) (items_of (chars before) parts))
     now_bytes_are = parts_bytes before (IsUtf8-from_is_utf8 before are.utf8) parts are.are
 
     -- the bytes of the text with those between the places replaced
-    pub range_bytes : bytes_of before (replaced_parts parts start stop new) ≡ replace_range (bytes_of before parts) start stop new
+    pub range_bytes : bytes_of before (replaced_parts parts start stop new) ≡ replace_range (bytes_of before parts)
+        start stop new
     range_bytes =
         let now : List ℕ = text_of (chars before) (items_of (chars before) parts) in
-        let all : bytes_of before (replaced_parts parts start stop new) ≡ encode_utf8_all (take ends.low now ++ (chars new ++ drop ends.high now))
-        = parts_bytes before (IsUtf8-from_is_utf8 before are.utf8) (replaced_parts parts start stop new) are_parts ∙ ap encode_utf8_all text in
-        let front : take start (bytes_of before parts) ≡ encode_utf8_all (take ends.low now) = ap₂ (λ (n : ℕ) (bs : List ℕ). take n bs) (sym ends.start_is) now_bytes_are ∙ take_place now ends.low in
-        let back : drop stop (bytes_of before parts) ≡ encode_utf8_all (drop ends.high now) = ap₂ (λ (n : ℕ) (bs : List ℕ). drop n bs) (sym ends.stop_is) now_bytes_are ∙ drop_place now ends.high in
+        let all : bytes_of before (replaced_parts parts start stop new)
+        ≡ encode_utf8_all (take ends.low now ++ (chars new ++ drop ends.high now))
+        = parts_bytes before (IsUtf8-from_is_utf8 before are.utf8) (replaced_parts parts start stop new) are_parts
+        ∙ ap encode_utf8_all text in
+        let front : take start (bytes_of before parts) ≡ encode_utf8_all (take ends.low now) =
+        ap₂ (λ (n : ℕ) (bs : List ℕ). take n bs) (sym ends.start_is) now_bytes_are ∙ take_place now ends.low in
+        let back : drop stop (bytes_of before parts) ≡ encode_utf8_all (drop ends.high now) =
+        ap₂ (λ (n : ℕ) (bs : List ℕ). drop n bs) (sym ends.stop_is) now_bytes_are ∙ drop_place now ends.high in
         let own : encode_utf8_all (chars new) ≡ new = encodes-chars new utf8 in
         all
         ∙ (encodes-append (take ends.low now) (chars new ++ drop ends.high now)
-        ∙ (ap (λ (bs : List ℕ). encode_utf8_all (take ends.low now) ++ bs) (encodes-append (chars new) (drop ends.high now) ∙ ap (λ (bs : List ℕ). bs ++ encode_utf8_all (drop ends.high now)) own)
+        ∙ (ap (λ (bs : List ℕ). encode_utf8_all (take ends.low now) ++ bs)
+        (encodes-append (chars new) (drop ends.high now)
+        ∙ ap (λ (bs : List ℕ). bs ++ encode_utf8_all (drop ends.high now)) own)
         ∙ (sym (append_assoc (encode_utf8_all (take ends.low now)) new (encode_utf8_all (drop ends.high now)))
         ∙ sym (ap₂ (λ (fs bs : List ℕ). (fs ++ new) ++ bs) front back))))
 
     module _ (bytes : List ℕ) (bytes_utf8 : IsUtf8 bytes) (same : bytes ≡ bytes_of before parts) where
       now_text : chars bytes ≡ text_of (chars before) (items_of (chars before) parts)
-      now_text = sym (chars_from_encodes (text_of (chars before) (items_of (chars before) parts)) bytes bytes_utf8 (sym now_bytes_are ∙ sym same))
+      now_text = sym (chars_from_encodes (text_of (chars before) (items_of (chars before) parts)) bytes bytes_utf8
+          (sym now_bytes_are ∙ sym same))
 
       pub start_at : IsCharBoundary bytes start
       start_at =
@@ -212,25 +266,53 @@ module _ (units : ℕ → ℕ) (before : List ℕ) (parts : List Part) (len chan
     long : len - (stop - start) + length new ≡ length (bytes_of before (replaced_parts parts start stop new))
     long =
         let now : List ℕ = text_of (chars before) (items_of (chars before) parts) in
-        let bytes : bytes_of before (replaced_parts parts start stop new) ≡ encode_utf8_all (take ends.low now ++ (chars new ++ drop ends.high now))
-        = parts_bytes before (IsUtf8-from_is_utf8 before are.utf8) (replaced_parts parts start stop new) are_parts ∙ ap encode_utf8_all text in
-        let front : length (encode_utf8_all (take ends.low now ++ (chars new ++ drop ends.high now))) ≡ length (encode_utf8_all (take ends.low now)) + length (encode_utf8_all (chars new ++ drop ends.high now))
-        = ap length (encodes-append (take ends.low now) (chars new ++ drop ends.high now)) ∙ length-append (encode_utf8_all (take ends.low now)) (encode_utf8_all (chars new ++ drop ends.high now)) in
-        let back : length (encode_utf8_all (chars new ++ drop ends.high now)) ≡ length (encode_utf8_all (chars new)) + length (encode_utf8_all (drop ends.high now))
-        = ap length (encodes-append (chars new) (drop ends.high now)) ∙ length-append (encode_utf8_all (chars new)) (encode_utf8_all (drop ends.high now)) in
+        let bytes : bytes_of before (replaced_parts parts start stop new)
+        ≡ encode_utf8_all (take ends.low now ++ (chars new ++ drop ends.high now))
+        = parts_bytes before (IsUtf8-from_is_utf8 before are.utf8) (replaced_parts parts start stop new) are_parts
+        ∙ ap encode_utf8_all text in
+        let front : length (encode_utf8_all (take ends.low now ++ (chars new ++ drop ends.high now)))
+        ≡ length (encode_utf8_all (take ends.low now)) + length (encode_utf8_all (chars new ++ drop ends.high now))
+        = ap length (encodes-append (take ends.low now) (chars new ++ drop ends.high now))
+        ∙ length-append (encode_utf8_all (take ends.low now)) (encode_utf8_all (chars new ++ drop ends.high now)) in
+        let back : length (encode_utf8_all (chars new ++ drop ends.high now)) ≡ length (encode_utf8_all (chars new))
+        + length (encode_utf8_all (drop ends.high now))
+        = ap length (encodes-append (chars new) (drop ends.high now)) ∙ length-append (encode_utf8_all (chars new))
+        (encode_utf8_all (drop ends.high now)) in
         let n : length (encode_utf8_all (chars new)) ≡ length new = ap length (encodes-chars new utf8) in
-        let all : length (bytes_of before (replaced_parts parts start stop new)) ≡ length (encode_utf8_all (take ends.low now ++ (chars new ++ drop ends.high now))) = ap length bytes in
-        omega (arith, front, back, n, all, bytes_split now ends.high, ends.start_is, ends.stop_is, now_long, in_order_places)
+        let all : length (bytes_of before (replaced_parts parts start stop new))
+        ≡ length (encode_utf8_all (take ends.low now ++ (chars new ++ drop ends.high now))) = ap length bytes in
+        omega (
+          arith,
+          front,
+          back,
+          n,
+          all,
+          bytes_split now ends.high,
+          ends.start_is,
+          ends.stop_is,
+          now_long,
+          in_order_places,
+        )
 
-    pub range_short : (bytes : List ℕ) → bytes ≡ bytes_of before parts → length (replace_range bytes start stop new) ≤ 2147483648
+    pub range_short : (bytes : List ℕ) → bytes ≡ bytes_of before parts → length (replace_range bytes start stop new)
+        ≤ 2147483648
     range_short bytes same =
-        let e : length (replace_range bytes start stop new) ≡ length (bytes_of before (replaced_parts parts start stop new)) = ap (λ (bs : List ℕ). length (replace_range bs start stop new)) same ∙ ap length (sym range_bytes) in
+        let e : length (replace_range bytes start stop new)
+        ≡ length (bytes_of before (replaced_parts parts start stop new)) =
+        ap (λ (bs : List ℕ). length (replace_range bs start stop new)) same ∙ ap length (sym range_bytes) in
         omega (arith, e, long, in_order_places)
 
-    pub range_next : length (replaced_parts parts start stop new) < 18446744073709551616 → IsNext units before parts changes (record { range = Some range; text = chars new }) (replaced_parts parts start stop new) (len - (stop - start) + length new)
+    pub range_next : length (replaced_parts parts start stop new) < 18446744073709551616
+        → IsNext units before parts changes (record { range = Some range; text = chars new })
+        (replaced_parts parts start stop new) (len - (stop - start) + length new)
     range_next small =
-        next_of (record { range = Some range; text = chars new }) (replaced_parts parts start stop new) (len - (stop - start) + length new)
-        (rw (ends.low_is, ends.high_is, le-leb ends.low ends.high ends.order) (ap (λ (i : List Item). Ok i) (sym items)))
+        next_of (record { range = Some range; text = chars new }) (replaced_parts parts start stop new)
+        (len - (stop - start) + length new)
+        (rw (
+          ends.low_is,
+          ends.high_is,
+          le-leb ends.low ends.high ends.order,
+        ) (ap (λ (i : List Item). Ok i) (sym items)))
         are_parts
         (replaced_apart parts start stop new are.apart)
         long
@@ -238,13 +320,18 @@ module _ (units : ℕ → ℕ) (before : List ℕ) (parts : List Part) (len chan
         (replaced_few parts start stop new in_order_places.0)
         small
 
-pub room_told : (before : List ℕ) (parts : List Part) (len changes more : ℕ) (edited : PlainData) → ArePieces before parts len changes → seen before parts changes ≡ edited → length (edited_bytes edited) + more ≤ 2147483648 → len + more ≤ 2147483648
+pub room_told : (before : List ℕ) (parts : List Part) (len changes more : ℕ) (edited : PlainData)
+    → ArePieces before parts len changes → seen before parts changes ≡ edited → length (edited_bytes edited) + more
+    ≤ 2147483648 → len + more ≤ 2147483648
 room_told before parts len changes more edited are is room =
-    let n : len ≡ length (encode_utf8_all (text_of (chars before) (items_of (chars before) parts))) = are.long ∙ ap length (parts_bytes before (IsUtf8-from_is_utf8 before are.utf8) parts are.are) in
+    let n : len ≡ length (encode_utf8_all (text_of (chars before) (items_of (chars before) parts))) =
+    are.long ∙ ap length (parts_bytes before (IsUtf8-from_is_utf8 before are.utf8) parts are.are) in
     omega (arith, n, ap (λ (e : PlainData). length (edited_bytes e)) is)
 
-pub next_told : (units : ℕ → ℕ) (before : List ℕ) (parts : List Part) (changes : ℕ) (change : Edit) (next : List Part) (len : ℕ) → IsNext units before parts changes change next len
-    → (edited : PlainData) → seen before parts changes ≡ edited → (made : List Part) → made ≡ next → (count : ℕ) → count ≡ next_number changes → Applied units edited change (seen before made count)
+pub next_told : (units : ℕ → ℕ) (before : List ℕ) (parts : List Part) (changes : ℕ) (change : Edit) (next : List Part)
+    (len : ℕ) → IsNext units before parts changes change next len
+    → (edited : PlainData) → seen before parts changes ≡ edited → (made : List Part) → made ≡ next → (count : ℕ)
+    → count ≡ next_number changes → Applied units edited change (seen before made count)
 next_told units before parts changes change next len is edited view made same count counted =
     subst (λ (e : PlainData). Applied units e change (seen before made count)) view (record {
       changed = is.made ∙ ap (λ (ps : List Part). Ok (items_of (chars before) ps)) (sym same);
@@ -252,18 +339,27 @@ next_told units before parts changes change next len is edited view made same co
       counted = counted;
     })
 
-pub next_holds : (units : ℕ → ℕ) (before : List ℕ) (parts : List Part) (changes : ℕ) (change : Edit) (next : List Part) (len : ℕ) → IsNext units before parts changes change next len
+pub next_holds : (units : ℕ → ℕ) (before : List ℕ) (parts : List Part) (changes : ℕ) (change : Edit) (next : List Part)
+    (len : ℕ) → IsNext units before parts changes change next len
     → (made : List Part) → made ≡ next → (count : ℕ) → count ≡ next_number changes → ArePieces before made len count
 next_holds units before parts changes change next len is made same count counted = rw (same, counted) is.are
 
 -- What was told of a range's places, told of the fields.
-module _ (units : ℕ → ℕ) (range : Range) (before : List ℕ) (parts : List Part) (len changes : ℕ) (are : ArePieces before parts len changes) (edited : PlainData) (view : seen before parts changes ≡ edited) where
-  pub ends_seen : (start stop : ℕ) → IsPlaces (Ok (start, stop)) (places_at edited.changes (edited_text edited) (ends_of units (edited_text edited) range)) → AreEnds units (text_of (chars before) (items_of (chars before) parts)) range start stop
+module _ (units : ℕ → ℕ) (range : Range) (before : List ℕ) (parts : List Part) (len changes : ℕ)
+    (are : ArePieces before parts len changes) (edited : PlainData) (view : seen before parts changes ≡ edited) where
+  pub ends_seen : (start stop : ℕ)
+      → IsPlaces (Ok (
+        start,
+        stop,
+      )) (places_at edited.changes (edited_text edited) (ends_of units (edited_text edited) range))
+      → AreEnds units (text_of (chars before) (items_of (chars before) parts)) range start stop
   ends_seen start stop error =
       ⊎_elim
       (λ (e : Ok (start, stop) ≡ Err NoMemory). absurd (cc))
-      (λ (e : Ok (start, stop) ≡ places_at edited.changes (edited_text edited) (ends_of units (edited_text edited) range)).
-      subst (λ (text : List ℕ). AreEnds units text range start stop) (sym (ap edited_text view)) (ends_told units (edited_text edited) range edited.changes start stop e))
+      (λ (e : Ok (start, stop) ≡ places_at edited.changes (edited_text edited)
+      (ends_of units (edited_text edited) range)).
+      subst (λ (text : List ℕ). AreEnds units text range start stop) (sym (ap edited_text view))
+      (ends_told units (edited_text edited) range edited.changes start stop e))
       error
 
   -- a range whose places were told may be replaced
@@ -273,16 +369,26 @@ module _ (units : ℕ → ℕ) (range : Range) (before : List ℕ) (parts : List
     pub order : start ≤ stop
     pub within : stop ≤ len
     pub ordered : AreOrdered parts
-    pub bytes : bytes_of before (replaced_parts parts start stop new) ≡ replace_range (bytes_of before parts) start stop new
+    pub bytes : bytes_of before (replaced_parts parts start stop new) ≡ replace_range (bytes_of before parts) start stop
+        new
     pub start_at : (bytes : List ℕ) → IsUtf8 bytes → bytes ≡ bytes_of before parts → IsCharBoundary bytes start
     pub stop_at : (bytes : List ℕ) → IsUtf8 bytes → bytes ≡ bytes_of before parts → IsCharBoundary bytes stop
-    pub short : (bytes : List ℕ) → bytes ≡ bytes_of before parts → length (replace_range bytes start stop new) ≤ 2147483648
-    pub next : length (replaced_parts parts start stop new) < 18446744073709551616 → IsNext units before parts changes (record { range = Some range; text = chars new }) (replaced_parts parts start stop new) (len - (stop - start) + length new)
+    pub short : (bytes : List ℕ) → bytes ≡ bytes_of before parts → length (replace_range bytes start stop new)
+        ≤ 2147483648
+    pub next : length (replaced_parts parts start stop new) < 18446744073709551616
+        → IsNext units before parts changes (record { range = Some range; text = chars new })
+        (replaced_parts parts start stop new) (len - (stop - start) + length new)
 
-  pub ranged : (new : List ℕ) → IsUtf8 new → length (edited_bytes edited) + length new ≤ 2147483648 → (start stop : ℕ) → IsPlaces (Ok (start, stop)) (places_at edited.changes (edited_text edited) (ends_of units (edited_text edited) range)) → IsRanged new start stop
+  pub ranged : (new : List ℕ) → IsUtf8 new → length (edited_bytes edited) + length new ≤ 2147483648 → (start stop : ℕ)
+      → IsPlaces (Ok (
+        start,
+        stop,
+      )) (places_at edited.changes (edited_text edited) (ends_of units (edited_text edited) range))
+      → IsRanged new start stop
   ranged new utf8 room start stop error =
       let fits : len + length new ≤ 2147483648 = room_told before parts len changes (length new) edited are view room in
-      let ends : AreEnds units (text_of (chars before) (items_of (chars before) parts)) range start stop = ends_seen start stop error in
+      let ends : AreEnds units (text_of (chars before) (items_of (chars before) parts)) range start stop =
+      ends_seen start stop error in
       record {
         start_cut = start_cut units before parts len changes are new utf8 fits range start stop ends;
         stop_cut = stop_cut units before parts len changes are new utf8 fits range start stop ends;
@@ -296,9 +402,11 @@ module _ (units : ℕ → ℕ) (range : Range) (before : List ℕ) (parts : List
         next = range_next units before parts len changes are new utf8 fits range start stop ends;
       }
 
-pub edit_is : (change : Change) (range : Option Range) (bytes : List ℕ) → change.range ≡ range → bytes ≡ string_bytes change.text → record { range = range; text = chars bytes } ≡ edit_of change
+pub edit_is : (change : Change) (range : Option Range) (bytes : List ℕ) → change.range ≡ range
+    → bytes ≡ string_bytes change.text → record { range = range; text = chars bytes } ≡ edit_of change
 edit_is change range bytes ranged same = λ i. record { range = sym ranged i; text = chars (same i) }
 
 -- what callers see keeps each CRLF of the old text whole
-pub keeps_seen : (before : List ℕ) (parts : List Part) (len changes : ℕ) (edited : PlainData) → ArePieces before parts len changes → seen before parts changes ≡ edited → Keeps edited.before 0 edited.items
+pub keeps_seen : (before : List ℕ) (parts : List Part) (len changes : ℕ) (edited : PlainData)
+    → ArePieces before parts len changes → seen before parts changes ≡ edited → Keeps edited.before 0 edited.items
 keeps_seen before parts len changes edited are view = subst (λ (e : PlainData). Keeps e.before 0 e.items) view are.keeps

@@ -27,7 +27,8 @@ index_first (c ∷ text) = refl
 
 index_last : (bytes : List ℕ) → IsUtf8 bytes → index_of (chars bytes) (length bytes) ≡ length (chars bytes)
 index_last bytes utf8 =
-    let e : place_of (chars bytes) (length (chars bytes)) ≡ length bytes = place_end (chars bytes) ∙ ap length (encodes-chars bytes utf8) in
+    let e : place_of (chars bytes) (length (chars bytes)) ≡ length bytes =
+    place_end (chars bytes) ∙ ap length (encodes-chars bytes utf8) in
     ap (index_of (chars bytes)) (sym e) ∙ index_of-place (chars bytes) (length (chars bytes)) (omega arith)
 
 pub plain_text : (text : List ℕ) → text_of text (plain text) ≡ text
@@ -46,14 +47,16 @@ whole_none before none =
     let c : chars before ≡ [] = ap chars e ∙ chars-nil in
     record { are = tt; apart = tt; items = rw c refl; few = omega arith }
 
-whole_some : (before : List ℕ) → IsUtf8 before → (length before ≡ 0 → ⊥) → IsWhole before (OldPart 0 (length before) ∷ [])
+whole_some : (before : List ℕ) → IsUtf8 before → (length before ≡ 0 → ⊥)
+    → IsWhole before (OldPart 0 (length before) ∷ [])
 whole_some before utf8 some =
     let n : length (chars before) - 0 ≡ length (chars before) = omega arith in
     record {
       are = ((omega arith, IsCharBoundary-start before utf8, IsCharBoundary-end before), tt);
       apart = (tt, tt);
       items = append-nil (items_in (chars before) (OldPart 0 (length before)))
-          ∙ ap₂ (λ (x y : ℕ). map Old (numbers_from x (y - x))) (index_first (chars before)) (index_last before utf8) ∙ ap (λ (x : ℕ). map Old (numbers_from 0 x)) n;
+          ∙ ap₂ (λ (x y : ℕ). map Old (numbers_from x (y - x))) (index_first (chars before)) (index_last before utf8)
+          ∙ ap (λ (x : ℕ). map Old (numbers_from 0 x)) n;
       few = omega arith;
     }
 
@@ -65,40 +68,57 @@ whole_is before utf8 =
     (cases_Bool (length before == 0))
 
 -- What the fields are at first.
-pub begun : (before : List ℕ) (parts : List Part) → IsUtf8 before → length before ≤ 2147483648 → IsWhole before parts → ArePieces before parts (length before) 0
+pub begun : (before : List ℕ) (parts : List Part) → IsUtf8 before → length before ≤ 2147483648 → IsWhole before parts
+    → ArePieces before parts (length before) 0
 begun before parts utf8 size whole = record {
   utf8 = is_utf8-from_IsUtf8 before utf8;
   are = whole.are;
   apart = whole.apart;
   keeps = subst (Keeps (chars before) 0) (sym whole.items) (plain_keeps (chars before));
-  long = sym (ap length (parts_bytes before utf8 parts whole.are ∙ (ap (λ (i : List Item). encode_utf8_all (text_of (chars before) i)) whole.items ∙ (ap encode_utf8_all (plain_text (chars before)) ∙ encodes-chars before utf8))));
+  long = sym (ap length (parts_bytes before utf8 parts whole.are
+      ∙ (ap (λ (i : List Item). encode_utf8_all (text_of (chars before) i)) whole.items
+      ∙ (ap encode_utf8_all (plain_text (chars before)) ∙ encodes-chars before utf8))));
   room = size;
   few = omega (arith, whole.few);
   fresh = λ e. whole.items;
 }
 
 -- The bytes of the text as it is now are those of its parts.
-pub now_bytes : (before : List ℕ) (parts : List Part) (len changes : ℕ) → ArePieces before parts len changes → encode_utf8_all (text_of (chars before) (items_of (chars before) parts)) ≡ bytes_of before parts
+pub now_bytes : (before : List ℕ) (parts : List Part) (len changes : ℕ) → ArePieces before parts len changes
+    → encode_utf8_all (text_of (chars before) (items_of (chars before) parts)) ≡ bytes_of before parts
 now_bytes before parts len changes are = sym (parts_bytes before (IsUtf8-from_is_utf8 before are.utf8) parts are.are)
 
 -- The text as it is now: its characters, told by its bytes, and before any change.
-pub now_chars : (before : List ℕ) (parts : List Part) (len changes : ℕ) (bytes : List ℕ) → ArePieces before parts len changes → IsUtf8 bytes → bytes ≡ bytes_of before parts → chars bytes ≡ text_of (chars before) (items_of (chars before) parts)
+pub now_chars : (before : List ℕ) (parts : List Part) (len changes : ℕ) (bytes : List ℕ)
+    → ArePieces before parts len changes → IsUtf8 bytes → bytes ≡ bytes_of before parts → chars bytes
+    ≡ text_of (chars before) (items_of (chars before) parts)
 now_chars before parts len changes bytes are utf8 same =
-    sym (chars_from_encodes (text_of (chars before) (items_of (chars before) parts)) bytes utf8 (now_bytes before parts len changes are ∙ sym same))
+    sym (chars_from_encodes (text_of (chars before) (items_of (chars before) parts)) bytes utf8
+    (now_bytes before parts len changes are ∙ sym same))
 
-pub fresh_chars : (before : List ℕ) (parts : List Part) (len changes : ℕ) → ArePieces before parts len changes → changes ≡ 0 → chars before ≡ text_of (chars before) (items_of (chars before) parts)
-fresh_chars before parts len changes are none = sym (ap (text_of (chars before)) (are.fresh none) ∙ plain_text (chars before))
+pub fresh_chars : (before : List ℕ) (parts : List Part) (len changes : ℕ) → ArePieces before parts len changes → changes
+    ≡ 0 → chars before ≡ text_of (chars before) (items_of (chars before) parts)
+fresh_chars before parts len changes are none =
+    sym (ap (text_of (chars before)) (are.fresh none) ∙ plain_text (chars before))
 
 -- What a call told of the fields, told of what callers see.
-pub places_told : (units : ℕ → ℕ) (range : Range) (answer : Result (ℕ × ℕ) EditFault) (edited : PlainData) (text : List ℕ) (changes : ℕ) → edited.changes ≡ changes → edited_text edited ≡ text
-    → answer ≡ places_at changes text (ends_of units text range) → IsPlaces answer (places_at edited.changes (edited_text edited) (ends_of units (edited_text edited) range))
+pub places_told : (units : ℕ → ℕ) (range : Range) (answer : Result (ℕ × ℕ) EditFault) (edited : PlainData)
+    (text : List ℕ) (changes : ℕ) → edited.changes ≡ changes → edited_text edited ≡ text
+    → answer ≡ places_at changes text (ends_of units text range)
+    → IsPlaces answer (places_at edited.changes (edited_text edited) (ends_of units (edited_text edited) range))
 places_told units range answer edited text changes count same e =
     inr (e ∙ ap₂ (λ (n : ℕ) (t : List ℕ). places_at n t (ends_of units t range)) (sym count) (sym same))
 
 -- The bytes of a text before any change.
-pub first_bytes : (before : List ℕ) (edited : PlainData) → IsUtf8 before → edited ≡ record { before = chars before; items = plain (chars before); changes = 0 } → length (edited_bytes edited) ≡ length before
-first_bytes before edited utf8 is = ap (λ (e : PlainData). length (edited_bytes e)) is ∙ ap length (ap encode_utf8_all (plain_text (chars before)) ∙ encodes-chars before utf8)
+pub first_bytes : (before : List ℕ) (edited : PlainData) → IsUtf8 before → edited ≡ record {
+  before = chars before;
+  items = plain (chars before);
+  changes = 0;
+} → length (edited_bytes edited) ≡ length before
+first_bytes before edited utf8 is = ap (λ (e : PlainData). length (edited_bytes e)) is
+    ∙ ap length (ap encode_utf8_all (plain_text (chars before)) ∙ encodes-chars before utf8)
 
 -- A text with these bytes is the text as it is now.
-pub edited_chars : (edited : PlainData) (bytes : List ℕ) → IsUtf8 bytes → bytes ≡ edited_bytes edited → chars bytes ≡ edited_text edited
+pub edited_chars : (edited : PlainData) (bytes : List ℕ) → IsUtf8 bytes → bytes ≡ edited_bytes edited → chars bytes
+    ≡ edited_text edited
 edited_chars edited bytes utf8 is = sym (chars_from_encodes (edited_text edited) bytes utf8 (sym is))

@@ -15,11 +15,14 @@ record IsPlaceOf (text : List ℕ) (found : Option ℕ) (place : ℕ) : Type 0 w
   is : found ≡ Some index
   at : place_of text index ≡ place
 
-place_found : (text : List ℕ) (found : Option ℕ) (place : ℕ) → Some place ≡ option_map (place_of text) found → IsPlaceOf text found place
+place_found : (text : List ℕ) (found : Option ℕ) (place : ℕ) → Some place ≡ option_map (place_of text) found
+    → IsPlaceOf text found place
 place_found text None place e = absurd (cc)
 place_found text (Some k) place e = record { index = k; is = refl; at = cc }
 
-module _ (units : ℕ → ℕ) (text : List ℕ) (range : Range) (number start stop : ℕ) (at_start : Some start ≡ option_map (place_of text) (denoted units text range.start)) (at_stop : Some stop ≡ option_map (place_of text) (denoted units text range.stop)) where
+module _ (units : ℕ → ℕ) (text : List ℕ) (range : Range) (number start stop : ℕ)
+    (at_start : Some start ≡ option_map (place_of text) (denoted units text range.start))
+    (at_stop : Some stop ≡ option_map (place_of text) (denoted units text range.stop)) where
   a : IsPlaceOf text (denoted units text range.start) start
   a = place_found text (denoted units text range.start) start at_start
 

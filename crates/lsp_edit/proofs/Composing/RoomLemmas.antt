@@ -16,23 +16,35 @@ use Rattle.lsp_edit.specs.Edited.{Applied, PlainData, edit_of, edited_bytes}
 use Rattle.lsp_edit.proofs.Parts.CutLemmas.{text_of-new}
 use Rattle.lsp_edit.proofs.Composing.AppliedLemmas.{bytes_split}
 
-replaced_longer : (text characters : List ℕ) (a b : ℕ) → a ≤ b → length (encode_utf8_all (take a text ++ (characters ++ drop b text))) ≤ length (encode_utf8_all text) + length (encode_utf8_all characters)
+replaced_longer : (text characters : List ℕ) (a b : ℕ) → a ≤ b
+    → length (encode_utf8_all (take a text ++ (characters ++ drop b text))) ≤ length (encode_utf8_all text)
+    + length (encode_utf8_all characters)
 replaced_longer text characters a b order =
     let e : a + (b - a) ≡ b = omega arith in
     let back : drop (b - a) (drop a text) ≡ drop b text = drop-drop (b - a) a text ∙ ap (λ (n : ℕ). drop n text) e in
-    let rest : length (encode_utf8_all (take (b - a) (drop a text))) + length (encode_utf8_all (drop (b - a) (drop a text))) ≡ length (encode_utf8_all (drop a text)) = bytes_split (drop a text) (b - a) in
-    let all : length (encode_utf8_all (take a text)) + length (encode_utf8_all (drop a text)) ≡ length (encode_utf8_all text) = bytes_split text a in
-    let one : length (encode_utf8_all (take a text ++ (characters ++ drop b text))) ≡ length (encode_utf8_all (take a text)) + length (encode_utf8_all (characters ++ drop b text))
-    = ap length (encodes-append (take a text) (characters ++ drop b text)) ∙ length-append (encode_utf8_all (take a text)) (encode_utf8_all (characters ++ drop b text)) in
-    let two : length (encode_utf8_all (characters ++ drop b text)) ≡ length (encode_utf8_all characters) + length (encode_utf8_all (drop b text))
-    = ap length (encodes-append characters (drop b text)) ∙ length-append (encode_utf8_all characters) (encode_utf8_all (drop b text)) in
+    let rest : length (encode_utf8_all (take (b - a) (drop a text)))
+    + length (encode_utf8_all (drop (b - a) (drop a text))) ≡ length (encode_utf8_all (drop a text)) =
+    bytes_split (drop a text) (b - a) in
+    let all : length (encode_utf8_all (take a text)) + length (encode_utf8_all (drop a text))
+    ≡ length (encode_utf8_all text) = bytes_split text a in
+    let one : length (encode_utf8_all (take a text ++ (characters ++ drop b text)))
+    ≡ length (encode_utf8_all (take a text)) + length (encode_utf8_all (characters ++ drop b text))
+    = ap length (encodes-append (take a text) (characters ++ drop b text))
+    ∙ length-append (encode_utf8_all (take a text)) (encode_utf8_all (characters ++ drop b text)) in
+    let two : length (encode_utf8_all (characters ++ drop b text)) ≡ length (encode_utf8_all characters)
+    + length (encode_utf8_all (drop b text))
+    = ap length (encodes-append characters (drop b text)) ∙ length-append (encode_utf8_all characters)
+    (encode_utf8_all (drop b text)) in
     omega (arith, ap (λ (cs : List ℕ). length (encode_utf8_all cs)) back)
 
-pub change_longer : (units : ℕ → ℕ) (old : List ℕ) (items next : List Item) (change : Edit) → after_change units old items change ≡ Ok next → length (encode_utf8_all (text_of old next)) ≤ length (encode_utf8_all (text_of old items)) + length (encode_utf8_all change.text)
+pub change_longer : (units : ℕ → ℕ) (old : List ℕ) (items next : List Item) (change : Edit)
+    → after_change units old items change ≡ Ok next → length (encode_utf8_all (text_of old next))
+    ≤ length (encode_utf8_all (text_of old items)) + length (encode_utf8_all change.text)
 change_longer units old items next change is = by_range change.range is
   where
     Longer : List Item → Type 0
-    Longer made = length (encode_utf8_all (text_of old made)) ≤ length (encode_utf8_all (text_of old items)) + length (encode_utf8_all change.text)
+    Longer made = length (encode_utf8_all (text_of old made)) ≤ length (encode_utf8_all (text_of old items))
+        + length (encode_utf8_all change.text)
 
     at_indexes : (start stop : Option ℕ) → replaced items change.text start stop ≡ Ok next → Longer next
     at_indexes None stop r = absurd (cc)
@@ -40,59 +52,91 @@ change_longer units old items next change is = by_range change.range is
     at_indexes (Some a) (Some b) r =
         ⊎_elim
         (λ (e : nat_le a b ≡ true).
-        let made : ◌≡◌ {A = Result (List Item) Fault} (Ok (take a items ++ (map New change.text ++ drop b items))) (Ok next) = rw e at r in
+        let made : ◌≡◌ {A = Result (List Item) Fault} (Ok (take a items ++ (map New change.text ++ drop b items)))
+        (Ok next) = rw e at r in
         let is_next : take a items ++ (map New change.text ++ drop b items) ≡ next = cc in
-        let text : text_of old (take a items ++ (map New change.text ++ drop b items)) ≡ take a (text_of old items) ++ (change.text ++ drop b (text_of old items))
+        let text : text_of old (take a items ++ (map New change.text ++ drop b items)) ≡ take a (text_of old items)
+        ++ (change.text ++ drop b (text_of old items))
         = map-append (character_of old) (take a items) (map New change.text ++ drop b items)
         ∙ ap₂ (λ (x y : List ℕ). x ++ y) (sym (take-map (character_of old) a items))
-        (map-append (character_of old) (map New change.text) (drop b items) ∙ ap₂ (λ (x y : List ℕ). x ++ y) (text_of-new old change.text) (sym (drop-map (character_of old) b items))) in
-        subst Longer is_next (subst (λ (cs : List ℕ). length (encode_utf8_all cs) ≤ length (encode_utf8_all (text_of old items)) + length (encode_utf8_all change.text)) (sym text) (replaced_longer (text_of old items) change.text a b (leb-true a b e))))
-        (λ (e : nat_le a b ≡ false). absurd (let f : ◌≡◌ {A = Result (List Item) Fault} (Err Reversed) (Ok next) = rw e at r in cc))
+        (map-append (character_of old) (map New change.text) (drop b items) ∙ ap₂ (λ (x y : List ℕ). x ++ y)
+        (text_of-new old change.text) (sym (drop-map (character_of old) b items))) in
+        subst Longer is_next
+        (subst (λ (cs : List ℕ). length (encode_utf8_all cs) ≤ length (encode_utf8_all (text_of old items))
+        + length (encode_utf8_all change.text)) (sym text) (replaced_longer (text_of old items) change.text a b
+        (leb-true a b e))))
+        (λ (e : nat_le a b ≡ false). absurd (let f : ◌≡◌ {A = Result (List Item) Fault} (Err Reversed) (Ok next) = rw
+        e at r in cc))
         (cases_Bool (nat_le a b))
 
     by_range : (range : Option Range) → changed_in units old items change.text range ≡ Ok next → Longer next
-    by_range None r = let e : map New change.text ≡ next = cc in subst Longer e (omega (arith, ap (λ (cs : List ℕ). length (encode_utf8_all cs)) (text_of-new old change.text)))
-    by_range (Some range) r = at_indexes (denoted units (text_of old items) range.start) (denoted units (text_of old items) range.stop) r
+    by_range None r = let e : map New change.text ≡ next = cc in
+        subst Longer e (omega (arith, ap (λ (cs : List ℕ). length (encode_utf8_all cs)) (text_of-new old change.text)))
+    by_range (Some range) r =
+        at_indexes (denoted units (text_of old items) range.start) (denoted units (text_of old items) range.stop) r
 
 -- the texts of changes, in bytes
 abbrev pub texts_len : List Change → ℕ
 texts_len changes = sum_by (λ change. string_len change.text) changes
 
 -- How far a batch was applied: what is left gives its meaning, and there is room for it.
-pub record Applying (units : ℕ → ℕ) (before : List ℕ) (meant : Result (List Item) (ℕ × Fault)) (done : ℕ) (rest : List Change) (edited : PlainData) : Type 0 where
+pub record Applying (units : ℕ → ℕ) (before : List ℕ) (meant : Result (List Item) (ℕ × Fault)) (done : ℕ)
+    (rest : List Change) (edited : PlainData) : Type 0 where
   pub left : after_changes units before edited.changes edited.items (map edit_of rest) ≡ meant
   pub same : edited.before ≡ before
   pub counted : edited.changes ≡ done
   pub room : length (edited_bytes edited) + texts_len rest ≤ 2147483648
 
-module _ (units : ℕ → ℕ) (before : List ℕ) (meant : Result (List Item) (ℕ × Fault)) (done : ℕ) (change : Change) (rest more : List Change) (edited : PlainData) (is : rest ≡ change ∷ more) (applying : Applying units before meant done rest edited) where
-  left_here : continue_with (λ next. after_changes units before (suc edited.changes) next (map edit_of more)) edited.changes (after_change units before edited.items (edit_of change)) ≡ meant
+module _ (units : ℕ → ℕ) (before : List ℕ) (meant : Result (List Item) (ℕ × Fault)) (done : ℕ) (change : Change)
+    (rest more : List Change) (edited : PlainData) (is : rest ≡ change ∷ more)
+    (applying : Applying units before meant done rest edited) where
+  left_here : continue_with (λ next. after_changes units before (suc edited.changes) next (map edit_of more))
+      edited.changes (after_change units before edited.items (edit_of change)) ≡ meant
   left_here = rw is at applying.left
 
   pub room_here : length (edited_bytes edited) + string_len change.text ≤ 2147483648
   room_here = omega (arith, applying.room, ap texts_len is, sum_by-cons (λ (c : Change). string_len c.text) change more)
 
-  pub applying_on : (next : PlainData) → done < 18446744073709551615 → Applied units edited (edit_of change) next → Applying units before meant (done + 1) more next
+  pub applying_on : (next : PlainData) → done < 18446744073709551615 → Applied units edited (edit_of change) next
+      → Applying units before meant (done + 1) more next
   applying_on next small applied =
-      let made : after_change units before edited.items (edit_of change) ≡ Ok next.items = ap (λ (b : List ℕ). after_change units b edited.items (edit_of change)) (sym applying.same) ∙ applied.changed in
-      let l : after_changes units before (suc edited.changes) next.items (map edit_of more) ≡ meant = rw made at left_here in
+      let made : after_change units before edited.items (edit_of change) ≡ Ok next.items =
+      ap (λ (b : List ℕ). after_change units b edited.items (edit_of change)) (sym applying.same) ∙ applied.changed in
+      let l : after_changes units before (suc edited.changes) next.items (map edit_of more) ≡ meant =
+      rw made at left_here in
       let n : next.changes ≡ suc edited.changes = applied.counted ∙ omega (arith, applying.counted) in
-      let longer : length (encode_utf8_all (text_of edited.before next.items)) ≤ length (encode_utf8_all (text_of edited.before edited.items)) + length (encode_utf8_all (chars (string_bytes change.text)))
+      let longer : length (encode_utf8_all (text_of edited.before next.items))
+      ≤ length (encode_utf8_all (text_of edited.before edited.items))
+      + length (encode_utf8_all (chars (string_bytes change.text)))
       = change_longer units edited.before edited.items next.items (edit_of change) applied.changed in
-      let own : length (encode_utf8_all (chars (string_bytes change.text))) ≡ string_len change.text = ap length (encodes-chars (string_bytes change.text) (IsUtf8-string_bytes change.text)) ∙ sym change.text.bytes.ok.0 in
+      let own : length (encode_utf8_all (chars (string_bytes change.text))) ≡ string_len change.text =
+      ap length (encodes-chars (string_bytes change.text) (IsUtf8-string_bytes change.text))
+      ∙ sym change.text.bytes.ok.0 in
       record {
         left = ap (λ (m : ℕ). after_changes units before m next.items (map edit_of more)) n ∙ l;
         same = applied.same ∙ applying.same;
         counted = omega (arith, n, applying.counted);
-        room = omega (arith, applying.room, ap texts_len is, sum_by-cons (λ (c : Change). string_len c.text) change more, longer, own, ap (λ (b : List ℕ). length (encode_utf8_all (text_of b next.items))) applied.same);
+        room = omega (
+          arith,
+          applying.room,
+          ap texts_len is,
+          sum_by-cons (λ (c : Change). string_len c.text) change more,
+          longer,
+          own,
+          ap (λ (b : List ℕ). length (encode_utf8_all (text_of b next.items))) applied.same,
+        );
       }
 
-  pub faulted : (fault : EditFault) → IsFaultOfChange edited.changes (after_change units edited.before edited.items (edit_of change)) fault → IsFaultOfChanges meant fault
+  pub faulted : (fault : EditFault)
+      → IsFaultOfChange edited.changes (after_change units edited.before edited.items (edit_of change)) fault
+      → IsFaultOfChanges meant fault
   faulted fault error =
       ⊎_elim
       (λ (memory : fault ≡ EditFault.NoMemory). inl memory)
-      (λ (t : (why : Fault) × (after_change units edited.before edited.items (edit_of change) ≡ Err why) × (fault ≡ fault_at edited.changes why)).
-      let made : after_change units before edited.items (edit_of change) ≡ Err t.0 = ap (λ (b : List ℕ). after_change units b edited.items (edit_of change)) (sym applying.same) ∙ t.1 in
+      (λ (t : (why : Fault) × (after_change units edited.before edited.items (edit_of change) ≡ Err why)
+      × (fault ≡ fault_at edited.changes why)).
+      let made : after_change units before edited.items (edit_of change) ≡ Err t.0 =
+      ap (λ (b : List ℕ). after_change units b edited.items (edit_of change)) (sym applying.same) ∙ t.1 in
       let l : Err (edited.changes, t.0) ≡ meant = rw made at left_here in
       inr (edited.changes, t.0, sym l, t.2))
       error

@@ -26,15 +26,20 @@ use Rattle.lsp_edit.proofs.Composing.EditedLemmas.{plain_text}
 assoc : (a b c : List ℕ) → a ++ b ++ c ≡ a ++ (b ++ c)
 assoc a b c = simp append_assoc
 
-module _ (units : ℕ → ℕ) (before : List ℕ) (utf8 : IsUtf8 before) (range : Range) (new : List ℕ) (new_utf8 : IsUtf8 new) where
-  module _ (start stop : ℕ) (error : Ok (start, stop) ≡ places_at 0 (chars before) (ends_of units (chars before) range)) where
+module _ (units : ℕ → ℕ) (before : List ℕ) (utf8 : IsUtf8 before) (range : Range) (new : List ℕ)
+    (new_utf8 : IsUtf8 new) where
+  module _ (start stop : ℕ) (error : Ok (
+    start,
+    stop,
+  ) ≡ places_at 0 (chars before) (ends_of units (chars before) range)) where
     abbrev now : List ℕ
     now = text_of (chars before) (plain (chars before))
 
     ends : AreEnds units now range start stop
     ends =
         ends_told units now range 0 start stop
-        (subst (λ (t : List ℕ). ◌≡◌ {A = Result (ℕ × ℕ) EditFault} (Ok (start, stop)) (places_at 0 t (ends_of units t range))) (sym (plain_text (chars before))) error)
+        (subst (λ (t : List ℕ). ◌≡◌ {A = Result (ℕ × ℕ) EditFault} (Ok (start, stop))
+        (places_at 0 t (ends_of units t range))) (sym (plain_text (chars before))) error)
 
     low_place : place_of (chars before) ends.low ≡ start
     low_place = subst (λ (t : List ℕ). place_of t ends.low ≡ start) (plain_text (chars before)) ends.start_is
@@ -53,29 +58,43 @@ module _ (units : ℕ → ℕ) (before : List ℕ) (utf8 : IsUtf8 before) (range
 
     text : text_of (chars before) items ≡ take ends.low (chars before) ++ (chars new ++ drop ends.high (chars before))
     text =
-        map-append (character_of (chars before)) (take ends.low (plain (chars before))) (map New (chars new) ++ drop ends.high (plain (chars before)))
+        map-append (character_of (chars before)) (take ends.low (plain (chars before)))
+        (map New (chars new) ++ drop ends.high (plain (chars before)))
         ∙ ap₂ (λ (x y : List ℕ). x ++ y)
-        (sym (take-map (character_of (chars before)) ends.low (plain (chars before))) ∙ ap (take ends.low) (plain_text (chars before)))
+        (sym (take-map (character_of (chars before)) ends.low (plain (chars before)))
+        ∙ ap (take ends.low) (plain_text (chars before)))
         (map-append (character_of (chars before)) (map New (chars new)) (drop ends.high (plain (chars before)))
         ∙ ap₂ (λ (x y : List ℕ). x ++ y) (text_of-new (chars before) (chars new))
-        (sym (drop-map (character_of (chars before)) ends.high (plain (chars before))) ∙ ap (drop ends.high) (plain_text (chars before))))
+        (sym (drop-map (character_of (chars before)) ends.high (plain (chars before)))
+        ∙ ap (drop ends.high) (plain_text (chars before))))
 
     left : bytes_left before items ≡ replace_range before start stop new
     left =
         ap encode_utf8_all text
         ∙ (encodes-append (take ends.low (chars before)) (chars new ++ drop ends.high (chars before))
         ∙ (ap₂ (λ (x y : List ℕ). x ++ y) (sym (take_place (chars before) ends.low))
-        (encodes-append (chars new) (drop ends.high (chars before)) ∙ ap₂ (λ (x y : List ℕ). x ++ y) (encodes-chars new new_utf8) (sym (drop_place (chars before) ends.high)))
-        ∙ rw (low_place, high_place, encodes-chars before utf8) (sym (assoc (take start before) new (drop stop before)))))
+        (encodes-append (chars new) (drop ends.high (chars before)) ∙ ap₂ (λ (x y : List ℕ). x ++ y)
+        (encodes-chars new new_utf8) (sym (drop_place (chars before) ends.high)))
+        ∙ rw (
+          low_place,
+          high_place,
+          encodes-chars before utf8,
+        ) (sym (assoc (take start before) new (drop stop before)))))
 
-    pub range_within : (max_len : ℕ) → length (replace_range before start stop new) ≤ max_len → text_within max_len before (meaning units (chars before) (alone range new)) ≡ Ok (replace_range before start stop new)
-    range_within max_len fits = rw (meant, left, le-ltb max_len (length (replace_range before start stop new)) fits) refl
+    pub range_within : (max_len : ℕ) → length (replace_range before start stop new) ≤ max_len
+        → text_within max_len before (meaning units (chars before) (alone range new))
+        ≡ Ok (replace_range before start stop new)
+    range_within max_len fits = rw (meant, left, le-ltb max_len (length (replace_range before start stop new)) fits)
+        refl
 
-    pub range_too_long : (max_len : ℕ) → max_len < length (replace_range before start stop new) → text_within max_len before (meaning units (chars before) (alone range new)) ≡ Err TooLong
-    range_too_long max_len above = rw (meant, left, lt-ltb max_len (length (replace_range before start stop new)) above) refl
+    pub range_too_long : (max_len : ℕ) → max_len < length (replace_range before start stop new)
+        → text_within max_len before (meaning units (chars before) (alone range new)) ≡ Err TooLong
+    range_too_long max_len above = rw (meant, left, lt-ltb max_len (length (replace_range before start stop new)) above)
+        refl
 
     low_index : index_of (chars before) start ≡ ends.low
-    low_index = ap (index_of (chars before)) (sym low_place) ∙ index_of-place (chars before) ends.low (omega (arith, ends.order, high_within))
+    low_index = ap (index_of (chars before)) (sym low_place) ∙ index_of-place (chars before) ends.low
+        (omega (arith, ends.order, high_within))
 
     high_index : index_of (chars before) stop ≡ ends.high
     high_index = ap (index_of (chars before)) (sym high_place) ∙ index_of-place (chars before) ends.high high_within
@@ -90,32 +109,45 @@ module _ (units : ℕ → ℕ) (before : List ℕ) (utf8 : IsUtf8 before) (range
     range_bytes_left = ap (bytes_left before) put_is ∙ left
 
     pub range_start : IsCharBoundary before start
-    range_start = subst (IsCharBoundary before) low_place (place_boundary before ends.low utf8 (omega (arith, ends.order, high_within)))
+    range_start =
+        subst (IsCharBoundary before) low_place
+        (place_boundary before ends.low utf8 (omega (arith, ends.order, high_within)))
 
     pub range_stop : IsCharBoundary before stop
     range_stop = subst (IsCharBoundary before) high_place (place_boundary before ends.high utf8 high_within)
 
     pub range_order : start ≤ stop
-    range_order = omega (arith, place_rises (chars before) ends.low ends.high ends.order high_within, low_place, high_place)
+    range_order = omega (
+      arith,
+      place_rises (chars before) ends.low ends.high ends.order high_within,
+      low_place,
+      high_place,
+    )
 
   fault_edit : (number : ℕ) (why : Fault) → EditOf (fault_at number why) ≡ text_fault_of (fault_at number why)
   fault_edit number InsideStart = refl
   fault_edit number InsideStop = refl
   fault_edit number Reversed = refl
 
-  pub range_fault : (max_len : ℕ) (fault : EditFault) → Err fault ≡ places_at 0 (chars before) (ends_of units (chars before) range)
-      → (text_fault_of fault ≡ NoMemory) ⊎ (text_within max_len before (meaning units (chars before) (alone range new)) ≡ Err (text_fault_of fault))
+  pub range_fault : (max_len : ℕ) (fault : EditFault) → Err fault ≡ places_at 0 (chars before)
+      (ends_of units (chars before) range)
+      → (text_fault_of fault ≡ NoMemory) ⊎ (text_within max_len before (meaning units (chars before) (alone range new))
+      ≡ Err (text_fault_of fault))
   range_fault max_len fault error =
       ⊎_elim
       (λ (e : fault ≡ edit.NoMemory). inl (ap text_fault_of e))
-      (λ (why : (w : Fault) × (after_change units (chars before) (plain (chars before)) (record { range = Some range; text = chars new }) ≡ Err w) × (fault ≡ fault_at 0 w)).
+      (λ (why : (w : Fault)
+      × (after_change units (chars before) (plain (chars before)) (record { range = Some range; text = chars new })
+      ≡ Err w) × (fault ≡ fault_at 0 w)).
       inr (rw (why.1, why.2) (ap (λ (f : TextFault). Err f) (fault_edit 0 why.0))))
       (fault_told units (chars before) (plain (chars before)) (chars new) range 0 fault
-      (inr (subst (λ (t : List ℕ). ◌≡◌ {A = Result (ℕ × ℕ) EditFault} (Err fault) (places_at 0 t (ends_of units t range))) (sym (plain_text (chars before))) error)))
+      (inr (subst (λ (t : List ℕ). ◌≡◌ {A = Result (ℕ × ℕ) EditFault} (Err fault)
+      (places_at 0 t (ends_of units t range))) (sym (plain_text (chars before))) error)))
 
 -- ---- the bytes after it
 
-module _ (old : List ℕ) (utf8 : IsUtf8 old) (start stop : ℕ) (new : List ℕ) (new_utf8 : IsUtf8 new) (order : start ≤ stop) (at_start : IsCharBoundary old start) (at_stop : IsCharBoundary old stop) where
+module _ (old : List ℕ) (utf8 : IsUtf8 old) (start stop : ℕ) (new : List ℕ) (new_utf8 : IsUtf8 new)
+    (order : start ≤ stop) (at_start : IsCharBoundary old start) (at_stop : IsCharBoundary old stop) where
   front_len : length (take start old) ≡ start
   front_len = length-take-le start old at_start.0
 
@@ -126,5 +158,8 @@ module _ (old : List ℕ) (utf8 : IsUtf8 old) (start stop : ℕ) (new : List ℕ
   replaced_len = omega (arith, length-append (take start old ++ new) (drop stop old), both_len, length-drop stop old)
 
 -- what was told of the places in a text, told of its bytes
-pub places_of_bytes : (units : ℕ → ℕ) (range : Range) (r : Result (ℕ × ℕ) EditFault) (seen bytes : List ℕ) → seen ≡ bytes → r ≡ places_at 0 (chars seen) (ends_of units (chars seen) range) → r ≡ places_at 0 (chars bytes) (ends_of units (chars bytes) range)
-places_of_bytes units range r seen bytes same error = subst (λ (b : List ℕ). r ≡ places_at 0 (chars b) (ends_of units (chars b) range)) same error
+pub places_of_bytes : (units : ℕ → ℕ) (range : Range) (r : Result (ℕ × ℕ) EditFault) (seen bytes : List ℕ)
+    → seen ≡ bytes → r ≡ places_at 0 (chars seen) (ends_of units (chars seen) range)
+    → r ≡ places_at 0 (chars bytes) (ends_of units (chars bytes) range)
+places_of_bytes units range r seen bytes same error =
+    subst (λ (b : List ℕ). r ≡ places_at 0 (chars b) (ends_of units (chars b) range)) same error

@@ -12,7 +12,8 @@ use Rattle.lsp_text.specs.declared.encoding.Encoding.{Encoding}
 use Rattle.lsp_text.specs.Units.{units_in}
 use Rattle.lsp_edit.proofs.Batches.LawLemmas.{canonical_law, units_some}
 
-module _ (before : List ℕ) (meant : Result (List Item) (ℕ × Fault)) (changes max_len : ℕ) (edited : PlainData) (is : Means (chars before) meant changes edited) where
+module _ (before : List ℕ) (meant : Result (List Item) (ℕ × Fault)) (changes max_len : ℕ) (edited : PlainData)
+    (is : Means (chars before) meant changes edited) where
   pub left_is : edited_bytes edited ≡ bytes_left before edited.items
   left_is = ap (λ (old : List ℕ). edited_bytes (record edited { before = old })) is.same
 
@@ -22,7 +23,9 @@ module _ (before : List ℕ) (meant : Result (List Item) (ℕ × Fault)) (change
   pub left_within : length (edited_bytes edited) ≤ max_len → text_within max_len before meant ≡ Ok (edited_bytes edited)
   left_within fits = rw (is.means, ← left_is, le-ltb max_len (length (edited_bytes edited)) fits) refl
 
-  pub batch_is : IsUtf8 before → (encoding : Encoding) (batch answered : List Edit) → meant ≡ meaning (units_in encoding) (chars before) batch → length (edited_bytes edited) ≤ max_len → answered ≡ canonical (units_in encoding) edited.before edited.items
+  pub batch_is : IsUtf8 before → (encoding : Encoding) (batch answered : List Edit)
+      → meant ≡ meaning (units_in encoding) (chars before) batch → length (edited_bytes edited) ≤ max_len → answered
+      ≡ canonical (units_in encoding) edited.before edited.items
       → IsCanonicalBatch (units_in encoding) max_len before batch answered
   batch_is utf8 encoding batch answered meaning_is fits answer = record {
     utf8 = utf8;

@@ -34,12 +34,15 @@ pub record IsWithin (before : List ℕ) (meant : Result (List Item) (ℕ × Faul
   pub means : meant ≡ Ok items
   pub is : left ≡ bytes_left before items
 
-pub within_told : (max_len : ℕ) (before : List ℕ) (meant : Result (List Item) (ℕ × Fault)) (left : List ℕ) → text_within max_len before meant ≡ Ok left → IsWithin before meant left
+pub within_told : (max_len : ℕ) (before : List ℕ) (meant : Result (List Item) (ℕ × Fault)) (left : List ℕ)
+    → text_within max_len before meant ≡ Ok left → IsWithin before meant left
 within_told max_len before (Err fault) left e = absurd (cc)
 within_told max_len before (Ok items) left e =
     ⊎_elim
-    (λ (above : nat_lt max_len (length (bytes_left before items)) ≡ true). let bad : Err TooLong ≡ Ok left = rw above at e in absurd (cc))
-    (λ (below : nat_lt max_len (length (bytes_left before items)) ≡ false). let same : Ok (bytes_left before items) ≡ Ok left = rw below at e in record { items = items; means = refl; is = cc })
+    (λ (above : nat_lt max_len (length (bytes_left before items)) ≡ true). let bad : Err TooLong
+    ≡ Ok left = rw above at e in absurd (cc))
+    (λ (below : nat_lt max_len (length (bytes_left before items)) ≡ false). let same : Ok (bytes_left before items)
+    ≡ Ok left = rw below at e in record { items = items; means = refl; is = cc })
     (cases_Bool (nat_lt max_len (length (bytes_left before items))))
 
 module _ (units : ℕ → ℕ) (before : List ℕ) (start stop : ℕ) (new : List ℕ) (p : IsPut units before start stop new) where
@@ -62,42 +65,57 @@ module _ (units : ℕ → ℕ) (before : List ℕ) (start stop : ℕ) (new : Lis
   text_now = ap (text_of (chars before)) (whole_is before p.utf8).items ∙ plain_text (chars before)
 
   ends : AreEnds units (text_of (chars before) (items_of (chars before) (whole_parts before))) p.range start stop
-  ends = subst (λ (t : List ℕ). AreEnds units t p.range start stop) (sym text_now) (ends_told units (chars before) p.range 0 start stop p.places)
+  ends = subst (λ (t : List ℕ). AreEnds units t p.range start stop) (sym text_now)
+      (ends_told units (chars before) p.range 0 start stop p.places)
 
   room : length before + length new ≤ 2147483648
   room = omega (arith, p.size, p.short)
 
   pub put_start_cut : AreCut (whole_parts before) start
-  put_start_cut = applied.start_cut units before (whole_parts before) (length before) 0 are new p.new_utf8 room p.range start stop ends
+  put_start_cut = applied.start_cut units before (whole_parts before) (length before) 0 are new p.new_utf8 room p.range
+      start stop ends
 
   pub put_stop_cut : AreCut (whole_parts before) stop
-  put_stop_cut = applied.stop_cut units before (whole_parts before) (length before) 0 are new p.new_utf8 room p.range start stop ends
+  put_stop_cut = applied.stop_cut units before (whole_parts before) (length before) 0 are new p.new_utf8 room p.range
+      start stop ends
 
   pub put_ordered : AreOrdered (whole_parts before)
   put_ordered = applied.parts_ordered units before (whole_parts before) (length before) 0 are new p.new_utf8 room
 
-  next : IsNext units before (whole_parts before) 0 (record { range = Some p.range; text = chars new }) (replaced_parts (whole_parts before) start stop new) (length before - (stop - start) + length new)
+  next : IsNext units before (whole_parts before) 0 (record { range = Some p.range; text = chars new })
+      (replaced_parts (whole_parts before) start stop new) (length before - (stop - start) + length new)
   next =
-      applied.range_next units before (whole_parts before) (length before) 0 are new p.new_utf8 room p.range start stop ends
+      applied.range_next units before (whole_parts before) (length before) 0 are new p.new_utf8 room p.range start stop
+      ends
       (omega (arith, replaced_few (whole_parts before) start stop new put_order, (whole_is before p.utf8).few))
 
   pub put_are : AreParts before (replaced_parts (whole_parts before) start stop new)
   put_are = next.are.are
 
-  pub put_exact : AllHaveExactEnds (chars before) (gaps (chars before) (items_of (chars before) (replaced_parts (whole_parts before) start stop new)))
+  pub put_exact : AllHaveExactEnds (chars before)
+      (gaps (chars before) (items_of (chars before) (replaced_parts (whole_parts before) start stop new)))
   put_exact = ends_exact _ _ next.are.keeps
 
-  pub put_items_are : items_of (chars before) (replaced_parts (whole_parts before) start stop new) ≡ put_items before start stop new
+  pub put_items_are : items_of (chars before) (replaced_parts (whole_parts before) start stop new)
+      ≡ put_items before start stop new
   put_items_are =
-      let made : after_change units (chars before) (plain (chars before)) (record { range = Some p.range; text = chars new }) ≡ Ok (items_of (chars before) (replaced_parts (whole_parts before) start stop new))
+      let made : after_change units (chars before) (plain (chars before)) (record {
+        range = Some p.range;
+        text = chars new;
+      }) ≡ Ok (items_of (chars before) (replaced_parts (whole_parts before) start stop new))
       =
       subst
-      (λ (i : List Item). after_change units (chars before) i (record { range = Some p.range; text = chars new }) ≡ Ok (items_of (chars before) (replaced_parts (whole_parts before) start stop new)))
+      (λ (i : List Item). after_change units (chars before) i (record { range = Some p.range; text = chars new })
+      ≡ Ok (items_of (chars before) (replaced_parts (whole_parts before) start stop new)))
       (whole_is before p.utf8).items
       next.made in
-      let all : meaning units (chars before) (alone p.range new) ≡ Ok (items_of (chars before) (replaced_parts (whole_parts before) start stop new)) = ap (continue_with (λ items. Ok items) 0) made in
-      let means : meaning units (chars before) (alone p.range new) ≡ Ok (put_items before start stop new) = range_means units before p.utf8 p.range new p.new_utf8 start stop p.places in
-      let same : Ok (items_of (chars before) (replaced_parts (whole_parts before) start stop new)) ≡ Ok (put_items before start stop new) = sym all ∙ means in
+      let all : meaning units (chars before) (alone p.range new)
+      ≡ Ok (items_of (chars before) (replaced_parts (whole_parts before) start stop new)) =
+      ap (continue_with (λ items. Ok items) 0) made in
+      let means : meaning units (chars before) (alone p.range new) ≡ Ok (put_items before start stop new) =
+      range_means units before p.utf8 p.range new p.new_utf8 start stop p.places in
+      let same : Ok (items_of (chars before) (replaced_parts (whole_parts before) start stop new))
+      ≡ Ok (put_items before start stop new) = sym all ∙ means in
       cc
 
   -- ---- as a delta of its own spans
@@ -111,13 +129,16 @@ module _ (units : ℕ → ℕ) (before : List ℕ) (start stop : ℕ) (new : Lis
   pub layer_ordered : AreOrdered (whole_parts before)
   layer_ordered = put_ordered
 
-  pub layer_is : (parts owned : List Part) → parts ≡ replaced_parts (whole_parts before) start stop new → AreSameItems owned parts → IsLayer (Ok (put_items before start stop new)) before owned
+  pub layer_is : (parts owned : List Part) → parts ≡ replaced_parts (whole_parts before) start stop new
+      → AreSameItems owned parts → IsLayer (Ok (put_items before start stop new)) before owned
   layer_is parts owned made same =
-      let kept : AreParts before owned × (items_of (chars before) owned ≡ items_of (chars before) parts) = same before (subst (AreParts before) (sym made) (put_are)) in
+      let kept : AreParts before owned × (items_of (chars before) owned ≡ items_of (chars before) parts) =
+      same before (subst (AreParts before) (sym made) (put_are)) in
       record {
         utf8 = p.utf8;
         are = kept.0;
-        means = ap (λ (items : List Item). Ok items) (sym (kept.1 ∙ (ap (items_of (chars before)) made ∙ put_items_are)));
+        means = ap (λ (items : List Item). Ok items)
+            (sym (kept.1 ∙ (ap (items_of (chars before)) made ∙ put_items_are)));
       }
 
 -- A delta means what some batch means.
@@ -132,4 +153,8 @@ has_batch before (Put encoding start stop new) on = record {
   batch = alone on.range new.now;
   means = range_means (units_in encoding) before on.utf8 on.range new.now on.new_utf8 start stop on.places;
 }
-has_batch before (Left encoding changes left) on = record { units = units_in encoding; batch = map edit_of changes.now; means = refl }
+has_batch before (Left encoding changes left) on = record {
+  units = units_in encoding;
+  batch = map edit_of changes.now;
+  means = refl;
+}

@@ -17,7 +17,8 @@ use Rattle.lsp_edit.proofs.Batches.ComposeLemmas.{then_means}
 use Rattle.lsp_edit.proofs.Batches.LawLemmas.{canonical_law, units_some}
 
 -- The changes `done` of a batch are joined, and `rest` are to come.
-pub record IsRun (units : ℕ → ℕ) (before : List ℕ) (batch : List Edit) (joined : JoinedData) (reached : List ℕ) (rest : List Edit) : Type 0 where
+pub record IsRun (units : ℕ → ℕ) (before : List ℕ) (batch : List Edit) (joined : JoinedData) (reached : List ℕ)
+    (rest : List Edit) : Type 0 where
   pub done : List Edit
   pub all : done ++ rest ≡ batch
   pub utf8 : IsUtf8 before
@@ -26,7 +27,9 @@ pub record IsRun (units : ℕ → ℕ) (before : List ℕ) (batch : List Edit) (
   pub at : IsReached joined reached
   pub short : length reached ≤ 1073741824
 
-pub run_begins : (units : ℕ → ℕ) (before : List ℕ) (batch : List Edit) (joined : JoinedData) (reached : List ℕ) → IsUtf8 before → joined ≡ record { before = before; items = plain (chars before) } → IsReached joined reached → length reached ≤ 1073741824
+pub run_begins : (units : ℕ → ℕ) (before : List ℕ) (batch : List Edit) (joined : JoinedData) (reached : List ℕ)
+    → IsUtf8 before → joined ≡ record { before = before; items = plain (chars before) } → IsReached joined reached
+    → length reached ≤ 1073741824
     → IsRun units before batch joined reached batch
 run_begins units before batch joined reached utf8 is at short = record {
   done = [];
@@ -38,11 +41,13 @@ run_begins units before batch joined reached utf8 is at short = record {
   short = short;
 }
 
-left_short : (max_len : ℕ) (reached left : List ℕ) (meant : Result (List Item) (ℕ × Fault)) (items : List Item) → meant ≡ Ok items → text_within max_len reached meant ≡ Ok left → length left ≤ max_len
+left_short : (max_len : ℕ) (reached left : List ℕ) (meant : Result (List Item) (ℕ × Fault)) (items : List Item)
+    → meant ≡ Ok items → text_within max_len reached meant ≡ Ok left → length left ≤ max_len
 left_short max_len reached left meant items is within =
     let error : text_within max_len reached (Ok items) ≡ Ok left = rw is at within in
     ⊎_elim
-    (λ (e : nat_lt max_len (length (bytes_left reached items)) ≡ true). absurd (let bad : ◌≡◌ {A = Result (List ℕ) TextFault} (Err TooLong) (Ok left) = rw e at error in cc))
+    (λ (e : nat_lt max_len (length (bytes_left reached items)) ≡ true). absurd
+    (let bad : ◌≡◌ {A = Result (List ℕ) TextFault} (Err TooLong) (Ok left) = rw e at error in cc))
     (λ (e : nat_lt max_len (length (bytes_left reached items)) ≡ false).
     let same : ◌≡◌ {A = Result (List ℕ) TextFault} (Ok (bytes_left reached items)) (Ok left) = rw e at error in
     let bytes : bytes_left reached items ≡ left = cc in
@@ -50,26 +55,37 @@ left_short max_len reached left meant items is within =
     (cases_Bool (nat_lt max_len (length (bytes_left reached items))))
 
 module _ (units : ℕ → ℕ) (before : List ℕ) (batch : List Edit) where
-  pub run_next : (joined new : JoinedData) (reached left : List ℕ) (run rest more : List Edit) → IsRun units before batch joined reached rest → rest ≡ run ++ more → IsJoined units joined run new → IsReached new left
-      → text_within 1073741824 reached (meaning units (chars reached) run) ≡ Ok left → IsRun units before batch new left more
+  pub run_next : (joined new : JoinedData) (reached left : List ℕ) (run rest more : List Edit)
+      → IsRun units before batch joined reached rest → rest ≡ run ++ more → IsJoined units joined run new
+      → IsReached new left
+      → text_within 1073741824 reached (meaning units (chars reached) run) ≡ Ok left
+      → IsRun units before batch new left more
   run_next joined new reached left run rest more is parts next at within =
-      let text : text_of (chars before) joined.items ≡ joined_text joined = ap (λ (b : List ℕ). text_of (chars b) joined.items) (sym is.same) in
-      let here : meaning units (chars reached) run ≡ Ok next.others = ap (λ (t : List ℕ). meaning units t run) is.at.text_is ∙ next.means in
+      let text : text_of (chars before) joined.items ≡ joined_text joined =
+      ap (λ (b : List ℕ). text_of (chars b) joined.items) (sym is.same) in
+      let here : meaning units (chars reached) run ≡ Ok next.others =
+      ap (λ (t : List ℕ). meaning units t run) is.at.text_is ∙ next.means in
       record {
         done = is.done ++ run;
         all = append_assoc is.done run more ∙ (ap (λ (r : List Edit). is.done ++ r) (sym parts) ∙ is.all);
         utf8 = is.utf8;
         same = ap (λ (j : JoinedData). j.before) next.is ∙ is.same;
-        means = then_means units (chars before) is.done run joined.items next.others is.means (ap (λ (t : List ℕ). meaning units t run) text ∙ next.means) ∙ sym (ap (λ (j : JoinedData). Ok j.items) next.is);
+        means = then_means units (chars before) is.done run joined.items next.others is.means
+            (ap (λ (t : List ℕ). meaning units t run) text ∙ next.means)
+            ∙ sym (ap (λ (j : JoinedData). Ok j.items) next.is);
         at = at;
         short = left_short 1073741824 reached left _ next.others here within;
       }
 
-  pub run_ends : (max_len : ℕ) (joined : JoinedData) (reached : List ℕ) (rest : List Edit) → IsRun units before batch joined reached rest → rest ≡ [] → length reached ≤ max_len → IsWhole units max_len before batch joined
+  pub run_ends : (max_len : ℕ) (joined : JoinedData) (reached : List ℕ) (rest : List Edit)
+      → IsRun units before batch joined reached rest → rest ≡ [] → length reached ≤ max_len
+      → IsWhole units max_len before batch joined
   run_ends max_len joined reached rest is none fits =
-      let done : is.done ≡ batch = sym (append-nil is.done) ∙ (ap (λ (r : List Edit). is.done ++ r) (sym none) ∙ is.all) in
+      let done : is.done ≡ batch =
+      sym (append-nil is.done) ∙ (ap (λ (r : List Edit). is.done ++ r) (sym none) ∙ is.all) in
       let left : bytes_left before joined.items ≡ reached
-      = ap (λ (b : List ℕ). encode_utf8_all (text_of (chars b) joined.items)) (sym is.same) ∙ (ap encode_utf8_all (sym is.at.text_is) ∙ encodes-chars reached is.at.utf8) in
+      = ap (λ (b : List ℕ). encode_utf8_all (text_of (chars b) joined.items)) (sym is.same)
+      ∙ (ap encode_utf8_all (sym is.at.text_is) ∙ encodes-chars reached is.at.utf8) in
       record {
         utf8 = is.utf8;
         same = is.same;
@@ -78,8 +94,10 @@ module _ (units : ℕ → ℕ) (before : List ℕ) (batch : List Edit) where
       }
 
 -- The canonical batch of one batch that was joined run by run.
-pub whole_batch : (encoding : Encoding) (max_len : ℕ) (before : List ℕ) (batch answered : List Edit) (joined : JoinedData) → IsWhole (units_in encoding) max_len before batch joined
-    → answered ≡ canonical (units_in encoding) (chars joined.before) joined.items → IsCanonicalBatch (units_in encoding) max_len before batch answered
+pub whole_batch : (encoding : Encoding) (max_len : ℕ) (before : List ℕ) (batch answered : List Edit)
+    (joined : JoinedData) → IsWhole (units_in encoding) max_len before batch joined
+    → answered ≡ canonical (units_in encoding) (chars joined.before) joined.items → IsCanonicalBatch (units_in encoding)
+    max_len before batch answered
 whole_batch encoding max_len before batch answered joined is answer = record {
   utf8 = is.utf8;
   items = joined.items;

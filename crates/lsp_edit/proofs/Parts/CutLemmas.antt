@@ -13,27 +13,35 @@ use Rattle.lsp_edit.proofs.Canonical.RebuiltLemmas.{numbers-append, length-numbe
 use Rattle.lsp_edit.proofs.Parts.IndexLemmas.{index_of-place, index_rises}
 
 take_numbers : (low count more : ℕ) → take count (numbers_from low (count + more)) ≡ numbers_from low count
-take_numbers low count more = ap (take count) (numbers-append low count more) ∙ take_at (numbers_from low count) (numbers_from (low + count) more) count (length-numbers low count)
+take_numbers low count more = ap (take count) (numbers-append low count more) ∙ take_at (numbers_from low count)
+    (numbers_from (low + count) more) count (length-numbers low count)
 
 drop_numbers : (low count more : ℕ) → drop count (numbers_from low (count + more)) ≡ numbers_from (low + count) more
-drop_numbers low count more = ap (drop count) (numbers-append low count more) ∙ drop_at (numbers_from low count) (numbers_from (low + count) more) count (length-numbers low count)
+drop_numbers low count more = ap (drop count) (numbers-append low count more) ∙ drop_at (numbers_from low count)
+    (numbers_from (low + count) more) count (length-numbers low count)
 
 pub text_of-new : (old characters : List ℕ) → text_of old (map New characters) ≡ characters
 text_of-new old [] = refl
 text_of-new old (c ∷ characters) = ap (λ (cs : List ℕ). c ∷ cs) (text_of-new old characters)
 
 -- the first characters of a text have its first bytes
-pub chars_front : (bytes : List ℕ) (k : ℕ) → IsUtf8 bytes → k ≤ length (chars bytes) → chars (take (place_of (chars bytes) k) bytes) ≡ take k (chars bytes)
+pub chars_front : (bytes : List ℕ) (k : ℕ) → IsUtf8 bytes → k ≤ length (chars bytes)
+    → chars (take (place_of (chars bytes) k) bytes) ≡ take k (chars bytes)
 chars_front bytes k utf8 within =
     let e : encode_utf8_all (chars bytes) ≡ bytes = encodes-chars bytes utf8 in
-    let t : take (place_of (chars bytes) k) bytes ≡ encode_utf8_all (take k (chars bytes)) = ap (take (place_of (chars bytes) k)) (sym e) ∙ take_place (chars bytes) k in
-    sym (chars_from_encodes (take k (chars bytes)) (take (place_of (chars bytes) k) bytes) (IsUtf8-take bytes (place_of (chars bytes) k) utf8 (place_boundary bytes k utf8 within)) (sym t))
+    let t : take (place_of (chars bytes) k) bytes ≡ encode_utf8_all (take k (chars bytes)) =
+    ap (take (place_of (chars bytes) k)) (sym e) ∙ take_place (chars bytes) k in
+    sym (chars_from_encodes (take k (chars bytes)) (take (place_of (chars bytes) k) bytes)
+    (IsUtf8-take bytes (place_of (chars bytes) k) utf8 (place_boundary bytes k utf8 within)) (sym t))
 
-chars_back : (bytes : List ℕ) (k : ℕ) → IsUtf8 bytes → k ≤ length (chars bytes) → chars (drop (place_of (chars bytes) k) bytes) ≡ drop k (chars bytes)
+chars_back : (bytes : List ℕ) (k : ℕ) → IsUtf8 bytes → k ≤ length (chars bytes)
+    → chars (drop (place_of (chars bytes) k) bytes) ≡ drop k (chars bytes)
 chars_back bytes k utf8 within =
     let e : encode_utf8_all (chars bytes) ≡ bytes = encodes-chars bytes utf8 in
-    let t : drop (place_of (chars bytes) k) bytes ≡ encode_utf8_all (drop k (chars bytes)) = ap (drop (place_of (chars bytes) k)) (sym e) ∙ drop_place (chars bytes) k in
-    sym (chars_from_encodes (drop k (chars bytes)) (drop (place_of (chars bytes) k) bytes) (IsUtf8-drop bytes (place_of (chars bytes) k) utf8 (place_boundary bytes k utf8 within)) (sym t))
+    let t : drop (place_of (chars bytes) k) bytes ≡ encode_utf8_all (drop k (chars bytes)) =
+    ap (drop (place_of (chars bytes) k)) (sym e) ∙ drop_place (chars bytes) k in
+    sym (chars_from_encodes (drop k (chars bytes)) (drop (place_of (chars bytes) k) bytes)
+    (IsUtf8-drop bytes (place_of (chars bytes) k) utf8 (place_boundary bytes k utf8 within)) (sym t))
 
 module _ (old : List ℕ) (utf8 : IsUtf8 old) where
   -- A part of the old text, by the indexes of its ends.
@@ -53,11 +61,16 @@ module _ (old : List ℕ) (utf8 : IsUtf8 old) where
     where
       rows : IsIndexAt old from → IsIndexAt old to → IsRow from to
       rows a b =
-          let at_a : index_of (chars old) from ≡ a.index = ap (index_of (chars old)) (sym a.place_is) ∙ index_of-place (chars old) a.index a.within in
-          let at_b : index_of (chars old) to ≡ b.index = ap (index_of (chars old)) (sym b.place_is) ∙ index_of-place (chars old) b.index b.within in
-          let order : index_of (chars old) from ≤ index_of (chars old) to = index_rises (chars old) from to (omega (arith, is.0)) in
-          let n : index_of (chars old) to - index_of (chars old) from ≡ b.index - a.index = ap₂ (λ (x y : ℕ). x - y) at_b at_a in
-          let items : items_in (chars old) (OldPart from to) ≡ map Old (numbers_from a.index (b.index - a.index)) = ap₂ (λ (x y : ℕ). map Old (numbers_from x y)) at_a n in
+          let at_a : index_of (chars old) from ≡ a.index = ap (index_of (chars old)) (sym a.place_is)
+          ∙ index_of-place (chars old) a.index a.within in
+          let at_b : index_of (chars old) to ≡ b.index = ap (index_of (chars old)) (sym b.place_is)
+          ∙ index_of-place (chars old) b.index b.within in
+          let order : index_of (chars old) from ≤ index_of (chars old) to =
+          index_rises (chars old) from to (omega (arith, is.0)) in
+          let n : index_of (chars old) to - index_of (chars old) from ≡ b.index - a.index =
+          ap₂ (λ (x y : ℕ). x - y) at_b at_a in
+          let items : items_in (chars old) (OldPart from to) ≡ map Old (numbers_from a.index (b.index - a.index)) =
+          ap₂ (λ (x y : ℕ). map Old (numbers_from x y)) at_a n in
           let there : a.index + (b.index - a.index) ≡ b.index = omega (arith, order, at_a, at_b) in
           record {
             low = a.index;
@@ -68,42 +81,59 @@ module _ (old : List ℕ) (utf8 : IsUtf8 old) where
             low_is = at_a;
             high_is = at_b ∙ sym there;
             items_are = items;
-            text_is = ap (text_of (chars old)) items ∙ text_row (chars old) a.index (b.index - a.index) (omega (arith, b.within));
+            text_is = ap (text_of (chars old)) items ∙ text_row (chars old) a.index (b.index - a.index)
+                (omega (arith, b.within));
           }
 
   -- The bytes of a part are those of its items' characters.
-  pub part_bytes : (part : Part) → IsPartOf old part → bytes_in old part ≡ encode_utf8_all (text_of (chars old) (items_in (chars old) part))
-  part_bytes (NewPart bytes) is = sym (ap encode_utf8_all (text_of-new (chars old) (chars bytes)) ∙ encodes-chars bytes (IsUtf8-from_is_utf8 bytes is.1))
+  pub part_bytes : (part : Part) → IsPartOf old part → bytes_in old part
+      ≡ encode_utf8_all (text_of (chars old) (items_in (chars old) part))
+  part_bytes (NewPart bytes) is =
+      sym (ap encode_utf8_all (text_of-new (chars old) (chars bytes))
+      ∙ encodes-chars bytes (IsUtf8-from_is_utf8 bytes is.1))
   part_bytes (OldPart from to) is = of_row (row_of from to is)
     where
-      of_row : IsRow from to → take (to - from) (drop from old) ≡ encode_utf8_all (text_of (chars old) (items_in (chars old) (OldPart from to)))
+      of_row : IsRow from to → take (to - from) (drop from old)
+          ≡ encode_utf8_all (text_of (chars old) (items_in (chars old) (OldPart from to)))
       of_row r =
           let e : encode_utf8_all (chars old) ≡ old = encodes-chars old utf8 in
-          let p : take (place_of (chars old) (r.low + r.count) - place_of (chars old) r.low) (drop (place_of (chars old) r.low) (encode_utf8_all (chars old))) ≡ encode_utf8_all (take ((r.low + r.count) - r.low) (drop r.low (chars old)))
+          let p : take (place_of (chars old) (r.low + r.count) - place_of (chars old) r.low)
+          (drop (place_of (chars old) r.low) (encode_utf8_all (chars old)))
+          ≡ encode_utf8_all (take ((r.low + r.count) - r.low) (drop r.low (chars old)))
           = part_place (chars old) r.low (r.low + r.count) (omega arith) r.within in
           let n : (r.low + r.count) - r.low ≡ r.count = omega arith in
           rw r.text_is (rw (r.from_is, r.to_is, e, n) at p)
 
-  pub part_length : (part : Part) → IsPartOf old part → part_len part ≡ length (encode_utf8_all (text_of (chars old) (items_in (chars old) part)))
+  pub part_length : (part : Part) → IsPartOf old part → part_len part
+      ≡ length (encode_utf8_all (text_of (chars old) (items_in (chars old) part)))
   part_length (NewPart bytes) is = ap length (part_bytes (NewPart bytes) is)
   part_length (OldPart from to) is =
-      let b : length (bytes_in old (OldPart from to)) ≡ to - from = length-take-le (to - from) (drop from old) (simp length-drop (omega (arith, is.0, is.2.0))) in
+      let b : length (bytes_in old (OldPart from to)) ≡ to - from =
+      length-take-le (to - from) (drop from old) (simp length-drop (omega (arith, is.0, is.2.0))) in
       sym b ∙ ap length (part_bytes (OldPart from to) is)
 
   -- Where a part of the old text is cut at the place of one of its indexes.
   record IsRowCut (from to k : ℕ) (row : IsRow from to) : Type 0 where
     inside : k ≤ row.count
-    place_is : from + place_of (text_of (chars old) (items_in (chars old) (OldPart from to))) k ≡ place_of (chars old) (row.low + k)
-    cut_is : index_of (chars old) (from + place_of (text_of (chars old) (items_in (chars old) (OldPart from to))) k) ≡ row.low + k
+    place_is : from + place_of (text_of (chars old) (items_in (chars old) (OldPart from to))) k
+        ≡ place_of (chars old) (row.low + k)
+    cut_is : index_of (chars old) (from + place_of (text_of (chars old) (items_in (chars old) (OldPart from to))) k)
+        ≡ row.low + k
 
-  row_cut : (from to k : ℕ) (row : IsRow from to) → k ≤ length (items_in (chars old) (OldPart from to)) → IsRowCut from to k row
+  row_cut : (from to k : ℕ) (row : IsRow from to) → k ≤ length (items_in (chars old) (OldPart from to))
+      → IsRowCut from to k row
   row_cut from to k row within =
-      let n : length (items_in (chars old) (OldPart from to)) ≡ row.count = ap length row.items_are ∙ (length-map (numbers_from row.low row.count) Old ∙ length-numbers row.low row.count) in
+      let n : length (items_in (chars old) (OldPart from to)) ≡ row.count =
+      ap length row.items_are ∙ (length-map (numbers_from row.low row.count) Old ∙ length-numbers row.low row.count) in
       let in_row : k ≤ row.count = omega arith in
-      let t : place_of (text_of (chars old) (items_in (chars old) (OldPart from to))) k ≡ place_of (take row.count (drop row.low (chars old))) k = ap (λ (cs : List ℕ). place_of cs k) row.text_is in
-      let u : place_of (take row.count (drop row.low (chars old))) k ≡ place_of (drop row.low (chars old)) k = ap (λ (cs : List ℕ). length (encode_utf8_all cs)) (take-take k row.count (drop row.low (chars old)) in_row) in
-      let p : place_of (chars old) (row.low + k) ≡ place_of (chars old) row.low + place_of (drop row.low (chars old)) k = place_add (chars old) row.low k in
-      let q : from + place_of (text_of (chars old) (items_in (chars old) (OldPart from to))) k ≡ place_of (chars old) (row.low + k) = omega (arith, t, u, p, row.from_is) in
+      let t : place_of (text_of (chars old) (items_in (chars old) (OldPart from to))) k
+      ≡ place_of (take row.count (drop row.low (chars old))) k = ap (λ (cs : List ℕ). place_of cs k) row.text_is in
+      let u : place_of (take row.count (drop row.low (chars old))) k ≡ place_of (drop row.low (chars old)) k =
+      ap (λ (cs : List ℕ). length (encode_utf8_all cs)) (take-take k row.count (drop row.low (chars old)) in_row) in
+      let p : place_of (chars old) (row.low + k) ≡ place_of (chars old) row.low + place_of (drop row.low (chars old))
+      k = place_add (chars old) row.low k in
+      let q : from + place_of (text_of (chars old) (items_in (chars old) (OldPart from to))) k
+      ≡ place_of (chars old) (row.low + k) = omega (arith, t, u, p, row.from_is) in
       record {
         inside = in_row;
         place_is = q;
@@ -111,80 +141,117 @@ module _ (old : List ℕ) (utf8 : IsUtf8 old) where
       }
 
   -- A part cut at the place of one of its indexes.
-  pub front_items : (part : Part) (k : ℕ) → IsPartOf old part → k ≤ length (items_in (chars old) part) → items_in (chars old) (front_part part (place_of (text_of (chars old) (items_in (chars old) part)) k)) ≡ take k (items_in (chars old) part)
+  pub front_items : (part : Part) (k : ℕ) → IsPartOf old part → k ≤ length (items_in (chars old) part)
+      → items_in (chars old) (front_part part (place_of (text_of (chars old) (items_in (chars old) part)) k))
+      ≡ take k (items_in (chars old) part)
   front_items (NewPart bytes) k is within =
       let u : IsUtf8 bytes = IsUtf8-from_is_utf8 bytes is.1 in
       let n : length (map New (chars bytes)) ≡ length (chars bytes) = length-map (chars bytes) New in
-      rw (text_of-new (chars old) (chars bytes), chars_front bytes k u (omega arith)) (sym (take-map New k (chars bytes)))
+      rw (
+        text_of-new (chars old) (chars bytes),
+        chars_front bytes k u (omega arith),
+      ) (sym (take-map New k (chars bytes)))
   front_items (OldPart from to) k is within =
       let r : IsRow from to = row_of from to is in
       let c : IsRowCut from to k r = row_cut from to k r within in
       let n : (r.low + k) - r.low ≡ k = omega arith in
       let m : k + (r.count - k) ≡ r.count = omega (arith, c.inside) in
-      let t : take k (numbers_from r.low r.count) ≡ numbers_from r.low k = rw m at (take_numbers r.low k (r.count - k)) in
+      let t : take k (numbers_from r.low r.count) ≡ numbers_from r.low k =
+      rw m at (take_numbers r.low k (r.count - k)) in
       ap₂ (λ (x y : ℕ). map Old (numbers_from x y)) r.low_is (ap₂ (λ (x y : ℕ). x - y) c.cut_is r.low_is ∙ n)
       ∙ sym (ap (take k) r.items_are ∙ (take-map Old k (numbers_from r.low r.count) ∙ ap (map Old) t))
 
-  pub back_items : (part : Part) (k : ℕ) → IsPartOf old part → k ≤ length (items_in (chars old) part) → items_in (chars old) (back_part part (place_of (text_of (chars old) (items_in (chars old) part)) k)) ≡ drop k (items_in (chars old) part)
+  pub back_items : (part : Part) (k : ℕ) → IsPartOf old part → k ≤ length (items_in (chars old) part)
+      → items_in (chars old) (back_part part (place_of (text_of (chars old) (items_in (chars old) part)) k))
+      ≡ drop k (items_in (chars old) part)
   back_items (NewPart bytes) k is within =
       let u : IsUtf8 bytes = IsUtf8-from_is_utf8 bytes is.1 in
       let n : length (map New (chars bytes)) ≡ length (chars bytes) = length-map (chars bytes) New in
-      rw (text_of-new (chars old) (chars bytes), chars_back bytes k u (omega arith)) (sym (drop-map New k (chars bytes)))
+      rw (
+        text_of-new (chars old) (chars bytes),
+        chars_back bytes k u (omega arith),
+      ) (sym (drop-map New k (chars bytes)))
   back_items (OldPart from to) k is within =
       let r : IsRow from to = row_of from to is in
       let c : IsRowCut from to k r = row_cut from to k r within in
       let n : (r.low + r.count) - (r.low + k) ≡ r.count - k = omega arith in
       let m : k + (r.count - k) ≡ r.count = omega (arith, c.inside) in
-      let t : drop k (numbers_from r.low r.count) ≡ numbers_from (r.low + k) (r.count - k) = rw m at (drop_numbers r.low k (r.count - k)) in
+      let t : drop k (numbers_from r.low r.count) ≡ numbers_from (r.low + k) (r.count - k) =
+      rw m at (drop_numbers r.low k (r.count - k)) in
       ap₂ (λ (x y : ℕ). map Old (numbers_from x y)) c.cut_is (ap₂ (λ (x y : ℕ). x - y) r.high_is c.cut_is ∙ n)
       ∙ sym (ap (drop k) r.items_are ∙ (drop-map Old k (numbers_from r.low r.count) ∙ ap (map Old) t))
 
   -- What is cut off a part is a part, where it isn't empty.
   pub place_above : (text : List ℕ) (k : ℕ) → 0 < k → k ≤ length text → 0 < place_of text k
-  place_above text k some within = let r : place_of text 0 + (k - 0) ≤ place_of text k = place_rises text 0 k (omega arith) within in omega arith
+  place_above text k some within = let r : place_of text 0 + (k - 0) ≤ place_of text k =
+      place_rises text 0 k (omega arith) within in omega arith
 
   pub place_below : (text : List ℕ) (k : ℕ) → k < length text → place_of text k < length (encode_utf8_all text)
-  place_below text k within = omega (arith, place_rises text k (length text) (omega arith) (omega arith), place_end text)
+  place_below text k within = omega (
+    arith,
+    place_rises text k (length text) (omega arith) (omega arith),
+    place_end text,
+  )
 
   pub text_long : (items : List Item) → length (text_of (chars old) items) ≡ length items
   text_long items = length-map items (character_of (chars old))
 
-  pub front_is : (part : Part) (k : ℕ) → IsPartOf old part → 0 < k → k ≤ length (items_in (chars old) part) → IsPartOf old (front_part part (place_of (text_of (chars old) (items_in (chars old) part)) k))
+  pub front_is : (part : Part) (k : ℕ) → IsPartOf old part → 0 < k → k ≤ length (items_in (chars old) part)
+      → IsPartOf old (front_part part (place_of (text_of (chars old) (items_in (chars old) part)) k))
   front_is (NewPart bytes) k is some within =
       let u : IsUtf8 bytes = IsUtf8-from_is_utf8 bytes is.1 in
       let n : length (map New (chars bytes)) ≡ length (chars bytes) = length-map (chars bytes) New in
       let b : IsCharBoundary bytes (place_of (chars bytes) k) = place_boundary bytes k u (omega arith) in
       let above : 0 < place_of (chars bytes) k = place_above (chars bytes) k some (omega arith) in
-      let long : length (take (place_of (chars bytes) k) bytes) ≡ place_of (chars bytes) k = length-take-le (place_of (chars bytes) k) bytes b.0 in
-      rw (text_of-new (chars old) (chars bytes))
-      (omega arith, is_utf8-from_IsUtf8 (take (place_of (chars bytes) k) bytes) (IsUtf8-take bytes (place_of (chars bytes) k) u b))
+      let long : length (take (place_of (chars bytes) k) bytes) ≡ place_of (chars bytes) k =
+      length-take-le (place_of (chars bytes) k) bytes b.0 in
+      rw (text_of-new (chars old) (chars bytes)) (
+        omega arith,
+        is_utf8-from_IsUtf8 (take (place_of (chars bytes) k) bytes) (IsUtf8-take bytes (place_of (chars bytes) k) u b),
+      )
   front_is (OldPart from to) k is some within =
       let r : IsRow from to = row_of from to is in
       let c : IsRowCut from to k r = row_cut from to k r within in
-      let above : 0 < place_of (text_of (chars old) (items_in (chars old) (OldPart from to))) k = place_above (text_of (chars old) (items_in (chars old) (OldPart from to))) k some (omega (arith, text_long (items_in (chars old) (OldPart from to)))) in
+      let above : 0 < place_of (text_of (chars old) (items_in (chars old) (OldPart from to))) k =
+      place_above (text_of (chars old) (items_in (chars old) (OldPart from to))) k some
+      (omega (arith, text_long (items_in (chars old) (OldPart from to)))) in
       (omega arith, is.1, rw c.place_is (place_boundary old (r.low + k) utf8 (omega (arith, r.within, c.inside))))
 
-  pub back_is : (part : Part) (k : ℕ) → IsPartOf old part → k < length (items_in (chars old) part) → IsPartOf old (back_part part (place_of (text_of (chars old) (items_in (chars old) part)) k))
+  pub back_is : (part : Part) (k : ℕ) → IsPartOf old part → k < length (items_in (chars old) part)
+      → IsPartOf old (back_part part (place_of (text_of (chars old) (items_in (chars old) part)) k))
   back_is (NewPart bytes) k is within =
       let u : IsUtf8 bytes = IsUtf8-from_is_utf8 bytes is.1 in
       let n : length (map New (chars bytes)) ≡ length (chars bytes) = length-map (chars bytes) New in
       let b : IsCharBoundary bytes (place_of (chars bytes) k) = place_boundary bytes k u (omega arith) in
-      let below : place_of (chars bytes) k < length (encode_utf8_all (chars bytes)) = place_below (chars bytes) k (omega arith) in
+      let below : place_of (chars bytes) k < length (encode_utf8_all (chars bytes)) =
+      place_below (chars bytes) k (omega arith) in
       let same : length (encode_utf8_all (chars bytes)) ≡ length bytes = ap length (encodes-chars bytes u) in
-      rw (text_of-new (chars old) (chars bytes))
-      (simp length-drop (omega arith), is_utf8-from_IsUtf8 (drop (place_of (chars bytes) k) bytes) (IsUtf8-drop bytes (place_of (chars bytes) k) u b))
+      rw (text_of-new (chars old) (chars bytes)) (
+        simp length-drop (omega arith),
+        is_utf8-from_IsUtf8 (drop (place_of (chars bytes) k) bytes) (IsUtf8-drop bytes (place_of (chars bytes) k) u b),
+      )
   back_is (OldPart from to) k is within =
       let r : IsRow from to = row_of from to is in
       let c : IsRowCut from to k r = row_cut from to k r (omega arith) in
-      let below : place_of (text_of (chars old) (items_in (chars old) (OldPart from to))) k < length (encode_utf8_all (text_of (chars old) (items_in (chars old) (OldPart from to)))) = place_below (text_of (chars old) (items_in (chars old) (OldPart from to))) k (omega (arith, text_long (items_in (chars old) (OldPart from to)))) in
-      (omega (arith, part_length (OldPart from to) is), rw c.place_is (place_boundary old (r.low + k) utf8 (omega (arith, r.within, c.inside))), is.2)
+      let below : place_of (text_of (chars old) (items_in (chars old) (OldPart from to))) k
+      < length (encode_utf8_all (text_of (chars old) (items_in (chars old) (OldPart from to)))) =
+      place_below (text_of (chars old) (items_in (chars old) (OldPart from to))) k
+      (omega (arith, text_long (items_in (chars old) (OldPart from to)))) in (
+        omega (arith, part_length (OldPart from to) is),
+        rw c.place_is (place_boundary old (r.low + k) utf8 (omega (arith, r.within, c.inside))),
+        is.2,
+      )
 
-  pub part_cut : (part : Part) (k : ℕ) → IsPartOf old part → k ≤ length (items_in (chars old) part) → IsCutAt part (place_of (text_of (chars old) (items_in (chars old) part)) k)
+  pub part_cut : (part : Part) (k : ℕ) → IsPartOf old part → k ≤ length (items_in (chars old) part)
+      → IsCutAt part (place_of (text_of (chars old) (items_in (chars old) part)) k)
   part_cut (NewPart bytes) k is within =
       let n : length (map New (chars bytes)) ≡ length (chars bytes) = length-map (chars bytes) New in
       rw (text_of-new (chars old) (chars bytes)) (place_boundary bytes k (IsUtf8-from_is_utf8 bytes is.1) (omega arith))
   part_cut (OldPart from to) k is within =
-      let p : place_of (text_of (chars old) (items_in (chars old) (OldPart from to))) k ≤ length (encode_utf8_all (text_of (chars old) (items_in (chars old) (OldPart from to)))) = place_within (text_of (chars old) (items_in (chars old) (OldPart from to))) k (omega (arith, text_long (items_in (chars old) (OldPart from to)))) in
+      let p : place_of (text_of (chars old) (items_in (chars old) (OldPart from to))) k
+      ≤ length (encode_utf8_all (text_of (chars old) (items_in (chars old) (OldPart from to)))) =
+      place_within (text_of (chars old) (items_in (chars old) (OldPart from to))) k
+      (omega (arith, text_long (items_in (chars old) (OldPart from to)))) in
       (omega (arith, is.0), omega (arith, part_length (OldPart from to) is))
 
   pub part_ordered : (part : Part) → IsPartOf old part → IsOrdered part

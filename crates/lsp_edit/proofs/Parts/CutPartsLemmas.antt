@@ -13,7 +13,8 @@ use Rattle.lsp_edit.proofs.Parts.CutLemmas.{part_bytes, part_length, front_items
 
 take_more : {X : Type 0} (xs ys : List X) (n : ℕ) → take (length xs + n) (xs ++ ys) ≡ xs ++ take n ys
 take_more [] ys n = let e : 0 + n ≡ n = omega arith in rw e refl
-take_more (x ∷ xs) ys n = let e : suc (length xs) + n ≡ suc (length xs + n) = omega arith in rw e (ap (λ zs. x ∷ zs) (take_more xs ys n))
+take_more (x ∷ xs) ys n = let e : suc (length xs) + n ≡ suc (length xs + n) = omega arith in
+    rw e (ap (λ zs. x ∷ zs) (take_more xs ys n))
 
 drop_more : {X : Type 0} (xs ys : List X) (n : ℕ) → drop (length xs + n) (xs ++ ys) ≡ drop n ys
 drop_more [] ys n = let e : 0 + n ≡ n = omega arith in rw e refl
@@ -21,12 +22,15 @@ drop_more (x ∷ xs) ys n = let e : suc (length xs) + n ≡ suc (length xs + n) 
 
 module _ (old : List ℕ) (utf8 : IsUtf8 old) where
   -- The bytes of parts are those of their items' characters.
-  pub parts_bytes : (parts : List Part) → AreParts old parts → bytes_of old parts ≡ encode_utf8_all (text_of (chars old) (items_of (chars old) parts))
+  pub parts_bytes : (parts : List Part) → AreParts old parts → bytes_of old parts
+      ≡ encode_utf8_all (text_of (chars old) (items_of (chars old) parts))
   parts_bytes [] are = refl
   parts_bytes (part ∷ parts) are =
       ap₂ (λ (xs ys : List ℕ). xs ++ ys) (part_bytes old utf8 part are.0) (parts_bytes parts are.1)
-      ∙ (sym (encodes-append (text_of (chars old) (items_in (chars old) part)) (text_of (chars old) (items_of (chars old) parts)))
-      ∙ ap encode_utf8_all (sym (map-append (character_of (chars old)) (items_in (chars old) part) (items_of (chars old) parts))))
+      ∙ (sym (encodes-append (text_of (chars old) (items_in (chars old) part))
+      (text_of (chars old) (items_of (chars old) parts)))
+      ∙ ap encode_utf8_all
+      (sym (map-append (character_of (chars old)) (items_in (chars old) part) (items_of (chars old) parts))))
 
   part_some : (part : Part) → IsPartOf old part → 0 < part_len part
   part_some (Part.OldPart from to) is = omega (arith, is.0)
@@ -40,8 +44,11 @@ module _ (old : List ℕ) (utf8 : IsUtf8 old) where
     pub back_are : AreParts old (back_parts parts place)
     pub cut : AreCut parts place
 
-  cut_of : (whole front back : List Part) (k place : ℕ) → front_parts whole place ≡ front → back_parts whole place ≡ back
-      → items_of (chars old) front ≡ take k (items_of (chars old) whole) → items_of (chars old) back ≡ drop k (items_of (chars old) whole) → AreParts old front → AreParts old back → AreCut whole place → AreCutAt whole k place
+  cut_of : (whole front back : List Part) (k place : ℕ) → front_parts whole place ≡ front → back_parts whole place
+      ≡ back
+      → items_of (chars old) front ≡ take k (items_of (chars old) whole) → items_of (chars old) back
+      ≡ drop k (items_of (chars old) whole) → AreParts old front → AreParts old back → AreCut whole place
+      → AreCutAt whole k place
   cut_of whole front back k place front_is_it back_is_it front_has back_has front_are back_are cut = record {
     front = ap (items_of (chars old)) front_is_it ∙ front_has;
     back = ap (items_of (chars old)) back_is_it ∙ back_has;
@@ -51,28 +58,43 @@ module _ (old : List ℕ) (utf8 : IsUtf8 old) where
   }
 
   module _ (part : Part) (parts : List Part) (is : IsPartOf old part) (are : AreParts old parts) (place : ℕ) where
-    cut_inside : (k : ℕ) → 0 < k → k < length (items_in (chars old) part) → place ≡ place_of (text_of (chars old) (items_in (chars old) part)) k → AreCutAt (part ∷ parts) k place
+    cut_inside : (k : ℕ) → 0 < k → k < length (items_in (chars old) part)
+        → place ≡ place_of (text_of (chars old) (items_in (chars old) part)) k → AreCutAt (part ∷ parts) k place
     cut_inside k some inside e =
-        let above : 0 < place_of (text_of (chars old) (items_in (chars old) part)) k = place_above old utf8 (text_of (chars old) (items_in (chars old) part)) k some (omega (arith, text_long old utf8 (items_in (chars old) part))) in
-        let below : place_of (text_of (chars old) (items_in (chars old) part)) k < length (encode_utf8_all (text_of (chars old) (items_in (chars old) part))) = place_below old utf8 (text_of (chars old) (items_in (chars old) part)) k (omega (arith, text_long old utf8 (items_in (chars old) part))) in
+        let above : 0 < place_of (text_of (chars old) (items_in (chars old) part)) k =
+        place_above old utf8 (text_of (chars old) (items_in (chars old) part)) k some
+        (omega (arith, text_long old utf8 (items_in (chars old) part))) in
+        let below : place_of (text_of (chars old) (items_in (chars old) part)) k
+        < length (encode_utf8_all (text_of (chars old) (items_in (chars old) part))) =
+        place_below old utf8 (text_of (chars old) (items_in (chars old) part)) k
+        (omega (arith, text_long old utf8 (items_in (chars old) part))) in
         let less : place < part_len part = omega (arith, part_length old utf8 part is) in
         let not_first : place ≡ 0 → ⊥ = λ z. omega arith in
-        let front_has : items_in (chars old) (front_part part place) ≡ take k (items_in (chars old) part) = ap (λ (p : ℕ). items_in (chars old) (front_part part p)) e ∙ front_items old utf8 part k is (omega arith) in
-        let back_has : items_in (chars old) (back_part part place) ≡ drop k (items_in (chars old) part) = ap (λ (p : ℕ). items_in (chars old) (back_part part p)) e ∙ back_items old utf8 part k is (omega arith) in
+        let front_has : items_in (chars old) (front_part part place) ≡ take k (items_in (chars old) part) =
+        ap (λ (p : ℕ). items_in (chars old) (front_part part p)) e ∙ front_items old utf8 part k is (omega arith) in
+        let back_has : items_in (chars old) (back_part part place) ≡ drop k (items_in (chars old) part) =
+        ap (λ (p : ℕ). items_in (chars old) (back_part part p)) e ∙ back_items old utf8 part k is (omega arith) in
         cut_of (part ∷ parts) (front_part part place ∷ []) (back_part part place ∷ parts) k place
         (rw (ne_eqb place 0 not_first, lt-ltb place (part_len part) less) refl)
         (rw (lt-ltb place (part_len part) less) refl)
-        (append-nil (items_in (chars old) (front_part part place)) ∙ (front_has ∙ sym (take-append-le k (items_in (chars old) part) (items_of (chars old) parts) (omega arith))))
-        (ap (λ (i : List Item). i ++ items_of (chars old) parts) back_has ∙ sym (drop-append-le k (items_in (chars old) part) (items_of (chars old) parts) (omega arith)))
+        (append-nil (items_in (chars old) (front_part part place))
+        ∙ (front_has ∙ sym (take-append-le k (items_in (chars old) part) (items_of (chars old) parts) (omega arith))))
+        (ap (λ (i : List Item). i ++ items_of (chars old) parts) back_has
+        ∙ sym (drop-append-le k (items_in (chars old) part) (items_of (chars old) parts) (omega arith)))
         (rw e (front_is old utf8 part k is some (omega arith)), tt)
-        (rw e (back_is old utf8 part k is inside), are)
-        (part_ordered old utf8 part is, λ l. rw e (part_cut old utf8 part k is (omega arith)), λ l. absurd (omega arith))
+        (rw e (back_is old utf8 part k is inside), are) (
+          part_ordered old utf8 part is,
+          λ l. rw e (part_cut old utf8 part k is (omega arith)),
+          λ l. absurd (omega arith),
+        )
 
     cut_at_start : place ≡ 0 → AreCutAt (part ∷ parts) 0 place
     cut_at_start e =
         let some : 0 < part_len part = part_some part is in
-        let full : items_in (chars old) (back_part part 0) ≡ items_in (chars old) part = back_items old utf8 part 0 is (omega arith) in
-        let long : length (encode_utf8_all (text_of (chars old) (items_in (chars old) part))) ≡ part_len part = sym (part_length old utf8 part is) in
+        let full : items_in (chars old) (back_part part 0) ≡ items_in (chars old) part =
+        back_items old utf8 part 0 is (omega arith) in
+        let long : length (encode_utf8_all (text_of (chars old) (items_in (chars old) part))) ≡ part_len part =
+        sym (part_length old utf8 part is) in
         rw e
         (cut_of (part ∷ parts) [] (back_part part 0 ∷ parts) 0 0
         refl
@@ -87,49 +109,78 @@ module _ (old : List ℕ) (utf8 : IsUtf8 old) where
         items_some [] h = absurd (omega arith)
         items_some (i ∷ items) h = omega arith
 
-    cut_behind : (k rest : ℕ) → rest ≡ length (items_in (chars old) part) + k → place ≡ part_len part + place_of (text_of (chars old) (items_of (chars old) parts)) k → AreCutAt parts k (place_of (text_of (chars old) (items_of (chars old) parts)) k) → AreCutAt (part ∷ parts) rest place
+    cut_behind : (k rest : ℕ) → rest ≡ length (items_in (chars old) part) + k → place ≡ part_len part
+        + place_of (text_of (chars old) (items_of (chars old) parts)) k
+        → AreCutAt parts k (place_of (text_of (chars old) (items_of (chars old) parts)) k)
+        → AreCutAt (part ∷ parts) rest place
     cut_behind k rest at e cuts =
         let some : 0 < part_len part = part_some part is in
         let not_first : place ≡ 0 → ⊥ = λ z. omega arith in
-        let left : place - part_len part ≡ place_of (text_of (chars old) (items_of (chars old) parts)) k = omega arith in
-        cut_of (part ∷ parts) (part ∷ front_parts parts (place_of (text_of (chars old) (items_of (chars old) parts)) k)) (back_parts parts (place_of (text_of (chars old) (items_of (chars old) parts)) k)) rest place
+        let left : place - part_len part ≡ place_of (text_of (chars old) (items_of (chars old) parts)) k =
+        omega arith in
+        cut_of (part ∷ parts) (part ∷ front_parts parts (place_of (text_of (chars old) (items_of (chars old) parts)) k))
+        (back_parts parts (place_of (text_of (chars old) (items_of (chars old) parts)) k)) rest place
         (rw (ne_eqb place 0 not_first, le-ltb place (part_len part) (omega arith), left) refl)
         (rw (le-ltb place (part_len part) (omega arith), left) refl)
-        (rw at (ap (λ (i : List Item). items_in (chars old) part ++ i) cuts.front ∙ sym (take_more (items_in (chars old) part) (items_of (chars old) parts) k)))
+        (rw at (ap (λ (i : List Item). items_in (chars old) part ++ i) cuts.front
+        ∙ sym (take_more (items_in (chars old) part) (items_of (chars old) parts) k)))
         (rw at (cuts.back ∙ sym (drop_more (items_in (chars old) part) (items_of (chars old) parts) k)))
         (is, cuts.front_are)
         cuts.back_are
         (part_ordered old utf8 part is, λ l. absurd (omega arith), λ l. rw left cuts.cut)
 
-  front_place : (items rest : List Item) (k : ℕ) → k ≤ length items → place_of (text_of (chars old) (items ++ rest)) k ≡ place_of (text_of (chars old) items) k
+  front_place : (items rest : List Item) (k : ℕ) → k ≤ length items → place_of (text_of (chars old) (items ++ rest)) k
+      ≡ place_of (text_of (chars old) items) k
   front_place items rest k within =
       let n : length (text_of (chars old) items) ≡ length items = text_long old utf8 items in
       ap (λ (cs : List ℕ). place_of cs k) (map-append (character_of (chars old)) items rest)
-      ∙ ap (λ (cs : List ℕ). length (encode_utf8_all cs)) (take-append-le k (text_of (chars old) items) (text_of (chars old) rest) (omega arith))
+      ∙ ap (λ (cs : List ℕ). length (encode_utf8_all cs)) (take-append-le k (text_of (chars old) items)
+      (text_of (chars old) rest) (omega arith))
 
-  behind_place : (items rest : List Item) (k : ℕ) → place_of (text_of (chars old) (items ++ rest)) (length items + k) ≡ length (encode_utf8_all (text_of (chars old) items)) + place_of (text_of (chars old) rest) k
+  behind_place : (items rest : List Item) (k : ℕ) → place_of (text_of (chars old) (items ++ rest)) (length items + k)
+      ≡ length (encode_utf8_all (text_of (chars old) items)) + place_of (text_of (chars old) rest) k
   behind_place items rest k =
       let n : length (text_of (chars old) items) ≡ length items = text_long old utf8 items in
-      let add : place_of (text_of (chars old) items ++ text_of (chars old) rest) (length items + k) ≡ place_of (text_of (chars old) items ++ text_of (chars old) rest) (length items) + place_of (drop (length items) (text_of (chars old) items ++ text_of (chars old) rest)) k
+      let add : place_of (text_of (chars old) items ++ text_of (chars old) rest) (length items + k)
+      ≡ place_of (text_of (chars old) items ++ text_of (chars old) rest) (length items)
+      + place_of (drop (length items) (text_of (chars old) items ++ text_of (chars old) rest)) k
       = place_add (text_of (chars old) items ++ text_of (chars old) rest) (length items) k in
-      let front : place_of (text_of (chars old) items ++ text_of (chars old) rest) (length items) ≡ length (encode_utf8_all (text_of (chars old) items)) = ap (λ (cs : List ℕ). length (encode_utf8_all cs)) (take_at (text_of (chars old) items) (text_of (chars old) rest) (length items) n) in
-      let back : place_of (drop (length items) (text_of (chars old) items ++ text_of (chars old) rest)) k ≡ place_of (text_of (chars old) rest) k = ap (λ (cs : List ℕ). place_of cs k) (drop_at (text_of (chars old) items) (text_of (chars old) rest) (length items) n) in
-      ap (λ (cs : List ℕ). place_of cs (length items + k)) (map-append (character_of (chars old)) items rest) ∙ (add ∙ ap₂ (λ (x y : ℕ). x + y) front back)
+      let front : place_of (text_of (chars old) items ++ text_of (chars old) rest) (length items)
+      ≡ length (encode_utf8_all (text_of (chars old) items)) =
+      ap (λ (cs : List ℕ). length (encode_utf8_all cs)) (take_at (text_of (chars old) items) (text_of (chars old) rest)
+      (length items) n) in
+      let back : place_of (drop (length items) (text_of (chars old) items ++ text_of (chars old) rest)) k
+      ≡ place_of (text_of (chars old) rest) k =
+      ap (λ (cs : List ℕ). place_of cs k) (drop_at (text_of (chars old) items) (text_of (chars old) rest) (length items)
+      n) in
+      ap (λ (cs : List ℕ). place_of cs (length items + k)) (map-append (character_of (chars old)) items rest)
+      ∙ (add ∙ ap₂ (λ (x y : ℕ). x + y) front back)
 
   -- Parts may be cut at the place of each index of their text.
-  pub cut_parts : (parts : List Part) (k : ℕ) → AreParts old parts → k ≤ length (items_of (chars old) parts) → AreCutAt parts k (place_of (text_of (chars old) (items_of (chars old) parts)) k)
+  pub cut_parts : (parts : List Part) (k : ℕ) → AreParts old parts → k ≤ length (items_of (chars old) parts)
+      → AreCutAt parts k (place_of (text_of (chars old) (items_of (chars old) parts)) k)
   cut_parts [] zero are within = record { front = refl; back = refl; front_are = tt; back_are = tt; cut = tt }
   cut_parts [] (suc k) are within = absurd (omega arith)
   cut_parts (part ∷ parts) zero are within = cut_at_start part parts are.0 are.1 0 refl
   cut_parts (part ∷ parts) (suc k) are within =
       ⊎_elim
       (λ (inside : suc k < length (items_in (chars old) part)).
-      cut_inside part parts are.0 are.1 (place_of (text_of (chars old) (items_of (chars old) (part ∷ parts))) (suc k)) (suc k) (omega arith) inside (front_place (items_in (chars old) part) (items_of (chars old) parts) (suc k) (omega arith)))
+      cut_inside part parts are.0 are.1 (place_of (text_of (chars old) (items_of (chars old) (part ∷ parts))) (suc k))
+      (suc k) (omega arith) inside (front_place (items_in (chars old) part) (items_of (chars old) parts) (suc k)
+      (omega arith)))
       (λ (rest_after : length (items_in (chars old) part) ≤ suc k).
-      let here : suc k ≡ length (items_in (chars old) part) + (suc k - length (items_in (chars old) part)) = omega arith in
-      let long : length (items_in (chars old) part ++ items_of (chars old) parts) ≡ length (items_in (chars old) part) + length (items_of (chars old) parts) = length-append (items_in (chars old) part) (items_of (chars old) parts) in
-      let p : place_of (text_of (chars old) (items_of (chars old) (part ∷ parts))) (suc k) ≡ part_len part + place_of (text_of (chars old) (items_of (chars old) parts)) (suc k - length (items_in (chars old) part))
-      = ap (place_of (text_of (chars old) (items_of (chars old) (part ∷ parts)))) here ∙ (behind_place (items_in (chars old) part) (items_of (chars old) parts) (suc k - length (items_in (chars old) part)) ∙ ap (λ (n : ℕ). n + place_of (text_of (chars old) (items_of (chars old) parts)) (suc k - length (items_in (chars old) part))) (sym (part_length old utf8 part are.0))) in
-      cut_behind part parts are.0 are.1 (place_of (text_of (chars old) (items_of (chars old) (part ∷ parts))) (suc k)) (suc k - length (items_in (chars old) part)) (suc k) here p
+      let here : suc k ≡ length (items_in (chars old) part) + (suc k - length (items_in (chars old) part)) =
+      omega arith in
+      let long : length (items_in (chars old) part ++ items_of (chars old) parts) ≡ length (items_in (chars old) part)
+      + length (items_of (chars old) parts) = length-append (items_in (chars old) part) (items_of (chars old) parts) in
+      let p : place_of (text_of (chars old) (items_of (chars old) (part ∷ parts))) (suc k) ≡ part_len part
+      + place_of (text_of (chars old) (items_of (chars old) parts)) (suc k - length (items_in (chars old) part))
+      = ap (place_of (text_of (chars old) (items_of (chars old) (part ∷ parts)))) here
+      ∙ (behind_place (items_in (chars old) part) (items_of (chars old) parts)
+      (suc k - length (items_in (chars old) part))
+      ∙ ap (λ (n : ℕ). n + place_of (text_of (chars old) (items_of (chars old) parts))
+      (suc k - length (items_in (chars old) part))) (sym (part_length old utf8 part are.0))) in
+      cut_behind part parts are.0 are.1 (place_of (text_of (chars old) (items_of (chars old) (part ∷ parts))) (suc k))
+      (suc k - length (items_in (chars old) part)) (suc k) here p
       (cut_parts parts (suc k - length (items_in (chars old) part)) are.1 (omega arith)))
       (cases_lt (suc k) (length (items_in (chars old) part)))

@@ -9,8 +9,10 @@ use Rattle.lsp_text.specs.Text.{place_of}
 use Rattle.lsp_text.proofs.Positions.PlaceLemmas.{place_rises, IsIndexAt, index_at}
 use Rattle.lsp_edit.specs.Parts.{index_of}
 
-pub length-bytes : (c : ℕ) (text : List ℕ) → length (encode_utf8_all (c ∷ text)) ≡ len_utf8 c + length (encode_utf8_all text)
-length-bytes c text = length-append (encode_utf8 c) (encode_utf8_all text) ∙ ap (λ (n : ℕ). n + length (encode_utf8_all text)) (length-encode c)
+pub length-bytes : (c : ℕ) (text : List ℕ) → length (encode_utf8_all (c ∷ text))
+    ≡ len_utf8 c + length (encode_utf8_all text)
+length-bytes c text = length-append (encode_utf8 c) (encode_utf8_all text)
+    ∙ ap (λ (n : ℕ). n + length (encode_utf8_all text)) (length-encode c)
 
 -- The index of an index's place is that index.
 pub index_of-place : (text : List ℕ) (k : ℕ) → k ≤ length text → index_of text (place_of text k) ≡ k
@@ -19,9 +21,13 @@ index_of-place [] (suc k) within = absurd (omega arith)
 index_of-place (c ∷ text) zero within = refl
 index_of-place (c ∷ text) (suc k) within =
     let p : place_of (c ∷ text) (suc k) ≡ len_utf8 c + place_of text k = length-bytes c (take k text) in
-    let some : len_utf8 c + place_of text k ≡ 0 → ⊥ = λ e. let b : 1 ≤ len_utf8 c = (len_utf8_bounds c).0 in omega arith in
+    let some : len_utf8 c + place_of text k ≡ 0 → ⊥ = λ e. let b : 1 ≤ len_utf8 c = (len_utf8_bounds c).0 in
+    omega arith in
     let back : (len_utf8 c + place_of text k) - len_utf8 c ≡ place_of text k = omega arith in
-    ap (index_of (c ∷ text)) p ∙ rw (ne_eqb (len_utf8 c + place_of text k) 0 some, back) (ap suc (index_of-place text k (omega arith)))
+    ap (index_of (c ∷ text)) p ∙ rw (
+      ne_eqb (len_utf8 c + place_of text k) 0 some,
+      back,
+    ) (ap suc (index_of-place text k (omega arith)))
 
 -- A later place has no lower index.
 pub index_rises : (text : List ℕ) (low high : ℕ) → low ≤ high → index_of text low ≤ index_of text high
@@ -31,20 +37,29 @@ index_rises (c ∷ text) low high order =
     (λ (e : low ≡ 0). rw e (omega arith))
     (λ (e : low ≡ 0 → ⊥).
     let h : high ≡ 0 → ⊥ = λ z. e (omega arith) in
-    rw (ne_eqb low 0 e, ne_eqb high 0 h) (let r : index_of text (low - len_utf8 c) ≤ index_of text (high - len_utf8 c) = index_rises text (low - len_utf8 c) (high - len_utf8 c) (omega arith) in omega arith))
+    rw (
+      ne_eqb low 0 e,
+      ne_eqb high 0 h,
+    ) (let r : index_of text (low - len_utf8 c) ≤ index_of text (high - len_utf8 c) = index_rises text
+    (low - len_utf8 c) (high - len_utf8 c) (omega arith) in omega arith))
     (cases_eq low 0)
 
 -- The indexes of two places are in the places' order.
-pub indexes_less : (bytes : List ℕ) → IsUtf8 bytes → (low high : ℕ) → IsCharBoundary bytes low → IsCharBoundary bytes high → low < high → index_of (chars bytes) low < index_of (chars bytes) high
-indexes_less bytes utf8 low high at_low at_high less = by_index (index_at bytes low utf8 at_low) (index_at bytes high utf8 at_high)
+pub indexes_less : (bytes : List ℕ) → IsUtf8 bytes → (low high : ℕ) → IsCharBoundary bytes low
+    → IsCharBoundary bytes high → low < high → index_of (chars bytes) low < index_of (chars bytes) high
+indexes_less bytes utf8 low high at_low at_high less =
+    by_index (index_at bytes low utf8 at_low) (index_at bytes high utf8 at_high)
   where
     by_index : IsIndexAt bytes low → IsIndexAt bytes high → index_of (chars bytes) low < index_of (chars bytes) high
     by_index a b =
-        let at_a : index_of (chars bytes) low ≡ a.index = ap (index_of (chars bytes)) (sym a.place_is) ∙ index_of-place (chars bytes) a.index a.within in
-        let at_b : index_of (chars bytes) high ≡ b.index = ap (index_of (chars bytes)) (sym b.place_is) ∙ index_of-place (chars bytes) b.index b.within in
+        let at_a : index_of (chars bytes) low ≡ a.index = ap (index_of (chars bytes)) (sym a.place_is)
+        ∙ index_of-place (chars bytes) a.index a.within in
+        let at_b : index_of (chars bytes) high ≡ b.index = ap (index_of (chars bytes)) (sym b.place_is)
+        ∙ index_of-place (chars bytes) b.index b.within in
         ⊎_elim
         (λ (l : a.index < b.index). omega arith)
         (λ (l : b.index ≤ a.index).
-        let r : place_of (chars bytes) b.index + (a.index - b.index) ≤ place_of (chars bytes) a.index = place_rises (chars bytes) b.index a.index l a.within in
+        let r : place_of (chars bytes) b.index + (a.index - b.index) ≤ place_of (chars bytes) a.index =
+        place_rises (chars bytes) b.index a.index l a.within in
         absurd (omega (arith, a.place_is, b.place_is)))
         (cases_lt a.index b.index)

@@ -10,45 +10,69 @@ use Rattle.lsp_edit.proofs.Parts.PassedLemmas.{Passing, drop_ordered, ends_behin
 use Rattle.lsp_edit.proofs.Canonical.WalkLemmas.{rest_is}
 
 before_more : (spans : List Span) (index : ℕ) (default : Span) → index < length spans
-    → sum_by span_len (take (index + 1) spans) ≡ sum_by span_len (take index spans) + span_len (get_or spans index default)
-before_more spans index default within = ap (sum_by span_len) (take_more spans index default within) ∙ sum_by_push span_len (take index spans) (get_or spans index default)
+    → sum_by span_len (take (index + 1) spans) ≡ sum_by span_len (take index spans)
+    + span_len (get_or spans index default)
+before_more spans index default within = ap (sum_by span_len) (take_more spans index default within)
+    ∙ sum_by_push span_len (take index spans) (get_or spans index default)
 
 -- The place of the next span, and of the one before.
-pub mark_next : (spans : List Span) (index place : ℕ) (default : Span) (len : ℕ) → index < length spans → len ≡ span_len (get_or spans index default) → IsMark spans index place → IsMark spans (index + 1) (place + len)
-mark_next spans index place default len within is mark = (omega (arith, within), omega (arith, is, mark.1, before_more spans index default within))
+pub mark_next : (spans : List Span) (index place : ℕ) (default : Span) (len : ℕ) → index < length spans
+    → len ≡ span_len (get_or spans index default) → IsMark spans index place → IsMark spans (index + 1) (place + len)
+mark_next spans index place default len within is mark =
+    (omega (arith, within), omega (arith, is, mark.1, before_more spans index default within))
 
-pub mark_before : (spans : List Span) (index place : ℕ) (default : Span) (len : ℕ) → 0 < index → len ≡ span_len (get_or spans (index - 1) default) → IsMark spans index place → (len ≤ place) × IsMark spans (index - 1) (place - len)
+pub mark_before : (spans : List Span) (index place : ℕ) (default : Span) (len : ℕ) → 0 < index
+    → len ≡ span_len (get_or spans (index - 1) default) → IsMark spans index place → (len ≤ place)
+    × IsMark spans (index - 1) (place - len)
 mark_before spans index place default len some is mark =
     let n : (index - 1) + 1 ≡ index = omega (arith, some) in
     let within : index - 1 < length spans = omega (arith, mark.0, some) in
-    let more : sum_by span_len (take index spans) ≡ sum_by span_len (take (index - 1) spans) + span_len (get_or spans (index - 1) default)
+    let more : sum_by span_len (take index spans) ≡ sum_by span_len (take (index - 1) spans)
+    + span_len (get_or spans (index - 1) default)
     = ap (λ (k : ℕ). sum_by span_len (take k spans)) (sym n) ∙ before_more spans (index - 1) default within in
     (omega (arith, mark.1, more, is), (omega (arith, within), omega (arith, mark.1, more, is)))
 
-passing_at : (spans : List Span) (low index : ℕ) → index ≤ length spans → sum_by span_len (take index spans) ≤ low → AreOrdered (parts_of spans)
-    → Passing (parts_of spans) (parts_of (take index spans)) (parts_of (drop index spans)) (sum_by span_len (take index spans)) low
+passing_at : (spans : List Span) (low index : ℕ) → index ≤ length spans → sum_by span_len (take index spans) ≤ low
+    → AreOrdered (parts_of spans)
+    → Passing (parts_of spans) (parts_of (take index spans)) (parts_of (drop index spans))
+    (sum_by span_len (take index spans)) low
 passing_at spans low zero within fits ordered = passing_begins (parts_of spans) low ordered
 passing_at spans low (suc index) within fits ordered =
     let n : index + 1 ≡ suc index = omega arith in
     let less : index < length spans = omega (arith, within) in
-    let more : sum_by span_len (take (index + 1) spans) ≡ sum_by span_len (take index spans) + span_len (get_or spans index (OldSpan 0 0)) = before_more spans index (OldSpan 0 0) less in
-    let all : sum_by span_len (take (index + 1) spans) ≤ low = subst (λ (k : ℕ). sum_by span_len (take k spans) ≤ low) (sym n) fits in
-    let ih : Passing (parts_of spans) (parts_of (take index spans)) (parts_of (drop index spans)) (sum_by span_len (take index spans)) low = passing_at spans low index (omega (arith, less)) (omega (arith, more, all)) ordered in
-    subst (λ (k : ℕ). Passing (parts_of spans) (parts_of (take k spans)) (parts_of (drop k spans)) (sum_by span_len (take k spans)) low) n
-    (subst (λ (p : ℕ). Passing (parts_of spans) (parts_of (take (index + 1) spans)) (parts_of (drop (index + 1) spans)) p low) (sym more)
-    (span_passing spans index (OldSpan 0 0) (sum_by span_len (take index spans)) low (span_len (get_or spans index (OldSpan 0 0))) less refl (omega (arith, more, all)) ih))
+    let more : sum_by span_len (take (index + 1) spans) ≡ sum_by span_len (take index spans)
+    + span_len (get_or spans index (OldSpan 0 0)) = before_more spans index (OldSpan 0 0) less in
+    let all : sum_by span_len (take (index + 1) spans) ≤ low =
+    subst (λ (k : ℕ). sum_by span_len (take k spans) ≤ low) (sym n) fits in
+    let ih : Passing (parts_of spans) (parts_of (take index spans)) (parts_of (drop index spans))
+    (sum_by span_len (take index spans)) low =
+    passing_at spans low index (omega (arith, less)) (omega (arith, more, all)) ordered in
+    subst (λ (k : ℕ). Passing (parts_of spans) (parts_of (take k spans)) (parts_of (drop k spans))
+    (sum_by span_len (take k spans)) low) n
+    (subst (λ (p : ℕ). Passing (parts_of spans) (parts_of (take (index + 1) spans)) (parts_of (drop (index + 1) spans))
+    p low) (sym more)
+    (span_passing spans index (OldSpan 0 0) (sum_by span_len (take index spans)) low
+    (span_len (get_or spans index (OldSpan 0 0))) less refl (omega (arith, more, all)) ih))
 
 -- A walk may begin at any place before the one that it goes to.
-pub mark_passing : (spans : List Span) (index passed low : ℕ) → IsMark spans index passed → passed ≤ low → AreOrdered (parts_of spans) → Passing (parts_of spans) (parts_of (take index spans)) (parts_of (drop index spans)) passed low
+pub mark_passing : (spans : List Span) (index passed low : ℕ) → IsMark spans index passed → passed ≤ low
+    → AreOrdered (parts_of spans) → Passing (parts_of spans) (parts_of (take index spans)) (parts_of (drop index spans))
+    passed low
 mark_passing spans index passed low mark order ordered =
-    subst (λ (p : ℕ). Passing (parts_of spans) (parts_of (take index spans)) (parts_of (drop index spans)) p low) (sym mark.1)
+    subst (λ (p : ℕ). Passing (parts_of spans) (parts_of (take index spans)) (parts_of (drop index spans)) p low)
+    (sym mark.1)
     (passing_at spans low index mark.0 (omega (arith, mark.1, order)) ordered)
 
 -- each span's ends are in order
-pub span_ordered : (spans : List Span) (index : ℕ) (default : Span) → index < length spans → AreOrdered (parts_of spans) → IsOrdered (part_of (get_or spans index default))
+pub span_ordered : (spans : List Span) (index : ℕ) (default : Span) → index < length spans → AreOrdered (parts_of spans)
+    → IsOrdered (part_of (get_or spans index default))
 span_ordered spans index default within ordered =
-    first_ordered (parts_of (drop index spans)) (part_of (get_or spans index default)) (parts_of (drop (index + 1) spans)) (rest_is spans index default (part_of (get_or spans index default)) within refl) (drop_ordered spans index ordered)
+    first_ordered (parts_of (drop index spans)) (part_of (get_or spans index default))
+    (parts_of (drop (index + 1) spans)) (rest_is spans index default (part_of (get_or spans index default)) within refl)
+    (drop_ordered spans index ordered)
 
-pub behind_at : (spans : List Span) (index place len : ℕ) (default : Span) → index < length spans → len ≡ span_len (get_or spans index default) → place < len → EndAfter (parts_of (drop index spans)) place
+pub behind_at : (spans : List Span) (index place len : ℕ) (default : Span) → index < length spans
+    → len ≡ span_len (get_or spans index default) → place < len → EndAfter (parts_of (drop index spans)) place
 behind_at spans index place len default within is less =
-    ends_behind (parts_of (drop index spans)) (part_of (get_or spans index default)) (parts_of (drop (index + 1) spans)) place (rest_is spans index default (part_of (get_or spans index default)) within refl) (omega (arith, is, less))
+    ends_behind (parts_of (drop index spans)) (part_of (get_or spans index default)) (parts_of (drop (index + 1) spans))
+    place (rest_is spans index default (part_of (get_or spans index default)) within refl) (omega (arith, is, less))

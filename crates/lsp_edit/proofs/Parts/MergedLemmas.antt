@@ -16,14 +16,18 @@ apart_back (OldPart from to) count (OldPart next end ∷ parts) e = e
 apart_back (OldPart from to) count (NewPart bytes ∷ parts) e = refl
 apart_back (NewPart bytes) count (part ∷ parts) e = refl
 
-apart_fronts : (part : Part) (parts : List Part) (place : ℕ) → IsApart part parts → IsApart part (front_parts parts place)
+apart_fronts : (part : Part) (parts : List Part) (place : ℕ) → IsApart part parts
+    → IsApart part (front_parts parts place)
 apart_fronts part [] place e = tt
 apart_fronts part (next ∷ parts) place e =
     ⊎_elim
     (λ (z : place ≡ 0). rw z tt)
     (λ (nz : place ≡ 0 → ⊥).
     ⊎_elim
-    (λ (l : place < part_len next). rw (ne_eqb place 0 nz, lt-ltb place (part_len next) l) (apart_front part next place e))
+    (λ (l : place < part_len next). rw (
+      ne_eqb place 0 nz,
+      lt-ltb place (part_len next) l,
+    ) (apart_front part next place e))
     (λ (l : part_len next ≤ place). rw (ne_eqb place 0 nz, le-ltb place (part_len next) l) e)
     (cases_lt place (part_len next)))
     (cases_eq place 0)
@@ -37,7 +41,10 @@ fronts_apart (part ∷ parts) place none =
     ⊎_elim
     (λ (l : place < part_len part). rw (ne_eqb place 0 nz, lt-ltb place (part_len part) l) (tt, tt))
     (λ (l : part_len part ≤ place).
-    rw (ne_eqb place 0 nz, le-ltb place (part_len part) l) (apart_fronts part parts (place - part_len part) none.0, fronts_apart parts (place - part_len part) none.1))
+    rw (ne_eqb place 0 nz, le-ltb place (part_len part) l) (
+      apart_fronts part parts (place - part_len part) none.0,
+      fronts_apart parts (place - part_len part) none.1,
+    ))
     (cases_lt place (part_len part)))
     (cases_eq place 0)
 
@@ -46,17 +53,20 @@ backs_apart [] place none = tt
 backs_apart (part ∷ parts) place none =
     ⊎_elim
     (λ (l : place < part_len part). rw (lt-ltb place (part_len part) l) (apart_back part place parts none.0, none.1))
-    (λ (l : part_len part ≤ place). rw (le-ltb place (part_len part) l) (backs_apart parts (place - part_len part) none.1))
+    (λ (l : part_len part ≤ place). rw (le-ltb place (part_len part) l)
+    (backs_apart parts (place - part_len part) none.1))
     (cases_lt place (part_len part))
 
 -- What stands behind a part is as far from what it was joined to.
-apart_joined : (from next end : ℕ) (parts : List Part) → IsApart (OldPart next end) parts → IsApart (OldPart from end) parts
+apart_joined : (from next end : ℕ) (parts : List Part) → IsApart (OldPart next end) parts
+    → IsApart (OldPart from end) parts
 apart_joined from next end [] e = tt
 apart_joined from next end (OldPart low high ∷ parts) e = e
 apart_joined from next end (NewPart bytes ∷ parts) e = refl
 
 -- Two parts, joined where they touch, with others behind them.
-joined_apart : (first part : Part) (parts : List Part) → IsApart part parts → NoneTouch parts → NoneTouch (joined first part ++ parts)
+joined_apart : (first part : Part) (parts : List Part) → IsApart part parts → NoneTouch parts
+    → NoneTouch (joined first part ++ parts)
 joined_apart (OldPart from to) (OldPart next end) parts e none =
     ⊎_elim
     (λ (t : (to == next) ≡ true). rw t (apart_joined from next end parts e, none))
@@ -66,7 +76,8 @@ joined_apart (OldPart from to) (NewPart bytes) parts e none = (refl, (e, none))
 joined_apart (NewPart bytes) part parts e none = (refl, (e, none))
 
 -- What a part is put behind begins where it began.
-joined_begins : (before first part : Part) (parts : List Part) → touch before first ≡ false → IsApart before (joined first part ++ parts)
+joined_begins : (before first part : Part) (parts : List Part) → touch before first ≡ false
+    → IsApart before (joined first part ++ parts)
 joined_begins (OldPart low high) (OldPart from to) (OldPart next end) parts e =
     ⊎_elim
     (λ (t : (to == next) ≡ true). rw t e)
@@ -82,14 +93,17 @@ joined_begins (NewPart bytes) (OldPart from to) (OldPart next end) parts e =
 joined_begins (NewPart bytes) (OldPart from to) (NewPart more) parts e = refl
 joined_begins (NewPart bytes) (NewPart more) part parts e = refl
 
-put_begins : (before first : Part) (rest : List Part) (part : Part) (parts : List Part) → touch before first ≡ false → IsApart before (put_part (first ∷ rest) part ++ parts)
+put_begins : (before first : Part) (rest : List Part) (part : Part) (parts : List Part) → touch before first ≡ false
+    → IsApart before (put_part (first ∷ rest) part ++ parts)
 put_begins before first [] part parts e = joined_begins before first part parts e
 put_begins before first (second ∷ rest) part parts e = e
 
-put_apart : (made : List Part) (part : Part) (parts : List Part) → NoneTouch made → IsApart part parts → NoneTouch parts → NoneTouch (put_part made part ++ parts)
+put_apart : (made : List Part) (part : Part) (parts : List Part) → NoneTouch made → IsApart part parts → NoneTouch parts
+    → NoneTouch (put_part made part ++ parts)
 put_apart [] part parts none e more = (e, more)
 put_apart (first ∷ []) part parts none e more = joined_apart first part parts e more
-put_apart (first ∷ second ∷ made) part parts none e more = (put_begins first second made part parts none.0, put_apart (second ∷ made) part parts none.1 e more)
+put_apart (first ∷ second ∷ made) part parts none e more =
+    (put_begins first second made part parts none.0, put_apart (second ∷ made) part parts none.1 e more)
 
 pub put_all_apart : (made parts : List Part) → NoneTouch made → NoneTouch parts → NoneTouch (put_parts made parts)
 put_all_apart made [] none more = none
@@ -116,18 +130,22 @@ with_new_apart parts bytes none =
     (λ (f : (length bytes == 0) ≡ false). rw f (behind_apart parts bytes none))
     (cases_Bool (length bytes == 0))
 
-pub replaced_apart : (parts : List Part) (start stop : ℕ) (bytes : List ℕ) → NoneTouch parts → NoneTouch (replaced_parts parts start stop bytes)
+pub replaced_apart : (parts : List Part) (start stop : ℕ) (bytes : List ℕ) → NoneTouch parts
+    → NoneTouch (replaced_parts parts start stop bytes)
 replaced_apart parts start stop bytes none =
-    put_all_apart (front_parts parts start ++ new_parts bytes) (back_parts parts stop) (with_new_apart (front_parts parts start) bytes (fronts_apart parts start none)) (backs_apart parts stop none)
+    put_all_apart (front_parts parts start ++ new_parts bytes) (back_parts parts stop)
+    (with_new_apart (front_parts parts start) bytes (fronts_apart parts start none)) (backs_apart parts stop none)
 
 part_apart : (first : List Part) (part : Part) → NoneTouch first → NoneTouch (through_part first part)
 part_apart first (OldPart from to) none = fronts_apart (back_parts first from) (to - from) (backs_apart first from none)
 part_apart first (NewPart bytes) none = (tt, tt)
 
-through_rest_apart : (first made second : List Part) → NoneTouch first → NoneTouch made → NoneTouch (put_through first made second)
+through_rest_apart : (first made second : List Part) → NoneTouch first → NoneTouch made
+    → NoneTouch (put_through first made second)
 through_rest_apart first made [] none so_far = so_far
 through_rest_apart first made (part ∷ second) none so_far =
-    through_rest_apart first (put_parts made (through_part first part)) second none (put_all_apart made (through_part first part) so_far (part_apart first part none))
+    through_rest_apart first (put_parts made (through_part first part)) second none
+    (put_all_apart made (through_part first part) so_far (part_apart first part none))
 
 pub through_apart : (first second : List Part) → NoneTouch first → NoneTouch (through_parts first second)
 through_apart first second none = through_rest_apart first [] second none tt

@@ -8,19 +8,25 @@ use Rattle.lsp_edit.specs.inside.Parts.{joined, put_part, front_part, front_part
 put_behind : (parts : List Part) (last part : Part) → put_part (parts ++ last ∷ []) part ≡ parts ++ joined last part
 put_behind [] last part = refl
 put_behind (first ∷ []) last part = refl
-put_behind (first ∷ second ∷ parts) last part = ap (λ (ps : List Part). first ∷ ps) (put_behind (second ∷ parts) last part)
+put_behind (first ∷ second ∷ parts) last part =
+    ap (λ (ps : List Part). first ∷ ps) (put_behind (second ∷ parts) last part)
 
 -- What a span does that is put behind others: one that it touches is joined, any other stays.
-pub put_joined : (spans : List Span) (last span one : Span) → joined (part_of last) (part_of span) ≡ part_of one ∷ [] → parts_of (spans ++ one ∷ []) ≡ put_part (parts_of (spans ++ last ∷ [])) (part_of span)
+pub put_joined : (spans : List Span) (last span one : Span) → joined (part_of last) (part_of span) ≡ part_of one ∷ []
+    → parts_of (spans ++ one ∷ []) ≡ put_part (parts_of (spans ++ last ∷ [])) (part_of span)
 put_joined spans last span one e =
     map-append part_of spans (one ∷ [])
-    ∙ sym (ap (λ (ps : List Part). put_part ps (part_of span)) (map-append part_of spans (last ∷ [])) ∙ (put_behind (parts_of spans) (part_of last) (part_of span) ∙ ap (λ (ps : List Part). parts_of spans ++ ps) e))
+    ∙ sym (ap (λ (ps : List Part). put_part ps (part_of span)) (map-append part_of spans (last ∷ []))
+    ∙ (put_behind (parts_of spans) (part_of last) (part_of span) ∙ ap (λ (ps : List Part). parts_of spans ++ ps) e))
 
-pub put_apart : (spans : List Span) (last span : Span) → joined (part_of last) (part_of span) ≡ part_of last ∷ part_of span ∷ [] → parts_of ((spans ++ last ∷ []) ++ span ∷ []) ≡ put_part (parts_of (spans ++ last ∷ [])) (part_of span)
+pub put_apart : (spans : List Span) (last span : Span) → joined (part_of last) (part_of span) ≡ part_of last
+    ∷ part_of span ∷ [] → parts_of ((spans ++ last ∷ []) ++ span ∷ []) ≡ put_part (parts_of (spans ++ last ∷ []))
+    (part_of span)
 put_apart spans last span e =
     ap parts_of (append_assoc spans (last ∷ []) (span ∷ []))
     ∙ (map-append part_of spans (last ∷ span ∷ [])
-    ∙ sym (ap (λ (ps : List Part). put_part ps (part_of span)) (map-append part_of spans (last ∷ [])) ∙ (put_behind (parts_of spans) (part_of last) (part_of span) ∙ ap (λ (ps : List Part). parts_of spans ++ ps) e)))
+    ∙ sym (ap (λ (ps : List Part). put_part ps (part_of span)) (map-append part_of spans (last ∷ []))
+    ∙ (put_behind (parts_of spans) (part_of last) (part_of span) ∙ ap (λ (ps : List Part). parts_of spans ++ ps) e)))
 
 -- How far the parts before a place were put behind others: what is left to put gives the rest.
 pub record Fronts (made rest : List Part) (left : ℕ) (first parts : List Part) (place : ℕ) : Type 0 where
@@ -32,7 +38,9 @@ module _ (made rest first parts : List Part) (left place : ℕ) (fronts : Fronts
   front_all e = sym (append-nil made) ∙ (sym (ap (λ (ps : List Part). made ++ front_parts ps left) e) ∙ fronts.made_is)
 
   pub front_none : left ≡ 0 → made ≡ first ++ front_parts parts place
-  front_none e = sym (append-nil made) ∙ (sym (ap (λ (ps : List Part). made ++ ps) (ap (front_parts rest) e ∙ at_start rest)) ∙ fronts.made_is)
+  front_none e =
+      sym (append-nil made) ∙ (sym (ap (λ (ps : List Part). made ++ ps) (ap (front_parts rest) e ∙ at_start rest))
+      ∙ fronts.made_is)
     where
       at_start : (ps : List Part) → front_parts ps 0 ≡ []
       at_start [] = refl
@@ -40,12 +48,15 @@ module _ (made rest first parts : List Part) (left place : ℕ) (fronts : Fronts
 
   module _ (part : Part) (more : List Part) (is : rest ≡ part ∷ more) (some : left ≡ 0 → ⊥) where
     pub front_part_left : left < part_len part → made ++ front_part part left ∷ [] ≡ first ++ front_parts parts place
-    front_part_left less = (let f : made ++ front_parts (part ∷ more) left ≡ first ++ front_parts parts place = rw is at fronts.made_is in rw (ne_eqb left 0 some, lt-ltb left (part_len part) less) at f)
+    front_part_left less =
+        (let f : made ++ front_parts (part ∷ more) left ≡ first ++ front_parts parts place = rw is at fronts.made_is in
+        rw (ne_eqb left 0 some, lt-ltb left (part_len part) less) at f)
 
     pub front_more : part_len part ≤ left → Fronts (made ++ part ∷ []) more (left - part_len part) first parts place
     front_more fits =
         let f : made ++ front_parts (part ∷ more) left ≡ first ++ front_parts parts place = rw is at fronts.made_is in
-        let g : made ++ (part ∷ front_parts more (left - part_len part)) ≡ first ++ front_parts parts place = rw (ne_eqb left 0 some, le-ltb left (part_len part) fits) at f in
+        let g : made ++ (part ∷ front_parts more (left - part_len part)) ≡ first ++ front_parts parts place =
+        rw (ne_eqb left 0 some, le-ltb left (part_len part) fits) at f in
         let c : AreCut (part ∷ more) left = rw is at fronts.cut in
         record { made_is = append_assoc made (part ∷ []) (front_parts more (left - part_len part)) ∙ g; cut = c.2 fits }
 
@@ -60,7 +71,8 @@ pub record Backs (rest : List Part) (left : ℕ) (parts : List Part) (place : �
   pub left_is : back_parts rest left ≡ back_parts parts place
   pub cut : AreCut rest left
 
-module _ (rest parts : List Part) (left place : ℕ) (backs : Backs rest left parts place) (part : Part) (more : List Part) (is : rest ≡ part ∷ more) where
+module _ (rest parts : List Part) (left place : ℕ) (backs : Backs rest left parts place) (part : Part)
+    (more : List Part) (is : rest ≡ part ∷ more) where
   pub back_cut : left < part_len part → (IsCutAt part left) × (back_parts parts place ≡ back_part part left ∷ more)
   back_cut less =
       let c : AreCut (part ∷ more) left = rw is at backs.cut in

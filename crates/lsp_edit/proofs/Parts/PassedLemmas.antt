@@ -16,7 +16,8 @@ none_passed parts = record {
   cut = λ place low c. subst (AreCut parts) (omega arith) c;
 }
 
-pub passed_later : (parts rest : List Part) (passed low high : ℕ) → low ≤ high → ArePassed parts rest passed low → ArePassed parts rest passed high
+pub passed_later : (parts rest : List Part) (passed low high : ℕ) → low ≤ high → ArePassed parts rest passed low
+    → ArePassed parts rest passed high
 passed_later parts rest passed low high order are = record {
   within = omega (arith, are.within);
   same = λ place h. are.same place (omega arith);
@@ -24,25 +25,32 @@ passed_later parts rest passed low high order are = record {
 }
 
 -- one part more
-pub one_passed : (parts rest : List Part) (passed low : ℕ) (part : Part) (more : List Part) → rest ≡ part ∷ more → passed + part_len part ≤ low → ArePassed parts rest passed low → ArePassed parts more (passed + part_len part) low
+pub one_passed : (parts rest : List Part) (passed low : ℕ) (part : Part) (more : List Part) → rest ≡ part ∷ more
+    → passed + part_len part ≤ low → ArePassed parts rest passed low → ArePassed parts more (passed + part_len part) low
 one_passed parts rest passed low part more is fits are = record {
   within = fits;
   same = λ place h.
-      let e : back_parts (part ∷ more) (place - passed) ≡ back_parts parts place = subst (λ (ps : List Part). back_parts ps (place - passed) ≡ back_parts parts place) is (are.same place h) in
+      let e : back_parts (part ∷ more) (place - passed) ≡ back_parts parts place =
+      subst (λ (ps : List Part). back_parts ps (place - passed) ≡ back_parts parts place) is (are.same place h) in
       let n : (place - passed) - part_len part ≡ place - (passed + part_len part) = omega arith in
-      let f : back_parts more ((place - passed) - part_len part) ≡ back_parts parts place = rw (le-ltb (place - passed) (part_len part) (omega arith)) at e in
+      let f : back_parts more ((place - passed) - part_len part) ≡ back_parts parts place =
+      rw (le-ltb (place - passed) (part_len part) (omega arith)) at e in
       ap (back_parts more) (sym n) ∙ f;
   cut = λ place h c.
-      let e : AreCut (part ∷ more) (place - passed) = subst (λ (ps : List Part). AreCut ps (place - passed)) is (are.cut place h c) in
+      let e : AreCut (part ∷ more) (place - passed) =
+      subst (λ (ps : List Part). AreCut ps (place - passed)) is (are.cut place h c) in
       let n : (place - passed) - part_len part ≡ place - (passed + part_len part) = omega arith in
       subst (AreCut more) n (e.2 (omega arith));
 }
 
-pub span_passed : (spans : List Span) (index : ℕ) (default : Span) (passed low len : ℕ) → index < length spans → len ≡ part_len (part_of (get_or spans index default)) → passed + len ≤ low
-    → ArePassed (parts_of spans) (parts_of (drop index spans)) passed low → ArePassed (parts_of spans) (parts_of (drop (index + 1) spans)) (passed + len) low
+pub span_passed : (spans : List Span) (index : ℕ) (default : Span) (passed low len : ℕ) → index < length spans
+    → len ≡ part_len (part_of (get_or spans index default)) → passed + len ≤ low
+    → ArePassed (parts_of spans) (parts_of (drop index spans)) passed low
+    → ArePassed (parts_of spans) (parts_of (drop (index + 1) spans)) (passed + len) low
 span_passed spans index default passed low len within is fits are =
     subst (λ (n : ℕ). ArePassed (parts_of spans) (parts_of (drop (index + 1) spans)) (passed + n) low) (sym is)
-    (one_passed (parts_of spans) (parts_of (drop index spans)) passed low (part_of (get_or spans index default)) (parts_of (drop (index + 1) spans))
+    (one_passed (parts_of spans) (parts_of (drop index spans)) passed low (part_of (get_or spans index default))
+    (parts_of (drop (index + 1) spans))
     (rest_is spans index default (part_of (get_or spans index default)) within refl)
     (omega (arith, is))
     are)
@@ -50,7 +58,8 @@ span_passed spans index default passed low len within is fits are =
 pub rest_all : (spans : List Span) (first : ℕ) → take (length spans - first) (drop first spans) ≡ drop first spans
 rest_all spans first = take_all (length spans - first) (drop first spans) (omega (arith, length-drop first spans))
 
-pub drop_ordered : (spans : List Span) (count : ℕ) → AreOrdered (parts_of spans) → AreOrdered (parts_of (drop count spans))
+pub drop_ordered : (spans : List Span) (count : ℕ) → AreOrdered (parts_of spans)
+    → AreOrdered (parts_of (drop count spans))
 drop_ordered spans zero ordered = ordered
 drop_ordered [] (suc count) ordered = tt
 drop_ordered (span ∷ spans) (suc count) ordered = drop_ordered spans count ordered.1
@@ -68,33 +77,48 @@ passing_begins parts low ordered = record {
   ordered = ordered;
 }
 
-passing_on : (parts front rest : List Part) (passed low : ℕ) (part : Part) (more : List Part) → rest ≡ part ∷ more → passed + part_len part ≤ low → Passing parts front rest passed low → Passing parts (front ++ part ∷ []) more (passed + part_len part) low
+passing_on : (parts front rest : List Part) (passed low : ℕ) (part : Part) (more : List Part) → rest ≡ part ∷ more
+    → passed + part_len part ≤ low → Passing parts front rest passed low → Passing parts (front ++ part ∷ []) more
+    (passed + part_len part) low
 passing_on parts front rest passed low part more is fits p = record {
   are = one_passed parts rest passed low part more is fits p.are;
   before = λ place h.
-      let e : front_parts parts place ≡ front ++ front_parts (part ∷ more) (place - passed) = subst (λ (ps : List Part). front_parts parts place ≡ front ++ front_parts ps (place - passed)) is (p.before place h) in
+      let e : front_parts parts place ≡ front ++ front_parts (part ∷ more) (place - passed) =
+      subst (λ (ps : List Part). front_parts parts place ≡ front ++ front_parts ps (place - passed)) is
+      (p.before place h) in
       let some : place - passed ≡ 0 → ⊥ = λ z. omega arith in
       let n : (place - passed) - part_len part ≡ place - (passed + part_len part) = omega arith in
-      let f : front_parts parts place ≡ front ++ (part ∷ front_parts more ((place - passed) - part_len part)) = rw (ne_eqb (place - passed) 0 some, le-ltb (place - passed) (part_len part) (omega arith)) at e in
-      f ∙ (ap (λ (k : ℕ). front ++ (part ∷ front_parts more k)) n ∙ sym (append_assoc front (part ∷ []) (front_parts more (place - (passed + part_len part)))));
+      let f : front_parts parts place ≡ front ++ (part ∷ front_parts more ((place - passed) - part_len part)) =
+      rw (ne_eqb (place - passed) 0 some, le-ltb (place - passed) (part_len part) (omega arith)) at e in
+      f ∙ (ap (λ (k : ℕ). front ++ (part ∷ front_parts more k)) n
+      ∙ sym (append_assoc front (part ∷ []) (front_parts more (place - (passed + part_len part)))));
   ordered = (subst AreOrdered is p.ordered).1;
 }
 
-pub span_passing : (spans : List Span) (index : ℕ) (default : Span) (passed low len : ℕ) → index < length spans → len ≡ part_len (part_of (get_or spans index default)) → passed + len ≤ low
-    → Passing (parts_of spans) (parts_of (take index spans)) (parts_of (drop index spans)) passed low → Passing (parts_of spans) (parts_of (take (index + 1) spans)) (parts_of (drop (index + 1) spans)) (passed + len) low
+pub span_passing : (spans : List Span) (index : ℕ) (default : Span) (passed low len : ℕ) → index < length spans
+    → len ≡ part_len (part_of (get_or spans index default)) → passed + len ≤ low
+    → Passing (parts_of spans) (parts_of (take index spans)) (parts_of (drop index spans)) passed low
+    → Passing (parts_of spans) (parts_of (take (index + 1) spans)) (parts_of (drop (index + 1) spans)) (passed + len)
+    low
 span_passing spans index default passed low len within is fits p =
     let part : Part = part_of (get_or spans index default) in
-    let more : take (index + 1) spans ≡ take index spans ++ get_or spans index default ∷ [] = take_more spans index default within in
-    let front : parts_of (take (index + 1) spans) ≡ parts_of (take index spans) ++ part_of (get_or spans index default) ∷ [] = ap parts_of more ∙ map-append part_of (take index spans) (get_or spans index default ∷ []) in
-    let on : Passing (parts_of spans) (parts_of (take index spans) ++ part_of (get_or spans index default) ∷ []) (parts_of (drop (index + 1) spans)) (passed + part_len (part_of (get_or spans index default))) low
-    = passing_on (parts_of spans) (parts_of (take index spans)) (parts_of (drop index spans)) passed low (part_of (get_or spans index default)) (parts_of (drop (index + 1) spans))
+    let more : take (index + 1) spans ≡ take index spans ++ get_or spans index default ∷ [] =
+    take_more spans index default within in
+    let front : parts_of (take (index + 1) spans) ≡ parts_of (take index spans) ++ part_of (get_or spans index default)
+    ∷ [] = ap parts_of more ∙ map-append part_of (take index spans) (get_or spans index default ∷ []) in
+    let on : Passing (parts_of spans) (parts_of (take index spans) ++ part_of (get_or spans index default) ∷ [])
+    (parts_of (drop (index + 1) spans)) (passed + part_len (part_of (get_or spans index default))) low
+    = passing_on (parts_of spans) (parts_of (take index spans)) (parts_of (drop index spans)) passed low
+    (part_of (get_or spans index default)) (parts_of (drop (index + 1) spans))
     (rest_is spans index default (part_of (get_or spans index default)) within refl) (omega (arith, is)) p in
     rw (front, is) on
 
-pub first_ordered : (rest : List Part) (part : Part) (more : List Part) → rest ≡ part ∷ more → AreOrdered rest → IsOrdered part
+pub first_ordered : (rest : List Part) (part : Part) (more : List Part) → rest ≡ part ∷ more → AreOrdered rest
+    → IsOrdered part
 first_ordered rest part more is ordered = (subst AreOrdered is ordered).0
 
-pub ends_behind : (rest : List Part) (part : Part) (more : List Part) (place : ℕ) → rest ≡ part ∷ more → place < part_len part → EndAfter rest place
+pub ends_behind : (rest : List Part) (part : Part) (more : List Part) (place : ℕ) → rest ≡ part ∷ more
+    → place < part_len part → EndAfter rest place
 ends_behind rest part more place is less = subst (λ (ps : List Part). EndAfter ps place) (sym is) less
 
 -- A part cut at its end is the part itself.
@@ -106,11 +130,13 @@ cut_end : (part : Part) → IsOrdered part → IsCutAt part (part_len part)
 cut_end (OldPart from to) order = (order, omega arith)
 cut_end (NewPart bytes) order = IsCharBoundary-end bytes
 
-cut_to_end : (part : Part) (parts : List Part) (place : ℕ) → AreCut (part ∷ parts) place → place ≤ part_len part → IsCutAt part place
+cut_to_end : (part : Part) (parts : List Part) (place : ℕ) → AreCut (part ∷ parts) place → place ≤ part_len part
+    → IsCutAt part place
 cut_to_end part parts place cut fits =
     ⊎_elim
     (λ (l : place < part_len part). cut.1 l)
-    (λ (l : part_len part ≤ place). let e : part_len part ≡ place = omega arith in subst (IsCutAt part) e (cut_end part cut.0))
+    (λ (l : part_len part ≤ place). let e : part_len part ≡ place = omega arith in
+    subst (IsCutAt part) e (cut_end part cut.0))
     (cases_lt place (part_len part))
 
 pub first_cut : (rest : List Part) (place : ℕ) → AreCut rest place → EndAfter rest place → IsFirstCut rest place
@@ -122,10 +148,14 @@ pub record AreEnded (parts front rest : List Part) (passed place : ℕ) : Type 0
   pub front_is : front_parts parts place ≡ front ++ first_front rest (place - passed)
   pub cut : IsFirstCut rest (place - passed)
 
-pub ended_behind : (parts front rest : List Part) (passed place : ℕ) → 0 < place → ArePassed parts rest passed (place - 1) → AreBefore parts front rest passed (place - 1) → EndAfter rest ((place - 1) - passed) → AreCut parts place → AreEnded parts front rest passed place
-ended_behind parts front rest passed place some are before rest_after cut = by_first rest (before place (omega arith)) (are.cut place (omega arith) cut) rest_after
+pub ended_behind : (parts front rest : List Part) (passed place : ℕ) → 0 < place
+    → ArePassed parts rest passed (place - 1) → AreBefore parts front rest passed (place - 1)
+    → EndAfter rest ((place - 1) - passed) → AreCut parts place → AreEnded parts front rest passed place
+ended_behind parts front rest passed place some are before rest_after cut =
+    by_first rest (before place (omega arith)) (are.cut place (omega arith) cut) rest_after
   where
-    by_first : (ps : List Part) → front_parts parts place ≡ front ++ front_parts ps (place - passed) → AreCut ps (place - passed) → EndAfter ps ((place - 1) - passed) → AreEnded parts front ps passed place
+    by_first : (ps : List Part) → front_parts parts place ≡ front ++ front_parts ps (place - passed)
+        → AreCut ps (place - passed) → EndAfter ps ((place - 1) - passed) → AreEnded parts front ps passed place
     by_first [] is c b = record { front_is = is; cut = tt }
     by_first (part ∷ ps) is c b =
         let fits : place - passed ≤ part_len part = omega (arith, b, are.within) in
@@ -134,12 +164,16 @@ ended_behind parts front rest passed place some are before rest_after cut = by_f
           front_is = is
               ∙ ap (λ (fs : List Part). front ++ fs) (
               ⊎_elim
-              (λ (l : place - passed < part_len part). rw (ne_eqb (place - passed) 0 not_first, lt-ltb (place - passed) (part_len part) l) refl)
+              (λ (l : place - passed < part_len part). rw (
+                ne_eqb (place - passed) 0 not_first,
+                lt-ltb (place - passed) (part_len part) l,
+              ) refl)
               (λ (l : part_len part ≤ place - passed).
               let e : part_len part ≡ place - passed = omega arith in
               let z : (place - passed) - part_len part ≡ 0 = omega arith in
               let w : part ≡ front_part part (place - passed) = sym (front_whole part c.0) ∙ ap (front_part part) e in
-              rw (ne_eqb (place - passed) 0 not_first, le-ltb (place - passed) (part_len part) l, z) (ap₂ (λ (p : Part) (fs : List Part). p ∷ fs) w (none ps)))
+              rw (ne_eqb (place - passed) 0 not_first, le-ltb (place - passed) (part_len part) l, z)
+              (ap₂ (λ (p : Part) (fs : List Part). p ∷ fs) w (none ps)))
               (cases_lt (place - passed) (part_len part))
               );
           cut = cut_to_end part ps (place - passed) c fits;
@@ -150,7 +184,8 @@ ended_behind parts front rest passed place some are before rest_after cut = by_f
         none (q ∷ qs) = refl
 
 -- parts passed on the way among those that are left
-pub more_passed : (parts rest left : List Part) (passed on low from : ℕ) → low ≤ from → ArePassed parts rest passed low → ArePassed rest left on (from - passed) → ArePassed parts left (passed + on) from
+pub more_passed : (parts rest left : List Part) (passed on low from : ℕ) → low ≤ from → ArePassed parts rest passed low
+    → ArePassed rest left on (from - passed) → ArePassed parts left (passed + on) from
 more_passed parts rest left passed on low from order are were = record {
   within = omega (arith, are.within, were.within);
   same = λ place h.
@@ -169,15 +204,26 @@ pub record Walks (first second made rest : List Part) (passed : ℕ) (left : Lis
   pub order : Ascend low left
   pub are : ArePassed first rest passed low
 
-pub walk_begins : (first second : List Part) → AreThrough first second → Ascend 0 second → Walks first second [] first 0 second
-walk_begins first second through order = record { low = 0; error = refl; through = through; order = order; are = none_passed first }
+pub walk_begins : (first second : List Part) → AreThrough first second → Ascend 0 second
+    → Walks first second [] first 0 second
+walk_begins first second through order = record {
+  low = 0;
+  error = refl;
+  through = through;
+  order = order;
+  are = none_passed first;
+}
 
-module _ (first second made rest : List Part) (passed : ℕ) (left : List Part) (walks : Walks first second made rest passed left) where
+module _ (first second made rest : List Part) (passed : ℕ) (left : List Part)
+    (walks : Walks first second made rest passed left) where
   -- behind a part of a new text
-  pub walk_new : (bytes : List ℕ) (more : List Part) → left ≡ NewPart bytes ∷ more → Walks first second (put_part made (NewPart bytes)) rest passed more
+  pub walk_new : (bytes : List ℕ) (more : List Part) → left ≡ NewPart bytes ∷ more
+      → Walks first second (put_part made (NewPart bytes)) rest passed more
   walk_new bytes more is =
-      let w : Walks first second made rest passed (NewPart bytes ∷ more) = subst (Walks first second made rest passed) is walks in
-      let e : put_part made (NewPart bytes) ++ [] ≡ put_part made (NewPart bytes) = append-nil (put_part made (NewPart bytes)) in
+      let w : Walks first second made rest passed (NewPart bytes ∷ more) =
+      subst (Walks first second made rest passed) is walks in
+      let e : put_part made (NewPart bytes) ++ [] ≡ put_part made (NewPart bytes) =
+      append-nil (put_part made (NewPart bytes)) in
       record {
         low = w.low;
         error = ap (λ (ps : List Part). put_through first ps more) (sym e) ∙ w.error;
@@ -198,30 +244,40 @@ module _ (first second made rest : List Part) (passed : ℕ) (left : List Part) 
     walk_from = here.are.cut from here.order.0 here.through.0.1
 
     pub walk_count : AreCut (back_parts rest (from - passed)) (to - from)
-    walk_count = subst (λ (ps : List Part). AreCut ps (to - from)) (sym (here.are.same from here.order.0)) here.through.0.2
+    walk_count = subst (λ (ps : List Part). AreCut ps (to - from)) (sym (here.are.same from here.order.0))
+        here.through.0.2
 
-    pub walk_old : (now after : List Part) (on : ℕ) → now ≡ put_parts made (front_parts (back_parts rest (from - passed)) (to - from)) → ArePassed rest after on (from - passed) → Walks first second now after (passed + on) more
+    pub walk_old : (now after : List Part) (on : ℕ)
+        → now ≡ put_parts made (front_parts (back_parts rest (from - passed)) (to - from))
+        → ArePassed rest after on (from - passed) → Walks first second now after (passed + on) more
     walk_old now after on made_is were =
-        let e : now ≡ put_parts made (between_parts first from to) = made_is ∙ ap (λ (ps : List Part). put_parts made (front_parts ps (to - from))) (here.are.same from here.order.0) in
+        let e : now ≡ put_parts made (between_parts first from to) =
+        made_is ∙ ap (λ (ps : List Part). put_parts made (front_parts ps (to - from)))
+        (here.are.same from here.order.0) in
         record {
           low = to;
           error = ap (λ (ps : List Part). put_through first ps more) e ∙ here.error;
           through = here.through.1;
           order = here.order.2;
-          are = passed_later first after (passed + on) from to here.order.1 (more_passed first rest after passed on here.low from here.order.0 here.are were);
+          are = passed_later first after (passed + on) from to here.order.1
+              (more_passed first rest after passed on here.low from here.order.0 here.are were);
         }
 
 -- Parts put behind others, of which the last may be touched.
-put_behind_more : (front : List Part) (first : Part) (made : List Part) (part : Part) → put_part (front ++ first ∷ made) part ≡ front ++ put_part (first ∷ made) part
+put_behind_more : (front : List Part) (first : Part) (made : List Part) (part : Part)
+    → put_part (front ++ first ∷ made) part ≡ front ++ put_part (first ∷ made) part
 put_behind_more [] first made part = refl
 put_behind_more (one ∷ []) first made part = refl
-put_behind_more (one ∷ two ∷ front) first made part = ap (λ (ps : List Part). one ∷ ps) (put_behind_more (two ∷ front) first made part)
+put_behind_more (one ∷ two ∷ front) first made part =
+    ap (λ (ps : List Part). one ∷ ps) (put_behind_more (two ∷ front) first made part)
 
-put_behind_some : (front made : List Part) (part : Part) → (made ≡ [] → front ≡ []) → put_part (front ++ made) part ≡ front ++ put_part made part
+put_behind_some : (front made : List Part) (part : Part) → (made ≡ [] → front ≡ []) → put_part (front ++ made) part
+    ≡ front ++ put_part made part
 put_behind_some front [] part none = rw (none refl) refl
 put_behind_some front (first ∷ made) part none = put_behind_more front first made part
 
-first_some : (rest : List Part) (place : ℕ) (new : List Part) → (rest ≡ [] → ⊥) → first_front rest place ++ new ≡ [] → place ≡ 0
+first_some : (rest : List Part) (place : ℕ) (new : List Part) → (rest ≡ [] → ⊥) → first_front rest place ++ new ≡ []
+    → place ≡ 0
 first_some [] place new some e = absurd (some refl)
 first_some (part ∷ parts) place new some e =
     ⊎_elim
@@ -230,28 +286,44 @@ first_some (part ∷ parts) place new some e =
     (cases_eq place 0)
 
 -- What the parts are whose bytes between two places were replaced, told by those that were passed on the way to each.
-pub replaced_is : (parts front rest later : List Part) (start stop passed more : ℕ) (text : List ℕ) → start ≤ stop → ArePassed parts rest passed start → front_parts parts start ≡ front ++ first_front rest (start - passed)
-    → (start - passed ≡ 0 → front ≡ []) → ArePassed rest later more (stop - passed) → EndAfter later ((stop - passed) - more) → (rest ≡ [] → later ≡ [])
-    → front ++ (put_first_back (first_front rest (start - passed) ++ new_parts text) later ((stop - passed) - more) ++ drop 1 later) ≡ replaced_parts parts start stop text
+pub replaced_is : (parts front rest later : List Part) (start stop passed more : ℕ) (text : List ℕ) → start ≤ stop
+    → ArePassed parts rest passed start → front_parts parts start ≡ front ++ first_front rest (start - passed)
+    → (start - passed ≡ 0 → front ≡ []) → ArePassed rest later more (stop - passed)
+    → EndAfter later ((stop - passed) - more) → (rest ≡ [] → later ≡ [])
+    → front ++ (put_first_back (first_front rest (start - passed) ++ new_parts text) later ((stop - passed) - more)
+    ++ drop 1 later) ≡ replaced_parts parts start stop text
 replaced_is parts front rest later start stop passed more text order are front_is first were rest_after some =
-    sym (ap₂ (λ (fs bs : List Part). put_parts (fs ++ new_parts text) bs) front_is (sym (were.same (stop - passed) (omega arith) ∙ are.same stop order)) ∙ by_later later rest_after some)
+    sym (ap₂ (λ (fs bs : List Part). put_parts (fs ++ new_parts text) bs) front_is
+    (sym (were.same (stop - passed) (omega arith) ∙ are.same stop order)) ∙ by_later later rest_after some)
   where
     by_later : (ls : List Part) → EndAfter ls ((stop - passed) - more) → (rest ≡ [] → ls ≡ [])
-        → put_parts ((front ++ first_front rest (start - passed)) ++ new_parts text) (back_parts ls ((stop - passed) - more))
-        ≡ front ++ (put_first_back (first_front rest (start - passed) ++ new_parts text) ls ((stop - passed) - more) ++ drop 1 ls)
-    by_later [] b s = append_assoc front (first_front rest (start - passed)) (new_parts text) ∙ ap (λ (ps : List Part). front ++ ps) (sym (append-nil (first_front rest (start - passed) ++ new_parts text)))
+        → put_parts ((front ++ first_front rest (start - passed)) ++ new_parts text)
+        (back_parts ls ((stop - passed) - more))
+        ≡ front ++ (put_first_back (first_front rest (start - passed) ++ new_parts text) ls ((stop - passed) - more)
+        ++ drop 1 ls)
+    by_later [] b s = append_assoc front (first_front rest (start - passed)) (new_parts text)
+        ∙ ap (λ (ps : List Part). front ++ ps) (sym (append-nil (first_front rest (start - passed) ++ new_parts text)))
     by_later (part ∷ ls) b s =
         let some_rest : rest ≡ [] → ⊥ = λ e. let f : part ∷ ls ≡ [] = s e in absurd (cc) in
-        let whole : (front ++ first_front rest (start - passed)) ++ new_parts text ≡ front ++ (first_front rest (start - passed) ++ new_parts text) = append_assoc front (first_front rest (start - passed)) (new_parts text) in
-        let put : put_part (front ++ (first_front rest (start - passed) ++ new_parts text)) (back_part part ((stop - passed) - more)) ≡ front ++ put_part (first_front rest (start - passed) ++ new_parts text) (back_part part ((stop - passed) - more))
-        = put_behind_some front (first_front rest (start - passed) ++ new_parts text) (back_part part ((stop - passed) - more)) (λ e. first (first_some rest (start - passed) (new_parts text) some_rest e)) in
+        let whole : (front ++ first_front rest (start - passed)) ++ new_parts text
+        ≡ front ++ (first_front rest (start - passed) ++ new_parts text) =
+        append_assoc front (first_front rest (start - passed)) (new_parts text) in
+        let put : put_part (front ++ (first_front rest (start - passed) ++ new_parts text))
+        (back_part part ((stop - passed) - more))
+        ≡ front ++ put_part (first_front rest (start - passed) ++ new_parts text)
+        (back_part part ((stop - passed) - more))
+        = put_behind_some front (first_front rest (start - passed) ++ new_parts text)
+        (back_part part ((stop - passed) - more))
+        (λ e. first (first_some rest (start - passed) (new_parts text) some_rest e)) in
         rw (lt-ltb ((stop - passed) - more) (part_len part) b)
         (ap (λ (ps : List Part). put_part ps (back_part part ((stop - passed) - more)) ++ ls) whole
         ∙ (ap (λ (ps : List Part). ps ++ ls) put
-        ∙ append_assoc front (put_part (first_front rest (start - passed) ++ new_parts text) (back_part part ((stop - passed) - more))) ls))
+        ∙ append_assoc front (put_part (first_front rest (start - passed) ++ new_parts text)
+        (back_part part ((stop - passed) - more))) ls))
 
 -- How many parts there are between places that ascend: those passed on the way, and one more for each cut.
-back_later : (parts : List Part) (low high : ℕ) → low ≤ high → length (back_parts parts high) ≤ length (back_parts parts low)
+back_later : (parts : List Part) (low high : ℕ) → low ≤ high → length (back_parts parts high)
+    ≤ length (back_parts parts low)
 back_later [] low high order = omega arith
 back_later (part ∷ parts) low high order =
     ⊎_elim
@@ -260,14 +332,18 @@ back_later (part ∷ parts) low high order =
     let f : length (back_parts (part ∷ parts) low) ≡ length (part ∷ parts) = rw (lt-ltb low (part_len part) l) refl in
     omega arith)
     (λ (l : part_len part ≤ low).
-    let f : length (back_parts (part ∷ parts) low) ≡ length (back_parts parts (low - part_len part)) = rw (le-ltb low (part_len part) l) refl in
-    let g : length (back_parts (part ∷ parts) high) ≡ length (back_parts parts (high - part_len part)) = rw (le-ltb high (part_len part) (omega arith)) refl in
-    let ih : length (back_parts parts (high - part_len part)) ≤ length (back_parts parts (low - part_len part)) = back_later parts (low - part_len part) (high - part_len part) (omega arith) in
+    let f : length (back_parts (part ∷ parts) low) ≡ length (back_parts parts (low - part_len part)) =
+    rw (le-ltb low (part_len part) l) refl in
+    let g : length (back_parts (part ∷ parts) high) ≡ length (back_parts parts (high - part_len part)) =
+    rw (le-ltb high (part_len part) (omega arith)) refl in
+    let ih : length (back_parts parts (high - part_len part)) ≤ length (back_parts parts (low - part_len part)) =
+    back_later parts (low - part_len part) (high - part_len part) (omega arith) in
     omega arith)
     (cases_lt low (part_len part))
 
 -- what lies behind a place behind another one
-back_twice : (parts : List Part) (from to : ℕ) → from ≤ to → AreCut parts from → length (back_parts (back_parts parts from) (to - from)) ≡ length (back_parts parts to)
+back_twice : (parts : List Part) (from to : ℕ) → from ≤ to → AreCut parts from
+    → length (back_parts (back_parts parts from) (to - from)) ≡ length (back_parts parts to)
 back_twice [] from to order cut = refl
 back_twice (part ∷ parts) from to order cut =
     ⊎_elim
@@ -275,32 +351,42 @@ back_twice (part ∷ parts) from to order cut =
     let f : back_parts (part ∷ parts) from ≡ back_part part from ∷ parts = rw (lt-ltb from (part_len part) l) refl in
     ap (λ (ps : List Part). length (back_parts ps (to - from))) f ∙ inside l)
     (λ (l : part_len part ≤ from).
-    let f : back_parts (part ∷ parts) from ≡ back_parts parts (from - part_len part) = rw (le-ltb from (part_len part) l) refl in
-    let g : back_parts (part ∷ parts) to ≡ back_parts parts (to - part_len part) = rw (le-ltb to (part_len part) (omega arith)) refl in
+    let f : back_parts (part ∷ parts) from ≡ back_parts parts (from - part_len part) =
+    rw (le-ltb from (part_len part) l) refl in
+    let g : back_parts (part ∷ parts) to ≡ back_parts parts (to - part_len part) =
+    rw (le-ltb to (part_len part) (omega arith)) refl in
     let n : (to - part_len part) - (from - part_len part) ≡ to - from = omega arith in
-    let ih : length (back_parts (back_parts parts (from - part_len part)) ((to - part_len part) - (from - part_len part))) ≡ length (back_parts parts (to - part_len part))
+    let ih : length (back_parts (back_parts parts (from - part_len part))
+    ((to - part_len part) - (from - part_len part))) ≡ length (back_parts parts (to - part_len part))
     = back_twice parts (from - part_len part) (to - part_len part) (omega arith) (cut.2 l) in
     ap (λ (ps : List Part). length (back_parts ps (to - from))) f
-    ∙ (ap (λ (k : ℕ). length (back_parts (back_parts parts (from - part_len part)) k)) (sym n) ∙ (ih ∙ ap (λ (ps : List Part). length ps) (sym g))))
+    ∙ (ap (λ (k : ℕ). length (back_parts (back_parts parts (from - part_len part)) k)) (sym n)
+    ∙ (ih ∙ ap (λ (ps : List Part). length ps) (sym g))))
     (cases_lt from (part_len part))
   where
     back_len : (p : Part) (count : ℕ) → IsCutAt p count → part_len (back_part p count) ≡ part_len p - count
     back_len (OldPart a b) count is = omega arith
     back_len (NewPart bytes) count is = simp length-drop
 
-    inside : from < part_len part → length (back_parts (back_part part from ∷ parts) (to - from)) ≡ length (back_parts (part ∷ parts) to)
+    inside : from < part_len part → length (back_parts (back_part part from ∷ parts) (to - from))
+        ≡ length (back_parts (part ∷ parts) to)
     inside l =
         let long : part_len (back_part part from) ≡ part_len part - from = back_len part from (cut.1 l) in
         ⊎_elim
         (λ (m : to < part_len part).
-        let a : back_parts (back_part part from ∷ parts) (to - from) ≡ back_part (back_part part from) (to - from) ∷ parts = rw (lt-ltb (to - from) (part_len (back_part part from)) (omega arith)) refl in
+        let a : back_parts (back_part part from ∷ parts) (to - from) ≡ back_part (back_part part from) (to - from)
+        ∷ parts = rw (lt-ltb (to - from) (part_len (back_part part from)) (omega arith)) refl in
         let b : back_parts (part ∷ parts) to ≡ back_part part to ∷ parts = rw (lt-ltb to (part_len part) m) refl in
         ap (λ (ps : List Part). length ps) a ∙ sym (ap (λ (ps : List Part). length ps) b))
         (λ (m : part_len part ≤ to).
-        let a : back_parts (back_part part from ∷ parts) (to - from) ≡ back_parts parts ((to - from) - part_len (back_part part from)) = rw (le-ltb (to - from) (part_len (back_part part from)) (omega arith)) refl in
-        let b : back_parts (part ∷ parts) to ≡ back_parts parts (to - part_len part) = rw (le-ltb to (part_len part) m) refl in
+        let a : back_parts (back_part part from ∷ parts) (to - from)
+        ≡ back_parts parts ((to - from) - part_len (back_part part from)) =
+        rw (le-ltb (to - from) (part_len (back_part part from)) (omega arith)) refl in
+        let b : back_parts (part ∷ parts) to ≡ back_parts parts (to - part_len part) =
+        rw (le-ltb to (part_len part) m) refl in
         let n : (to - from) - part_len (back_part part from) ≡ to - part_len part = omega arith in
-        ap (λ (ps : List Part). length ps) a ∙ (ap (λ (k : ℕ). length (back_parts parts k)) n ∙ sym (ap (λ (ps : List Part). length ps) b)))
+        ap (λ (ps : List Part). length ps) a ∙ (ap (λ (k : ℕ). length (back_parts parts k)) n
+        ∙ sym (ap (λ (ps : List Part). length ps) b)))
         (cases_lt to (part_len part))
 
 front_fewer : (parts : List Part) (place : ℕ) → length (front_parts parts place) ≤ length parts
@@ -312,31 +398,49 @@ front_fewer (part ∷ parts) place =
     ⊎_elim
     (λ (l : place < part_len part). rw (ne_eqb place 0 nz, lt-ltb place (part_len part) l) (omega arith))
     (λ (l : part_len part ≤ place).
-    rw (ne_eqb place 0 nz, le-ltb place (part_len part) l) (let ih : length (front_parts parts (place - part_len part)) ≤ length parts = front_fewer parts (place - part_len part) in omega arith))
+    rw (
+      ne_eqb place 0 nz,
+      le-ltb place (part_len part) l,
+    ) (let ih : length (front_parts parts (place - part_len part)) ≤ length parts = front_fewer parts
+    (place - part_len part) in omega arith))
     (cases_lt place (part_len part)))
     (cases_eq place 0)
 
 module _ (first : List Part) where
-  between_few : (from to : ℕ) → from ≤ to → AreCut first from → length (between_parts first from to) + length (back_parts first to) ≤ suc (length (back_parts first from))
+  between_few : (from to : ℕ) → from ≤ to → AreCut first from → length (between_parts first from to)
+      + length (back_parts first to) ≤ suc (length (back_parts first from))
   between_few from to order cut =
-      omega (arith, cut_adds (back_parts first from) (to - from) (to - from) (omega arith), back_twice first from to order cut)
+      omega (
+        arith,
+        cut_adds (back_parts first from) (to - from) (to - from) (omega arith),
+        back_twice first from to order cut,
+      )
 
-  put_few : (made second : List Part) (low : ℕ) → Ascend low second → AreThrough first second → length (put_through first made second) + 1 ≤ (length made + length second) + max 1 (length (back_parts first low))
+  put_few : (made second : List Part) (low : ℕ) → Ascend low second → AreThrough first second
+      → length (put_through first made second) + 1 ≤ (length made + length second)
+      + max 1 (length (back_parts first low))
   put_few made [] low ascend are = omega arith
   put_few made (NewPart bytes ∷ second) low ascend are =
-      let ih : length (put_through first (put_parts made (NewPart bytes ∷ [])) second) + 1 ≤ (length (put_parts made (NewPart bytes ∷ [])) + length second) + max 1 (length (back_parts first low))
+      let ih : length (put_through first (put_parts made (NewPart bytes ∷ [])) second) + 1
+      ≤ (length (put_parts made (NewPart bytes ∷ [])) + length second) + max 1 (length (back_parts first low))
       = put_few (put_parts made (NewPart bytes ∷ [])) second low ascend are.1 in
-      let one : length (put_parts made (NewPart bytes ∷ [])) ≤ length made + 1 = put_all_few made (NewPart bytes ∷ []) in
+      let one : length (put_parts made (NewPart bytes ∷ [])) ≤ length made + 1 =
+      put_all_few made (NewPart bytes ∷ []) in
       omega arith
   put_few made (OldPart from to ∷ second) low ascend are =
-      let ih : length (put_through first (put_parts made (between_parts first from to)) second) + 1 ≤ (length (put_parts made (between_parts first from to)) + length second) + max 1 (length (back_parts first to))
+      let ih : length (put_through first (put_parts made (between_parts first from to)) second) + 1
+      ≤ (length (put_parts made (between_parts first from to)) + length second) + max 1 (length (back_parts first to))
       = put_few (put_parts made (between_parts first from to)) second to ascend.2 are.1 in
-      let one : length (put_parts made (between_parts first from to)) ≤ length made + length (between_parts first from to) = put_all_few made (between_parts first from to) in
-      let fits : length (between_parts first from to) + length (back_parts first to) ≤ suc (length (back_parts first from)) = between_few from to ascend.1 are.0.1 in
-      let front : length (between_parts first from to) ≤ length (back_parts first from) = front_fewer (back_parts first from) (to - from) in
+      let one : length (put_parts made (between_parts first from to)) ≤ length made
+      + length (between_parts first from to) = put_all_few made (between_parts first from to) in
+      let fits : length (between_parts first from to) + length (back_parts first to)
+      ≤ suc (length (back_parts first from)) = between_few from to ascend.1 are.0.1 in
+      let front : length (between_parts first from to) ≤ length (back_parts first from) =
+      front_fewer (back_parts first from) (to - from) in
       let later : length (back_parts first from) ≤ length (back_parts first low) = back_later first low from ascend.0 in
       omega arith
 
   -- Told through others there are as many as both have together, less one.
-  pub through_few : (second : List Part) → Ascend 0 second → AreThrough first second → length (through_parts first second) + 1 ≤ length second + max 1 (length first)
+  pub through_few : (second : List Part) → Ascend 0 second → AreThrough first second
+      → length (through_parts first second) + 1 ≤ length second + max 1 (length first)
   through_few second ascend are = omega (arith, put_few [] second 0 ascend are, back_fewer first 0)

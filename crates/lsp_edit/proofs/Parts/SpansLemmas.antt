@@ -14,17 +14,23 @@ use Rattle.lsp_edit.specs.inside.Parts.{span_len, front_parts, first_front, IsMa
 use Rattle.lsp_edit.proofs.Parts.PassedLemmas.{replaced_is}
 
 -- What a `Vec` gave, item by item, is what it held.
-pub drained_is : {Z : Type 0} (s : IntoIter Span Z) (xs fresh : List Span) → into_iter_items s ≡ fresh → into_iter_len s ≡ length fresh → Drains (into_iter_steps {X = Span} {Z = Z}) s xs → xs ≡ fresh
+pub drained_is : {Z : Type 0} (s : IntoIter Span Z) (xs fresh : List Span) → into_iter_items s ≡ fresh → into_iter_len s
+    ≡ length fresh → Drains (into_iter_steps {X = Span} {Z = Z}) s xs → xs ≡ fresh
 drained_is {Z} s xs fresh items len drains =
-    sym (map-id xs) ∙ items_from_drains {v = λ (x : Span). x} xs (drains.1.0, drains.1.1, λ _. (drains.0, drains.1.2)) (YieldsList-from_vec fresh items len)
+    sym (map-id xs) ∙ items_from_drains {v = λ (x : Span). x} xs (drains.1.0, drains.1.1, λ _. (drains.0, drains.1.2))
+    (YieldsList-from_vec fresh items len)
 
 -- The spans behind the last one that was cut, or none.
-spans_behind : (rest : List Span) (last : ℕ) → parts_of (drop (min (length rest) (last + 1)) rest) ≡ drop 1 (parts_of (drop last rest))
+spans_behind : (rest : List Span) (last : ℕ) → parts_of (drop (min (length rest) (last + 1)) rest)
+    ≡ drop 1 (parts_of (drop last rest))
 spans_behind rest last =
     let most : drop (min (length rest) (last + 1)) rest ≡ drop (last + 1) rest
     = ⊎_elim
-    (λ (l : length rest < last + 1). let m : min (length rest) (last + 1) ≡ length rest = omega arith in ap (λ (n : ℕ). drop n rest) m ∙ (drop_all (length rest) rest (omega arith) ∙ sym (drop_all (last + 1) rest (omega arith))))
-    (λ (l : last + 1 ≤ length rest). let m : min (length rest) (last + 1) ≡ last + 1 = omega arith in ap (λ (n : ℕ). drop n rest) m)
+    (λ (l : length rest < last + 1). let m : min (length rest) (last + 1) ≡ length rest = omega arith in
+    ap (λ (n : ℕ). drop n rest) m
+    ∙ (drop_all (length rest) rest (omega arith) ∙ sym (drop_all (last + 1) rest (omega arith))))
+    (λ (l : last + 1 ≤ length rest). let m : min (length rest) (last + 1) ≡ last + 1 = omega arith in
+    ap (λ (n : ℕ). drop n rest) m)
     (cases_lt (length rest) (last + 1)) in
     let one : drop 1 (drop last rest) ≡ drop (last + 1) rest = drop-drop 1 last rest in
     ap parts_of (most ∙ sym one) ∙ sym (drop-map part_of 1 (drop last rest))
@@ -33,28 +39,41 @@ none_after : (rest : List Span) (last : ℕ) → parts_of rest ≡ [] → parts_
 none_after [] last none = ap parts_of (drop_all last [] (omega arith))
 none_after (span ∷ rest) last none = absurd (cc)
 
-pub replaced_spans : (old now made : List Span) (first last passed more start stop past : ℕ) (text : List ℕ) → start ≤ stop → now ≡ take first old ++ (made ++ drop past old) → past ≡ first + min (length (drop first old)) (last + 1)
+pub replaced_spans : (old now made : List Span) (first last passed more start stop past : ℕ) (text : List ℕ)
+    → start ≤ stop → now ≡ take first old ++ (made ++ drop past old) → past ≡ first + min (length (drop first old))
+    (last + 1)
     → ArePassed (parts_of old) (parts_of (drop first old)) passed start
-    → front_parts (parts_of old) start ≡ parts_of (take first old) ++ first_front (parts_of (drop first old)) (start - passed)
+    → front_parts (parts_of old) start ≡ parts_of (take first old) ++ first_front (parts_of (drop first old))
+    (start - passed)
     → (start - passed ≡ 0 → first ≡ 0)
     → ArePassed (parts_of (drop first old)) (parts_of (drop last (drop first old))) more (stop - passed)
     → EndAfter (parts_of (drop last (drop first old))) ((stop - passed) - more)
-    → parts_of made ≡ put_first_back (first_front (parts_of (drop first old)) (start - passed) ++ new_parts text) (parts_of (drop last (drop first old))) ((stop - passed) - more)
+    → parts_of made ≡ put_first_back (first_front (parts_of (drop first old)) (start - passed) ++ new_parts text)
+    (parts_of (drop last (drop first old))) ((stop - passed) - more)
     → parts_of now ≡ replaced_parts (parts_of old) start stop text
-replaced_spans old now made first last passed more start stop past text order now_is past_is ended front_is at_start were rest_after made_is =
+replaced_spans old now made first last passed more start stop past text order now_is past_is ended front_is at_start
+    were rest_after made_is =
     let rest : List Span = drop first old in
     let later : List Span = drop last rest in
-    let tail : parts_of (drop past old) ≡ drop 1 (parts_of later) = ap (λ (n : ℕ). parts_of (drop n old)) past_is ∙ (ap parts_of (sym (drop-drop (min (length rest) (last + 1)) first old)) ∙ spans_behind rest last) in
+    let tail : parts_of (drop past old) ≡ drop 1 (parts_of later) = ap (λ (n : ℕ). parts_of (drop n old)) past_is
+    ∙ (ap parts_of (sym (drop-drop (min (length rest) (last + 1)) first old)) ∙ spans_behind rest last) in
     let all : parts_of now ≡ parts_of (take first old) ++ (parts_of made ++ parts_of (drop past old))
-    = ap parts_of now_is ∙ (map-append part_of (take first old) (made ++ drop past old) ∙ ap (λ (ps : List Part). parts_of (take first old) ++ ps) (map-append part_of made (drop past old))) in
+    = ap parts_of now_is ∙ (map-append part_of (take first old) (made ++ drop past old)
+    ∙ ap (λ (ps : List Part). parts_of (take first old) ++ ps) (map-append part_of made (drop past old))) in
     all
     ∙ (ap₂ (λ (ms ts : List Part). parts_of (take first old) ++ (ms ++ ts)) made_is tail
-    ∙ replaced_is (parts_of old) (parts_of (take first old)) (parts_of rest) (parts_of later) start stop passed more text order ended front_is (λ z. ap (λ (n : ℕ). parts_of (take n old)) (at_start z)) were rest_after (none_after rest last))
+    ∙ replaced_is (parts_of old) (parts_of (take first old)) (parts_of rest) (parts_of later) start stop passed more
+    text order ended front_is (λ z. ap (λ (n : ℕ). parts_of (take n old)) (at_start z)) were rest_after
+    (none_after rest last))
 
 -- The spans before a change stay where they are.
-pub mark_stays : (old now made rest_after : List Span) (first passed : ℕ) → IsMark old first passed → now ≡ take first old ++ (made ++ rest_after) → IsMark now first passed
+pub mark_stays : (old now made rest_after : List Span) (first passed : ℕ) → IsMark old first passed
+    → now ≡ take first old ++ (made ++ rest_after) → IsMark now first passed
 mark_stays old now made rest_after first passed is now_is =
     let long : length (take first old) ≡ first = length-take-le first old is.0 in
-    let same : take first now ≡ take first old = ap (take first) now_is ∙ (ap (λ (n : ℕ). take n (take first old ++ (made ++ rest_after))) (sym long) ∙ take-append_seam (take first old) (made ++ rest_after)) in
-    let all : length now ≡ length (take first old) + length (made ++ rest_after) = ap length now_is ∙ length-append (take first old) (made ++ rest_after) in
+    let same : take first now ≡ take first old =
+    ap (take first) now_is ∙ (ap (λ (n : ℕ). take n (take first old ++ (made ++ rest_after))) (sym long)
+    ∙ take-append_seam (take first old) (made ++ rest_after)) in
+    let all : length now ≡ length (take first old) + length (made ++ rest_after) =
+    ap length now_is ∙ length-append (take first old) (made ++ rest_after) in
     (omega (arith, all, long), is.1 ∙ ap (λ (spans : List Span). sum_by span_len spans) (sym same))

@@ -52,7 +52,8 @@ FirstLaw =
 -- A complete frame in its buffer is the next record of the input.
 abbrev pub BufferedLaw : Type 0
 BufferedLaw =
-    (log_rules : LogRules) (input more body : List ℕ) (records : List Record) (s : Splitter) → IsFed s
+    (log_rules : LogRules) (input more body : List ℕ) (records : List Record) (s : Splitter)
+    → IsFed s
     → IsFrameOf s.framer.limits.max_body s.framer.buffered body →
     IsAfter log_rules input more records s
     → IsReadAs log_rules input

@@ -19,7 +19,8 @@ use Rattle.lsp_pair.proofs.Worlds.WorldLemmas.{world_sound}
 
 -- ---- what waits
 
-no_frames : (kind : SyncKind) (table : List DocumentItem) (waiting : List ClientMessage) → frames_from kind table waiting ≡ [] → waiting ≡ []
+no_frames : (kind : SyncKind) (table : List DocumentItem) (waiting : List ClientMessage)
+    → frames_from kind table waiting ≡ [] → waiting ≡ []
 no_frames kind table [] e = refl
 no_frames kind table (first ∷ rest) e = absurd (cc)
 
@@ -33,7 +34,8 @@ record Grows (old new : List ClientMessage) : Type 0 where
 same_out : (out : List ClientMessage) → Grows out out
 same_out out = record { more = []; is = sym (append-nil out); few = omega arith }
 
-call_grows : (w : World) (m : ClientMessage) (result : Result client.Sending ClientFault) → Grows w.out (turn_of_call w m result).world.out
+call_grows : (w : World) (m : ClientMessage) (result : Result client.Sending ClientFault)
+    → Grows w.out (turn_of_call w m result).world.out
 call_grows w m (Ok sending) = record { more = m ∷ []; is = refl; few = omega arith }
 call_grows w m (Err refusal) = same_out w.out
 
@@ -43,15 +45,22 @@ few_messages client.noted = omega arith
 few_messages client.ignored = omega arith
 few_messages (client.bad_server reason) = omega arith
 
-result_grows : (w : World) (result : Result client.Delivery ClientFault) → Grows w.out (turn_of_result w result).world.out
-result_grows w (Ok delivery) = record { more = map lifecycle (messages_in delivery.delivered); is = refl; few = few_messages delivery.delivered }
+result_grows : (w : World) (result : Result client.Delivery ClientFault)
+    → Grows w.out (turn_of_result w result).world.out
+result_grows w (Ok delivery) = record {
+  more = map lifecycle (messages_in delivery.delivered);
+  is = refl;
+  few = few_messages delivery.delivered;
+}
 result_grows w (Err refusal) = same_out w.out
 
-server_grows : (setting : Setting) (w : World) (next : Option ClientMessage) → Grows w.out (to_server_event setting w next).world.out
+server_grows : (setting : Setting) (w : World) (next : Option ClientMessage)
+    → Grows w.out (to_server_event setting w next).world.out
 server_grows setting w None = same_out w.out
 server_grows setting w (Some m) = same_out w.out
 
-client_grows : (setting : Setting) (w : World) (next : Option OutgoingData) → Grows w.out (to_client_event setting w next).world.out
+client_grows : (setting : Setting) (w : World) (next : Option OutgoingData)
+    → Grows w.out (to_client_event setting w next).world.out
 client_grows setting w None = same_out w.out
 client_grows setting w (Some m) = result_grows w (client.delivery_result (client_of setting w) (message (sent m)))
 
@@ -65,14 +74,16 @@ record Extends (old new : List ClientMessage) : Type 0 where
   pub more : List ClientMessage
   pub is : new ≡ old ++ more
 
-world_extends : (setting : Setting) (w : World) (events : List EventData) → Extends w.out (world_from setting w events).out
+world_extends : (setting : Setting) (w : World) (events : List EventData)
+    → Extends w.out (world_from setting w events).out
 world_extends setting w [] = record { more = []; is = sym (append-nil w.out) }
 world_extends setting w (event ∷ events) =
     let one = turn_grows setting w event in
     let rest = world_extends setting (turn setting w event).world events in
     record {
       more = one.more ++ rest.more;
-      is = rest.is ∙ (ap (λ (out : List ClientMessage). out ++ rest.more) one.is ∙ append_assoc w.out one.more rest.more);
+      is = rest.is ∙ (ap (λ (out : List ClientMessage). out ++ rest.more) one.is ∙ append_assoc w.out one.more
+          rest.more);
     }
 
 -- ---- an earlier world
@@ -95,11 +106,13 @@ here setting w events n e =
           ∙ (sym (take-append-le n w.out whole.more (omega (arith, e))) ∙ ap (take n) (sym whole.is));
     }
 
-earlier : (setting : Setting) (w : World) (events : List EventData) (n : ℕ) → length w.out ≤ n → n ≤ length (world_from setting w events).out → Earlier setting w events n
+earlier : (setting : Setting) (w : World) (events : List EventData) (n : ℕ) → length w.out ≤ n
+    → n ≤ length (world_from setting w events).out → Earlier setting w events n
 earlier setting w [] n low high = here setting w [] n (omega (arith, low, high))
 earlier setting w (event ∷ events) n low high =
     ⊎_elim
-    (λ (is : nat_le n (length w.out) ≡ true). here setting w (event ∷ events) n (omega (arith, low, leb-true n (length w.out) is)))
+    (λ (is : nat_le n (length w.out) ≡ true). here setting w (event ∷ events) n
+    (omega (arith, low, leb-true n (length w.out) is)))
     (λ (above : nat_le n (length w.out) ≡ false).
     let one = turn_grows setting w event in
     let many : length (turn setting w event).world.out ≤ n =
@@ -115,20 +128,26 @@ earlier setting w (event ∷ events) n low high =
 
 -- ---- the documents
 
-pub documents_at : (setting : Setting) (pair : PairData) (events : List EventData) → IsFitting setting → IsAt setting pair events → HaveCommanded setting events pair
+pub documents_at : (setting : Setting) (pair : PairData) (events : List EventData) → IsFitting setting
+    → IsAt setting pair events → HaveCommanded setting events pair
 documents_at setting pair events sound at =
     let w : World = world_of setting events in
     let ok = world_sound setting sound events at.proper in
     let past = earlier setting beginning events w.out_delivered (omega arith) ok.at.arrived in
-    let server_is : pair.server.table ≡ table_of (commands_in (delivered_messages setting events)) = ap (λ (p : PairData). p.server.table) at.is in
-    let client_is : pair.client.table ≡ table_of (commands_in (sent_messages setting events)) = ap (λ (p : PairData). p.client.table) at.is in
+    let server_is : pair.server.table ≡ table_of (commands_in (delivered_messages setting events)) =
+    ap (λ (p : PairData). p.server.table) at.is in
+    let client_is : pair.client.table ≡ table_of (commands_in (sent_messages setting events)) =
+    ap (λ (p : PairData). p.client.table) at.is in
     record {
       client = client_is;
       server = server_is;
       equal = λ none.
-          let waits : waiting_out w ≡ [] = no_frames _ _ (waiting_out w) (sym (ap (λ (p : PairData). p.to_server) at.is) ∙ none) in
+          let waits : waiting_out w ≡ [] =
+          no_frames _ _ (waiting_out w) (sym (ap (λ (p : PairData). p.to_server) at.is) ∙ none) in
           let all : take w.out_delivered w.out ≡ w.out =
-          sym (append-nil (take w.out_delivered w.out)) ∙ (ap (λ (ms : List ClientMessage). take w.out_delivered w.out ++ ms) (sym waits) ∙ take-append-drop w.out_delivered w.out) in
+          sym (append-nil (take w.out_delivered w.out))
+          ∙ (ap (λ (ms : List ClientMessage). take w.out_delivered w.out ++ ms) (sym waits)
+          ∙ take-append-drop w.out_delivered w.out) in
           server_is ∙ (ap (λ (ms : List ClientMessage). table_of (commands_in ms)) all ∙ sym client_is);
       earlier = record {
         before = past.before;

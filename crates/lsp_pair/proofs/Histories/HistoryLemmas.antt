@@ -23,10 +23,12 @@ use Rattle.lsp_pair.proofs.Steps.StepLemmas.{new_at}
 
 -- ---- tables
 
-tables-last : (table : List DocumentItem) (xs : List ClientMessage) (said : ClientMessage) → tables_from table (xs ++ said ∷ []) ≡ tables_from table xs ++ table_after_all table (xs ++ said ∷ []) ∷ []
+tables-last : (table : List DocumentItem) (xs : List ClientMessage) (said : ClientMessage)
+    → tables_from table (xs ++ said ∷ []) ≡ tables_from table xs ++ table_after_all table (xs ++ said ∷ []) ∷ []
 tables-last table [] (commands command) = refl
 tables-last table [] (lifecycle m) = refl
-tables-last table (commands command ∷ xs) said = ap (λ ts. table_with table (commands command) ∷ ts) (tables-last (table_with table (commands command)) xs said)
+tables-last table (commands command ∷ xs) said =
+    ap (λ ts. table_with table (commands command) ∷ ts) (tables-last (table_with table (commands command)) xs said)
 tables-last table (lifecycle m ∷ xs) said = ap (λ ts. table ∷ ts) (tables-last table xs said)
 
 length_tables : (table : List DocumentItem) (xs : List ClientMessage) → length (tables_from table xs) ≡ length xs
@@ -34,24 +36,29 @@ length_tables table [] = refl
 length_tables table (said ∷ xs) = ap suc (length_tables (table_with table said) xs)
 
 -- the table after the first messages
-table_there : (table : List DocumentItem) (xs : List ClientMessage) (n : ℕ) → n ≤ length xs → slice_get (table ∷ tables_from table xs) n ≡ Some (table_after_all table (take n xs))
+table_there : (table : List DocumentItem) (xs : List ClientMessage) (n : ℕ) → n ≤ length xs
+    → slice_get (table ∷ tables_from table xs) n ≡ Some (table_after_all table (take n xs))
 table_there table xs zero within = refl
 table_there table [] (suc n) within = absurd (omega arith)
-table_there table (commands command ∷ xs) (suc n) within = table_there (table_with table (commands command)) xs n (omega arith)
+table_there table (commands command ∷ xs) (suc n) within =
+    table_there (table_with table (commands command)) xs n (omega arith)
 table_there table (lifecycle m ∷ xs) (suc n) within = table_there table xs n (omega arith)
 
-length_frames : (kind : SyncKind) (table : List DocumentItem) (xs : List ClientMessage) → length (frames_from kind table xs) ≡ length xs
+length_frames : (kind : SyncKind) (table : List DocumentItem) (xs : List ClientMessage)
+    → length (frames_from kind table xs) ≡ length xs
 length_frames kind table [] = refl
 length_frames kind table (said ∷ xs) = ap suc (length_frames kind (table_with table said) xs)
 
 -- ---- both ends have the documents of their history
 
-world_documents : (setting : Setting) (pair : PairData) (events : List EventData) → IsFitting setting → IsAt setting pair events → HaveDocuments (history_of (world_of setting events)) pair
+world_documents : (setting : Setting) (pair : PairData) (events : List EventData) → IsFitting setting
+    → IsAt setting pair events → HaveDocuments (history_of (world_of setting events)) pair
 world_documents setting pair events sound at =
     let w : World = world_of setting events in
     let ok = world_sound setting sound events at.proper in
     let many = length_tables [] w.out in
-    let whole : slice_get ([] ∷ tables_from [] w.out) (length (tables_from [] w.out)) ≡ Some (table_after_all [] w.out) =
+    let whole : slice_get ([] ∷ tables_from [] w.out) (length (tables_from [] w.out))
+    ≡ Some (table_after_all [] w.out) =
     table_there [] w.out (length (tables_from [] w.out)) (omega (arith, many))
     ∙ ap (λ ms. Some (table_after_all [] ms)) (take_all (length (tables_from [] w.out)) w.out (omega (arith, many))) in
     record {
@@ -59,11 +66,18 @@ world_documents setting pair events sound at =
       client = whole ∙ ap (λ p. Some p.client.table) (sym at.is);
       waiting =
           ap (λ p. w.out_delivered + length p.to_server) at.is
-          ∙ omega (arith, length_frames (the_kind setting) (server_of setting w).table (waiting_out w), length-drop w.out_delivered w.out, ok.at.arrived, many);
+          ∙ omega (
+            arith,
+            length_frames (the_kind setting) (server_of setting w).table (waiting_out w),
+            length-drop w.out_delivered w.out,
+            ok.at.arrived,
+            many,
+          );
     }
 
 pub history_documents : (h : History) (pair : PairData) → IsHistory h pair → HaveDocuments h pair
-history_documents h pair is = subst (λ k. HaveDocuments k pair) (sym is.told) (world_documents is.setting pair is.events is.sound is.at)
+history_documents h pair is =
+    subst (λ k. HaveDocuments k pair) (sym is.told) (world_documents is.setting pair is.events is.sound is.at)
 
 -- ---- a new pair
 
@@ -76,31 +90,38 @@ new_history setting sound = record { setting = setting; sound = sound; events = 
 abbrev IsNextHistory : Setting → World → Turn → Type 0
 IsNextHistory setting w t = after (history_of w) t.happened (client_of setting t.world).table ≡ history_of t.world
 
-one_more : (w : World) (said : ClientMessage) → record (history_of w) { sent = tables_from [] w.out ++ table_after_all [] (w.out ++ said ∷ []) ∷ [] } ≡ record (history_of w) { sent = tables_from [] (w.out ++ said ∷ []) }
+one_more : (w : World) (said : ClientMessage)
+    → record (history_of w) { sent = tables_from [] w.out ++ table_after_all [] (w.out ++ said ∷ []) ∷ [] }
+    ≡ record (history_of w) { sent = tables_from [] (w.out ++ said ∷ []) }
 one_more w said = λ i. record (history_of w) { sent = sym (tables-last [] w.out said) i }
 
 none_more : (w : World) → history_of w ≡ record (history_of w) { sent = tables_from [] (w.out ++ []) }
 none_more w = λ i. record (history_of w) { sent = tables_from [] (sym (append-nil w.out) i) }
 
-call_next : (setting : Setting) (w : World) (said : ClientMessage) (result : Result client.Sending ClientFault) → IsNextHistory setting w (turn_of_call w said result)
+call_next : (setting : Setting) (w : World) (said : ClientMessage) (result : Result client.Sending ClientFault)
+    → IsNextHistory setting w (turn_of_call w said result)
 call_next setting w said (Ok sending) = one_more w said
 call_next setting w said (Err refusal) = refl
 
-delivery_next : (setting : Setting) (w : World) (d : client.DeliveredData OutgoingData) (s : client.ClientData) → IsNextHistory setting w (turn_of_delivery w (record { delivered = d; state = s }))
+delivery_next : (setting : Setting) (w : World) (d : client.DeliveredData OutgoingData) (s : client.ClientData)
+    → IsNextHistory setting w (turn_of_delivery w (record { delivered = d; state = s }))
 delivery_next setting w (client.sends m) s = one_more w (lifecycle m)
 delivery_next setting w client.noted s = none_more w
 delivery_next setting w client.ignored s = none_more w
 delivery_next setting w (client.bad_server reason) s = none_more w
 
-result_next : (setting : Setting) (w : World) (result : Result client.Delivery ClientFault) → IsNextHistory setting w (turn_of_result w result)
+result_next : (setting : Setting) (w : World) (result : Result client.Delivery ClientFault)
+    → IsNextHistory setting w (turn_of_result w result)
 result_next setting w (Ok delivery) = delivery_next setting w delivery.delivered delivery.state
 result_next setting w (Err refusal) = refl
 
-server_next : (setting : Setting) (w : World) (next : Option ClientMessage) → IsNextHistory setting w (to_server_event setting w next)
+server_next : (setting : Setting) (w : World) (next : Option ClientMessage)
+    → IsNextHistory setting w (to_server_event setting w next)
 server_next setting w None = refl
 server_next setting w (Some said) = refl
 
-client_next : (setting : Setting) (w : World) (next : Option OutgoingData) → IsNextHistory setting w (to_client_event setting w next)
+client_next : (setting : Setting) (w : World) (next : Option OutgoingData)
+    → IsNextHistory setting w (to_client_event setting w next)
 client_next setting w None = refl
 client_next setting w (Some m) = result_next setting w (client.delivery_result (client_of setting w) (message (sent m)))
 
@@ -110,12 +131,15 @@ turn_next setting w to_server = server_next setting w (slice_get w.out w.out_del
 turn_next setting w to_client = client_next setting w (slice_get w.back w.back_delivered)
 
 -- a pair at a world has its history, and after a step that of the next world
-pub next_history : (setting : Setting) (events : List EventData) (event : EventData) (h : History) (happened : Happened) (new : PairData)
-    → IsFitting setting → h ≡ history_of (world_of setting events) → IsStepAt setting events event happened new → IsHistory (after h happened new.client.table) new
+pub next_history : (setting : Setting) (events : List EventData) (event : EventData) (h : History) (happened : Happened)
+    (new : PairData)
+    → IsFitting setting → h ≡ history_of (world_of setting events) → IsStepAt setting events event happened new
+    → IsHistory (after h happened new.client.table) new
 next_history setting events event h happened new sound told steps =
     let t : Turn = turn setting (world_of setting events) event in
     let last : world_of setting (events ++ event ∷ []) ≡ t.world = world-last setting beginning events event in
-    let documents : new.client.table ≡ (client_of setting t.world).table = ap (λ p. p.client.table) steps.at.is ∙ ap (λ w. (client_of setting w).table) last in
+    let documents : new.client.table ≡ (client_of setting t.world).table =
+    ap (λ p. p.client.table) steps.at.is ∙ ap (λ w. (client_of setting w).table) last in
     record {
       setting = setting;
       sound = sound;
@@ -128,11 +152,13 @@ next_history setting events event h happened new sound told steps =
 
 -- after a step that leads to the world of the list with its event added
 pub history_if : {E : Type 0} (old new : PairData) (event : EventData) (result : Result Happened E)
-    → IfOk result (λ happened. (setting : Setting) (events : List EventData) → IsFitting setting → IsAt setting old events → IsStepAt setting events event happened new)
+    → IfOk result (λ happened. (setting : Setting) (events : List EventData) → IsFitting setting
+    → IsAt setting old events → IsStepAt setting events event happened new)
     → IfOk result (λ happened. (h : History) → IsHistory h old
     → IsHistory (after h happened new.client.table) new × HaveDocuments (after h happened new.client.table) new)
 history_if old new event (Ok happened) steps = λ h is.
-    let next = next_history is.setting is.events event h happened new is.sound is.told (steps is.setting is.events is.sound is.at) in (
+    let next = next_history is.setting is.events event h happened new is.sound is.told
+    (steps is.setting is.events is.sound is.at) in (
       next,
       history_documents (after h happened new.client.table) new next,
     )
@@ -140,12 +166,22 @@ history_if old new event (Err e) steps = tt
 
 -- ---- a run
 
-pub later-last : (h mid_history : History) (old mid new : PairData) (events : List EventData) (event : EventData) (happened : Happened) → IsLater h old events mid_history mid
-    → IsStep mid event happened new → IsLater h old (events ++ event ∷ []) (after mid_history happened new.client.table) new
-later-last h mid_history old mid new [] event happened run steps =
-    (happened, new, subst (λ p. IsStep p event happened new) run.1 steps, (ap (λ k. after k happened new.client.table) run.0, refl))
-later-last h mid_history old mid new (first ∷ events) event happened run steps =
-    (run.0, run.1, run.2, later-last (after h run.0 run.1.client.table) mid_history run.1 mid new events event happened run.3 steps)
+pub later-last : (h mid_history : History) (old mid new : PairData) (events : List EventData) (event : EventData)
+    (happened : Happened) → IsLater h old events mid_history mid
+    → IsStep mid event happened new → IsLater h old (events ++ event ∷ []) (after mid_history happened new.client.table)
+    new
+later-last h mid_history old mid new [] event happened run steps = (
+  happened,
+  new,
+  subst (λ p. IsStep p event happened new) run.1 steps,
+  (ap (λ k. after k happened new.client.table) run.0, refl),
+)
+later-last h mid_history old mid new (first ∷ events) event happened run steps = (
+  run.0,
+  run.1,
+  run.2,
+  later-last (after h run.0 run.1.client.table) mid_history run.1 mid new events event happened run.3 steps,
+)
 
 -- after a run, whose number of steps is known by another name
 pub later_documents : (h : History) (old pair now : PairData) (all : List EventData) (i n : ℕ) → n ≡ i → now ≡ pair
@@ -153,7 +189,8 @@ pub later_documents : (h : History) (old pair now : PairData) (all : List EventD
     → (later : History) × IsLater h old (take n all) later now × IsHistory later now × HaveDocuments later now
 later_documents h old pair now all i n counted same told = (
   told.0,
-  subst (λ p. IsLater h old (take n all) told.0 p) (sym same) (subst (λ k. IsLater h old (take k all) told.0 pair) (sym counted) told.1),
+  subst (λ p. IsLater h old (take n all) told.0 p) (sym same) (subst (λ k. IsLater h old (take k all) told.0 pair)
+      (sym counted) told.1),
   subst (IsHistory told.0) (sym same) told.2,
   history_documents told.0 now (subst (IsHistory told.0) (sym same) told.2),
 )

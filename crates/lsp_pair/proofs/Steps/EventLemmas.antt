@@ -16,8 +16,17 @@ FitsVersion event = ⊤
 
 pub proper_event : (e : Event) → FitsVersion e → IsProperEvent (event_view e)
 proper_event Start fits = tt
-proper_event (Open uri language version text) fits = record { uri = IsUtf8-string_bytes uri; language = IsUtf8-string_bytes language; version = fits; text = IsUtf8-string_bytes text }
-proper_event (Edit uri version changes) fits = record { name = IsUtf8-string_bytes uri; fits = fits; texts = texts_held changes.items }
+proper_event (Open uri language version text) fits = record {
+  uri = IsUtf8-string_bytes uri;
+  language = IsUtf8-string_bytes language;
+  version = fits;
+  text = IsUtf8-string_bytes text;
+}
+proper_event (Edit uri version changes) fits = record {
+  name = IsUtf8-string_bytes uri;
+  fits = fits;
+  texts = texts_held changes.items;
+}
 proper_event (Close uri) fits = IsUtf8-string_bytes uri
 proper_event Shutdown fits = tt
 proper_event Exit fits = tt

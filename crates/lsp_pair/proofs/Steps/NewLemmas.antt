@@ -17,10 +17,13 @@ lenient_from false great e is = absurd (true≢false (sym is))
 
 pub within_from : (small great : LimitsData) → are_within small great ≡ true → AreWithin small great
 within_from small great e =
-    let four : Bool = nat_le small.max_body great.max_body && nat_le small.max_text great.max_text && nat_le small.max_docs great.max_docs && nat_le small.max_changes great.max_changes in
+    let four : Bool = nat_le small.max_body great.max_body && nat_le small.max_text great.max_text
+    && nat_le small.max_docs great.max_docs && nat_le small.max_changes great.max_changes in
     let all = and_parts four (not small.lenient || great.lenient) e in
-    let a = and_parts (nat_le small.max_body great.max_body && nat_le small.max_text great.max_text && nat_le small.max_docs great.max_docs) (nat_le small.max_changes great.max_changes) all.0 in
-    let b = and_parts (nat_le small.max_body great.max_body && nat_le small.max_text great.max_text) (nat_le small.max_docs great.max_docs) a.0 in
+    let a = and_parts (nat_le small.max_body great.max_body && nat_le small.max_text great.max_text
+    && nat_le small.max_docs great.max_docs) (nat_le small.max_changes great.max_changes) all.0 in
+    let b = and_parts (nat_le small.max_body great.max_body && nat_le small.max_text great.max_text)
+    (nat_le small.max_docs great.max_docs) a.0 in
     let c = and_parts (nat_le small.max_body great.max_body) (nat_le small.max_text great.max_text) b.0 in
     record {
       body = leb-true small.max_body great.max_body c.0;
@@ -30,9 +33,15 @@ within_from small great e =
       lenient = lenient_from small.lenient great.lenient all.1;
     }
 
-pub sound_from : (limits : LimitsData) (offers : Offers) (config : Config) → AreInRange limits → AreInRange config.limits → are_within limits config.limits ≡ true → is_utf16 config.choice ≡ true
+pub sound_from : (limits : LimitsData) (offers : Offers) (config : Config) → AreInRange limits
+    → AreInRange config.limits → are_within limits config.limits ≡ true → is_utf16 config.choice ≡ true
     → IsFitting (record { limits = limits; offers = offers; config = config })
-sound_from limits offers config ranges great within choice = record { ranges = ranges; great = great; within = within_from limits config.limits within; choice = choice }
+sound_from limits offers config ranges great within choice = record {
+  ranges = ranges;
+  great = great;
+  within = within_from limits config.limits within;
+  choice = choice;
+}
 
 pub new_reached : (setting : Setting) → IsFitting setting → IsReached (new_pair setting)
 new_reached setting sound = record { setting = setting; sound = sound; events = []; at = new_at setting }

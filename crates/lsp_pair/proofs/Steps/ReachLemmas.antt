@@ -46,11 +46,13 @@ never_ended (lifecycle (outgoing.error_reply id error)) h = h
 module _ (setting : Setting) (sound : IsFitting setting) (w : World) (ok : WorldSound setting w) where
   not_ended : (said : ClientMessage) (rest : List ClientMessage) → Arrives setting w said rest → w.server_phase ≢ Ended
   not_ended said rest a ended =
-      let same : a.step_is ≡ step_in Ended (server_of setting w) (incoming_of_message said) = sym a.given ∙ ap (λ (p : Phase). step_in p (server_of setting w) (incoming_of_message said)) ended in
+      let same : a.step_is ≡ step_in Ended (server_of setting w) (incoming_of_message said) =
+      sym a.given ∙ ap (λ (p : Phase). step_in p (server_of setting w) (incoming_of_message said)) ended in
       never_ended said (subst (λ (s : Step). IsUsual said (Server (did_of s.answer))) same a.usual)
 
   first_served : (q : List ClientMessage) → Arrivals setting w q
-      → HoldsOfFirst (frames_from (the_kind setting) (server_of setting w).table q) (λ first. IsFrame setting.config.limits.max_body first × (w.server_phase ≢ Ended))
+      → HoldsOfFirst (frames_from (the_kind setting) (server_of setting w).table q)
+      (λ first. IsFrame setting.config.limits.max_body first × (w.server_phase ≢ Ended))
   first_served [] a = tt
   first_served (said ∷ rest) a =
       let within = sound.within.body in
@@ -58,68 +60,103 @@ module _ (setting : Setting) (sound : IsFitting setting) (w : World) (ok : World
         record {
           body = body_on (the_kind setting) (server_of setting w).table said;
           is_frame_of =
-              subst (λ (b : List ℕ). IsFrameOf setting.config.limits.max_body b (body_on (the_kind setting) (server_of setting w).table said))
+              subst (λ (b : List ℕ). IsFrameOf setting.config.limits.max_body b
+              (body_on (the_kind setting) (server_of setting w).table said))
               (sym (frame_on (the_kind setting) (server_of setting w).table said))
-              (written_is_frame setting.config.limits.max_body (body_on (the_kind setting) (server_of setting w).table said) (omega (arith, a.short, within)) (omega (arith, a.short, within, great)));
+              (written_is_frame setting.config.limits.max_body (body_on (the_kind setting) (server_of setting w).table
+              said) (omega (arith, a.short, within)) (omega (arith, a.short, within, great)));
         },
         not_ended said rest a,
       )
 
-  first_heard : (q : List OutgoingData) → Returning setting w q → HoldsOfFirst (map message_frame q) (λ first. IsFrame setting.limits.max_body first × (is_listening w.client_phase ≡ true))
+  first_heard : (q : List OutgoingData) → Returning setting w q
+      → HoldsOfFirst (map message_frame q) (λ first. IsFrame setting.limits.max_body first
+      × (is_listening w.client_phase ≡ true))
   first_heard [] r = tt
   first_heard (m ∷ rest) r =
-      let small = sound.ranges.greatest_body in
-      (record { body = body_of m; is_frame_of = written_is_frame setting.limits.max_body (body_of m) r.short (omega (arith, r.short, small)) }, r.listening)
+      let small = sound.ranges.greatest_body in (
+        record {
+          body = body_of m;
+          is_frame_of = written_is_frame setting.limits.max_body (body_of m) r.short (omega (arith, r.short, small));
+        },
+        r.listening,
+      )
 
-pub reached_serves : (pair : PairData) → IsReached pair → HoldsOfFirst pair.to_server (λ first. IsFrame pair.server.config.limits.max_body first × (pair.server.phase ≢ Ended))
+pub reached_serves : (pair : PairData) → IsReached pair
+    → HoldsOfFirst pair.to_server (λ first. IsFrame pair.server.config.limits.max_body first
+    × (pair.server.phase ≢ Ended))
 reached_serves pair r =
     let w : World = world_of r.setting r.events in
     let ok : WorldSound r.setting w = world_sound r.setting r.sound r.events r.at.proper in
-    subst (λ (p : PairData). HoldsOfFirst p.to_server (λ first. IsFrame p.server.config.limits.max_body first × (p.server.phase ≢ Ended))) (sym r.at.is)
+    subst (λ (p : PairData). HoldsOfFirst p.to_server (λ first. IsFrame p.server.config.limits.max_body first
+    × (p.server.phase ≢ Ended))) (sym r.at.is)
     (first_served r.setting r.sound w ok (waiting_out w) (there_arrives r.setting r.sound w ok))
 
-pub reached_hears : (pair : PairData) → IsReached pair → HoldsOfFirst pair.to_client (λ first. IsFrame pair.client.limits.max_body first × (is_listening pair.client.phase ≡ true))
+pub reached_hears : (pair : PairData) → IsReached pair
+    → HoldsOfFirst pair.to_client (λ first. IsFrame pair.client.limits.max_body first
+    × (is_listening pair.client.phase ≡ true))
 reached_hears pair r =
     let w : World = world_of r.setting r.events in
     let ok : WorldSound r.setting w = world_sound r.setting r.sound r.events r.at.proper in
-    subst (λ (p : PairData). HoldsOfFirst p.to_client (λ first. IsFrame p.client.limits.max_body first × (is_listening p.client.phase ≡ true))) (sym r.at.is)
+    subst (λ (p : PairData). HoldsOfFirst p.to_client (λ first. IsFrame p.client.limits.max_body first
+    × (is_listening p.client.phase ≡ true))) (sym r.at.is)
     (first_heard r.setting r.sound w ok (waiting_back w) (here_returns r.setting r.sound w ok))
 
 -- ---- a step that may run out of memory
 
-pub reach_or_same : {E : Type 0} (old new : PairData) (event : EventData) (result : Result Happened E) → IsProperEvent event → IsReached old
+pub reach_or_same : {E : Type 0} (old new : PairData) (event : EventData) (result : Result Happened E)
+    → IsProperEvent event → IsReached old
     → IfOk result (λ a. IsStep old event a new) → OnErr result (new ≡ old) → IsReached new
 reach_or_same old new event (Ok a) proper reached steps same = steps_reach old new event a proper reached steps
 reach_or_same old new event (Err e) proper reached steps same = subst IsReached (sym same) reached
 
-pub step_from : {E : Type 0} (old now new : PairData) (event given : EventData) (result : Result Happened E) → old ≡ now → given ≡ event
+pub step_from : {E : Type 0} (old now new : PairData) (event given : EventData) (result : Result Happened E) → old ≡ now
+    → given ≡ event
     → IfOk result (λ a. IsStep old event a new) → IfOk result (λ a. IsStep now given a new)
 step_from old now new event given result same is steps =
-    subst (λ (e : EventData). IfOk result (λ a. IsStep now e a new)) (sym is) (subst (λ (p : PairData). IfOk result (λ a. IsStep p event a new)) same steps)
+    subst (λ (e : EventData). IfOk result (λ a. IsStep now e a new)) (sym is)
+    (subst (λ (p : PairData). IfOk result (λ a. IsStep p event a new)) same steps)
 
 pub at_if : {E : Type 0} (old new : PairData) (event : EventData) (result : Result Happened E) → IsProperEvent event
     → IfOk result (λ a. IsStep old event a new)
-    → IfOk result (λ a. (setting : Setting) (events : List EventData) → IsFitting setting → IsAt setting old events → IsStepAt setting events event a new)
-at_if old new event (Ok a) proper steps = λ setting events sound at. steps_at setting sound old new events event a proper at steps
+    → IfOk result (λ a. (setting : Setting) (events : List EventData) → IsFitting setting → IsAt setting old events
+    → IsStepAt setting events event a new)
+at_if old new event (Ok a) proper steps = λ setting events sound at. steps_at setting sound old new events event a
+    proper at steps
 at_if old new event (Err e) proper steps = tt
 
 pub at_next : {E : Type 0} (old new : PairData) (event : EventData) (result : Result Happened E)
-    → IfOk result (λ happened. (setting : Setting) (events : List EventData) → IsFitting setting → IsAt setting old events → IsStepAt setting events event happened new)
-    → OnOk result ((setting : Setting) (events : List EventData) → IsFitting setting → IsAt setting old events → IsAt setting new (events ++ event ∷ []))
+    → IfOk result (λ happened. (setting : Setting) (events : List EventData) → IsFitting setting
+    → IsAt setting old events → IsStepAt setting events event happened new)
+    → OnOk result ((setting : Setting) (events : List EventData) → IsFitting setting → IsAt setting old events
+    → IsAt setting new (events ++ event ∷ []))
 at_next old new event (Ok a) steps = λ setting events sound at. (steps setting events sound at).at
 at_next old new event (Err e) steps = tt
 
 -- what is left of a delivery that ran out of memory
-pub same_at_server : {A E : Type 0} (c : client.ClientData) (s t : server.ServerData) (q p b d : List (List ℕ)) (result : Result A E) → OnErr result ((t ≡ s) × (p ≡ q) × (d ≡ b))
+pub same_at_server : {A E : Type 0} (c : client.ClientData) (s t : server.ServerData) (q p b d : List (List ℕ))
+    (result : Result A E) → OnErr result ((t ≡ s) × (p ≡ q) × (d ≡ b))
     → OnErr result (both_ends c t p d ≡ both_ends c s q b)
 same_at_server c s t q p b d (Ok a) same = tt
-same_at_server c s t q p b d (Err e) same = λ i. record { client = c; server = same.0 i; to_server = same.1 i; to_client = same.2 i }
+same_at_server c s t q p b d (Err e) same = λ i. record {
+  client = c;
+  server = same.0 i;
+  to_server = same.1 i;
+  to_client = same.2 i;
+}
 
-pub same_at_client : {A E : Type 0} (s : server.ServerData) (c k : client.ClientData) (q p b d : List (List ℕ)) (result : Result A E) → OnErr result ((k ≡ c) × (p ≡ q) × (d ≡ b))
+pub same_at_client : {A E : Type 0} (s : server.ServerData) (c k : client.ClientData) (q p b d : List (List ℕ))
+    (result : Result A E) → OnErr result ((k ≡ c) × (p ≡ q) × (d ≡ b))
     → OnErr result (both_ends k s d p ≡ both_ends c s b q)
 same_at_client s c k q p b d (Ok a) same = tt
-same_at_client s c k q p b d (Err e) same = λ i. record { client = same.0 i; server = s; to_server = same.2 i; to_client = same.1 i }
+same_at_client s c k q p b d (Err e) same = λ i. record {
+  client = same.0 i;
+  server = s;
+  to_server = same.2 i;
+  to_client = same.1 i;
+}
 
-pub same_from : {A E : Type 0} (old now new : PairData) (result : Result A E) → old ≡ now → OnErr result (new ≡ old) → OnErr result (new ≡ now)
+pub same_from : {A E : Type 0} (old now new : PairData) (result : Result A E) → old ≡ now → OnErr result (new ≡ old)
+    → OnErr result (new ≡ now)
 same_from old now new (Ok a) same stays = tt
 same_from old now new (Err e) same stays = stays ∙ same

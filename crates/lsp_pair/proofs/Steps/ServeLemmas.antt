@@ -37,7 +37,8 @@ frames_same answer.already_ended = refl
 frames_same (answer.refused refusal) = refl
 frames_same (answer.exits status) = refl
 
-pub first_there : (P : List ℕ → Type 0) (items : List (Vec ℕ Global)) (first : Vec ℕ Global) → 0 < length items → first ≡ get_or items 0 first → HoldsOfFirst (frames items) P → P first.items
+pub first_there : (P : List ℕ → Type 0) (items : List (Vec ℕ Global)) (first : Vec ℕ Global) → 0 < length items
+    → first ≡ get_or items 0 first → HoldsOfFirst (frames items) P → P first.items
 first_there P [] first some is holds = absurd (omega arith)
 first_there P (x ∷ xs) first some is holds = subst (λ (v : Vec ℕ Global). P v.items) (sym is) holds
 
@@ -45,23 +46,29 @@ pub some_wait : (items : List (Vec ℕ Global)) → 0 < length items → frames 
 some_wait [] some = absurd (omega arith)
 some_wait (x ∷ xs) some = λ none. absurd (omega (arith, ap length none))
 
-pub serve_is : (c : client.ClientData) (s new : server.ServerData) (limits : LimitsData) (items rest : List (Vec ℕ Global)) (back next : List (List ℕ)) (first : Vec ℕ Global) (body buffered : List ℕ)
+pub serve_is : (c : client.ClientData) (s new : server.ServerData) (limits : LimitsData)
+    (items rest : List (Vec ℕ Global)) (back next : List (List ℕ)) (first : Vec ℕ Global) (body buffered : List ℕ)
     (given : AnswerData Sent) (result : Did)
-    → items ≡ first ∷ rest → IsFrameOf limits.max_body buffered body → buffered ≡ first.items → limits ≡ s.config.limits → s.phase ≢ Ended
+    → items ≡ first ∷ rest → IsFrameOf limits.max_body buffered body → buffered ≡ first.items → limits ≡ s.config.limits
+    → s.phase ≢ Ended
     → given ≡ as_sent (server.step s (reading body)).answer → new ≡ (server.step s (reading body)).state
     → result ≡ did_of_sent given → next ≡ back ++ frames_in_answer given
-    → IsStep (record { client = c; server = s; to_server = frames items; to_client = back }) to_server (Server result) (record { client = c; server = new; to_server = frames rest; to_client = next })
-serve_is c s new limits items rest back next first body buffered given result out is_frame_of is same lives answers state did pushed =
+    → IsStep (record { client = c; server = s; to_server = frames items; to_client = back }) to_server (Server result)
+    (record { client = c; server = new; to_server = frames rest; to_client = next })
+serve_is c s new limits items rest back next first body buffered given result out is_frame_of is same lives answers
+    state did pushed =
     rw out (record {
       body = body;
-      framed = subst (λ (l : LimitsData). IsFrameOf l.max_body first.items body) same (subst (λ (b : List ℕ). IsFrameOf limits.max_body b body) is is_frame_of);
+      framed = subst (λ (l : LimitsData). IsFrameOf l.max_body first.items body) same
+          (subst (λ (b : List ℕ). IsFrameOf limits.max_body b body) is is_frame_of);
       has_not_ended = lives;
       happens = ap Server (did ∙ (ap did_of_sent answers ∙ did_same (server.step s (reading body)).answer));
       leaves = λ i. record {
         client = c;
         server = state i;
         to_server = frames rest;
-        to_client = (pushed ∙ ap (λ (fs : List (List ℕ)). back ++ fs) (ap frames_in_answer answers ∙ frames_same (server.step s (reading body)).answer)) i;
+        to_client = (pushed ∙ ap (λ (fs : List (List ℕ)). back ++ fs) (ap frames_in_answer answers
+            ∙ frames_same (server.step s (reading body)).answer)) i;
       };
     })
 
@@ -73,34 +80,43 @@ heard_same client.noted = refl
 heard_same client.ignored = refl
 heard_same (client.bad_server reason) = refl
 
-bytes_same : (d : client.DeliveredData OutgoingData) → frames_in_delivery (seen.as_sent d) ≡ map message_frame (messages_in d)
+bytes_same : (d : client.DeliveredData OutgoingData) → frames_in_delivery (seen.as_sent d)
+    ≡ map message_frame (messages_in d)
 bytes_same (client.sends m) = refl
 bytes_same client.noted = refl
 bytes_same client.ignored = refl
 bytes_same (client.bad_server reason) = refl
 
-listening : (b : Bool) → b ≡ true → (s : client.ClientData) (body : List ℕ) (given : client.DeliveredData (List ℕ)) (new : client.ClientData) → seen.IsDelivered (client.if_listening b s (reading body)) given new
-    → (given ≡ seen.as_sent (client.delivery_of s (reading body)).delivered) × (new ≡ (client.delivery_of s (reading body)).state)
+listening : (b : Bool) → b ≡ true → (s : client.ClientData) (body : List ℕ) (given : client.DeliveredData (List ℕ))
+    (new : client.ClientData) → seen.IsDelivered (client.if_listening b s (reading body)) given new
+    → (given ≡ seen.as_sent (client.delivery_of s (reading body)).delivered)
+    × (new ≡ (client.delivery_of s (reading body)).state)
 listening true e s body given new h = h
 listening false e s body given new h = absurd h
 
-pub hear_is : (s : server.ServerData) (c new : client.ClientData) (limits : LimitsData) (items rest : List (Vec ℕ Global)) (there next : List (List ℕ)) (first : Vec ℕ Global) (body buffered : List ℕ)
+pub hear_is : (s : server.ServerData) (c new : client.ClientData) (limits : LimitsData)
+    (items rest : List (Vec ℕ Global)) (there next : List (List ℕ)) (first : Vec ℕ Global) (body buffered : List ℕ)
     (given : client.DeliveredData (List ℕ)) (result : Heard)
-    → items ≡ first ∷ rest → IsFrameOf limits.max_body buffered body → buffered ≡ first.items → limits ≡ c.limits → client.is_listening c.phase ≡ true
+    → items ≡ first ∷ rest → IsFrameOf limits.max_body buffered body → buffered ≡ first.items → limits ≡ c.limits
+    → client.is_listening c.phase ≡ true
     → seen.IsDelivered (client.delivery_result c (reading body)) given new
     → result ≡ heard_of given → next ≡ there ++ frames_in_delivery given
-    → IsStep (record { client = c; server = s; to_server = there; to_client = frames items }) to_client (Client result) (record { client = new; server = s; to_server = next; to_client = frames rest })
-hear_is s c new limits items rest there next first body buffered given result out is_frame_of is same is_listening hears did pushed =
+    → IsStep (record { client = c; server = s; to_server = there; to_client = frames items }) to_client (Client result)
+    (record { client = new; server = s; to_server = next; to_client = frames rest })
+hear_is s c new limits items rest there next first body buffered given result out is_frame_of is same is_listening hears
+    did pushed =
     let h = listening (client.is_listening c.phase) is_listening c body given new hears in
     rw out (record {
       body = body;
-      framed = subst (λ (l : LimitsData). IsFrameOf l.max_body first.items body) same (subst (λ (b : List ℕ). IsFrameOf limits.max_body b body) is is_frame_of);
+      framed = subst (λ (l : LimitsData). IsFrameOf l.max_body first.items body) same
+          (subst (λ (b : List ℕ). IsFrameOf limits.max_body b body) is is_frame_of);
       is_listening = is_listening;
       happens = ap Client (did ∙ (ap heard_of h.0 ∙ heard_same (client.delivery_of c (reading body)).delivered));
       leaves = λ i. record {
         client = h.1 i;
         server = s;
         to_client = frames rest;
-        to_server = (pushed ∙ ap (λ (fs : List (List ℕ)). there ++ fs) (ap frames_in_delivery h.0 ∙ bytes_same (client.delivery_of c (reading body)).delivered)) i;
+        to_server = (pushed ∙ ap (λ (fs : List (List ℕ)). there ++ fs) (ap frames_in_delivery h.0
+            ∙ bytes_same (client.delivery_of c (reading body)).delivered)) i;
       };
     })

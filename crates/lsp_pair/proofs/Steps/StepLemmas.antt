@@ -27,7 +27,8 @@ use Rattle.lsp_pair.proofs.Worlds.ReturnLemmas.{Returns, Returning}
 use Rattle.lsp_pair.proofs.Worlds.CallLemmas.{IsSending, CallResult, called_sound}
 use Rattle.lsp_pair.proofs.Worlds.WorldLemmas.{good_turn, there_arrives, here_returns, served_turn, heard_turn, quiet_there, quiet_here, world_sound, world-last, proper_last, agree_at}
 
-pub frame_on : (kind : SyncKind) (table : List DocumentItem) (said : ClientMessage) → frame_of kind table said ≡ frame (body_on kind table said)
+pub frame_on : (kind : SyncKind) (table : List DocumentItem) (said : ClientMessage) → frame_of kind table said
+    ≡ frame (body_on kind table said)
 unfolding sent_body
 frame_on kind table (commands command) = refl
 frame_on kind table (lifecycle m) = refl
@@ -50,34 +51,57 @@ module _ (setting : Setting) (sound : IsFitting setting) (w : World) (ok : World
   -- ---- a call
 
   -- the queue when the client said one message more
-  queue_more : (said : ClientMessage) → frames_from kind (server_of setting w).table (waiting_out w) ++ frame_of kind (client_of setting w).table said ∷ []
-      ≡ frames_from kind (table_of (commands_in (take w.out_delivered (w.out ++ said ∷ [])))) (drop w.out_delivered (w.out ++ said ∷ []))
+  queue_more : (said : ClientMessage) → frames_from kind (server_of setting w).table (waiting_out w) ++ frame_of kind
+      (client_of setting w).table said ∷ []
+      ≡ frames_from kind (table_of (commands_in (take w.out_delivered (w.out ++ said ∷ []))))
+      (drop w.out_delivered (w.out ++ said ∷ []))
   queue_more said =
-      ap (λ (t : List DocumentItem). frames_from kind (server_of setting w).table (waiting_out w) ++ frame_of kind t said ∷ []) (sym (whole_after [] w.out_delivered w.out))
+      ap (λ (t : List DocumentItem). frames_from kind (server_of setting w).table (waiting_out w) ++ frame_of kind t
+      said ∷ []) (sym (whole_after [] w.out_delivered w.out))
       ∙ (sym (frames-append kind (server_of setting w).table (waiting_out w) (said ∷ []))
-      ∙ (λ i. frames_from kind (table_of (commands_in (sym (take-append-le w.out_delivered w.out (said ∷ []) ok.at.arrived) i))) (sym (drop-append-le w.out_delivered w.out (said ∷ []) ok.at.arrived) i)))
+      ∙ (λ i. frames_from kind
+      (table_of (commands_in (sym (take-append-le w.out_delivered w.out (said ∷ []) ok.at.arrived) i)))
+      (sym (drop-append-le w.out_delivered w.out (said ∷ []) ok.at.arrived) i)))
 
   called_pair : (said : ClientMessage) (sending : Sending) → IsSending setting w said sending
-      → record old { client = sending.state; to_server = old.to_server ++ message_frame sending.message ∷ [] } ≡ pair_of setting (turn_of_call w said (Ok sending)).world
+      → record old { client = sending.state; to_server = old.to_server ++ message_frame sending.message ∷ [] }
+      ≡ pair_of setting (turn_of_call w said (Ok sending)).world
   called_pair said sending is =
       let next : World = (turn_of_call w said (Ok sending)).world in
       let client_is : sending.state ≡ client_of setting next =
-      is.state ∙ (λ i. record (client_of setting w) { phase = sending.state.phase; agreed = sending.state.agreed; table = sym (after-last [] w.out said) i }) in
+      is.state ∙ (λ i. record (client_of setting w) {
+        phase = sending.state.phase;
+        agreed = sending.state.agreed;
+        table = sym (after-last [] w.out said) i;
+      }) in
       let server_is : server_of setting w ≡ server_of setting next =
-      λ i. record (server_of setting w) { table = table_of (commands_in (sym (take-append-le w.out_delivered w.out (said ∷ []) ok.at.arrived) i)) } in
-      let queue : old.to_server ++ message_frame sending.message ∷ [] ≡ frames_from kind (server_of setting next).table (waiting_out next) =
+      λ i. record (server_of setting w)
+      { table = table_of (commands_in (sym (take-append-le w.out_delivered w.out (said ∷ []) ok.at.arrived) i)) } in
+      let queue : old.to_server ++ message_frame sending.message ∷ [] ≡ frames_from kind (server_of setting next).table
+      (waiting_out next) =
       ap (λ (f : List ℕ). old.to_server ++ f ∷ []) is.frame ∙ queue_more said in
       λ i. record { client = client_is i; server = server_is i; to_server = queue i; to_client = old.to_client }
 
-  call_step : (call : Call) (result : Result Sending ClientFault) (happened : Happened) (new : PairData) → CallResult setting w (message_of_call (client_of setting w) call) result
-      → IsCallStep old result happened new → AsTurn setting (turn_of_call w (message_of_call (client_of setting w) call (message_in result)) result) happened new
-  call_step call (Ok sending) happened new is steps = record { happens = steps.0; leaves = steps.1 ∙ called_pair (message_of_call (client_of setting w) call sending.message) sending is }
+  call_step : (call : Call) (result : Result Sending ClientFault) (happened : Happened) (new : PairData)
+      → CallResult setting w (message_of_call (client_of setting w) call) result
+      → IsCallStep old result happened new
+      → AsTurn setting (turn_of_call w (message_of_call (client_of setting w) call (message_in result)) result) happened
+      new
+  call_step call (Ok sending) happened new is steps = record {
+    happens = steps.0;
+    leaves = steps.1 ∙ called_pair (message_of_call (client_of setting w) call sending.message) sending is;
+  }
   call_step call (Err refusal) happened new is steps = record { happens = steps.0; leaves = steps.1 }
 
   -- ---- a delivery to the server
 
-  served_pair : (said : ClientMessage) (rest : List ClientMessage) (e : waiting_out w ≡ said ∷ rest) (a : Arrives setting w said rest)
-      → record old { server = a.step_is.state; to_server = frames_from kind (table_with old.server.table said) rest; to_client = old.to_client ++ map message_frame (replies_in a.step_is.answer) }
+  served_pair : (said : ClientMessage) (rest : List ClientMessage) (e : waiting_out w ≡ said ∷ rest)
+      (a : Arrives setting w said rest)
+      → record old {
+        server = a.step_is.state;
+        to_server = frames_from kind (table_with old.server.table said) rest;
+        to_client = old.to_client ++ map message_frame (replies_in a.step_is.answer);
+      }
       ≡ pair_of setting (turn_of_step w a.step_is).world
   served_pair said rest e a =
       let next : World = (turn_of_step w a.step_is).world in
@@ -85,72 +109,123 @@ module _ (setting : Setting) (sound : IsFitting setting) (w : World) (ok : World
       let table : table_with (server_of setting w).table said ≡ (server_of setting next).table =
       sym (ap (table_after_all []) i.before ∙ after-last [] (take w.out_delivered w.out) said) in
       let server_is : a.step_is.state ≡ server_of setting next =
-      a.state ∙ (λ j. record (server_of setting w) { phase = a.step_is.state.phase; encoding = a.step_is.state.encoding; table = table j }) in
-      let queue : frames_from kind (table_with (server_of setting w).table said) rest ≡ frames_from kind (server_of setting next).table (waiting_out next) =
+      a.state ∙ (λ j. record (server_of setting w) {
+        phase = a.step_is.state.phase;
+        encoding = a.step_is.state.encoding;
+        table = table j;
+      }) in
+      let queue : frames_from kind (table_with (server_of setting w).table said) rest
+      ≡ frames_from kind (server_of setting next).table (waiting_out next) =
       λ j. frames_from kind (table j) (sym i.after j) in
-      let back : old.to_client ++ map message_frame (replies_in a.step_is.answer) ≡ map message_frame (waiting_back next) =
-      sym (map-append message_frame (waiting_back w) (replies_in a.step_is.answer)) ∙ ap (map message_frame) (sym (drop-append-le w.back_delivered w.back (replies_in a.step_is.answer) ok.at.returned)) in
+      let back : old.to_client ++ map message_frame (replies_in a.step_is.answer)
+      ≡ map message_frame (waiting_back next) =
+      sym (map-append message_frame (waiting_back w) (replies_in a.step_is.answer))
+      ∙ ap (map message_frame)
+      (sym (drop-append-le w.back_delivered w.back (replies_in a.step_is.answer) ok.at.returned)) in
       λ j. record { client = client_of setting w; server = server_is j; to_server = queue j; to_client = back j }
 
-  server_step : (q : List ClientMessage) → waiting_out w ≡ q → Arrivals setting w q → (happened : Happened) (new : PairData)
-      → IsDeliveryStep (λ first rest. IsServerStep old first rest happened new) old (frames_from kind (server_of setting w).table q) happened new
+  server_step : (q : List ClientMessage) → waiting_out w ≡ q → Arrivals setting w q → (happened : Happened)
+      (new : PairData)
+      → IsDeliveryStep (λ first rest. IsServerStep old first rest happened new) old
+      (frames_from kind (server_of setting w).table q) happened new
       → AsTurn setting (turn setting w to_server) happened new
-  server_step [] e a happened new steps = subst (λ (t : Turn). AsTurn setting t happened new) (sym (quiet_there setting sound w ok e)) (record { happens = steps.0; leaves = steps.1 })
+  server_step [] e a happened new steps =
+      subst (λ (t : Turn). AsTurn setting t happened new) (sym (quiet_there setting sound w ok e))
+      (record { happens = steps.0; leaves = steps.1 })
   server_step (said ∷ rest) e a happened new steps =
       let within = sound.within.body in
       let body : steps.body ≡ body_on kind (server_of setting w).table said =
-      one_body setting.config.limits.max_body (frame_of kind (server_of setting w).table said) (body_on kind (server_of setting w).table said) steps.body
-      (frame_on kind (server_of setting w).table said) (omega (arith, a.short, within)) sound.great.greatest_body steps.framed in
-      let does : server.step (server_of setting w) (reading steps.body) ≡ a.step_is = ap (λ (b : List ℕ). server.step (server_of setting w) (reading b)) body ∙ a.written in
+      one_body setting.config.limits.max_body (frame_of kind (server_of setting w).table said)
+      (body_on kind (server_of setting w).table said) steps.body
+      (frame_on kind (server_of setting w).table said) (omega (arith, a.short, within)) sound.great.greatest_body
+      steps.framed in
+      let does : server.step (server_of setting w) (reading steps.body) ≡ a.step_is =
+      ap (λ (b : List ℕ). server.step (server_of setting w) (reading b)) body ∙ a.written in
       subst (λ (t : Turn). AsTurn setting t happened new) (sym (served_turn setting sound w ok said rest e a)) (record {
         happens = steps.happens ∙ ap (λ (s : server.Step). Server (did_of s.answer)) does;
         leaves =
             steps.leaves
-            ∙ (ap (λ (s : server.Step). record old { server = s.state; to_server = frames_from kind (table_with old.server.table said) rest; to_client = old.to_client ++ map message_frame (replies_in s.answer) }) does
+            ∙ (ap (λ (s : server.Step). record old {
+              server = s.state;
+              to_server = frames_from kind (table_with old.server.table said) rest;
+              to_client = old.to_client ++ map message_frame (replies_in s.answer);
+            }) does
             ∙ served_pair said rest e a);
       })
 
   -- ---- a delivery to the client
 
-  heard_pair : (m : OutgoingData) (rest : List OutgoingData) (e : waiting_back w ≡ m ∷ rest) (r : Returns setting w m rest)
-      → record old { client = r.delivery_is.state; to_client = map message_frame rest; to_server = old.to_server ++ map message_frame (messages_in r.delivery_is.delivered) }
+  heard_pair : (m : OutgoingData) (rest : List OutgoingData) (e : waiting_back w ≡ m ∷ rest)
+      (r : Returns setting w m rest)
+      → record old {
+        client = r.delivery_is.state;
+        to_client = map message_frame rest;
+        to_server = old.to_server ++ map message_frame (messages_in r.delivery_is.delivered);
+      }
       ≡ pair_of setting (turn_of_delivery w r.delivery_is).world
   heard_pair m rest e r =
       let next : World = (turn_of_delivery w r.delivery_is).world in
       let ms : List OutgoingData = messages_in r.delivery_is.delivered in
       let i = next_is w.back w.back_delivered m rest e in
       let client_is : r.delivery_is.state ≡ client_of setting next =
-      r.state ∙ (λ j. record (client_of setting w) { phase = r.delivery_is.state.phase; agreed = r.delivery_is.state.agreed; table = sym (quiet [] w.out ms) j }) in
+      r.state ∙ (λ j. record (client_of setting w) {
+        phase = r.delivery_is.state.phase;
+        agreed = r.delivery_is.state.agreed;
+        table = sym (quiet [] w.out ms) j;
+      }) in
       let server_is : server_of setting w ≡ server_of setting next =
-      λ j. record (server_of setting w) { table = table_of (commands_in (sym (take-append-le w.out_delivered w.out (map lifecycle ms) ok.at.arrived) j)) } in
-      let queue : old.to_server ++ map message_frame ms ≡ frames_from kind (server_of setting next).table (waiting_out next) =
-      ap (λ (fs : List (List ℕ)). old.to_server ++ fs) (sym (frames_said kind (table_after_all (server_of setting w).table (waiting_out w)) ms))
+      λ j. record (server_of setting w) {
+        table = table_of (commands_in (sym (take-append-le w.out_delivered w.out (map lifecycle ms) ok.at.arrived) j));
+      } in
+      let queue : old.to_server ++ map message_frame ms ≡ frames_from kind (server_of setting next).table
+      (waiting_out next) =
+      ap (λ (fs : List (List ℕ)). old.to_server ++ fs)
+      (sym (frames_said kind (table_after_all (server_of setting w).table (waiting_out w)) ms))
       ∙ (sym (frames-append kind (server_of setting w).table (waiting_out w) (map lifecycle ms))
-      ∙ (λ j. frames_from kind (server_is j).table (sym (drop-append-le w.out_delivered w.out (map lifecycle ms) ok.at.arrived) j))) in
-      λ j. record { client = client_is j; server = server_is j; to_server = queue j; to_client = map message_frame (sym i.after j) }
+      ∙ (λ j. frames_from kind (server_is j).table
+      (sym (drop-append-le w.out_delivered w.out (map lifecycle ms) ok.at.arrived) j))) in
+      λ j. record {
+        client = client_is j;
+        server = server_is j;
+        to_server = queue j;
+        to_client = map message_frame (sym i.after j);
+      }
 
-  client_step : (q : List OutgoingData) → waiting_back w ≡ q → Returning setting w q → (happened : Happened) (new : PairData)
+  client_step : (q : List OutgoingData) → waiting_back w ≡ q → Returning setting w q → (happened : Happened)
+      (new : PairData)
       → IsDeliveryStep (λ first rest. IsClientStep old first rest happened new) old (map message_frame q) happened new
       → AsTurn setting (turn setting w to_client) happened new
-  client_step [] e r happened new steps = subst (λ (t : Turn). AsTurn setting t happened new) (sym (quiet_here setting sound w ok e)) (record { happens = steps.0; leaves = steps.1 })
+  client_step [] e r happened new steps =
+      subst (λ (t : Turn). AsTurn setting t happened new) (sym (quiet_here setting sound w ok e))
+      (record { happens = steps.0; leaves = steps.1 })
   client_step (m ∷ rest) e r happened new steps =
-      let body : steps.body ≡ body_of m = one_body setting.limits.max_body (message_frame m) (body_of m) steps.body refl r.short sound.ranges.greatest_body steps.framed in
-      let does : delivery_of (client_of setting w) (reading steps.body) ≡ r.delivery_is = ap (λ (b : List ℕ). delivery_of (client_of setting w) (reading b)) body ∙ r.written in
+      let body : steps.body ≡ body_of m = one_body setting.limits.max_body (message_frame m) (body_of m) steps.body refl
+      r.short sound.ranges.greatest_body steps.framed in
+      let does : delivery_of (client_of setting w) (reading steps.body) ≡ r.delivery_is =
+      ap (λ (b : List ℕ). delivery_of (client_of setting w) (reading b)) body ∙ r.written in
       subst (λ (t : Turn). AsTurn setting t happened new) (sym (heard_turn setting sound w ok m rest e r)) (record {
         happens = steps.happens ∙ ap (λ (h : Delivery). Client (heard_of h.delivered)) does;
         leaves =
             steps.leaves
-            ∙ (ap (λ (h : Delivery). record old { client = h.state; to_client = map message_frame rest; to_server = old.to_server ++ map message_frame (messages_in h.delivered) }) does
+            ∙ (ap (λ (h : Delivery). record old {
+              client = h.state;
+              to_client = map message_frame rest;
+              to_server = old.to_server ++ map message_frame (messages_in h.delivered);
+            }) does
             ∙ heard_pair m rest e r);
       })
 
   -- ---- any step
 
-  pub steps_as : (event : EventData) → IsProperEvent event → (happened : Happened) (new : PairData) → IsStep old event happened new → AsTurn setting (turn setting w event) happened new
+  pub steps_as : (event : EventData) → IsProperEvent event → (happened : Happened) (new : PairData)
+      → IsStep old event happened new → AsTurn setting (turn setting w event) happened new
   steps_as (calls call) proper happened new steps =
-      call_step call (call_result (client_of setting w) call) happened new (called_sound setting w ok.shape ok.at call proper) steps
-  steps_as to_server proper happened new steps = server_step (waiting_out w) refl (there_arrives setting sound w ok) happened new steps
-  steps_as to_client proper happened new steps = client_step (waiting_back w) refl (here_returns setting sound w ok) happened new steps
+      call_step call (call_result (client_of setting w) call) happened new
+      (called_sound setting w ok.shape ok.at call proper) steps
+  steps_as to_server proper happened new steps = server_step (waiting_out w) refl (there_arrives setting sound w ok)
+      happened new steps
+  steps_as to_client proper happened new steps = client_step (waiting_back w) refl (here_returns setting sound w ok)
+      happened new steps
 
 -- ---- the theorem
 
@@ -158,12 +233,14 @@ module _ (setting : Setting) (sound : IsFitting setting) (w : World) (ok : World
 pub new_at : (setting : Setting) → IsAt setting (new_pair setting) []
 new_at setting = record { proper = tt; is = refl }
 
-pub steps_at : (setting : Setting) → IsFitting setting → (old new : PairData) (events : List EventData) (event : EventData) (happened : Happened) → IsProperEvent event
+pub steps_at : (setting : Setting) → IsFitting setting → (old new : PairData) (events : List EventData)
+    (event : EventData) (happened : Happened) → IsProperEvent event
     → IsAt setting old events → IsStep old event happened new → IsStepAt setting events event happened new
 steps_at setting sound old new events event happened proper at steps =
     let w : World = world_of setting events in
     let ok : WorldSound setting w = world_sound setting sound events at.proper in
-    let here : IsStep (pair_of setting w) event happened new = subst (λ (p : PairData). IsStep p event happened new) at.is steps in
+    let here : IsStep (pair_of setting w) event happened new =
+    subst (λ (p : PairData). IsStep p event happened new) at.is steps in
     let t = steps_as setting sound w ok event proper happened new here in
     let good = good_turn setting sound w ok event proper in
     record {
@@ -173,18 +250,21 @@ steps_at setting sound old new events event happened proper at steps =
         is = t.leaves ∙ ap (pair_of setting) (sym (world-last setting beginning events event));
       };
       usual = subst (IsUsualTurn w event) (sym t.happens) good.usual;
-      agree = subst (HaveOneEncoding setting) (sym t.leaves) (agree_at setting (turn setting w event).world good.next.shape good.next.at);
+      agree = subst (HaveOneEncoding setting) (sym t.leaves) (agree_at setting (turn setting w event).world
+          good.next.shape good.next.at);
     }
 
 -- A pair at a world has one encoding.
-pub agrees : (setting : Setting) (pair : PairData) (events : List EventData) → IsFitting setting → IsAt setting pair events → HaveOneEncoding setting pair
+pub agrees : (setting : Setting) (pair : PairData) (events : List EventData) → IsFitting setting
+    → IsAt setting pair events → HaveOneEncoding setting pair
 agrees setting pair events sound at =
     let w : World = world_of setting events in
     let ok : WorldSound setting w = world_sound setting sound events at.proper in
     subst (HaveOneEncoding setting) (sym at.is) (agree_at setting w ok.shape ok.at)
 
 -- A step from a reached pair reaches the next.
-pub steps_reach : (old new : PairData) (event : EventData) (happened : Happened) → IsProperEvent event → IsReached old → IsStep old event happened new → IsReached new
+pub steps_reach : (old new : PairData) (event : EventData) (happened : Happened) → IsProperEvent event → IsReached old
+    → IsStep old event happened new → IsReached new
 steps_reach old new event happened proper reached steps =
     record {
       setting = reached.setting;

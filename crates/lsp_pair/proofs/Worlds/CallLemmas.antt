@@ -26,7 +26,11 @@ use Rattle.lsp_pair.proofs.Worlds.Shapes.{the_encoding, the_kind, IsSaidOn, said
 
 -- What an accepted call leaves of the client, what it sends, and that the world stays sound.
 pub record IsSending (setting : Setting) (w : World) (said : ClientMessage) (sending : Sending) : Type 0 where
-  pub state : sending.state ≡ record (client_of setting w) { phase = sending.state.phase; agreed = sending.state.agreed; table = table_with (client_of setting w).table said }
+  pub state : sending.state ≡ record (client_of setting w) {
+    phase = sending.state.phase;
+    agreed = sending.state.agreed;
+    table = table_with (client_of setting w).table said;
+  }
   pub frame : message_frame sending.message ≡ frame_of (the_kind setting) (client_of setting w).table said
   pub next : WorldSound setting (turn_of_call w said (Ok sending)).world
 
@@ -35,7 +39,8 @@ CallResult setting w said (Ok sending) = IsSending setting w (said sending.messa
 CallResult setting w said (Err refusal) = ⊤
 
 -- the world when the client said one message more
-push : (setting : Setting) (w : World) (shape next : Shape) (said : ClientMessage) (sending : Sending) → AtShape setting w shape
+push : (setting : Setting) (w : World) (shape next : Shape) (said : ClientMessage) (sending : Sending)
+    → AtShape setting w shape
     → IsBusyShape next → server_at shape ≡ server_at next → encoding_at setting shape ≡ encoding_at setting next
     → sending.state.phase ≡ client_at next → sending.state.agreed ≡ agreed_at setting next
     → here_at setting shape ≡ here_at setting next → there_at setting shape ++ said ∷ [] ≡ there_at setting next
@@ -50,7 +55,8 @@ push setting w shape next said sending at busy server encoding phase agreed here
         agreed_is = agreed;
         server_is = at.server_is ∙ server;
         encoding_is = at.encoding_is ∙ encoding;
-        there = drop-append-le w.out_delivered w.out (said ∷ []) at.arrived ∙ (ap (λ (xs : List ClientMessage). xs ++ said ∷ []) at.there ∙ there);
+        there = drop-append-le w.out_delivered w.out (said ∷ []) at.arrived
+            ∙ (ap (λ (xs : List ClientMessage). xs ++ said ∷ []) at.there ∙ there);
         here = at.here ∙ here;
         arrived = length_more w.out_delivered w.out (said ∷ []) at.arrived;
         returned = at.returned;
@@ -58,19 +64,26 @@ push setting w shape next said sending at busy server encoding phase agreed here
       };
     }
 
-proper_command : (encoding : Encoding) (order : Order) → IsProperOrder order → IsProperCommand encoding (command_of encoding order)
+proper_command : (encoding : Encoding) (order : Order) → IsProperOrder order
+    → IsProperCommand encoding (command_of encoding order)
 proper_command encoding (opens entry) p = p
 proper_command encoding (edits uri version batch) p = (p, refl)
 proper_command encoding (closes uri) p = p
 
 module _ (setting : Setting) (w : World) where
-  commanded_sound : (busy : List ClientMessage) → AtShape setting w (working busy) → (command : Command) → IsProperCommand (the_encoding setting) command
+  commanded_sound : (busy : List ClientMessage) → AtShape setting w (working busy) → (command : Command)
+      → IsProperCommand (the_encoding setting) command
       → CallResult setting w (λ m. commands command) (command_result (client_of setting w) (the_kind setting) command)
-  commanded_sound busy at command proper = by (order_refusal setting.limits (the_kind setting) (client_of setting w).table command) refl
+  commanded_sound busy at command proper =
+      by (order_refusal setting.limits (the_kind setting) (client_of setting w).table command) refl
     where
-      by : (refusal : Option documents.Refusal) → order_refusal setting.limits (the_kind setting) (client_of setting w).table command ≡ refusal
+      by : (refusal : Option documents.Refusal) → order_refusal setting.limits (the_kind setting)
+          (client_of setting w).table command ≡ refusal
           → CallResult setting w (λ m. commands command)
-          (sending_unless refusal (record { message = message_of (the_kind setting) (client_of setting w).table command; state = record (client_of setting w) { table = table_after (client_of setting w).table command } }))
+          (sending_unless refusal (record {
+            message = message_of (the_kind setting) (client_of setting w).table command;
+            state = record (client_of setting w) { table = table_after (client_of setting w).table command };
+          }))
       by (Some refusal) is = tt
       by None is =
           record {
@@ -78,34 +91,48 @@ module _ (setting : Setting) (w : World) where
             frame = refl;
             next =
                 push setting w (working busy) (working (busy ++ commands command ∷ [])) (commands command)
-                (record { message = message_of (the_kind setting) (client_of setting w).table command; state = record (client_of setting w) { table = table_after (client_of setting w).table command } })
-                at (busy_last busy (commands command) at.busy tt) refl refl at.client_is at.agreed_is refl refl (record { proper = proper; may = is });
+                (record {
+                  message = message_of (the_kind setting) (client_of setting w).table command;
+                  state = record (client_of setting w) { table = table_after (client_of setting w).table command };
+                })
+                at (busy_last busy (commands command) at.busy tt) refl refl at.client_is at.agreed_is refl refl
+                (record { proper = proper; may = is });
           }
 
   orders_sound : (busy : List ClientMessage) → AtShape setting w (working busy) → (order : Order) → IsProperOrder order
-      → CallResult setting w (message_of_call (client_of setting w) (orders order)) (client.order_result (client_of setting w) order)
+      → CallResult setting w (message_of_call (client_of setting w) (orders order))
+      (client.order_result (client_of setting w) order)
   orders_sound busy at order proper =
-      let agreed : agreed_of setting ≡ agreement (client_of setting w) = sym (ap (λ (a : Option Agreed). unwrap_or a (record { encoding = Utf16; kind = Incremental })) at.agreed_is) in
-      subst (λ (a : Agreed). CallResult setting w (λ m. commands (command_of a.encoding order)) (command_result (client_of setting w) a.kind (command_of a.encoding order))) agreed
-      (commanded_sound busy at (command_of (the_encoding setting) order) (proper_command (the_encoding setting) order proper))
+      let agreed : agreed_of setting ≡ agreement (client_of setting w) =
+      sym (ap (λ (a : Option Agreed). unwrap_or a (record { encoding = Utf16; kind = Incremental })) at.agreed_is) in
+      subst (λ (a : Agreed). CallResult setting w (λ m. commands (command_of a.encoding order))
+      (command_result (client_of setting w) a.kind (command_of a.encoding order))) agreed
+      (commanded_sound busy at (command_of (the_encoding setting) order)
+      (proper_command (the_encoding setting) order proper))
 
   -- a message beside commands
   life_sound : (shape next : Shape) (phase : Phase) (m : OutgoingData) → AtShape setting w shape
       → IsBusyShape next → server_at shape ≡ server_at next → encoding_at setting shape ≡ encoding_at setting next
       → phase ≡ client_at next → agreed_at setting shape ≡ agreed_at setting next
-      → here_at setting shape ≡ here_at setting next → there_at setting shape ++ lifecycle m ∷ [] ≡ there_at setting next
+      → here_at setting shape ≡ here_at setting next → there_at setting shape ++ lifecycle m ∷ []
+      ≡ there_at setting next
       → CallResult setting w lifecycle (client.lifecycle_result (client_of setting w) phase m)
   life_sound shape next phase m at busy server encoding is agreed here there =
       record {
         state = refl;
         frame = refl;
         next =
-            push setting w shape next (lifecycle m) (record { message = m; state = record (client_of setting w) { phase = phase } }) at busy server encoding is (at.agreed_is ∙ agreed) here there tt;
+            push setting w shape next (lifecycle m) (record {
+              message = m;
+              state = record (client_of setting w) { phase = phase };
+            }) at busy server encoding is (at.agreed_is ∙ agreed) here there tt;
       }
 
   called_at : (shape : Shape) → AtShape setting w shape → (call : Call) → IsProperEvent (calls call)
-      → CallResult setting w (message_of_call (client_of setting w) call) (call_result_in (client_at shape) (client_of setting w) call)
-  called_at fresh at starts proper = life_sound fresh asking Asked (outgoing.initialize setting.offers) at tt refl refl refl refl refl refl
+      → CallResult setting w (message_of_call (client_of setting w) call)
+      (call_result_in (client_at shape) (client_of setting w) call)
+  called_at fresh at starts proper = life_sound fresh asking Asked (outgoing.initialize setting.offers) at tt refl refl
+      refl refl refl refl
   called_at fresh at shuts_down proper = tt
   called_at fresh at exits proper = tt
   called_at fresh at (orders order) proper = tt
@@ -118,7 +145,8 @@ module _ (setting : Setting) (w : World) where
   called_at answered at exits proper = tt
   called_at answered at (orders order) proper = tt
   called_at (working busy) at starts proper = tt
-  called_at (working busy) at shuts_down proper = life_sound (working busy) (closing busy) Closing outgoing.shutdown at at.busy refl refl refl refl refl refl
+  called_at (working busy) at shuts_down proper = life_sound (working busy) (closing busy) Closing outgoing.shutdown at
+      at.busy refl refl refl refl refl refl
   called_at (working busy) at exits proper = tt
   called_at (working busy) at (orders order) proper = orders_sound busy at order proper
   called_at (closing busy) at starts proper = tt
@@ -145,4 +173,5 @@ module _ (setting : Setting) (w : World) where
   pub called_sound : (shape : Shape) → AtShape setting w shape → (call : Call) → IsProperEvent (calls call)
       → CallResult setting w (message_of_call (client_of setting w) call) (call_result (client_of setting w) call)
   called_sound shape at call proper =
-      subst (λ (p : Phase). CallResult setting w (message_of_call (client_of setting w) call) (call_result_in p (client_of setting w) call)) (sym at.client_is) (called_at shape at call proper)
+      subst (λ (p : Phase). CallResult setting w (message_of_call (client_of setting w) call)
+      (call_result_in p (client_of setting w) call)) (sym at.client_is) (called_at shape at call proper)

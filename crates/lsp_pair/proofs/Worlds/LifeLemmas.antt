@@ -16,10 +16,14 @@ use Rattle.lsp_message.specs.Outgoing.{OutgoingData, initialize, initialized, sh
 
 initialize_len : (utf8 utf32 : Bool) → length (body_of (initialize (record { utf8 = utf8; utf32 = utf32 }))) ≤ 4096
 unfolding escape_byte digits
-initialize_len true true = let e : length (body_of (initialize (record { utf8 = true; utf32 = true }))) ≡ 166 = refl in omega (arith, e)
-initialize_len true false = let e : length (body_of (initialize (record { utf8 = true; utf32 = false }))) ≡ 157 = refl in omega (arith, e)
-initialize_len false true = let e : length (body_of (initialize (record { utf8 = false; utf32 = true }))) ≡ 158 = refl in omega (arith, e)
-initialize_len false false = let e : length (body_of (initialize (record { utf8 = false; utf32 = false }))) ≡ 149 = refl in omega (arith, e)
+initialize_len true true = let e : length (body_of (initialize (record { utf8 = true; utf32 = true }))) ≡ 166 = refl in
+    omega (arith, e)
+initialize_len true false = let e : length (body_of (initialize (record { utf8 = true; utf32 = false }))) ≡ 157 =
+    refl in omega (arith, e)
+initialize_len false true = let e : length (body_of (initialize (record { utf8 = false; utf32 = true }))) ≡ 158 =
+    refl in omega (arith, e)
+initialize_len false false = let e : length (body_of (initialize (record { utf8 = false; utf32 = false }))) ≡ 149 =
+    refl in omega (arith, e)
 
 pub short_initialize : (offers : Offers) → length (body_of (initialize offers)) ≤ 4096
 short_initialize offers = initialize_len offers.utf8 offers.utf32
@@ -50,10 +54,12 @@ short_first Utf8 Full = let e : length (body_of (first_result Utf8 Full)) ≡ 12
 short_first Utf8 Incremental = let e : length (body_of (first_result Utf8 Incremental)) ≡ 128 = refl in omega (arith, e)
 short_first Utf16 Off = let e : length (body_of (first_result Utf16 Off)) ≡ 129 = refl in omega (arith, e)
 short_first Utf16 Full = let e : length (body_of (first_result Utf16 Full)) ≡ 129 = refl in omega (arith, e)
-short_first Utf16 Incremental = let e : length (body_of (first_result Utf16 Incremental)) ≡ 129 = refl in omega (arith, e)
+short_first Utf16 Incremental = let e : length (body_of (first_result Utf16 Incremental)) ≡ 129 = refl in
+    omega (arith, e)
 short_first Utf32 Off = let e : length (body_of (first_result Utf32 Off)) ≡ 129 = refl in omega (arith, e)
 short_first Utf32 Full = let e : length (body_of (first_result Utf32 Full)) ≡ 129 = refl in omega (arith, e)
-short_first Utf32 Incremental = let e : length (body_of (first_result Utf32 Incremental)) ≡ 129 = refl in omega (arith, e)
+short_first Utf32 Incremental = let e : length (body_of (first_result Utf32 Incremental)) ≡ 129 = refl in
+    omega (arith, e)
 
 pub short_last : length (body_of last_result) ≤ 4096
 unfolding escape_byte digits
@@ -62,8 +68,11 @@ short_last = let e : length (body_of last_result) ≡ 38 = refl in omega (arith,
 -- ---- frames
 
 -- A written frame within the limit has one body, its own.
-pub one_body : (max_body : ℕ) (bytes body other : List ℕ) → bytes ≡ frame body → length body ≤ max_body → max_body ≤ 1073741824 → IsFrameOf max_body bytes other → other ≡ body
+pub one_body : (max_body : ℕ) (bytes body other : List ℕ) → bytes ≡ frame body → length body ≤ max_body
+    → max_body ≤ 1073741824 → IsFrameOf max_body bytes other → other ≡ body
 one_body max_body bytes body other is short small is_frame_of =
-    let own : IsFrameOf max_body (frame body) body = written_is_frame max_body body short (omega (arith, short, small)) in
-    let here : IsFrameOf max_body (frame body ++ []) other = subst (λ (b : List ℕ). IsFrameOf max_body b other) (is ∙ sym (append-nil (frame body))) is_frame_of in
+    let own : IsFrameOf max_body (frame body) body =
+    written_is_frame max_body body short (omega (arith, short, small)) in
+    let here : IsFrameOf max_body (frame body ++ []) other =
+    subst (λ (b : List ℕ). IsFrameOf max_body b other) (is ∙ sym (append-nil (frame body))) is_frame_of in
     sym (one_frame_law max_body (frame body) [] body other own here).1

@@ -54,7 +54,8 @@ commands-append [] ys = refl
 commands-append (commands command ∷ xs) ys = ap (λ cs. command ∷ cs) (commands-append xs ys)
 commands-append (lifecycle m ∷ xs) ys = commands-append xs ys
 
-pub from-append : (table : List DocumentItem) (xs ys : List Command) → table_from table (xs ++ ys) ≡ table_from (table_from table xs) ys
+pub from-append : (table : List DocumentItem) (xs ys : List Command) → table_from table (xs ++ ys)
+    ≡ table_from (table_from table xs) ys
 from-append table [] ys = refl
 from-append table (command ∷ xs) ys = from-append (table_after table command) xs ys
 
@@ -62,18 +63,23 @@ from-append table (command ∷ xs) ys = from-append (table_after table command) 
 abbrev pub table_after_all : List DocumentItem → List ClientMessage → List DocumentItem
 table_after_all table said = table_from table (commands_in said)
 
-pub after-append : (table : List DocumentItem) (xs ys : List ClientMessage) → table_after_all table (xs ++ ys) ≡ table_after_all (table_after_all table xs) ys
-after-append table xs ys = ap (table_from table) (commands-append xs ys) ∙ from-append table (commands_in xs) (commands_in ys)
+pub after-append : (table : List DocumentItem) (xs ys : List ClientMessage) → table_after_all table (xs ++ ys)
+    ≡ table_after_all (table_after_all table xs) ys
+after-append table xs ys = ap (table_from table) (commands-append xs ys) ∙ from-append table (commands_in xs)
+    (commands_in ys)
 
-pub after_one : (table : List DocumentItem) (said : ClientMessage) → table_after_all table (said ∷ []) ≡ table_with table said
+pub after_one : (table : List DocumentItem) (said : ClientMessage) → table_after_all table (said ∷ [])
+    ≡ table_with table said
 after_one table (commands command) = refl
 after_one table (lifecycle m) = refl
 
-pub after-last : (table : List DocumentItem) (xs : List ClientMessage) (said : ClientMessage) → table_after_all table (xs ++ said ∷ []) ≡ table_with (table_after_all table xs) said
+pub after-last : (table : List DocumentItem) (xs : List ClientMessage) (said : ClientMessage)
+    → table_after_all table (xs ++ said ∷ []) ≡ table_with (table_after_all table xs) said
 after-last table xs said = after-append table xs (said ∷ []) ∙ after_one (table_after_all table xs) said
 
 -- messages of the lifecycle change no table
-pub quiet : (table : List DocumentItem) (xs : List ClientMessage) (ms : List OutgoingData) → table_after_all table (xs ++ map lifecycle ms) ≡ table_after_all table xs
+pub quiet : (table : List DocumentItem) (xs : List ClientMessage) (ms : List OutgoingData)
+    → table_after_all table (xs ++ map lifecycle ms) ≡ table_after_all table xs
 quiet table xs ms = after-append table xs (map lifecycle ms) ∙ none (table_after_all table xs) ms
   where
     none : (table : List DocumentItem) (ms : List OutgoingData) → table_after_all table (map lifecycle ms) ≡ table
@@ -81,17 +87,22 @@ quiet table xs ms = after-append table xs (map lifecycle ms) ∙ none (table_aft
     none table (m ∷ ms) = none table ms
 
 -- the table after what was delivered, and after what waits
-pub whole_after : (table : List DocumentItem) (n : ℕ) (xs : List ClientMessage) → table_after_all (table_after_all table (take n xs)) (drop n xs) ≡ table_after_all table xs
-whole_after table n xs = sym (after-append table (take n xs) (drop n xs)) ∙ ap (table_after_all table) (take-append-drop n xs)
+pub whole_after : (table : List DocumentItem) (n : ℕ) (xs : List ClientMessage)
+    → table_after_all (table_after_all table (take n xs)) (drop n xs) ≡ table_after_all table xs
+whole_after table n xs = sym (after-append table (take n xs) (drop n xs)) ∙ ap (table_after_all table)
+    (take-append-drop n xs)
 
 -- ---- frames
 
-pub frames-append : (kind : SyncKind) (table : List DocumentItem) (xs ys : List ClientMessage) → frames_from kind table (xs ++ ys) ≡ frames_from kind table xs ++ frames_from kind (table_after_all table xs) ys
+pub frames-append : (kind : SyncKind) (table : List DocumentItem) (xs ys : List ClientMessage)
+    → frames_from kind table (xs ++ ys) ≡ frames_from kind table xs ++ frames_from kind (table_after_all table xs) ys
 frames-append kind table [] ys = refl
-frames-append kind table (commands command ∷ xs) ys = ap (λ fs. frame_of kind table (commands command) ∷ fs) (frames-append kind (table_after table command) xs ys)
+frames-append kind table (commands command ∷ xs) ys =
+    ap (λ fs. frame_of kind table (commands command) ∷ fs) (frames-append kind (table_after table command) xs ys)
 frames-append kind table (lifecycle m ∷ xs) ys = ap (λ fs. message_frame m ∷ fs) (frames-append kind table xs ys)
 
-pub frames_said : (kind : SyncKind) (table : List DocumentItem) (ms : List OutgoingData) → frames_from kind table (map lifecycle ms) ≡ map message_frame ms
+pub frames_said : (kind : SyncKind) (table : List DocumentItem) (ms : List OutgoingData)
+    → frames_from kind table (map lifecycle ms) ≡ map message_frame ms
 frames_said kind table [] = refl
 frames_said kind table (m ∷ ms) = ap (λ fs. message_frame m ∷ fs) (frames_said kind table ms)
 

@@ -40,7 +40,10 @@ pub record Returns (setting : Setting) (w : World) (m : OutgoingData) (rest : Li
   pub given : delivery_of (client_of setting w) (message (sent m)) ≡ delivery_is
   pub written : delivery_of (client_of setting w) (reading (body_of m)) ≡ delivery_is
   pub short : length (body_of m) ≤ setting.limits.max_body
-  pub state : delivery_is.state ≡ record (client_of setting w) { phase = delivery_is.state.phase; agreed = delivery_is.state.agreed }
+  pub state : delivery_is.state ≡ record (client_of setting w) {
+    phase = delivery_is.state.phase;
+    agreed = delivery_is.state.agreed;
+  }
   pub usual : IsUsualBack m (Client (heard_of delivery_is.delivered))
   pub next : WorldSound setting (turn_of_delivery w delivery_is).world
 
@@ -49,10 +52,12 @@ Returning setting w [] = ⊤
 Returning setting w (m ∷ rest) = Returns setting w m rest
 
 -- the world when the client heard a message
-return : (setting : Setting) (w : World) (shape next : Shape) (m : OutgoingData) (rest : List OutgoingData) (delivery : Delivery) → AtShape setting w shape → waiting_back w ≡ m ∷ rest
+return : (setting : Setting) (w : World) (shape next : Shape) (m : OutgoingData) (rest : List OutgoingData)
+    (delivery : Delivery) → AtShape setting w shape → waiting_back w ≡ m ∷ rest
     → IsBusyShape next → server_at shape ≡ server_at next → encoding_at setting shape ≡ encoding_at setting next
     → delivery.state.phase ≡ client_at next → delivery.state.agreed ≡ agreed_at setting next
-    → rest ≡ here_at setting next → there_at setting shape ++ map lifecycle (messages_in delivery.delivered) ≡ there_at setting next
+    → rest ≡ here_at setting next → there_at setting shape ++ map lifecycle (messages_in delivery.delivered)
+    ≡ there_at setting next
     → WorldSound setting (turn_of_delivery w delivery).world
 return setting w shape next m rest delivery at e busy server encoding phase agreed here there =
     let i = next_is w.back w.back_delivered m rest e in
@@ -64,11 +69,13 @@ return setting w shape next m rest delivery at e busy server encoding phase agre
         agreed_is = agreed;
         server_is = at.server_is ∙ server;
         encoding_is = at.encoding_is ∙ encoding;
-        there = drop-append-le w.out_delivered w.out (map lifecycle (messages_in delivery.delivered)) at.arrived ∙ (ap (λ (xs : List ClientMessage). xs ++ map lifecycle (messages_in delivery.delivered)) at.there ∙ there);
+        there = drop-append-le w.out_delivered w.out (map lifecycle (messages_in delivery.delivered)) at.arrived
+            ∙ (ap (λ (xs : List ClientMessage). xs ++ map lifecycle (messages_in delivery.delivered)) at.there ∙ there);
         here = i.after ∙ here;
         arrived = length_more w.out_delivered w.out (map lifecycle (messages_in delivery.delivered)) at.arrived;
         returned = i.within;
-        said = said-append setting [] w.out (map lifecycle (messages_in delivery.delivered)) at.said (said_quiet setting (table_after_all [] w.out) (messages_in delivery.delivered));
+        said = said-append setting [] w.out (map lifecycle (messages_in delivery.delivered)) at.said
+            (said_quiet setting (table_after_all [] w.out) (messages_in delivery.delivered));
       };
     }
 
@@ -80,32 +87,41 @@ outcome m = failed
 
 -- ---- what is announced
 
-pub offered_is : (choice : EncodingChoice) (offers : Offers) → is_utf16 choice ≡ true → is_offered offers (chosen choice offers) ≡ true
+pub offered_is : (choice : EncodingChoice) (offers : Offers) → is_utf16 choice ≡ true
+    → is_offered offers (chosen choice offers) ≡ true
 offered_is (Fixed Utf8) offers e = absurd (let bad : false ≡ true = e in cc)
 offered_is (Fixed Utf16) offers e = refl
 offered_is (Fixed Utf32) offers e = absurd (let bad : false ≡ true = e in cc)
 offered_is (Negotiated prefer) offers e = offered_if prefer offers (is_offered offers prefer) refl
 
-agrees_on : (s : ClientData) (encoding : Encoding) (sync : ChangeForm) → is_offered s.offers encoding ≡ true → begin_if_synced s true (announced_kind sync) (Some encoding) ≡ begin_in s encoding (announced_kind sync)
+agrees_on : (s : ClientData) (encoding : Encoding) (sync : ChangeForm) → is_offered s.offers encoding ≡ true
+    → begin_if_synced s true (announced_kind sync) (Some encoding) ≡ begin_in s encoding (announced_kind sync)
 agrees_on s encoding Incremental e = rw e refl
 agrees_on s encoding Full e = rw e refl
 
 begins_given : (s : ClientData) (encoding : Encoding) (sync : ChangeForm) → is_offered s.offers encoding ≡ true
-    → begin_as_announced s (announced_of (initialize_value encoding (announced_kind sync))) ≡ begin_in s encoding (announced_kind sync)
-begins_given s encoding sync e = ap (begin_as_announced s) (is_read_back (first_result encoding (announced_kind sync)) (record { sfits = omega arith })) ∙ agrees_on s encoding sync e
+    → begin_as_announced s (announced_of (initialize_value encoding (announced_kind sync)))
+    ≡ begin_in s encoding (announced_kind sync)
+begins_given s encoding sync e =
+    ap (begin_as_announced s) (is_read_back (first_result encoding (announced_kind sync)) (record {
+      sfits = omega arith;
+    })) ∙ agrees_on s encoding sync e
 
 least : (setting : Setting) (n : ℕ) → IsFitting setting → n ≤ 4096 → n ≤ setting.limits.max_body
 least setting n sound h = let r = sound.ranges in omega (arith, r.least_body, h)
 
 module _ (setting : Setting) (sound : IsFitting setting) (w : World) where
-  answered_returns : AtShape setting w answered → Returns setting w (first_result (the_encoding setting) (the_kind setting)) []
+  answered_returns : AtShape setting w answered
+      → Returns setting w (first_result (the_encoding setting) (the_kind setting)) []
   answered_returns at =
       let e : waiting_back w ≡ first_result (the_encoding setting) (the_kind setting) ∷ [] = at.here in
       let s : ClientData = client_of setting w in
       let m : OutgoingData = first_result (the_encoding setting) (the_kind setting) in
       let delivery_is : Delivery = begin_in s (the_encoding setting) (the_kind setting) in
       let answer : delivery_of s (message (sent m)) ≡ delivery_is =
-      ap (λ (p : Phase). response_delivery p s (Some (whole (pos 1))) (outcome m)) at.client_is ∙ begins_given s (the_encoding setting) setting.config.sync (offered_is setting.config.choice setting.offers sound.choice) in
+      ap (λ (p : Phase). response_delivery p s (Some (whole (pos 1))) (outcome m)) at.client_is
+      ∙ begins_given s (the_encoding setting) setting.config.sync (offered_is setting.config.choice setting.offers
+      sound.choice) in
       record {
         delivery_is = delivery_is;
         listening = ap is_listening at.client_is;
@@ -114,7 +130,10 @@ module _ (setting : Setting) (sound : IsFitting setting) (w : World) where
         short = least setting _ sound (short_first (the_encoding setting) (the_kind setting));
         state = refl;
         usual = refl;
-        next = return setting w answered (working (lifecycle outgoing.initialized ∷ [])) m [] delivery_is at e (tt, tt) refl refl refl refl refl refl;
+        next = return setting w answered (working (lifecycle outgoing.initialized ∷ [])) m [] delivery_is at e (
+          tt,
+          tt,
+        ) refl refl refl refl refl refl;
       }
 
   down_returns : AtShape setting w down → Returns setting w last_result []
@@ -122,7 +141,8 @@ module _ (setting : Setting) (sound : IsFitting setting) (w : World) where
       let e : waiting_back w ≡ last_result ∷ [] = at.here in
       let s : ClientData = client_of setting w in
       let delivery_is : Delivery = record { delivered = client.noted; state = record s { phase = Closed } } in
-      let answer : delivery_of s (message (sent last_result)) ≡ delivery_is = ap (λ (p : Phase). response_delivery p s (Some (whole (pos 2))) (outcome last_result)) at.client_is in
+      let answer : delivery_of s (message (sent last_result)) ≡ delivery_is =
+      ap (λ (p : Phase). response_delivery p s (Some (whole (pos 2))) (outcome last_result)) at.client_is in
       record {
         delivery_is = delivery_is;
         listening = ap is_listening at.client_is;

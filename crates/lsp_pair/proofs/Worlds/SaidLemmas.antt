@@ -43,84 +43,114 @@ IsProperCommand encoding (opens entry) = IsProperDocument entry
 IsProperCommand encoding (changes uri version other batch) = IsProperEdits uri version batch × (other ≡ encoding)
 IsProperCommand encoding (closes uri) = IsUtf8 uri
 
--- A command that a client says, whose table was this: its texts are texts, it counts in this encoding, and it was accepted.
-pub record IsSaid (limits : LimitsData) (encoding : Encoding) (kind : SyncKind) (table : List DocumentItem) (command : Command) : Type 0 where
+-- A command that a client says, whose table was this: its texts are texts, it counts in this encoding, and it was
+-- accepted.
+pub record IsSaid (limits : LimitsData) (encoding : Encoding) (kind : SyncKind) (table : List DocumentItem)
+    (command : Command) : Type 0 where
   pub proper : IsProperCommand encoding command
   pub may : order_refusal limits kind table command ≡ None
 
-pub may_command : (limits : LimitsData) (kind : SyncKind) (table : List DocumentItem) (command : Command) → order_refusal limits kind table command ≡ None → command_refusal limits table command ≡ None
-may_command limits kind table command e = first_none (command_refusal limits table command) (body_refusal limits (sent_body kind table command)) e
+pub may_command : (limits : LimitsData) (kind : SyncKind) (table : List DocumentItem) (command : Command)
+    → order_refusal limits kind table command ≡ None → command_refusal limits table command ≡ None
+may_command limits kind table command e =
+    first_none (command_refusal limits table command) (body_refusal limits (sent_body kind table command)) e
 
 body_short : (limits : LimitsData) (body : List ℕ) → body_refusal limits body ≡ None → length body ≤ limits.max_body
 body_short limits body e =
-    ⊎_elim (λ (above : nat_lt limits.max_body (length body) ≡ true). absurd (let bad : Some (body_too_long (length body)) ≡ None = rw above at e in cc))
+    ⊎_elim (λ (above : nat_lt limits.max_body (length body) ≡ true). absurd
+    (let bad : Some (body_too_long (length body)) ≡ None = rw above at e in cc))
     (λ (within : nat_lt limits.max_body (length body) ≡ false). ltb-false limits.max_body (length body) within)
     (cases_Bool (nat_lt limits.max_body (length body)))
 
-pub sent_short : (limits : LimitsData) (kind : SyncKind) (table : List DocumentItem) (command : Command) → order_refusal limits kind table command ≡ None → length (sent_body kind table command) ≤ limits.max_body
+pub sent_short : (limits : LimitsData) (kind : SyncKind) (table : List DocumentItem) (command : Command)
+    → order_refusal limits kind table command ≡ None → length (sent_body kind table command) ≤ limits.max_body
 sent_short limits kind table command e =
-    body_short limits (sent_body kind table command) (later_none (command_refusal limits table command) (body_refusal limits (sent_body kind table command)) e)
+    body_short limits (sent_body kind table command) (later_none (command_refusal limits table command)
+    (body_refusal limits (sent_body kind table command)) e)
 
 -- ---- the batch that is sent
 
 -- what is true of the batch that is sent in place of one that was accepted
-pub record IsSentBatch (small great : LimitsData) (encoding : Encoding) (table : List DocumentItem) (uri : List ℕ) (version : ℤ) (batch other_batch : List Edit) : Type 0 where
+pub record IsSentBatch (small great : LimitsData) (encoding : Encoding) (table : List DocumentItem) (uri : List ℕ)
+    (version : ℤ) (batch other_batch : List Edit) : Type 0 where
   pub done : IsReplacedBy great (units_in encoding) table uri version batch other_batch
   pub texts : AreTexts other_batch
   pub proper_message : IsProper (change_message uri version other_batch)
 
-whole_proper : (uri : List ℕ) (version : ℤ) (bytes : List ℕ) → IsUtf8 uri → FitsSigned w32 version → IsUtf8 bytes → IsProper (change_message uri version (record { range = None; text = chars bytes } ∷ []))
+whole_proper : (uri : List ℕ) (version : ℤ) (bytes : List ℕ) → IsUtf8 uri → FitsSigned w32 version → IsUtf8 bytes
+    → IsProper (change_message uri version (record { range = None; text = chars bytes } ∷ []))
 whole_proper uri version bytes u v b =
     record {
       uri = u;
       version = v;
-      changes = All-cons IsProperEdit (record { range = None; text = encode_utf8_all (chars bytes) }) [] (record { range = tt; text = subst IsUtf8 (sym (encodes-chars bytes b)) b }) (All-nil IsProperEdit);
+      changes = All-cons IsProperEdit (record { range = None; text = encode_utf8_all (chars bytes) }) []
+          (record { range = tt; text = subst IsUtf8 (sym (encodes-chars bytes b)) b }) (All-nil IsProperEdit);
     }
 
-module _ (small great : LimitsData) (encoding : Encoding) (table : List DocumentItem) (uri : List ℕ) (version : ℤ) (batch : List Edit) (ranges : AreInRange small) (within : AreWithin small great)
-    (kept : AllWithin small table) (edits : IsProperEdits uri version batch) (may : change_refusal small (units_in encoding) table uri version batch ≡ None) where
+module _ (small great : LimitsData) (encoding : Encoding) (table : List DocumentItem) (uri : List ℕ) (version : ℤ)
+    (batch : List Edit) (ranges : AreInRange small) (within : AreWithin small great)
+    (kept : AllWithin small table) (edits : IsProperEdits uri version batch)
+    (may : change_refusal small (units_in encoding) table uri version batch ≡ None) where
   parts : MayChange small (units_in encoding) table uri version batch
   parts = change_parts small (units_in encoding) table uri version batch may
 
   entry_within : IsWithin small parts.entry
   entry_within = within_at small table uri parts.entry kept parts.is_open
 
-  laws : (some : List Edit) (items : List Item) → meaning (units_in encoding) (chars parts.entry.text) some ≡ Ok items → IsCanonical (units_in encoding) (chars parts.entry.text) some items
-  laws some items means = canonical_law (units_in encoding) (units_some encoding) (chars parts.entry.text) some items means
+  laws : (some : List Edit) (items : List Item) → meaning (units_in encoding) (chars parts.entry.text) some ≡ Ok items
+      → IsCanonical (units_in encoding) (chars parts.entry.text) some items
+  laws some items means = canonical_law (units_in encoding) (units_some encoding) (chars parts.entry.text) some items
+      means
 
   parts_accepts : Accepts small (units_in encoding) parts.entry version batch
   parts_accepts = accepted_parts small (units_in encoding) parts.entry version batch parts.may
 
-  canonical_is : canonical_batch (units_in encoding) table uri batch ≡ canonical (units_in encoding) (chars parts.entry.text) parts_accepts.items
-  canonical_is = batch_at small encoding table uri version parts.entry parts.is_open laws batch parts_accepts.items parts_accepts.means
+  canonical_is : canonical_batch (units_in encoding) table uri batch ≡ canonical (units_in encoding)
+      (chars parts.entry.text) parts_accepts.items
+  canonical_is = batch_at small encoding table uri version parts.entry parts.is_open laws batch parts_accepts.items
+      parts_accepts.means
 
-  canonical_sent : IsSentBatch small great encoding table uri version batch (canonical_batch (units_in encoding) table uri batch)
+  canonical_sent : IsSentBatch small great encoding table uri version batch
+      (canonical_batch (units_in encoding) table uri batch)
   canonical_sent = record {
     done = canonical_batch_law small great encoding table uri version batch ranges within may;
     texts =
         subst AreTexts (sym canonical_is)
-        (canonical_texts (units_in encoding) (chars parts.entry.text) batch parts_accepts.items (laws batch parts_accepts.items parts_accepts.means) (scalars-chars parts.entry.text entry_within.utf8) edits.texts parts_accepts.means);
+        (canonical_texts (units_in encoding) (chars parts.entry.text) batch parts_accepts.items
+        (laws batch parts_accepts.items parts_accepts.means) (scalars-chars parts.entry.text entry_within.utf8)
+        edits.texts parts_accepts.means);
     proper_message =
         subst (λ (b : List Edit). IsProper (change_message uri version b)) (sym canonical_is)
-        (proper small encoding table uri version parts.entry parts.is_open laws edits.name edits.fits entry_within.utf8 (omega (arith, entry_within.short, ranges.greatest_text)) body_of-unique batch parts_accepts.items edits.texts parts_accepts.means);
+        (proper small encoding table uri version parts.entry parts.is_open laws edits.name edits.fits entry_within.utf8
+        (omega (arith, entry_within.short, ranges.greatest_text)) body_of-unique batch parts_accepts.items edits.texts
+        parts_accepts.means);
   }
 
   left : IsWithin small (changed (units_in encoding) parts.entry version batch)
   left = within_changed small (units_in encoding) parts.entry version batch edits.texts entry_within parts.may
 
-  whole_is : whole_batch (units_in encoding) table uri version batch ≡ record { range = None; text = chars (changed (units_in encoding) parts.entry version batch).text } ∷ []
+  whole_is : whole_batch (units_in encoding) table uri version batch ≡ record {
+    range = None;
+    text = chars (changed (units_in encoding) parts.entry version batch).text;
+  } ∷ []
   whole_is = ap whole_text (found_changed (units_in encoding) table uri version batch parts.entry parts.is_open)
 
-  whole_sent : IsSentBatch small great encoding table uri version batch (whole_batch (units_in encoding) table uri version batch)
+  whole_sent : IsSentBatch small great encoding table uri version batch
+      (whole_batch (units_in encoding) table uri version batch)
   whole_sent = record {
     done = whole_text_law small great encoding table uri version batch ranges within kept edits.texts may;
-    texts = subst AreTexts (sym whole_is) (scalars-chars (changed (units_in encoding) parts.entry version batch).text left.utf8, tt);
+    texts = subst AreTexts (sym whole_is) (
+      scalars-chars (changed (units_in encoding) parts.entry version batch).text left.utf8,
+      tt,
+    );
     proper_message =
         subst (λ (b : List Edit). IsProper (change_message uri version b)) (sym whole_is)
-        (whole_proper uri version (changed (units_in encoding) parts.entry version batch).text edits.name edits.fits left.utf8);
+        (whole_proper uri version (changed (units_in encoding) parts.entry version batch).text edits.name edits.fits
+        left.utf8);
   }
 
-  pub batch_sent : (kind : SyncKind) → IsSentBatch small great encoding table uri version batch (sent_batch kind (units_in encoding) table uri version batch)
+  pub batch_sent : (kind : SyncKind) → IsSentBatch small great encoding table uri version batch
+      (sent_batch kind (units_in encoding) table uri version batch)
   batch_sent Off = canonical_sent
   batch_sent Full = whole_sent
   batch_sent Incremental = canonical_sent
@@ -128,7 +158,8 @@ module _ (small great : LimitsData) (encoding : Encoding) (table : List Document
 -- ---- what a server does at a command
 
 -- a server whose session is running, with these limits, this encoding and this table
-pub record IsServing (great : LimitsData) (encoding : Encoding) (table : List DocumentItem) (s : ServerData) : Type 0 where
+pub record IsServing (great : LimitsData) (encoding : Encoding) (table : List DocumentItem) (s : ServerData) : Type
+    0 where
   pub limits_are : s.config.limits ≡ great
   pub running : s.phase ≡ Running
   pub counts : s.encoding ≡ Some encoding
@@ -138,28 +169,38 @@ pub record IsServing (great : LimitsData) (encoding : Encoding) (table : List Do
 abbrev pub done_by : ServerData → List DocumentItem → Step
 done_by s next = record { answer = answer.changed; state = record s { table = next } }
 
-obeys_done : (s : ServerData) (command : Command) → command_refusal s.config.limits s.table command ≡ None → obeys s command ≡ done_by s (table_after s.table command)
+obeys_done : (s : ServerData) (command : Command) → command_refusal s.config.limits s.table command ≡ None
+    → obeys s command ≡ done_by s (table_after s.table command)
 obeys_done s command may = ap (λ (r : Option Refusal). obeyed s (unless_refused r (table_after s.table command))) may
 
-run_open : (s : ServerData) (p : DocumentItem) → s.phase ≡ Running → step_on s (incoming.did_open (Some p)) ≡ obeys s (opens p)
+run_open : (s : ServerData) (p : DocumentItem) → s.phase ≡ Running → step_on s (incoming.did_open (Some p))
+    ≡ obeys s (opens p)
 run_open s p running = ap (λ (phase : Phase). step_in phase s (incoming.did_open (Some p))) running
 
-run_change : (s : ServerData) (p : ChangeData) → s.phase ≡ Running → step_on s (incoming.did_change (Some p)) ≡ obeys s (changes p.uri p.version (session_encoding s) (map edit_from_data p.changes))
+run_change : (s : ServerData) (p : ChangeData) → s.phase ≡ Running → step_on s (incoming.did_change (Some p))
+    ≡ obeys s (changes p.uri p.version (session_encoding s) (map edit_from_data p.changes))
 run_change s p running = ap (λ (phase : Phase). step_in phase s (incoming.did_change (Some p))) running
 
-run_close : (s : ServerData) (p : CloseData) → s.phase ≡ Running → step_on s (incoming.did_close (Some p)) ≡ obeys s (closes p.uri)
+run_close : (s : ServerData) (p : CloseData) → s.phase ≡ Running → step_on s (incoming.did_close (Some p))
+    ≡ obeys s (closes p.uri)
 run_close s p running = ap (λ (phase : Phase). step_in phase s (incoming.did_close (Some p))) running
 
 -- ---- what is read
 
-read_open : (p : DocumentItem) → IsProperDocument p → incoming.incoming_of (reading (body_of (did_open p))) ≡ incoming.did_open (Some p)
-read_open p is = ap incoming.incoming_of (reading-body_of (did_open p) is) ∙ ap incoming.did_open (is_read_back (did_open p) is)
+read_open : (p : DocumentItem) → IsProperDocument p → incoming.incoming_of (reading (body_of (did_open p)))
+    ≡ incoming.did_open (Some p)
+read_open p is = ap incoming.incoming_of (reading-body_of (did_open p) is)
+    ∙ ap incoming.did_open (is_read_back (did_open p) is)
 
-read_change : (p : ChangeData) → IsProperChange p → incoming.incoming_of (reading (body_of (did_change p))) ≡ incoming.did_change (Some p)
-read_change p is = ap incoming.incoming_of (reading-body_of (did_change p) is) ∙ ap incoming.did_change (is_read_back (did_change p) is)
+read_change : (p : ChangeData) → IsProperChange p → incoming.incoming_of (reading (body_of (did_change p)))
+    ≡ incoming.did_change (Some p)
+read_change p is = ap incoming.incoming_of (reading-body_of (did_change p) is)
+    ∙ ap incoming.did_change (is_read_back (did_change p) is)
 
-read_close : (p : CloseData) → IsUtf8 p.uri → incoming.incoming_of (reading (body_of (did_close p))) ≡ incoming.did_close (Some p)
-read_close p is = ap incoming.incoming_of (reading-body_of (did_close p) is) ∙ ap incoming.did_close (is_read_back (did_close p) is)
+read_close : (p : CloseData) → IsUtf8 p.uri → incoming.incoming_of (reading (body_of (did_close p)))
+    ≡ incoming.did_close (Some p)
+read_close p is = ap incoming.incoming_of (reading-body_of (did_close p) is)
+    ∙ ap incoming.did_close (is_read_back (did_close p) is)
 
 -- ---- a command that was said is done
 
@@ -168,51 +209,73 @@ pub record IsServedAs (s : ServerData) (kind : SyncKind) (command : Command) : T
   pub written : step s (reading (sent_body kind s.table command)) ≡ done_by s (table_after s.table command)
   pub given : step_on s (incoming_of_message (commands command)) ≡ done_by s (table_after s.table command)
 
-module _ (small great : LimitsData) (encoding : Encoding) (kind : SyncKind) (s : ServerData) (ranges : AreInRange small) (within : AreWithin small great)
-    (limits_are : s.config.limits ≡ great) (running : s.phase ≡ Running) (counts : s.encoding ≡ Some encoding) (kept : AllWithin small s.table) where
-  accepted_here : (command : Command) → command_refusal great s.table command ≡ None → command_refusal s.config.limits s.table command ≡ None
+module _ (small great : LimitsData) (encoding : Encoding) (kind : SyncKind) (s : ServerData) (ranges : AreInRange small)
+    (within : AreWithin small great)
+    (limits_are : s.config.limits ≡ great) (running : s.phase ≡ Running) (counts : s.encoding ≡ Some encoding)
+    (kept : AllWithin small s.table) where
+  accepted_here : (command : Command) → command_refusal great s.table command ≡ None
+      → command_refusal s.config.limits s.table command ≡ None
   accepted_here command e = ap (λ (limits : LimitsData). command_refusal limits s.table command) limits_are ∙ e
 
   encoding_is : session_encoding s ≡ encoding
   encoding_is = rw counts refl
 
-  open_served : (entry : DocumentItem) → IsProperDocument entry → order_refusal small kind s.table (opens entry) ≡ None → IsServedAs s kind (opens entry)
+  open_served : (entry : DocumentItem) → IsProperDocument entry → order_refusal small kind s.table (opens entry) ≡ None
+      → IsServedAs s kind (opens entry)
   unfolding sent_body
   open_served entry is may =
       let done : step_on s (incoming.did_open (Some entry)) ≡ done_by s (table_after s.table (opens entry))
-      = run_open s entry running ∙ obeys_done s (opens entry) (accepted_here (opens entry) (greater_limits_law small great s.table (opens entry) within (may_command small kind s.table (opens entry) may))) in
+      = run_open s entry running ∙ obeys_done s (opens entry)
+      (accepted_here (opens entry) (greater_limits_law small great s.table (opens entry) within
+      (may_command small kind s.table (opens entry) may))) in
       record { written = ap (step_on s) (read_open entry is) ∙ done; given = done }
 
-  close_served : (uri : List ℕ) → IsUtf8 uri → order_refusal small kind s.table (closes uri) ≡ None → IsServedAs s kind (closes uri)
+  close_served : (uri : List ℕ) → IsUtf8 uri → order_refusal small kind s.table (closes uri) ≡ None
+      → IsServedAs s kind (closes uri)
   unfolding sent_body
   close_served uri is may =
       let p : CloseData = record { uri = uri } in
       let done : step_on s (incoming.did_close (Some p)) ≡ done_by s (table_after s.table (closes uri))
-      = run_close s p running ∙ obeys_done s (closes uri) (accepted_here (closes uri) (greater_limits_law small great s.table (closes uri) within (may_command small kind s.table (closes uri) may))) in
+      = run_close s p running ∙ obeys_done s (closes uri)
+      (accepted_here (closes uri) (greater_limits_law small great s.table (closes uri) within
+      (may_command small kind s.table (closes uri) may))) in
       record { written = ap (step_on s) (read_close p is) ∙ done; given = done }
 
   -- a batch that does the same as the one that was given
-  change_done : (uri : List ℕ) (version : ℤ) (batch other : List Edit) → AreTexts other → IsReplacedBy great (units_in encoding) s.table uri version batch other
-      → step_on s (incoming.did_change (Some (record { uri = uri; version = version; changes = map written_edit other }))) ≡ done_by s (after_change (units_in encoding) s.table uri version batch)
+  change_done : (uri : List ℕ) (version : ℤ) (batch other : List Edit) → AreTexts other
+      → IsReplacedBy great (units_in encoding) s.table uri version batch other
+      → step_on s (incoming.did_change
+      (Some (record { uri = uri; version = version; changes = map written_edit other })))
+      ≡ done_by s (after_change (units_in encoding) s.table uri version batch)
   change_done uri version batch other texts is =
       run_change s (record { uri = uri; version = version; changes = map written_edit other }) running
       ∙ (ap (λ (b : List Edit). obeys s (changes uri version (session_encoding s) b)) (edits_back other texts)
       ∙ (ap (λ (e : Encoding). obeys s (changes uri version e other)) encoding_is
-      ∙ (obeys_done s (changes uri version encoding other) (accepted_here (changes uri version encoding other) is.accepted)
+      ∙ (obeys_done s (changes uri version encoding other) (accepted_here (changes uri version encoding other)
+      is.accepted)
       ∙ ap (done_by s) is.leaves)))
 
-  change_served : (uri : List ℕ) (version : ℤ) (batch : List Edit) → IsProperEdits uri version batch → order_refusal small kind s.table (changes uri version encoding batch) ≡ None
+  change_served : (uri : List ℕ) (version : ℤ) (batch : List Edit) → IsProperEdits uri version batch
+      → order_refusal small kind s.table (changes uri version encoding batch) ≡ None
       → IsServedAs s kind (changes uri version encoding batch)
   unfolding sent_body
   change_served uri version batch is may =
-      let accepted : change_refusal small (units_in encoding) s.table uri version batch ≡ None = may_command small kind s.table (changes uri version encoding batch) may in
+      let accepted : change_refusal small (units_in encoding) s.table uri version batch ≡ None =
+      may_command small kind s.table (changes uri version encoding batch) may in
       let t = batch_sent small great encoding s.table uri version batch ranges within kept is accepted kind in
       let other_batch : List Edit = sent_batch kind (units_in encoding) s.table uri version batch in
       record {
-        written = ap (step_on s) (read_change (record { uri = uri; version = version; changes = map written_edit other_batch }) t.proper_message) ∙ change_done uri version batch other_batch t.texts t.done;
+        written = ap (step_on s) (read_change (record {
+          uri = uri;
+          version = version;
+          changes = map written_edit other_batch;
+        }) t.proper_message) ∙ change_done uri version batch other_batch t.texts t.done;
         given =
             change_done uri version batch batch is.texts
-            (record { accepted = greater_limits_law small great s.table (changes uri version encoding batch) within accepted; leaves = refl });
+            (record {
+              accepted = greater_limits_law small great s.table (changes uri version encoding batch) within accepted;
+              leaves = refl;
+            });
       }
 
   pub command_served : (command : Command) → IsSaid small encoding kind s.table command → IsServedAs s kind command
@@ -221,4 +284,6 @@ module _ (small great : LimitsData) (encoding : Encoding) (kind : SyncKind) (s :
   command_served (changes uri version other batch) is =
       let same : encoding ≡ other = sym is.proper.1 in
       subst (λ (e : Encoding). IsServedAs s kind (changes uri version e batch)) same
-      (change_served uri version batch is.proper.0 (subst (λ (e : Encoding). order_refusal small kind s.table (changes uri version e batch) ≡ None) (sym same) is.may))
+      (change_served uri version batch is.proper.0
+      (subst (λ (e : Encoding). order_refusal small kind s.table (changes uri version e batch) ≡ None) (sym same)
+      is.may))

@@ -33,34 +33,44 @@ abbrev pub the_kind : Setting → SyncKind
 the_kind setting = announced_kind setting.config.sync
 
 abbrev pub IsSaidOn : Setting → List DocumentItem → ClientMessage → Type 0
-IsSaidOn setting table (commands command) = IsSaid setting.limits (the_encoding setting) (the_kind setting) table command
+IsSaidOn setting table (commands command) = IsSaid setting.limits (the_encoding setting) (the_kind setting) table
+    command
 IsSaidOn setting table (lifecycle m) = ⊤
 
 abbrev pub AreSaid : Setting → List DocumentItem → List ClientMessage → Type 0
 AreSaid setting table [] = ⊤
 AreSaid setting table (said ∷ rest) = IsSaidOn setting table said × AreSaid setting (table_with table said) rest
 
-pub said-append : (setting : Setting) (table : List DocumentItem) (xs ys : List ClientMessage) → AreSaid setting table xs → AreSaid setting (table_after_all table xs) ys → AreSaid setting table (xs ++ ys)
+pub said-append : (setting : Setting) (table : List DocumentItem) (xs ys : List ClientMessage)
+    → AreSaid setting table xs → AreSaid setting (table_after_all table xs) ys → AreSaid setting table (xs ++ ys)
 said-append setting table [] ys p q = q
-said-append setting table (commands command ∷ xs) ys p q = (p.0, said-append setting (table_after table command) xs ys p.1 q)
+said-append setting table (commands command ∷ xs) ys p q =
+    (p.0, said-append setting (table_after table command) xs ys p.1 q)
 said-append setting table (lifecycle m ∷ xs) ys p q = (p.0, said-append setting table xs ys p.1 q)
 
-pub said_quiet : (setting : Setting) (table : List DocumentItem) (ms : List OutgoingData) → AreSaid setting table (map lifecycle ms)
+pub said_quiet : (setting : Setting) (table : List DocumentItem) (ms : List OutgoingData)
+    → AreSaid setting table (map lifecycle ms)
 said_quiet setting table [] = tt
 said_quiet setting table (m ∷ ms) = (tt, said_quiet setting table ms)
 
-pub said_there : (setting : Setting) (table : List DocumentItem) (n : ℕ) (xs : List ClientMessage) → AreSaid setting table xs → AreSaid setting (table_after_all table (take n xs)) (drop n xs)
-said_there setting table n xs p = by table (take n xs) (drop n xs) (subst (AreSaid setting table) (sym (take-append-drop n xs)) p)
+pub said_there : (setting : Setting) (table : List DocumentItem) (n : ℕ) (xs : List ClientMessage)
+    → AreSaid setting table xs → AreSaid setting (table_after_all table (take n xs)) (drop n xs)
+said_there setting table n xs p =
+    by table (take n xs) (drop n xs) (subst (AreSaid setting table) (sym (take-append-drop n xs)) p)
   where
-    by : (table : List DocumentItem) (front back : List ClientMessage) → AreSaid setting table (front ++ back) → AreSaid setting (table_after_all table front) back
+    by : (table : List DocumentItem) (front back : List ClientMessage) → AreSaid setting table (front ++ back)
+        → AreSaid setting (table_after_all table front) back
     by table [] back p = p
     by table (commands command ∷ front) back p = by (table_after table command) front back p.1
     by table (lifecycle m ∷ front) back p = by table front back p.1
 
-pub said_front : (setting : Setting) (table : List DocumentItem) (n : ℕ) (xs : List ClientMessage) → AreSaid setting table xs → AreSaid setting table (take n xs)
-said_front setting table n xs p = by table (take n xs) (drop n xs) (subst (AreSaid setting table) (sym (take-append-drop n xs)) p)
+pub said_front : (setting : Setting) (table : List DocumentItem) (n : ℕ) (xs : List ClientMessage)
+    → AreSaid setting table xs → AreSaid setting table (take n xs)
+said_front setting table n xs p =
+    by table (take n xs) (drop n xs) (subst (AreSaid setting table) (sym (take-append-drop n xs)) p)
   where
-    by : (table : List DocumentItem) (front back : List ClientMessage) → AreSaid setting table (front ++ back) → AreSaid setting table front
+    by : (table : List DocumentItem) (front back : List ClientMessage) → AreSaid setting table (front ++ back)
+        → AreSaid setting table front
     by table [] back p = tt
     by table (commands command ∷ front) back p = (p.0, by (table_after table command) front back p.1)
     by table (lifecycle m ∷ front) back p = (p.0, by table front back p.1)
@@ -71,20 +81,24 @@ has_texts encoding (changes uri version other batch) p = p.0.texts
 has_texts encoding (closes uri) p = tt
 
 -- the documents after what was said are texts within the limit
-said_kept : (setting : Setting) (table : List DocumentItem) (xs : List ClientMessage) → AllWithin setting.limits table → length table ≤ setting.limits.max_docs → AreSaid setting table xs
+said_kept : (setting : Setting) (table : List DocumentItem) (xs : List ClientMessage) → AllWithin setting.limits table
+    → length table ≤ setting.limits.max_docs → AreSaid setting table xs
     → AllWithin setting.limits (table_after_all table xs)
 said_kept setting table [] kept many p = kept
 said_kept setting table (commands command ∷ xs) kept many p =
-    let next = within_law setting.limits table command kept many (has_texts (the_encoding setting) command p.0.proper) (may_command setting.limits (the_kind setting) table command p.0.may) in
+    let next = within_law setting.limits table command kept many (has_texts (the_encoding setting) command p.0.proper)
+    (may_command setting.limits (the_kind setting) table command p.0.may) in
     said_kept setting (table_after table command) xs next.0 next.1 p.1
 said_kept setting table (lifecycle m ∷ xs) kept many p = said_kept setting table xs kept many p.1
 
-pub said_within : (setting : Setting) (xs : List ClientMessage) → AreSaid setting [] xs → AllWithin setting.limits (table_after_all [] xs)
+pub said_within : (setting : Setting) (xs : List ClientMessage) → AreSaid setting [] xs
+    → AllWithin setting.limits (table_after_all [] xs)
 said_within setting xs p = said_kept setting [] xs tt (omega arith) p
 
 -- ---- the phases of both ends
 
--- Nothing was said; `initialize` waits; its result waits; documents are sent; `shutdown` waits after them; its result waits; it came;
+-- Nothing was said; `initialize` waits; its result waits; documents are sent; `shutdown` waits after them; its result
+-- waits; it came;
 -- `exit` waits; it came.
 pub data Shape : Type 0 where
   fresh asking answered down closed leaving left : Shape

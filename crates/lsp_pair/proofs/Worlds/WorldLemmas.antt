@@ -53,13 +53,17 @@ module _ (setting : Setting) (sound : IsFitting setting) (w : World) (ok : World
   here_returns = subst (Returning setting w) (sym ok.at.here) (returning setting sound w ok.shape ok.at)
 
   -- the turn where a message waits
-  pub served_turn : (said : ClientMessage) (rest : List ClientMessage) (e : waiting_out w ≡ said ∷ rest) (a : Arrives setting w said rest) → turn setting w to_server ≡ turn_of_step w a.step_is
-  served_turn said rest e a = ap (to_server_event setting w) (next_is w.out w.out_delivered said rest e).there ∙ ap (turn_of_step w) a.given
+  pub served_turn : (said : ClientMessage) (rest : List ClientMessage) (e : waiting_out w ≡ said ∷ rest)
+      (a : Arrives setting w said rest) → turn setting w to_server ≡ turn_of_step w a.step_is
+  served_turn said rest e a = ap (to_server_event setting w) (next_is w.out w.out_delivered said rest e).there
+      ∙ ap (turn_of_step w) a.given
 
-  pub heard_turn : (m : OutgoingData) (rest : List OutgoingData) (e : waiting_back w ≡ m ∷ rest) (r : Returns setting w m rest) → turn setting w to_client ≡ turn_of_delivery w r.delivery_is
+  pub heard_turn : (m : OutgoingData) (rest : List OutgoingData) (e : waiting_back w ≡ m ∷ rest)
+      (r : Returns setting w m rest) → turn setting w to_client ≡ turn_of_delivery w r.delivery_is
   heard_turn m rest e r =
       ap (to_client_event setting w) (next_is w.back w.back_delivered m rest e).there
-      ∙ (ap (λ (b : Bool). turn_of_result w (client.if_listening b (client_of setting w) (message (sent m)))) r.listening
+      ∙ (ap (λ (b : Bool). turn_of_result w (client.if_listening b (client_of setting w) (message (sent m))))
+      r.listening
       ∙ ap (turn_of_delivery w) r.given)
 
   pub quiet_there : waiting_out w ≡ [] → turn setting w to_server ≡ record { happened = Nothing; world = w }
@@ -68,79 +72,99 @@ module _ (setting : Setting) (sound : IsFitting setting) (w : World) (ok : World
   pub quiet_here : waiting_back w ≡ [] → turn setting w to_client ≡ record { happened = Nothing; world = w }
   quiet_here e = ap (to_client_event setting w) (none_next w.back w.back_delivered e)
 
-  server_turn : (q : List ClientMessage) → waiting_out w ≡ q → Arrivals setting w q → IsGoodTurn setting w to_server (turn setting w to_server)
+  server_turn : (q : List ClientMessage) → waiting_out w ≡ q → Arrivals setting w q
+      → IsGoodTurn setting w to_server (turn setting w to_server)
   server_turn [] e a =
       subst (IsGoodTurn setting w to_server) (sym (quiet_there e)) (record {
-        usual = subst (λ (o : Option ClientMessage). MatchOption o (Nothing ≡ Nothing) (λ said. IsUsual said Nothing)) (sym (none_next w.out w.out_delivered e)) refl;
+        usual = subst (λ (o : Option ClientMessage). MatchOption o (Nothing ≡ Nothing) (λ said. IsUsual said Nothing))
+            (sym (none_next w.out w.out_delivered e)) refl;
         next = ok;
       })
   server_turn (said ∷ rest) e a =
       subst (IsGoodTurn setting w to_server) (sym (served_turn said rest e a)) (record {
         usual =
-            subst (λ (o : Option ClientMessage). MatchOption o (Server (did_of a.step_is.answer) ≡ Nothing) (λ said. IsUsual said (Server (did_of a.step_is.answer))))
+            subst (λ (o : Option ClientMessage). MatchOption o (Server (did_of a.step_is.answer) ≡ Nothing)
+            (λ said. IsUsual said (Server (did_of a.step_is.answer))))
             (sym (next_is w.out w.out_delivered said rest e).there) a.usual;
         next = a.next;
       })
 
-  client_turn : (q : List OutgoingData) → waiting_back w ≡ q → Returning setting w q → IsGoodTurn setting w to_client (turn setting w to_client)
+  client_turn : (q : List OutgoingData) → waiting_back w ≡ q → Returning setting w q
+      → IsGoodTurn setting w to_client (turn setting w to_client)
   client_turn [] e r =
       subst (IsGoodTurn setting w to_client) (sym (quiet_here e)) (record {
-        usual = subst (λ (o : Option OutgoingData). MatchOption o (Nothing ≡ Nothing) (λ m. IsUsualBack m Nothing)) (sym (none_next w.back w.back_delivered e)) refl;
+        usual = subst (λ (o : Option OutgoingData). MatchOption o (Nothing ≡ Nothing) (λ m. IsUsualBack m Nothing))
+            (sym (none_next w.back w.back_delivered e)) refl;
         next = ok;
       })
   client_turn (m ∷ rest) e r =
       subst (IsGoodTurn setting w to_client) (sym (heard_turn m rest e r)) (record {
         usual =
-            subst (λ (o : Option OutgoingData). MatchOption o (Client (heard_of r.delivery_is.delivered) ≡ Nothing) (λ m. IsUsualBack m (Client (heard_of r.delivery_is.delivered))))
+            subst (λ (o : Option OutgoingData). MatchOption o (Client (heard_of r.delivery_is.delivered) ≡ Nothing)
+            (λ m. IsUsualBack m (Client (heard_of r.delivery_is.delivered))))
             (sym (next_is w.back w.back_delivered m rest e).there) r.usual;
         next = r.next;
       })
 
-  call_turn : (call : Call) (result : Result client.Sending ClientFault) → CallResult setting w (message_of_call (client_of setting w) call) result
-      → WorldSound setting (turn_of_call w (message_of_call (client_of setting w) call (message_in result)) result).world
+  call_turn : (call : Call) (result : Result client.Sending ClientFault)
+      → CallResult setting w (message_of_call (client_of setting w) call) result
+      → WorldSound setting (turn_of_call w (message_of_call (client_of setting w) call (message_in result))
+      result).world
   call_turn call (Ok sending) is = is.next
   call_turn call (Err refusal) is = ok
 
   pub good_turn : (event : EventData) → IsProperEvent event → IsGoodTurn setting w event (turn setting w event)
   good_turn (calls call) proper =
-      record { usual = tt; next = call_turn call (call_result (client_of setting w) call) (called_sound setting w ok.shape ok.at call proper) }
+      record {
+        usual = tt;
+        next = call_turn call (call_result (client_of setting w) call)
+            (called_sound setting w ok.shape ok.at call proper);
+      }
   good_turn to_server proper = server_turn (waiting_out w) refl there_arrives
   good_turn to_client proper = client_turn (waiting_back w) refl here_returns
 
 -- ---- whole lists
 
-pub from_sound : (setting : Setting) → IsFitting setting → (w : World) → WorldSound setting w → (events : List EventData) → AreProperEvents events → WorldSound setting (world_from setting w events)
+pub from_sound : (setting : Setting) → IsFitting setting → (w : World) → WorldSound setting w
+    → (events : List EventData) → AreProperEvents events → WorldSound setting (world_from setting w events)
 from_sound setting sound w ok [] proper = ok
 from_sound setting sound w ok (event ∷ events) proper =
-    from_sound setting sound (turn setting w event).world (good_turn setting sound w ok event proper.0).next events proper.1
+    from_sound setting sound (turn setting w event).world (good_turn setting sound w ok event proper.0).next events
+    proper.1
 
-pub world_sound : (setting : Setting) → IsFitting setting → (events : List EventData) → AreProperEvents events → WorldSound setting (world_of setting events)
+pub world_sound : (setting : Setting) → IsFitting setting → (events : List EventData) → AreProperEvents events
+    → WorldSound setting (world_of setting events)
 world_sound setting sound events proper = from_sound setting sound beginning (beginning_sound setting) events proper
 
-pub world-last : (setting : Setting) (w : World) (events : List EventData) (event : EventData) → world_from setting w (events ++ event ∷ []) ≡ (turn setting (world_from setting w events) event).world
+pub world-last : (setting : Setting) (w : World) (events : List EventData) (event : EventData)
+    → world_from setting w (events ++ event ∷ []) ≡ (turn setting (world_from setting w events) event).world
 world-last setting w [] event = refl
 world-last setting w (first ∷ events) event = world-last setting (turn setting w first).world events event
 
-pub proper_last : (events : List EventData) (event : EventData) → AreProperEvents events → IsProperEvent event → AreProperEvents (events ++ event ∷ [])
+pub proper_last : (events : List EventData) (event : EventData) → AreProperEvents events → IsProperEvent event
+    → AreProperEvents (events ++ event ∷ [])
 proper_last [] event p q = (q, tt)
 proper_last (first ∷ events) event p q = (p.0, proper_last events event p.1 q)
 
 -- ---- what both ends agree on
 
-pub agree_at : (setting : Setting) (w : World) (shape : Shape) → AtShape setting w shape → HaveOneEncoding setting (pair_of setting w)
+pub agree_at : (setting : Setting) (w : World) (shape : Shape) → AtShape setting w shape
+    → HaveOneEncoding setting (pair_of setting w)
 agree_at setting w shape at =
     record {
       client = λ h. at.agreed_is ∙ client_agrees shape (subst (λ p. has_agreed p ≡ true) at.client_is h);
       server = λ h. at.encoding_is ∙ server_agrees shape (subst (λ p. has_agreed p ≡ true) at.client_is h);
     }
   where
-    client_agrees : (shape : Shape) → has_agreed (client_at shape) ≡ true → agreed_at setting shape ≡ Some (agreed_of setting)
+    client_agrees : (shape : Shape) → has_agreed (client_at shape) ≡ true → agreed_at setting shape
+        ≡ Some (agreed_of setting)
     client_agrees fresh h = absurd (let bad : false ≡ true = h in cc)
     client_agrees asking h = absurd (let bad : false ≡ true = h in cc)
     client_agrees answered h = absurd (let bad : false ≡ true = h in cc)
     client_agrees shape h = refl
 
-    server_agrees : (shape : Shape) → has_agreed (client_at shape) ≡ true → encoding_at setting shape ≡ Some (agreed_of setting).encoding
+    server_agrees : (shape : Shape) → has_agreed (client_at shape) ≡ true → encoding_at setting shape
+        ≡ Some (agreed_of setting).encoding
     server_agrees fresh h = absurd (let bad : false ≡ true = h in cc)
     server_agrees asking h = absurd (let bad : false ≡ true = h in cc)
     server_agrees answered h = absurd (let bad : false ≡ true = h in cc)

@@ -11,7 +11,8 @@ use Rattle.lsp_pair.specs.Events.{EventData, calls, to_server, to_client}
 use Rattle.lsp_pair.specs.Pair.{PairData}
 
 -- The pair of two ends and two queues.
-abbrev pub both_ends : client.ClientData → server.ServerData → List (List ℕ) → List (List ℕ) → PairData
+abbrev pub both_ends : client.ClientData → server.ServerData → List (List ℕ) → List (List ℕ)
+    → PairData
 both_ends c s there back = record { client = c; server = s; to_server = there; to_client = back }
 
 -- ---- the call of an event

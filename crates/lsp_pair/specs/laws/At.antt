@@ -42,7 +42,8 @@ pair_of setting w =
       client = client_of setting w;
       server = server_of setting w;
       to_server =
-          frames_from (announced_kind setting.config.sync) (server_of setting w).table (waiting_out w);
+          frames_from (announced_kind setting.config.sync) (server_of setting w).table
+          (waiting_out w);
       to_client = map message_frame (waiting_back w);
     }
 

@@ -1,4 +1,5 @@
--- The canonical message of what some batch means on an open document: it is read as a change, which is accepted there, leaves what the batch
+-- The canonical message of what some batch means on an open document: it is read as a change, which is accepted there,
+-- leaves what the batch
 -- leaves, and is its own canonical message.
 use Rattle.std.proofs.Common.{◌≡◌, ℕ, ℤ, ◌≤◌, false, nat_lt, List, map, length, IsUtf8, Some, None, Ok, refl, ap, ◌∙◌, subst, arith, w32, FitsSigned}
 use Rattle.std.specs.Str.{chars}
@@ -32,7 +33,8 @@ use Rattle.lsp_replay.proofs.Records.PutLemmas.{put, change_puts}
 use Rattle.lsp_replay.proofs.Canonical.SettledLemmas.{asks_back}
 
 -- what a document's URI, version and text must be
-pub record IsProperAt (t : ServerData) (uri : List ℕ) (version : ℤ) (entry : DocumentItem) (batch : List Edit) (items : List Item) : Type 0 where
+pub record IsProperAt (t : ServerData) (uri : List ℕ) (version : ℤ) (entry : DocumentItem) (batch : List Edit)
+    (items : List Item) : Type 0 where
   pub found : entry_at t.table uri ≡ Some entry
   pub utf8 : IsUtf8 entry.text
   pub received : length entry.text ≤ t.config.limits.max_text
@@ -42,46 +44,68 @@ pub record IsProperAt (t : ServerData) (uri : List ℕ) (version : ℤ) (entry :
   pub texts : AreTexts batch
   pub newer : is_stale t.config.limits version entry.version ≡ false
   pub short : length (bytes_left entry.text items) ≤ t.config.limits.max_text
-  pub few : nat_lt t.config.limits.max_changes (length (canonical (units_in (session_encoding t)) (chars entry.text) items)) ≡ false
+  pub few : nat_lt t.config.limits.max_changes
+      (length (canonical (units_in (session_encoding t)) (chars entry.text) items)) ≡ false
 
 -- the batch, and the change that asks for it
 abbrev pub canonical_at : ServerData → DocumentItem → List Item → List Edit
 canonical_at t entry items = canonical (units_in (session_encoding t)) (chars entry.text) items
 
 abbrev pub canonical_change : ServerData → List ℕ → ℤ → DocumentItem → List Item → ChangeData
-canonical_change t uri version entry items = record { uri = uri; version = version; changes = map written_edit (canonical_at t entry items) }
+canonical_change t uri version entry items = record {
+  uri = uri;
+  version = version;
+  changes = map written_edit (canonical_at t entry items);
+}
 
-pub record IsCanonicalChange (t : ServerData) (uri : List ℕ) (version : ℤ) (entry : DocumentItem) (items : List Item) : Type 0 where
-  pub asks : incoming_of (reading (change_body uri version (canonical_at t entry items))) ≡ did_change (Some (canonical_change t uri version entry items))
+pub record IsCanonicalChange (t : ServerData) (uri : List ℕ) (version : ℤ) (entry : DocumentItem)
+    (items : List Item) : Type 0 where
+  pub asks : incoming_of (reading (change_body uri version (canonical_at t entry items)))
+      ≡ did_change (Some (canonical_change t uri version entry items))
   pub may : refusal_of t (canonical_change t uri version entry items) ≡ None
-  pub leaves : server_after t (canonical_change t uri version entry items) ≡ record t { table = put t.table uri version (bytes_left entry.text items) }
-  pub own : canonical_change_body t (canonical_change t uri version entry items) ≡ change_body uri version (canonical_at t entry items)
-  pub joins : (squash : SquashData) → squash.encoding ≡ session_encoding t → text_of (chars squash.text) squash.items ≡ chars entry.text
-      → joined_by (canonical_change t uri version entry items) squash ≡ record squash { items = then_items squash.items items; version = version }
+  pub leaves : server_after t (canonical_change t uri version entry items) ≡ record t {
+    table = put t.table uri version (bytes_left entry.text items);
+  }
+  pub own : canonical_change_body t (canonical_change t uri version entry items)
+      ≡ change_body uri version (canonical_at t entry items)
+  pub joins : (squash : SquashData) → squash.encoding ≡ session_encoding t → text_of (chars squash.text) squash.items
+      ≡ chars entry.text
+      → joined_by (canonical_change t uri version entry items) squash ≡ record squash {
+        items = then_items squash.items items;
+        version = version;
+      }
 
-module _ (t : ServerData) (uri : List ℕ) (version : ℤ) (entry : DocumentItem) (batch : List Edit) (items : List Item) (ranges : AreInRange t.config.limits) (at : IsProperAt t uri version entry batch items) where
+module _ (t : ServerData) (uri : List ℕ) (version : ℤ) (entry : DocumentItem) (batch : List Edit) (items : List Item)
+    (ranges : AreInRange t.config.limits) (at : IsProperAt t uri version entry batch items) where
   units : ℕ → ℕ
   units = units_in (session_encoding t)
 
-  laws : (some : List Edit) (others : List Item) → meaning (units_in (session_encoding t)) (chars entry.text) some ≡ Ok others → IsCanonical (units_in (session_encoding t)) (chars entry.text) some others
-  laws some others means = canonical_law (units_in (session_encoding t)) (units_some (session_encoding t)) (chars entry.text) some others means
+  laws : (some : List Edit) (others : List Item) → meaning (units_in (session_encoding t)) (chars entry.text) some
+      ≡ Ok others → IsCanonical (units_in (session_encoding t)) (chars entry.text) some others
+  laws some others means = canonical_law (units_in (session_encoding t)) (units_some (session_encoding t))
+      (chars entry.text) some others means
 
   law : IsCanonical (units_in (session_encoding t)) (chars entry.text) batch items
   law = laws batch items at.means
 
-  accepted : entry_refusal t.config.limits (units_in (session_encoding t)) entry version (canonical_at t entry items) ≡ None
-  accepted = squash_accepted t.config.limits (session_encoding t) entry version batch items at.means at.newer at.short (omega (arith, ranges.greatest_text)) at.few
+  accepted : entry_refusal t.config.limits (units_in (session_encoding t)) entry version (canonical_at t entry items)
+      ≡ None
+  accepted = squash_accepted t.config.limits (session_encoding t) entry version batch items at.means at.newer at.short
+      (omega (arith, ranges.greatest_text)) at.few
 
   all_texts : AreTexts (canonical_at t entry items)
-  all_texts = canonical_texts (units_in (session_encoding t)) (chars entry.text) batch items law (scalars-chars entry.text at.utf8) at.texts at.means
+  all_texts = canonical_texts (units_in (session_encoding t)) (chars entry.text) batch items law
+      (scalars-chars entry.text at.utf8) at.texts at.means
 
-  same_batch : canonical_batch (units_in (session_encoding t)) t.table uri (canonical_at t entry items) ≡ canonical_at t entry items
+  same_batch : canonical_batch (units_in (session_encoding t)) t.table uri (canonical_at t entry items)
+      ≡ canonical_at t entry items
   same_batch = rw (at.found, law.means) refl
 
   read : IsReadAgain uri version (canonical_at t entry items)
   read =
       subst (IsReadAgain uri version) same_batch
-      (is_read t.config.limits (session_encoding t) t.table uri version entry at.found laws at.uri_utf8 at.version_fits at.utf8 (omega (arith, at.received, ranges.greatest_text)) body_of-unique
+      (is_read t.config.limits (session_encoding t) t.table uri version entry at.found laws at.uri_utf8 at.version_fits
+      at.utf8 (omega (arith, at.received, ranges.greatest_text)) body_of-unique
       (canonical_at t entry items) all_texts accepted reading-body_of is_read_back)
 
   back : map edit_from_data (map written_edit (canonical_at t entry items)) ≡ canonical_at t entry items
@@ -90,23 +114,52 @@ module _ (t : ServerData) (uri : List ℕ) (version : ℤ) (entry : DocumentItem
   may_on : refusal_of t (canonical_change t uri version entry items) ≡ None
   may_on = rw (at.found, back) accepted
 
-  leaves_on : server_after t (canonical_change t uri version entry items) ≡ record t { table = put t.table uri version (bytes_left entry.text items) }
+  leaves_on : server_after t (canonical_change t uri version entry items) ≡ record t {
+    table = put t.table uri version (bytes_left entry.text items);
+  }
   leaves_on =
       ap (λ (table : List DocumentItem). record t { table = table })
-      (change_puts (units_in (session_encoding t)) t.table uri version (map edit_from_data (map written_edit (canonical_at t entry items))) entry at.found
-      ∙ ap (λ (b : List Edit). put t.table uri version (meant_text entry.text (meaning (units_in (session_encoding t)) (chars entry.text) b))) back
+      (change_puts (units_in (session_encoding t)) t.table uri version
+      (map edit_from_data (map written_edit (canonical_at t entry items))) entry at.found
+      ∙ ap (λ (b : List Edit). put t.table uri version
+      (meant_text entry.text (meaning (units_in (session_encoding t)) (chars entry.text) b))) back
       ∙ ap (λ m. put t.table uri version (meant_text entry.text m)) law.means)
 
-  own_on : canonical_change_body t (canonical_change t uri version entry items) ≡ change_body uri version (canonical_at t entry items)
-  own_on = ap (canonical_body (units_in (session_encoding t)) t.table uri version) back ∙ ap (change_body uri version) same_batch
+  own_on : canonical_change_body t (canonical_change t uri version entry items)
+      ≡ change_body uri version (canonical_at t entry items)
+  own_on = ap (canonical_body (units_in (session_encoding t)) t.table uri version) back ∙ ap (change_body uri version)
+      same_batch
 
-  joins_on : (squash : SquashData) → squash.encoding ≡ session_encoding t → text_of (chars squash.text) squash.items ≡ chars entry.text
-      → joined_by (canonical_change t uri version entry items) squash ≡ record squash { items = then_items squash.items items; version = version }
+  joins_on : (squash : SquashData) → squash.encoding ≡ session_encoding t → text_of (chars squash.text) squash.items
+      ≡ chars entry.text
+      → joined_by (canonical_change t uri version entry items) squash ≡ record squash {
+        items = then_items squash.items items;
+        version = version;
+      }
   joins_on squash encoding text =
-      ap (λ (b : List Edit). record squash { items = then_items squash.items (items_meant (meaning (units_in squash.encoding) (text_of (chars squash.text) squash.items) b)); version = version }) back
-      ∙ ap (λ (e : Encoding). record squash { items = then_items squash.items (items_meant (meaning (units_in e) (text_of (chars squash.text) squash.items) (canonical_at t entry items))); version = version }) encoding
-      ∙ ap (λ (x : List ℕ). record squash { items = then_items squash.items (items_meant (meaning (units_in (session_encoding t)) x (canonical_at t entry items))); version = version }) text
+      ap (λ (b : List Edit). record squash {
+        items = then_items squash.items
+            (items_meant (meaning (units_in squash.encoding) (text_of (chars squash.text) squash.items) b));
+        version = version;
+      }) back
+      ∙ ap (λ (e : Encoding). record squash {
+        items = then_items squash.items
+            (items_meant (meaning (units_in e) (text_of (chars squash.text) squash.items)
+            (canonical_at t entry items)));
+        version = version;
+      }) encoding
+      ∙ ap (λ (x : List ℕ). record squash {
+        items = then_items squash.items
+            (items_meant (meaning (units_in (session_encoding t)) x (canonical_at t entry items)));
+        version = version;
+      }) text
       ∙ ap (λ m. record squash { items = then_items squash.items (items_meant m); version = version }) law.means
 
   pub is_canonical_change : IsCanonicalChange t uri version entry items
-  is_canonical_change = record { asks = asks_back uri version (canonical_at t entry items) read; may = may_on; leaves = leaves_on; own = own_on; joins = joins_on }
+  is_canonical_change = record {
+    asks = asks_back uri version (canonical_at t entry items) read;
+    may = may_on;
+    leaves = leaves_on;
+    own = own_on;
+    joins = joins_on;
+  }

@@ -33,49 +33,61 @@ use Rattle.lsp_frame.specs.Frame.{frame}
 use Rattle.lsp_stream.specs.declared.fault.EngineFault.TheVariants as fault
 
 -- a record that isn't answered has no canonical message
-none_unless_answered : (server : ServerData) (change : Option ChangeData) (verdict : Verdict) → (verdict ≡ recorded) ⊎ (verdict ≡ bad)
+none_unless_answered : (server : ServerData) (change : Option ChangeData) (verdict : Verdict) → (verdict ≡ recorded)
+    ⊎ (verdict ≡ bad)
     → canonical_if server change verdict ≡ None
 none_unless_answered server None verdict way = refl
 none_unless_answered server (Some p) verdict (inl e) = rw e refl
 none_unless_answered server (Some p) verdict (inr e) = rw e refl
 
-settled_in : (s : Session) (encoding : Option Encoding) → ((settle_in s encoding).verdict ≡ recorded) ⊎ ((settle_in s encoding).verdict ≡ bad)
+settled_in : (s : Session) (encoding : Option Encoding) → ((settle_in s encoding).verdict ≡ recorded)
+    ⊎ ((settle_in s encoding).verdict ≡ bad)
 settled_in s None = inr refl
 settled_in s (Some encoding) = inl refl
 
-settled_by : (s : Session) (announced : Option Announced) → ((settle_by s announced).verdict ≡ recorded) ⊎ ((settle_by s announced).verdict ≡ bad)
+settled_by : (s : Session) (announced : Option Announced) → ((settle_by s announced).verdict ≡ recorded)
+    ⊎ ((settle_by s announced).verdict ≡ bad)
 settled_by s None = inr refl
 settled_by s (Some announced) = settled_in s announced.encoding
 
-was_heard : (s : Session) (result : Option Data) → ((heard s result).verdict ≡ recorded) ⊎ ((heard s result).verdict ≡ bad)
+was_heard : (s : Session) (result : Option Data) → ((heard s result).verdict ≡ recorded)
+    ⊎ ((heard s result).verdict ≡ bad)
 was_heard s None = inl refl
 was_heard s (Some result) = settled_by s (announced_of result)
 
-pub heard_for : (s : Session) (expected : Option IdData) (body : List ℕ) → ((hear_for s expected body).verdict ≡ recorded) ⊎ ((hear_for s expected body).verdict ≡ bad)
+pub heard_for : (s : Session) (expected : Option IdData) (body : List ℕ)
+    → ((hear_for s expected body).verdict ≡ recorded) ⊎ ((hear_for s expected body).verdict ≡ bad)
 heard_for s None body = inl refl
 heard_for s (Some id) body = was_heard s (result_for id (reading body))
 
 -- A server's record has no canonical message.
-pub heard_has_none : (server : ServerData) (change : Option ChangeData) (s : Session) (expected : Option IdData) (body : List ℕ)
+pub heard_has_none : (server : ServerData) (change : Option ChangeData) (s : Session) (expected : Option IdData)
+    (body : List ℕ)
     → canonical_if server change (hear_for s expected body).verdict ≡ None
-heard_has_none server change s expected body = none_unless_answered server change (hear_for s expected body).verdict (heard_for s expected body)
+heard_has_none server change s expected body = none_unless_answered server change (hear_for s expected body).verdict
+    (heard_for s expected body)
 
 -- ---- a change that is answered by `changed` was not refused
 
-obeyed_changed : (s : ServerData) (refusal : Option Refusal) (next : List DocumentItem) → as_sent (obeyed s (unless_refused refusal next)).answer ≡ changed → refusal ≡ None
+obeyed_changed : (s : ServerData) (refusal : Option Refusal) (next : List DocumentItem)
+    → as_sent (obeyed s (unless_refused refusal next)).answer ≡ changed → refusal ≡ None
 obeyed_changed s None next e = refl
 obeyed_changed s (Some refusal) next e = cc
 
-step_changed : (phase : Phase) (s : ServerData) (p : ChangeData) → as_sent (step_in phase s (did_change (Some p))).answer ≡ changed
-    → change_refusal s.config.limits (units_in (session_encoding s)) s.table p.uri p.version (map edit_from_data p.changes) ≡ None
+step_changed : (phase : Phase) (s : ServerData) (p : ChangeData)
+    → as_sent (step_in phase s (did_change (Some p))).answer ≡ changed
+    → change_refusal s.config.limits (units_in (session_encoding s)) s.table p.uri p.version
+    (map edit_from_data p.changes) ≡ None
 step_changed Running s p e =
-    obeyed_changed s (command_refusal s.config.limits s.table (change_command s p)) (table_after s.table (change_command s p)) e
+    obeyed_changed s (command_refusal s.config.limits s.table (change_command s p))
+    (table_after s.table (change_command s p)) e
 step_changed New s p e = cc
 step_changed Down s p e = cc
 step_changed Ended s p e = cc
 
 unless_bad_is : (a b : Bool) (s : Session) (j : Judged) (answer : AnswerData Sent)
-    → (if a then judged bad s else if b then judged bad s else j).verdict ≡ answered answer → j.verdict ≡ answered answer
+    → (if a then judged bad s else if b then judged bad s else j).verdict ≡ answered answer → j.verdict
+    ≡ answered answer
 unless_bad_is true b s j answer e = cc
 unless_bad_is false true s j answer e = cc
 unless_bad_is false false s j answer e = e
@@ -83,8 +95,10 @@ unless_bad_is false false s j answer e = e
 same_answer : (a b : AnswerData Sent) → answered a ≡ answered b → a ≡ b
 same_answer a b e = cc
 
-pub accepted : (s : Session) (version : Version) (p : ChangeData) → (judge_incoming s version (did_change (Some p))).verdict ≡ answered changed
-    → change_refusal s.server.config.limits (units_in (session_encoding s.server)) s.server.table p.uri p.version (map edit_from_data p.changes) ≡ None
+pub accepted : (s : Session) (version : Version) (p : ChangeData)
+    → (judge_incoming s version (did_change (Some p))).verdict ≡ answered changed
+    → change_refusal s.server.config.limits (units_in (session_encoding s.server)) s.server.table p.uri p.version
+    (map edit_from_data p.changes) ≡ None
 accepted s version p e = step_changed s.server.phase s.server p (same_answer _ _ (unless_bad_is _ _ s _ changed e))
 
 -- The changes as they were read are those that the store is given.
@@ -94,21 +108,26 @@ edits_of (change ∷ changes) = ap (λ edits. given.edit_of change ∷ edits) (e
 
 -- ---- what is written, where a message is told
 
-pub appended_none : (max_body : ℕ) (r : Record) (front : List ℕ) (canonical_log : Option (List ℕ)) (old new : List ℕ) → IsAppended max_body canonical_log None old new
+pub appended_none : (max_body : ℕ) (r : Record) (front : List ℕ) (canonical_log : Option (List ℕ)) (old new : List ℕ)
+    → IsAppended max_body canonical_log None old new
     → written max_body r front canonical_log ≡ writes (front ++ r.raw)
 appended_none max_body r front None old new error = refl
 appended_none max_body r front (Some body) old new error = absurd error
 
-pub appended_framed : (max_body : ℕ) (r : Record) (line mark : List ℕ) (canonical_log : Option (List ℕ)) (old new bytes : List ℕ) (room : ℕ)
-    → length old ≡ room → IsAppended max_body canonical_log (Some Body) old new → bytes ≡ line ++ (mark ++ frame (drop room new))
+pub appended_framed : (max_body : ℕ) (r : Record) (line mark : List ℕ) (canonical_log : Option (List ℕ))
+    (old new bytes : List ℕ) (room : ℕ)
+    → length old ≡ room → IsAppended max_body canonical_log (Some Body) old new
+    → bytes ≡ line ++ (mark ++ frame (drop room new))
     → written max_body r (line ++ mark) canonical_log ≡ writes bytes
 appended_framed max_body r line mark None old new bytes room len error is = cc
 appended_framed max_body r line mark (Some body) old new bytes room len error is =
     let rest_after : drop room new ≡ body = ap (drop room) error.0 ∙ drop_at old body room len in
-    let whole : bytes ≡ (line ++ mark) ++ frame body = is ∙ ap (λ rest. line ++ (mark ++ frame rest)) rest_after ∙ sym (append_assoc line mark (frame body)) in
+    let whole : bytes ≡ (line ++ mark) ++ frame body = is ∙ ap (λ rest. line ++ (mark ++ frame rest)) rest_after
+    ∙ sym (append_assoc line mark (frame body)) in
     rw (le-ltb max_body (length body) error.1, whole) refl
 
-pub appended_too_long : (max_body : ℕ) (r : Record) (front : List ℕ) (canonical_log : Option (List ℕ)) (old new : List ℕ) → IsAppended max_body canonical_log (Some TooLong) old new
+pub appended_too_long : (max_body : ℕ) (r : Record) (front : List ℕ) (canonical_log : Option (List ℕ))
+    (old new : List ℕ) → IsAppended max_body canonical_log (Some TooLong) old new
     → written max_body r front canonical_log ≡ ends [] (Err (fault.BodyTooLong r.head.place))
 appended_too_long max_body r front None old new error = cc
 appended_too_long max_body r front (Some body) old new error = rw (lt-ltb max_body (length body) error) refl
@@ -119,18 +138,24 @@ over_none : (over : Bool) (len : ℕ) → (if over then Some (body_too_long len)
 over_none true len e = cc
 over_none false len e = refl
 
-over_some : (over : Bool) (len : ℕ) (fault : StoreFault) → option_map fault_of (if over then Some (body_too_long len) else None) ≡ Some fault
+over_some : (over : Bool) (len : ℕ) (fault : StoreFault)
+    → option_map fault_of (if over then Some (body_too_long len) else None) ≡ Some fault
     → (over ≡ true) × (fault ≡ BodyTooLong len)
 over_some true len fault e = (refl, cc)
 over_some false len fault e = cc
 
-pub within : (limits : LimitsData) (refusal : Option Refusal) (body : List ℕ) → refusal ≡ None → else_refused refusal (body_refusal limits body) ≡ None → length body ≤ limits.max_body
-within limits None body none e = ltb-false limits.max_body (length body) (over_none (nat_lt limits.max_body (length body)) (length body) e)
+pub within : (limits : LimitsData) (refusal : Option Refusal) (body : List ℕ) → refusal ≡ None
+    → else_refused refusal (body_refusal limits body) ≡ None → length body ≤ limits.max_body
+within limits None body none e =
+    ltb-false limits.max_body (length body) (over_none (nat_lt limits.max_body (length body)) (length body) e)
 within limits (Some refusal) body none e = cc
 
-pub over : (limits : LimitsData) (refusal : Option Refusal) (body : List ℕ) (fault : StoreFault) → refusal ≡ None → fault ≢ NoMemory
-    → IsRefusal (else_refused refusal (body_refusal limits body)) fault → (limits.max_body < length body) × (fault ≡ BodyTooLong (length body))
+pub over : (limits : LimitsData) (refusal : Option Refusal) (body : List ℕ) (fault : StoreFault) → refusal ≡ None
+    → fault ≢ NoMemory
+    → IsRefusal (else_refused refusal (body_refusal limits body)) fault → (limits.max_body < length body)
+    × (fault ≡ BodyTooLong (length body))
 over limits (Some refusal) body fault none other error = cc
 over limits None body fault none other (inl e) = absurd (other e)
 over limits None body fault none other (inr e) =
-    let both = over_some (nat_lt limits.max_body (length body)) (length body) fault e in (ltb-true limits.max_body (length body) both.0, both.1)
+    let both = over_some (nat_lt limits.max_body (length body)) (length body) fault e in
+    (ltb-true limits.max_body (length body) both.0, both.1)

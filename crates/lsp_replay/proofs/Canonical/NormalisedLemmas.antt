@@ -27,12 +27,14 @@ abbrev pub course_by : View → Session → Record → List Record → Judged �
 course_by view s r rs j g = continue_with g.out g.end (run_output_in view j.session rs)
 
 -- what is known of a record's judgement and of what it gives tells the course
-pub command_output : (view : View) (s : Session) (r : Record) (rs : List Record) (j : Judged) (out : List ℕ) → judge s r ≡ j → view.record_output s r j ≡ writes out
+pub command_output : (view : View) (s : Session) (r : Record) (rs : List Record) (j : Judged) (out : List ℕ) → judge s r
+    ≡ j → view.record_output s r j ≡ writes out
     → run_output_in view s (r ∷ rs) ≡ written_first out (run_output_in view j.session rs)
 command_output view s r rs j out is gives_it =
     ap (λ (k : Judged). course_by view s r rs k (view.record_output s r k)) is ∙ ap (course_by view s r rs j) gives_it
 
-pub went_on : (out : List ℕ) (end : Option (Result Outcome EngineFault)) (c : RunOutput) → (continue_with out end c).stop ≡ None → (end ≡ None) × (c.stop ≡ None)
+pub went_on : (out : List ℕ) (end : Option (Result Outcome EngineFault)) (c : RunOutput)
+    → (continue_with out end c).stop ≡ None → (end ≡ None) × (c.stop ≡ None)
 went_on out None c e = (refl, e)
 went_on out (Some answer) c e = absurd (let bad_one : Some answer ≡ None = e in cc)
 
@@ -70,9 +72,11 @@ pub record IsWrittenAs (limits : LimitsData) (at : ℕ) (s : Session) (r q : Rec
   pub told_again : replaying.record_output s q (judge s r) ≡ writes []
 
 module _ (limits : LimitsData) (ranges : AreInRange limits) where
-  module _ (at : ℕ) (s : Session) (r : Record) (received : IsHeldState limits s.server) (is_frame_of : IsFrameOf limits.max_body r.raw r.body)
+  module _ (at : ℕ) (s : Session) (r : Record) (received : IsHeldState limits s.server)
+      (is_frame_of : IsFrameOf limits.max_body r.raw r.body)
       (passing : Passes (judge s r).verdict) where
-    pub kept : canonical_of_record s r.body (judge s r).verdict ≡ None → IsWrittenAs limits at s r (canonical_record at r None)
+    pub kept : canonical_of_record s r.body (judge s r).verdict ≡ None
+        → IsWrittenAs limits at s r (canonical_record at r None)
     kept none = record {
       is_frame_of = is_frame_of;
       place = refl;
@@ -81,27 +85,34 @@ module _ (limits : LimitsData) (ranges : AreInRange limits) where
       due = refl;
       same = refl;
       first = passing r _ ∙ ap (written s.server.config.limits.max_body r (front_of r.head)) none;
-      again = passing (canonical_record at r None) _ ∙ ap (written s.server.config.limits.max_body (canonical_record at r None) (front_of r.head)) none;
+      again = passing (canonical_record at r None) _
+          ∙ ap (written s.server.config.limits.max_body (canonical_record at r None) (front_of r.head)) none;
       error = passing r _;
       told_again = passing (canonical_record at r None) _;
     }
 
-    fits : (body : List ℕ) → (written s.server.config.limits.max_body r (front_of r.head) (Some body)).end ≡ None → nat_lt s.server.config.limits.max_body (length body) ≡ false
+    fits : (body : List ℕ) → (written s.server.config.limits.max_body r (front_of r.head) (Some body)).end ≡ None
+        → nat_lt s.server.config.limits.max_body (length body) ≡ false
     fits body e = by (nat_lt s.server.config.limits.max_body (length body)) e
       where
-        by : (over : Bool) → (if over then ends [] (Err (BodyTooLong r.head.place)) else writes (front_of r.head ++ frame body)).end ≡ None → over ≡ false
+        by : (over : Bool)
+            → (if over then ends [] (Err (BodyTooLong r.head.place)) else writes (front_of r.head ++ frame body)).end
+            ≡ None → over ≡ false
         by true f = absurd (let bad_one : Some (Err (BodyTooLong r.head.place)) ≡ None = f in cc)
         by false f = refl
 
     framed : (q : Record) (body : List ℕ) → nat_lt s.server.config.limits.max_body (length body) ≡ false
-        → written s.server.config.limits.max_body q (front_of r.head) (Some body) ≡ writes (front_of r.head ++ frame body)
+        → written s.server.config.limits.max_body q (front_of r.head) (Some body)
+        ≡ writes (front_of r.head ++ frame body)
     framed q body short = rw short refl
 
-    changed : (body : List ℕ) → canonical_of_record s r.body (judge s r).verdict ≡ Some body → (canonical_output s r (judge s r)).end ≡ None → IsWrittenAs limits at s r (canonical_record at r (Some body))
+    changed : (body : List ℕ) → canonical_of_record s r.body (judge s r).verdict ≡ Some body
+        → (canonical_output s r (judge s r)).end ≡ None → IsWrittenAs limits at s r (canonical_record at r (Some body))
     changed body some e =
         let short : nat_lt s.server.config.limits.max_body (length body) ≡ false =
         fits body (ap (λ n. (written s.server.config.limits.max_body r (front_of r.head) n).end) (sym some) ∙ e) in
-        let small : length body ≤ limits.max_body = subst (λ (l : LimitsData). length body ≤ l.max_body) received.limit (ltb-false s.server.config.limits.max_body (length body) short) in
+        let small : length body ≤ limits.max_body = subst (λ (l : LimitsData). length body ≤ l.max_body) received.limit
+        (ltb-false s.server.config.limits.max_body (length body) short) in
         let twice = judged_again limits ranges s r.head r.body body received some small in
         record {
           is_frame_of = written_is_frame limits.max_body body small (omega (arith, small, ranges.greatest_body));
@@ -110,15 +121,19 @@ module _ (limits : LimitsData) (ranges : AreInRange limits) where
           same_version = refl;
           due = refl;
           same = twice.0;
-          first = passing r _ ∙ ap (written s.server.config.limits.max_body r (front_of r.head)) some ∙ framed r body short;
+          first = passing r _ ∙ ap (written s.server.config.limits.max_body r (front_of r.head)) some
+              ∙ framed r body short;
           again =
-              passing (canonical_record at r (Some body)) _ ∙ ap (written s.server.config.limits.max_body (canonical_record at r (Some body)) (front_of r.head)) twice.1
+              passing (canonical_record at r (Some body)) _
+              ∙ ap (written s.server.config.limits.max_body (canonical_record at r (Some body)) (front_of r.head))
+              twice.1
               ∙ framed (canonical_record at r (Some body)) body short;
           error = passing r _;
           told_again = passing (canonical_record at r (Some body)) _;
         }
 
-    pub written_as : (normalised : Option (List ℕ)) → canonical_of_record s r.body (judge s r).verdict ≡ normalised → (canonical_output s r (judge s r)).end ≡ None → IsWrittenAs limits at s r (canonical_record at r normalised)
+    pub written_as : (normalised : Option (List ℕ)) → canonical_of_record s r.body (judge s r).verdict ≡ normalised
+        → (canonical_output s r (judge s r)).end ≡ None → IsWrittenAs limits at s r (canonical_record at r normalised)
     written_as None none e = kept none
     written_as (Some body) some e = changed body some e
 
@@ -136,7 +151,8 @@ module _ (limits : LimitsData) (ranges : AreInRange limits) where
   four : (a b c d : List ℕ) → ((a ++ b) ++ c) ++ d ≡ a ++ ((b ++ c) ++ d)
   four a b c d = ap (λ z. z ++ d) (append_assoc a b c) ∙ append_assoc a (b ++ c) d
 
-  -- The records that are written of some, the first at a place: they are a log's, the same is told of them, and the same is written.
+  -- The records that are written of some, the first at a place: they are a log's, the same is told of them, and the
+  -- same is written.
   record AreWritten (at : ℕ) (version : Version) (due : Bool) (s : Session) (rs qs : List Record) : Type 0 where
     are : AreRecords limits.max_body version at due qs
     out : (run_output_in normalising s rs).out ≡ front_if due rs ++ together version qs []
@@ -146,15 +162,18 @@ module _ (limits : LimitsData) (ranges : AreInRange limits) where
     to_end : (run_output_in replaying s rs).stop ≡ None
     outcome : (run_output_in normalising s rs).outcome ≡ (run_output_in replaying s rs).outcome
 
-  module _ (at before : ℕ) (version : Version) (due : Bool) (s : Session) (r q : Record) (rs qs : List Record) (is : IsRecord limits.max_body version before due r)
-      (one : IsWrittenAs limits at s r q) (more : AreWritten (at + length (record_bytes version q)) version false (judge s r).session rs qs) where
+  module _ (at before : ℕ) (version : Version) (due : Bool) (s : Session) (r q : Record) (rs qs : List Record)
+      (is : IsRecord limits.max_body version before due r)
+      (one : IsWrittenAs limits at s r q) (more : AreWritten (at + length (record_bytes version q)) version false
+      (judge s r).session rs qs) where
     front_is : front_of r.head ≡ line_if due ++ mark_of version q.head.side
     front_is =
         ap (λ b. line_if b ++ mark_of r.head.version r.head.side) is.due
         ∙ ap (λ v. line_if due ++ mark_of v r.head.side) is.of_version
         ∙ ap (λ side. line_if due ++ mark_of version side) (sym one.side)
 
-    first : run_output_in normalising s (r ∷ rs) ≡ written_first (front_of r.head ++ q.raw) (run_output_in normalising (judge s r).session rs)
+    first : run_output_in normalising s (r ∷ rs) ≡ written_first (front_of r.head ++ q.raw)
+        (run_output_in normalising (judge s r).session rs)
     first = command_output normalising s r rs (judge s r) (front_of r.head ++ q.raw) refl one.first
 
     told_first : run_output_in replaying s (r ∷ rs) ≡ written_first [] (run_output_in replaying (judge s r).session rs)
@@ -173,58 +192,77 @@ module _ (limits : LimitsData) (ranges : AreInRange limits) where
         more.are,
       );
       out =
-          ap (λ (c : RunOutput). c.out) first ∙ ap (λ z. (front_of r.head ++ q.raw) ++ z) (more.out ∙ ap (λ z. z ++ together version qs []) (front_none rs))
-          ∙ ap (λ z. (z ++ q.raw) ++ together version qs []) front_is ∙ four (line_if due) (mark_of version q.head.side) q.raw (together version qs []);
+          ap (λ (c : RunOutput). c.out) first ∙ ap (λ z. (front_of r.head ++ q.raw) ++ z)
+          (more.out ∙ ap (λ z. z ++ together version qs []) (front_none rs))
+          ∙ ap (λ z. (z ++ q.raw) ++ together version qs []) front_is ∙ four (line_if due) (mark_of version q.head.side)
+          q.raw (together version qs []);
       last = λ line_due. ap (λ (c : RunOutput). c.last line_due) first ∙ more.last line_due;
       again =
           command_output normalising s q qs (judge s r) (front_of r.head ++ q.raw) one.same one.again
           ∙ ap (written_first (front_of r.head ++ q.raw)) more.again ∙ sym first;
-      same = command_output replaying s q qs (judge s r) [] one.same one.told_again ∙ ap (written_first []) more.same ∙ sym told_first;
+      same = command_output replaying s q qs (judge s r) [] one.same one.told_again ∙ ap (written_first []) more.same
+          ∙ sym told_first;
       to_end = ap (λ (c : RunOutput). c.stop) told_first ∙ more.to_end;
-      outcome = ap (λ (c : RunOutput). c.outcome) first ∙ more.outcome ∙ sym (ap (λ (c : RunOutput). c.outcome) told_first);
+      outcome = ap (λ (c : RunOutput). c.outcome) first ∙ more.outcome
+          ∙ sym (ap (λ (c : RunOutput). c.outcome) told_first);
     }
 
   abbrev normal_from : ℕ → Version → Session → List Record → List Record
   normal_from at version s [] = []
   normal_from at version s (r ∷ rs) =
       canonical_record at r (canonical_of_record s r.body (judge s r).verdict)
-      ∷ normal_from (at + length (record_bytes version (canonical_record at r (canonical_of_record s r.body (judge s r).verdict)))) version (judge s r).session rs
+      ∷ normal_from
+      (at + length (record_bytes version (canonical_record at r (canonical_of_record s r.body (judge s r).verdict))))
+      version (judge s r).session rs
 
-  written_log : (at before : ℕ) (version : Version) (due : Bool) (s : Session) (rs : List Record) → IsHeldState limits s.server
-      → AreRecords limits.max_body version before due rs → (run_output_in normalising s rs).stop ≡ None → AreWritten at version due s rs (normal_from at version s rs)
+  written_log : (at before : ℕ) (version : Version) (due : Bool) (s : Session) (rs : List Record)
+      → IsHeldState limits s.server
+      → AreRecords limits.max_body version before due rs → (run_output_in normalising s rs).stop ≡ None
+      → AreWritten at version due s rs (normal_from at version s rs)
   written_log at before version due s [] received each goes =
       record { are = tt; out = refl; last = λ line_due. refl; again = refl; same = refl; to_end = refl; outcome = refl }
   written_log at before version due s (r ∷ rs) received each goes =
       let g = canonical_output s r (judge s r) in
-      let on = went_on (unless_bad r (judge s r).verdict g).out (unless_bad r (judge s r).verdict g).end (run_output_in normalising (judge s r).session rs) goes in
+      let on = went_on (unless_bad r (judge s r).verdict g).out (unless_bad r (judge s r).verdict g).end
+      (run_output_in normalising (judge s r).session rs) goes in
       let passing : Passes (judge s r).verdict = passes (judge s r).verdict r g on.0 in
       let inner : g.end ≡ None = ap (λ (h : RecordOutput). h.end) (sym (passing r g)) ∙ on.0 in
-      let one = written_as at s r received each.0.is_frame_of passing (canonical_of_record s r.body (judge s r).verdict) refl inner in
+      let one = written_as at s r received each.0.is_frame_of passing (canonical_of_record s r.body (judge s r).verdict)
+      refl inner in
       let q = canonical_record at r (canonical_of_record s r.body (judge s r).verdict) in
-      one_more at before version due s r q rs (normal_from (at + length (record_bytes version q)) version (judge s r).session rs) each.0 one
-      (written_log (at + length (record_bytes version q)) (before + length (record_bytes version r)) version false (judge s r).session rs (judged_held limits s r received) each.1 on.1)
+      one_more at before version due s r q rs (normal_from (at + length (record_bytes version q)) version
+      (judge s r).session rs) each.0 one
+      (written_log (at + length (record_bytes version q)) (before + length (record_bytes version r)) version false
+      (judge s r).session rs (judged_held limits s r received) each.1 on.1)
 
 -- ---- the bytes
 
-due_same : (limits : LimitsData) (ranges : AreInRange limits) (at : ℕ) (version : Version) (s : Session) (rs : List Record) → is_line_due version (normal_from limits ranges at version s rs) ≡ is_line_due version rs
+due_same : (limits : LimitsData) (ranges : AreInRange limits) (at : ℕ) (version : Version) (s : Session)
+    (rs : List Record) → is_line_due version (normal_from limits ranges at version s rs) ≡ is_line_due version rs
 due_same limits ranges at One s [] = refl
 due_same limits ranges at One s (r ∷ rs) = refl
 due_same limits ranges at Two s [] = refl
 due_same limits ranges at Two s (r ∷ rs) = refl
 
-all_is : (limits : LimitsData) (ranges : AreInRange limits) (version : Version) (rs : List Record) (bytes : List ℕ) → ((rs ≡ []) → bytes ≡ [])
-    → (front_if limits ranges (is_line_due version []) rs ++ bytes) ++ line_if (is_line_due version rs) ≡ line_of version ++ bytes
+all_is : (limits : LimitsData) (ranges : AreInRange limits) (version : Version) (rs : List Record) (bytes : List ℕ)
+    → ((rs ≡ []) → bytes ≡ [])
+    → (front_if limits ranges (is_line_due version []) rs ++ bytes) ++ line_if (is_line_due version rs)
+    ≡ line_of version ++ bytes
 all_is limits ranges One [] bytes none = append-nil bytes
 all_is limits ranges One (r ∷ rs) bytes none = append-nil bytes
-all_is limits ranges Two [] bytes none = ap (λ z. z ++ version_line) (none refl) ∙ sym (append-nil version_line) ∙ ap (λ z. version_line ++ z) (sym (none refl))
+all_is limits ranges Two [] bytes none = ap (λ z. z ++ version_line) (none refl) ∙ sym (append-nil version_line)
+    ∙ ap (λ z. version_line ++ z) (sym (none refl))
 all_is limits ranges Two (r ∷ rs) bytes none = append-nil (version_line ++ bytes)
 
-pub version_is : (max_body : ℕ) (version : Version) (rs : List Record) (bytes : List ℕ) → AreRecords max_body version (length (line_of version)) (is_line_due version []) rs
+pub version_is : (max_body : ℕ) (version : Version) (rs : List Record) (bytes : List ℕ)
+    → AreRecords max_body version (length (line_of version)) (is_line_due version []) rs
     → bytes ≡ line_of version ++ together version rs [] → IsVersion true version bytes
-version_is max_body One rs bytes are is = λ wanted more e. is_version_one max_body 0 false rs are wanted more (sym is ∙ e)
+version_is max_body One rs bytes are is = λ wanted more e. is_version_one max_body 0 false rs are wanted more
+    (sym is ∙ e)
 version_is max_body Two rs bytes are is = (refl, (together Two rs [], is))
 
-none_together : (limits : LimitsData) (ranges : AreInRange limits) (at : ℕ) (version : Version) (s : Session) (rs : List Record) → rs ≡ [] → together version (normal_from limits ranges at version s rs) [] ≡ []
+none_together : (limits : LimitsData) (ranges : AreInRange limits) (at : ℕ) (version : Version) (s : Session)
+    (rs : List Record) → rs ≡ [] → together version (normal_from limits ranges at version s rs) [] ≡ []
 none_together limits ranges at version s [] e = refl
 none_together limits ranges at version s (r ∷ rs) e = absurd (let lengths = ap length e in cc)
 
@@ -234,14 +272,20 @@ canonical_log_law settings ranges input log reads whole goes = record {
   outcome = w.outcome;
   reports = record {
     log = next;
-    reads = record { version = version_is settings.limits.max_body log.version qs bytes w.are is; accepted = λ e. absurd (let bad_one : false ≡ true = e in cc); is = is; each = w.are };
+    reads = record {
+      version = version_is settings.limits.max_body log.version qs bytes w.are is;
+      accepted = λ e. absurd (let bad_one : false ≡ true = e in cc);
+      is = is;
+      each = w.are;
+    };
     whole = refl;
     to_end = ap (λ (c : RunOutput). c.stop) w.same ∙ w.to_end;
     alike = w.same;
   };
   continues = ap (λ (c : RunOutput). c.stop) w.again ∙ goes;
   again = ap (λ (c : RunOutput). c.out ++ c.last (is_line_due log.version qs)) w.again
-      ∙ ap (λ due. (canonical_log settings log.records).out ++ (canonical_log settings log.records).last due) (due_same settings.limits ranges start log.version s log.records);
+      ∙ ap (λ due. (canonical_log settings log.records).out ++ (canonical_log settings log.records).last due)
+      (due_same settings.limits ranges start log.version s log.records);
 }
   where
     start : ℕ
@@ -254,7 +298,8 @@ canonical_log_law settings ranges input log reads whole goes = record {
     qs = normal_from settings.limits ranges start log.version s log.records
 
     w : AreWritten settings.limits ranges start log.version (is_line_due log.version []) s log.records qs
-    w = written_log settings.limits ranges start start log.version (is_line_due log.version []) s log.records (record { limit = refl; table = tt }) reads.each goes
+    w = written_log settings.limits ranges start start log.version (is_line_due log.version []) s log.records
+        (record { limit = refl; table = tt }) reads.each goes
 
     next : Log
     next = record { version = log.version; records = qs; rest = [] }
@@ -265,5 +310,7 @@ canonical_log_law settings ranges input log reads whole goes = record {
     is : bytes ≡ line_of log.version ++ together log.version qs []
     is =
         ap (λ z. z ++ (canonical_log settings log.records).last (is_line_due log.version log.records)) w.out
-        ∙ ap (λ z. (front_if settings.limits ranges (is_line_due log.version []) log.records ++ together log.version qs []) ++ z) (w.last (is_line_due log.version log.records))
-        ∙ all_is settings.limits ranges log.version log.records (together log.version qs []) (none_together settings.limits ranges start log.version s log.records)
+        ∙ ap (λ z. (front_if settings.limits ranges (is_line_due log.version []) log.records ++ together log.version qs
+        []) ++ z) (w.last (is_line_due log.version log.records))
+        ∙ all_is settings.limits ranges log.version log.records (together log.version qs [])
+        (none_together settings.limits ranges start log.version s log.records)

@@ -34,18 +34,21 @@ use Rattle.lsp_replay.proofs.Records.StateLemmas.{IsHeldState}
 
 -- ---- refusals
 
-open_one : (limits : LimitsData) (units : ℕ → ℕ) (table : List DocumentItem) (uri : List ℕ) (version : ℤ) (batch : List Edit) → change_refusal limits units table uri version batch ≡ None
+open_one : (limits : LimitsData) (units : ℕ → ℕ) (table : List DocumentItem) (uri : List ℕ) (version : ℤ)
+    (batch : List Edit) → change_refusal limits units table uri version batch ≡ None
     → (entry : DocumentItem) × (entry_at table uri ≡ Some entry)
 open_one limits units table uri version batch e = by (entry_at table uri) refl e
   where
-    by : (found : Option DocumentItem) → entry_at table uri ≡ found → refusal_on limits units found version batch ≡ None → (entry : DocumentItem) × (entry_at table uri ≡ Some entry)
+    by : (found : Option DocumentItem) → entry_at table uri ≡ found → refusal_on limits units found version batch ≡ None
+        → (entry : DocumentItem) × (entry_at table uri ≡ Some entry)
     by None is f = absurd (let bad : Some not_open ≡ None = f in cc)
     by (Some entry) is f = (entry, is)
 
 -- ---- a batch is read back as it was written
 
 pub asks_back : (uri : List ℕ) (version : ℤ) (batch : List Edit) → IsReadAgain uri version batch
-    → incoming_of (reading (change_body uri version batch)) ≡ did_change (Some (record { uri = uri; version = version; changes = map written_edit batch }))
+    → incoming_of (reading (change_body uri version batch))
+    ≡ did_change (Some (record { uri = uri; version = version; changes = map written_edit batch }))
 unfolding change_body
 asks_back uri version batch read = ap incoming_of read.as_sent ∙ ap did_change read.back
 
@@ -58,21 +61,30 @@ pub record IsSettledChange (server : ServerData) (p : ChangeData) : Type 0 where
   pub same_body : canonical_change_body server again ≡ canonical_change_body server p
 
 same_change : (server : ServerData) (p again : ChangeData) (phase : Phase)
-    → change_refusal server.config.limits (units_in (session_encoding server)) server.table p.uri p.version (map edit_from_data p.changes) ≡ None
-    → change_refusal server.config.limits (units_in (session_encoding server)) server.table again.uri again.version (map edit_from_data again.changes) ≡ None
-    → after_change (units_in (session_encoding server)) server.table again.uri again.version (map edit_from_data again.changes)
+    → change_refusal server.config.limits (units_in (session_encoding server)) server.table p.uri p.version
+    (map edit_from_data p.changes) ≡ None
+    → change_refusal server.config.limits (units_in (session_encoding server)) server.table again.uri again.version
+    (map edit_from_data again.changes) ≡ None
+    → after_change (units_in (session_encoding server)) server.table again.uri again.version
+    (map edit_from_data again.changes)
     ≡ after_change (units_in (session_encoding server)) server.table p.uri p.version (map edit_from_data p.changes)
     → step_in phase server (did_change (Some again)) ≡ step_in phase server (did_change (Some p))
 same_change server p again New may also same = refl
 same_change server p again Down may also same = refl
 same_change server p again Ended may also same = refl
 same_change server p again Running may also same =
-    ap (λ r. obeyed server (unless_refused r (after_change (units_in (session_encoding server)) server.table again.uri again.version (map edit_from_data again.changes)))) also
+    ap (λ r. obeyed server
+    (unless_refused r (after_change (units_in (session_encoding server)) server.table again.uri again.version
+    (map edit_from_data again.changes)))) also
     ∙ ap (λ t. obeyed server (unless_refused None t)) same
-    ∙ sym (ap (λ r. obeyed server (unless_refused r (after_change (units_in (session_encoding server)) server.table p.uri p.version (map edit_from_data p.changes)))) may)
+    ∙ sym (ap (λ r. obeyed server
+    (unless_refused r (after_change (units_in (session_encoding server)) server.table p.uri p.version
+    (map edit_from_data p.changes)))) may)
 
-module _ (server : ServerData) (p : ChangeData) (ranges : AreInRange server.config.limits) (received : IsHeldState server.config.limits server) (proper : IsProperAsked p)
-    (may : change_refusal server.config.limits (units_in (session_encoding server)) server.table p.uri p.version (map edit_from_data p.changes) ≡ None)
+module _ (server : ServerData) (p : ChangeData) (ranges : AreInRange server.config.limits)
+    (received : IsHeldState server.config.limits server) (proper : IsProperAsked p)
+    (may : change_refusal server.config.limits (units_in (session_encoding server)) server.table p.uri p.version
+    (map edit_from_data p.changes) ≡ None)
     (fits : length (canonical_change_body server p) ≤ server.config.limits.max_body) where
   abbrev encoding : Encoding
   encoding = session_encoding server
@@ -89,7 +101,8 @@ module _ (server : ServerData) (p : ChangeData) (ranges : AreInRange server.conf
   text_held : IsWithin server.config.limits entry
   text_held = within_at server.config.limits server.table p.uri entry received.table is_open
 
-  laws : (some : List Edit) (items : List Item) → meaning (units_in encoding) (chars entry.text) some ≡ Ok items → IsCanonical (units_in encoding) (chars entry.text) some items
+  laws : (some : List Edit) (items : List Item) → meaning (units_in encoding) (chars entry.text) some ≡ Ok items
+      → IsCanonical (units_in encoding) (chars entry.text) some items
   laws some items means = canonical_law (units_in encoding) (units_some encoding) (chars entry.text) some items means
 
   may_here : entry_refusal server.config.limits (units_in encoding) entry p.version batch ≡ None
@@ -101,15 +114,19 @@ module _ (server : ServerData) (p : ChangeData) (ranges : AreInRange server.conf
   abbrev settled : List Edit
   settled = canonical_batch (units_in encoding) server.table p.uri batch
 
-  body_fits : body_refusal server.config.limits (canonical_body (units_in encoding) server.table p.uri p.version batch) ≡ None
-  body_fits = body_within server.config.limits (canonical_body (units_in encoding) server.table p.uri p.version batch) fits
+  body_fits : body_refusal server.config.limits (canonical_body (units_in encoding) server.table p.uri p.version batch)
+      ≡ None
+  body_fits = body_within server.config.limits (canonical_body (units_in encoding) server.table p.uri p.version batch)
+      fits
 
   does_same : IsCanonicalOf server.config.limits (units_in encoding) server.table p.uri p.version batch settled
-  does_same = is_settled server.config.limits encoding server.table p.uri p.version entry is_open laws batch may_here ranges.greatest_text body_fits
+  does_same = is_settled server.config.limits encoding server.table p.uri p.version entry is_open laws batch may_here
+      ranges.greatest_text body_fits
 
   reads_as : IsReadAgain p.uri p.version settled
   reads_as =
-      is_read server.config.limits encoding server.table p.uri p.version entry is_open laws proper.uri proper.version text_held.utf8 (omega (arith, text_held.short, ranges.greatest_text))
+      is_read server.config.limits encoding server.table p.uri p.version entry is_open laws proper.uri proper.version
+      text_held.utf8 (omega (arith, text_held.short, ranges.greatest_text))
       body_of-unique batch proper.texts may_here reading-body_of is_read_back
 
   settled_is : settled ≡ canonical (units_in encoding) (chars entry.text) accepts.items
@@ -118,7 +135,8 @@ module _ (server : ServerData) (p : ChangeData) (ranges : AreInRange server.conf
   settled_texts : AreTexts settled
   settled_texts =
       subst AreTexts (sym settled_is)
-      (canonical_texts (units_in encoding) (chars entry.text) batch accepts.items (laws batch accepts.items accepts.means) (scalars-chars entry.text text_held.utf8) proper.texts accepts.means)
+      (canonical_texts (units_in encoding) (chars entry.text) batch accepts.items
+      (laws batch accepts.items accepts.means) (scalars-chars entry.text text_held.utf8) proper.texts accepts.means)
 
   abbrev again_change : ChangeData
   again_change = record { uri = p.uri; version = p.version; changes = map written_edit settled }
@@ -127,22 +145,33 @@ module _ (server : ServerData) (p : ChangeData) (ranges : AreInRange server.conf
   back = edits_back settled settled_texts
 
   settled_may : change_refusal server.config.limits (units_in encoding) server.table p.uri p.version settled ≡ None
-  settled_may = first_none (change_refusal server.config.limits (units_in encoding) server.table p.uri p.version settled) (body_refusal server.config.limits (canonical_body (units_in encoding) server.table p.uri p.version settled)) does_same.accepted
+  settled_may =
+      first_none (change_refusal server.config.limits (units_in encoding) server.table p.uri p.version settled)
+      (body_refusal server.config.limits (canonical_body (units_in encoding) server.table p.uri p.version settled))
+      does_same.accepted
 
-  settled_fits : length (canonical_body (units_in encoding) server.table p.uri p.version settled) ≤ server.config.limits.max_body
-  settled_fits = within server.config.limits (change_refusal server.config.limits (units_in encoding) server.table p.uri p.version settled) (canonical_body (units_in encoding) server.table p.uri p.version settled) settled_may does_same.accepted
+  settled_fits : length (canonical_body (units_in encoding) server.table p.uri p.version settled)
+      ≤ server.config.limits.max_body
+  settled_fits =
+      within server.config.limits (change_refusal server.config.limits (units_in encoding) server.table p.uri p.version
+      settled) (canonical_body (units_in encoding) server.table p.uri p.version settled) settled_may does_same.accepted
 
-  one_body : canonical_body (units_in encoding) server.table p.uri p.version settled ≡ canonical_body (units_in encoding) server.table p.uri p.version batch
+  one_body : canonical_body (units_in encoding) server.table p.uri p.version settled
+      ≡ canonical_body (units_in encoding) server.table p.uri p.version batch
   one_body =
-      injective_law (canonical_body (units_in encoding) server.table p.uri p.version settled) (canonical_body (units_in encoding) server.table p.uri p.version batch)
-      (omega (arith, settled_fits, ranges.greatest_body)) (omega (arith, fits, ranges.greatest_body)) does_same.same_frame
+      injective_law (canonical_body (units_in encoding) server.table p.uri p.version settled)
+      (canonical_body (units_in encoding) server.table p.uri p.version batch)
+      (omega (arith, settled_fits, ranges.greatest_body)) (omega (arith, fits, ranges.greatest_body))
+      does_same.same_frame
 
   pub settled_change : IsSettledChange server p
   settled_change = record {
     again = again_change;
     asks = asks_back p.uri p.version settled reads_as;
     same_step =
-        same_change server p again_change server.phase may (ap (λ b. change_refusal server.config.limits (units_in encoding) server.table p.uri p.version b) back ∙ settled_may)
+        same_change server p again_change server.phase may
+        (ap (λ b. change_refusal server.config.limits (units_in encoding) server.table p.uri p.version b) back
+        ∙ settled_may)
         (ap (λ b. after_change (units_in encoding) server.table p.uri p.version b) back ∙ does_same.leaves);
     same_body = ap (λ b. canonical_body (units_in encoding) server.table p.uri p.version b) back ∙ one_body;
   }

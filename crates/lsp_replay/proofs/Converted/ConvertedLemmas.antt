@@ -34,17 +34,20 @@ IsGood (answered answer) = ⊤
 IsGood recorded = ⊤
 IsGood bad = ⊥
 
-good_tests : (a b : Bool) (s : Session) (j : Judged) → IsGood (if a then judged bad s else if b then judged bad s else j).verdict → (a ≡ false) × (b ≡ false)
+good_tests : (a b : Bool) (s : Session) (j : Judged)
+    → IsGood (if a then judged bad s else if b then judged bad s else j).verdict → (a ≡ false) × (b ≡ false)
 good_tests true b s j good = absurd good
 good_tests false true s j good = absurd good
 good_tests false false s j good = (refl, refl)
 
-handled_on : (s : Session) (version : Version) (m : IncomingData) → is_ended s.server.phase ≡ false → is_early s m ≡ false
+handled_on : (s : Session) (version : Version) (m : IncomingData) → is_ended s.server.phase ≡ false → is_early s m
+    ≡ false
     → judge_incoming s version m ≡ handled s version m (step_on s.server m).state (as_sent (step_on s.server m).answer)
 handled_on s version m a b = rw (a, b) refl
 
 -- no result is waited for in a log of version 1
-none_expected : (b : Bool) (m : IncomingData) (expected : Option IdData) → expected ≡ None → (if b then expected_of One m expected else expected) ≡ None
+none_expected : (b : Bool) (m : IncomingData) (expected : Option IdData) → expected ≡ None
+    → (if b then expected_of One m expected else expected) ≡ None
 none_expected true m expected none = none
 none_expected false m expected none = none
 
@@ -59,7 +62,8 @@ if_true true x y e = refl
 if_true false x y e = absurd (let wrong : false ≡ true = e in cc)
 
 hears_result : (u : Session) (id : IdData) (encoding : Encoding) (kind : SyncKind) → IsProperId id
-    → hear_for u (Some id) (body_of (initialize_result id encoding kind)) ≡ judged recorded (record u { server = with_encoding u.server encoding; expected = None })
+    → hear_for u (Some id) (body_of (initialize_result id encoding kind))
+    ≡ judged recorded (record u { server = with_encoding u.server encoding; expected = None })
 hears_result u id encoding kind proper =
     ap (λ r. heard u (result_for id r)) (reading-body_of (initialize_result id encoding kind) proper)
     ∙ ap (heard u) (if_true (same_id id id) (Some (initialize_value encoding kind)) None (same_id_is id))
@@ -78,7 +82,8 @@ Follows u (refused why) = u.expected ≡ None
 Follows u (exits status) = u.expected ≡ None
 
 follows_none : (u : Session) (answer : AnswerData OutgoingData) → u.expected ≡ None → Follows u answer
-follows_none u (reply m) none = ap (λ e. hear_for u e (body_of m)) none ∙ (λ i. judged recorded (record u { expected = none i }))
+follows_none u (reply m) none = ap (λ e. hear_for u e (body_of m)) none
+    ∙ (λ i. judged recorded (record u { expected = none i }))
 follows_none u changed none = none
 follows_none u dropped none = none
 follows_none u ignored none = none
@@ -109,13 +114,18 @@ rest_after s n server answer expected = record {
 }
 
 abbrev pub FollowsStep : Session → ℕ → Phase → ServerData → IncomingData → Type 0
-FollowsStep s n phase server m = Follows (rest_after s n (step_in phase server m).state (as_sent (step_in phase server m).answer) (waits phase m)) (step_in phase server m).answer
+FollowsStep s n phase server m =
+    Follows (rest_after s n (step_in phase server m).state (as_sent (step_in phase server m).answer) (waits phase m))
+    (step_in phase server m).answer
 
-begun : (s : Session) (n : ℕ) (server : ServerData) (id : IdData) (offers : Offers) → IsProperId id → FollowsStep s n New server (initialize id (Some offers))
+begun : (s : Session) (n : ℕ) (server : ServerData) (id : IdData) (offers : Offers) → IsProperId id
+    → FollowsStep s n New server (initialize id (Some offers))
 begun s n server id offers proper =
-    hears_result (rest_after s n (begins server id offers).state (as_sent (begins server id offers).answer) (Some id)) id (chosen server.config.choice offers) (announced_kind server.config.sync) proper
+    hears_result (rest_after s n (begins server id offers).state (as_sent (begins server id offers).answer) (Some id))
+    id (chosen server.config.choice offers) (announced_kind server.config.sync) proper
 
-pub follows_step : (s : Session) (n : ℕ) (phase : Phase) (server : ServerData) (m : IncomingData) → IsProperIncoming m → FollowsStep s n phase server m
+pub follows_step : (s : Session) (n : ℕ) (phase : Phase) (server : ServerData) (m : IncomingData) → IsProperIncoming m
+    → FollowsStep s n phase server m
 follows_step s n New server (initialize id (Some offers)) proper = begun s n server id offers proper
 follows_step s n New server (initialize id None) proper = refl
 follows_step s n New server not_json proper = refl
@@ -128,15 +138,21 @@ follows_step s n New server (did_open params) proper = refl
 follows_step s n New server (did_change params) proper = refl
 follows_step s n New server (did_close params) proper = refl
 follows_step s n New server (other_notification method) proper = refl
-follows_step s n Running server m proper = follows_none (rest_after s n (step_in Running server m).state (as_sent (step_in Running server m).answer) None) (step_in Running server m).answer refl
-follows_step s n Down server m proper = follows_none (rest_after s n (step_in Down server m).state (as_sent (step_in Down server m).answer) None) (step_in Down server m).answer refl
+follows_step s n Running server m proper =
+    follows_none (rest_after s n (step_in Running server m).state (as_sent (step_in Running server m).answer) None)
+    (step_in Running server m).answer refl
+follows_step s n Down server m proper =
+    follows_none (rest_after s n (step_in Down server m).state (as_sent (step_in Down server m).answer) None)
+    (step_in Down server m).answer refl
 follows_step s n Ended server m proper = refl
 
 -- ---- a client's record is judged alike in both logs
 
-module _ (s : Session) (n : ℕ) (m : IncomingData) (none : s.expected ≡ None) (good : IsGood (judge_incoming s One m).verdict) where
+module _ (s : Session) (n : ℕ) (m : IncomingData) (none : s.expected ≡ None)
+    (good : IsGood (judge_incoming s One m).verdict) where
   tests : (is_ended s.server.phase ≡ false) × (is_early s m ≡ false)
-  tests = good_tests (is_ended s.server.phase) (is_early s m) s (handled s One m (step_on s.server m).state (as_sent (step_on s.server m).answer)) good
+  tests = good_tests (is_ended s.server.phase) (is_early s m) s
+      (handled s One m (step_on s.server m).state (as_sent (step_on s.server m).answer)) good
 
   pub judged_one : judge_incoming s One m ≡ judged (answered (as_sent (step_on s.server m).answer)) (record s {
     server = (step_on s.server m).state;

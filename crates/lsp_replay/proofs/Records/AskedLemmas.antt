@@ -25,7 +25,8 @@ use Rattle.lsp_replay.proofs.Records.ReadLemmas.{OnSome, on_then, NumFits, IsHel
 
 -- ---- members of a value
 
-held_ordered : (o : Ordering) (a b c : Option Data) → OnSome IsHeld a → OnSome IsHeld b → OnSome IsHeld c → OnSome IsHeld (match_ordering o a b c)
+held_ordered : (o : Ordering) (a b c : Option Data) → OnSome IsHeld a → OnSome IsHeld b → OnSome IsHeld c
+    → OnSome IsHeld (match_ordering o a b c)
 held_ordered Less a b c p q r = p
 held_ordered Equal a b c p q r = q
 held_ordered Greater a b c p q r = r
@@ -33,7 +34,8 @@ held_ordered Greater a b c p q r = r
 held_member : (name : List ℕ) (ms : Members) → MembersAreHeld ms → OnSome IsHeld (get_member name ms)
 held_member name no_members received = tt
 held_member name (member l e ms) received =
-    held_ordered (slice_cmp nat_cmp name l) (get_member name ms) (Some e) (get_member name ms) (held_member name ms received.1) received.0 (held_member name ms received.1)
+    held_ordered (slice_cmp nat_cmp name l) (get_member name ms) (Some e) (get_member name ms)
+    (held_member name ms received.1) received.0 (held_member name ms received.1)
 
 held_get : (name : List ℕ) (d : Data) → IsHeld d → OnSome IsHeld (get name d)
 held_get name null received = tt
@@ -75,7 +77,8 @@ array_held (object ms) received = tt
 
 -- ---- ids
 
-id_by_number : (b : Bool) (n : ℕ) → (b ≡ true → n < 2 ^ 63) → OnSome IsProperId (option_map whole (if b then Some (pos n) else None))
+id_by_number : (b : Bool) (n : ℕ) → (b ≡ true → n < 2 ^ 63)
+    → OnSome IsProperId (option_map whole (if b then Some (pos n) else None))
 id_by_number true n small = record { sfits = small refl }
 id_by_number false n small = tt
 
@@ -108,7 +111,8 @@ either : (b : Bool) (x y : Reading) → IsProperReading x → IsProperReading y 
 either true x y p q = p
 either false x y p q = q
 
-found_or : {A : Type 0} (P : A → Type 0) (f : A → Reading) (o : Option A) (d : Reading) → ((a : A) → P a → IsProperReading (f a)) → OnSome P o → IsProperReading d → IsProperReading (option_map_or f o d)
+found_or : {A : Type 0} (P : A → Type 0) (f : A → Reading) (o : Option A) (d : Reading)
+    → ((a : A) → P a → IsProperReading (f a)) → OnSome P o → IsProperReading d → IsProperReading (option_map_or f o d)
 found_or P f None d all has rest = rest
 found_or P f (Some a) d all has rest = all a has
 
@@ -118,33 +122,44 @@ any (Some a) = tt
 
 outcome_proper : (id : Option IdData) (error result : Option Data) → IsProperReading (outcome_of id error result)
 outcome_proper id error result =
-    either _ (msg.message (msg.response id msg.failed)) (option_map_or (λ r. msg.message (msg.response id (msg.given r))) result (msg.not_a_message id)) tt
-    (found_or (λ r. ⊤) (λ r. msg.message (msg.response id (msg.given r))) result (msg.not_a_message id) (λ r h. tt) (any result) tt)
+    either _ (msg.message (msg.response id msg.failed))
+    (option_map_or (λ r. msg.message (msg.response id (msg.given r))) result (msg.not_a_message id)) tt
+    (found_or (λ r. ⊤) (λ r. msg.message (msg.response id (msg.given r))) result (msg.not_a_message id) (λ r h. tt)
+    (any result) tt)
 
 answer_proper : (id error result : Option Data) → IsProperReading (answer_of id error result)
 answer_proper None error result = tt
 answer_proper (Some id) error result =
-    either (is_null id) (outcome_of None error result) (option_map_or (λ i. outcome_of (Some i) error result) (id_in id) (msg.not_a_message None)) (outcome_proper None error result)
-    (found_or (λ i. ⊤) (λ i. outcome_of (Some i) error result) (id_in id) (msg.not_a_message None) (λ i h. outcome_proper (Some i) error result) (any (id_in id)) tt)
+    either (is_null id) (outcome_of None error result) (option_map_or (λ i. outcome_of (Some i) error result) (id_in id)
+    (msg.not_a_message None)) (outcome_proper None error result)
+    (found_or (λ i. ⊤) (λ i. outcome_of (Some i) error result) (id_in id) (msg.not_a_message None)
+    (λ i h. outcome_proper (Some i) error result) (any (id_in id)) tt)
 
-call_proper : (id : Option Data) (method : List ℕ) (params : Option Data) → OnSome IsHeld id → OnSome IsHeld params → IsProperReading (call_of id method params)
+call_proper : (id : Option Data) (method : List ℕ) (params : Option Data) → OnSome IsHeld id → OnSome IsHeld params
+    → IsProperReading (call_of id method params)
 call_proper None method params is received = received
 call_proper (Some id) method params is received =
-    found_or IsProperId (λ i. msg.message (msg.request i method params)) (id_in id) (msg.not_a_message None) (λ i p. (p, received)) (id_held id is) tt
+    found_or IsProperId (λ i. msg.message (msg.request i method params)) (id_in id) (msg.not_a_message None)
+    (λ i p. (p, received)) (id_held id is) tt
 
-with_proper : (method id params error result : Option Data) → OnSome IsHeld id → OnSome IsHeld params → IsProperReading (message_with method id params error result)
+with_proper : (method id params error result : Option Data) → OnSome IsHeld id → OnSome IsHeld params
+    → IsProperReading (message_with method id params error result)
 with_proper None id params error result is received = answer_proper id error result
 with_proper (Some method) id params error result is received =
-    found_or (λ m. ⊤) (λ m. call_of id m params) (text_in (Some method)) (msg.not_a_message (msg.id_found id)) (λ m h. call_proper id m params is received) (any (text_in (Some method))) tt
+    found_or (λ m. ⊤) (λ m. call_of id m params) (text_in (Some method)) (msg.not_a_message (msg.id_found id))
+    (λ m h. call_proper id m params is received) (any (text_in (Some method))) tt
 
-by_proper : (version method id params error result : Option Data) → OnSome IsHeld id → OnSome IsHeld params → IsProperReading (message_by version method id params error result)
+by_proper : (version method id params error result : Option Data) → OnSome IsHeld id → OnSome IsHeld params
+    → IsProperReading (message_by version method id params error result)
 by_proper version method id params error result is received =
-    either (is_version_two version) (message_with method id params error result) (msg.not_a_message (msg.id_found id)) (with_proper method id params error result is received) tt
+    either (is_version_two version) (message_with method id params error result) (msg.not_a_message (msg.id_found id))
+    (with_proper method id params error result is received) tt
 
 value_proper : (d : Data) → IsHeld d → IsProperReading (message_of d)
 value_proper d received =
     found_or MembersAreHeld msg.message_of_members (as_object d) (msg.not_a_message None)
-    (λ ms h. by_proper (get_member (codes "jsonrpc") ms) (get_member (codes "method") ms) (get_member (codes "id") ms) (get_member (codes "params") ms) (get_member (codes "error") ms) (get_member (codes "result") ms)
+    (λ ms h. by_proper (get_member (codes "jsonrpc") ms) (get_member (codes "method") ms) (get_member (codes "id") ms)
+    (get_member (codes "params") ms) (get_member (codes "error") ms) (get_member (codes "result") ms)
     (held_member (codes "id") ms h) (held_member (codes "params") ms h))
     (object_held d received) tt
 
@@ -173,20 +188,24 @@ abbrev pub IsTextOpened : DocumentItem → Type 0
 IsTextOpened p = IsUtf8 p.text
 
 document_held : (params : Option Data) → OnSome IsHeld params → OnSome MembersAreHeld (document_in params)
-document_held params received = on_then IsHeld MembersAreHeld as_object object_held (member_at (codes "textDocument") params) (held_at (codes "textDocument") params received)
+document_held params received =
+    on_then IsHeld MembersAreHeld as_object object_held (member_at (codes "textDocument") params)
+    (held_at (codes "textDocument") params received)
 
 open_held : (ms : Members) → MembersAreHeld ms → OnSome IsTextOpened (open_by ms)
 open_held ms received =
     on_then (λ uri. ⊤) IsTextOpened _
     (λ uri h. on_then (λ language. ⊤) IsTextOpened _
     (λ language i. on_then (λ version. ⊤) IsTextOpened _
-    (λ version j. on_then IsUtf8 IsTextOpened _ (λ t u. u) (text_in (get_member (codes "text") ms)) (held_text (get_member (codes "text") ms) (held_member (codes "text") ms received)))
+    (λ version j. on_then IsUtf8 IsTextOpened _ (λ t u. u) (text_in (get_member (codes "text") ms))
+    (held_text (get_member (codes "text") ms) (held_member (codes "text") ms received)))
     (version_in (get_member (codes "version") ms)) (any (version_in (get_member (codes "version") ms))))
     (text_in (get_member (codes "languageId") ms)) (any (text_in (get_member (codes "languageId") ms))))
     (text_in (get_member (codes "uri") ms)) (any (text_in (get_member (codes "uri") ms)))
 
 opened_held : (params : Option Data) → OnSome IsHeld params → OnSome IsTextOpened (open_of params)
-opened_held params received = on_then MembersAreHeld IsTextOpened open_by open_held (document_in params) (document_held params received)
+opened_held params received = on_then MembersAreHeld IsTextOpened open_by open_held (document_in params)
+    (document_held params received)
 
 abbrev IsEditHeld : EditData → Type 0
 IsEditHeld e = IsUtf8 e.text
@@ -199,33 +218,44 @@ edit_held : (d : Data) → IsHeld d → OnSome IsEditHeld (edit_in d)
 edit_held d received =
     on_then MembersAreHeld IsEditHeld edit_by
     (λ ms h. on_then IsUtf8 IsEditHeld _
-    (λ t u. on_then (λ range. ⊤) IsEditHeld _ (λ range i. u) (range_of (get_member (codes "range") ms)) (any (range_of (get_member (codes "range") ms))))
-    (text_in (get_member (codes "text") ms)) (held_text (get_member (codes "text") ms) (held_member (codes "text") ms h)))
+    (λ t u. on_then (λ range. ⊤) IsEditHeld _ (λ range i. u) (range_of (get_member (codes "range") ms))
+    (any (range_of (get_member (codes "range") ms))))
+    (text_in (get_member (codes "text") ms))
+    (held_text (get_member (codes "text") ms) (held_member (codes "text") ms h)))
     (as_object d) (object_held d received)
 
 edits_held : (ds : Items) → ItemsAreHeld ds → OnSome AreEditsHeld (edits_in ds)
 edits_held no_items received = tt
 edits_held (item d ds) received =
-    on_then IsEditHeld AreEditsHeld _ (λ e u. on_then AreEditsHeld AreEditsHeld _ (λ es us. (u, us)) (edits_in ds) (edits_held ds received.1)) (edit_in d) (edit_held d received.0)
+    on_then IsEditHeld AreEditsHeld _ (λ e u. on_then AreEditsHeld AreEditsHeld _ (λ es us. (u, us)) (edits_in ds)
+    (edits_held ds received.1)) (edit_in d) (edit_held d received.0)
 
 texts_of_edits : (es : List EditData) → AreEditsHeld es → AreTexts (map edit_from_data es)
 texts_of_edits [] received = tt
 texts_of_edits (e ∷ es) received = (scalars-chars e.text received.0, texts_of_edits es received.1)
 
 within_fits : (z : ℤ) → OnSome (FitsSigned w32) (within_version z)
-within_fits (pos n) = cond_both (int_lt (pos n) (negsuc 2147483647) || int_lt (pos 2147483647) (pos n)) None (Some (pos n)) (OnSome (FitsSigned w32)) (λ e. tt) (λ e. record { sfits = grind (arith, nat_tests) })
-within_fits (negsuc n) = cond_both (int_lt (negsuc n) (negsuc 2147483647) || int_lt (pos 2147483647) (negsuc n)) None (Some (negsuc n)) (OnSome (FitsSigned w32)) (λ e. tt) (λ e. record { sfits = grind (arith, nat_tests) })
+within_fits (pos n) = cond_both (int_lt (pos n) (negsuc 2147483647) || int_lt (pos 2147483647) (pos n)) None
+    (Some (pos n)) (OnSome (FitsSigned w32)) (λ e. tt) (λ e. record { sfits = grind (arith, nat_tests) })
+within_fits (negsuc n) = cond_both (int_lt (negsuc n) (negsuc 2147483647) || int_lt (pos 2147483647) (negsuc n)) None
+    (Some (negsuc n)) (OnSome (FitsSigned w32)) (λ e. tt) (λ e. record { sfits = grind (arith, nat_tests) })
 
 version_fits : (found : Option Data) → OnSome (FitsSigned w32) (version_in found)
-version_fits found = on_then (λ z. ⊤) (FitsSigned w32) within_version (λ z h. within_fits z) (whole_in found) (any (whole_in found))
+version_fits found = on_then (λ z. ⊤) (FitsSigned w32) within_version (λ z h. within_fits z) (whole_in found)
+    (any (whole_in found))
 
 change_held : (ms : Members) (ds : Items) → MembersAreHeld ms → ItemsAreHeld ds → OnSome IsProperAsked (change_by ms ds)
 change_held ms ds received also =
     on_then IsUtf8 IsProperAsked _
     (λ uri u. on_then (FitsSigned w32) IsProperAsked _
-    (λ version fits. on_then AreEditsHeld IsProperAsked _ (λ es us. record { uri = u; version = fits; texts = texts_of_edits es us }) (edits_in ds) (edits_held ds also))
+    (λ version fits. on_then AreEditsHeld IsProperAsked _ (λ es us. record {
+      uri = u;
+      version = fits;
+      texts = texts_of_edits es us;
+    }) (edits_in ds) (edits_held ds also))
     (version_in (get_member (codes "version") ms)) (version_fits (get_member (codes "version") ms)))
-    (text_in (get_member (codes "uri") ms)) (held_text (get_member (codes "uri") ms) (held_member (codes "uri") ms received))
+    (text_in (get_member (codes "uri") ms))
+    (held_text (get_member (codes "uri") ms) (held_member (codes "uri") ms received))
 
 abbrev AreBothHeld : Members × Items → Type 0
 AreBothHeld p = MembersAreHeld p.0 × ItemsAreHeld p.1
@@ -234,11 +264,14 @@ both_held : (params : Option Data) → OnSome IsHeld params → OnSome AreBothHe
 both_held params received =
     on_then MembersAreHeld AreBothHeld _
     (λ ms h. on_then ItemsAreHeld AreBothHeld _ (λ ds i. (h, i)) (items_in (member_at (codes "contentChanges") params))
-    (on_then IsHeld ItemsAreHeld as_array array_held (member_at (codes "contentChanges") params) (held_at (codes "contentChanges") params received)))
+    (on_then IsHeld ItemsAreHeld as_array array_held (member_at (codes "contentChanges") params)
+    (held_at (codes "contentChanges") params received)))
     (document_in params) (document_held params received)
 
 changed_held : (params : Option Data) → OnSome IsHeld params → OnSome IsProperAsked (change_of params)
-changed_held params received = on_then AreBothHeld IsProperAsked (λ p. change_by p.0 p.1) (λ p h. change_held p.0 p.1 h.0 h.1) (document_and_changes params) (both_held params received)
+changed_held params received =
+    on_then AreBothHeld IsProperAsked (λ p. change_by p.0 p.1) (λ p h. change_held p.0 p.1 h.0 h.1)
+    (document_and_changes params) (both_held params received)
 
 -- ---- what is asked
 
@@ -255,17 +288,21 @@ IsProperIncoming (did_change params) = OnSome IsProperAsked params
 IsProperIncoming (did_close params) = ⊤
 IsProperIncoming (other_notification method) = ⊤
 
-either_asked : (b : Bool) (x y : IncomingData) → IsProperIncoming x → IsProperIncoming y → IsProperIncoming (if b then x else y)
+either_asked : (b : Bool) (x y : IncomingData) → IsProperIncoming x → IsProperIncoming y
+    → IsProperIncoming (if b then x else y)
 either_asked true x y p q = p
 either_asked false x y p q = q
 
 asked_message : (m : MessageData) → IsProperMessage m → IsProperIncoming (incoming_by m)
 asked_message (msg.request id method params) proper =
-    either_asked (bytes_eq method (codes "initialize")) _ _ proper.0 (either_asked (bytes_eq method (codes "shutdown")) (shutdown id) (other_request id method) tt tt)
+    either_asked (bytes_eq method (codes "initialize")) _ _ proper.0 (either_asked (bytes_eq method (codes "shutdown"))
+    (shutdown id) (other_request id method) tt tt)
 asked_message (msg.notification method params) proper =
     either_asked (bytes_eq method (codes "exit")) exit _ tt
-    (either_asked (bytes_eq method (codes "textDocument/didOpen")) (did_open (open_of params)) _ (opened_held params proper)
-    (either_asked (bytes_eq method (codes "textDocument/didChange")) (did_change (change_of params)) _ (changed_held params proper)
+    (either_asked (bytes_eq method (codes "textDocument/didOpen")) (did_open (open_of params)) _
+    (opened_held params proper)
+    (either_asked (bytes_eq method (codes "textDocument/didChange")) (did_change (change_of params)) _
+    (changed_held params proper)
     (either_asked (bytes_eq method (codes "textDocument/didClose")) (did_close _) (other_notification method) tt tt)))
 asked_message (msg.response id outcome) proper = tt
 

@@ -31,39 +31,52 @@ use Rattle.lsp_replay.proofs.Records.JudgeLemmas.{asks_change}
 
 -- ---- a record is judged as its bytes are
 
-judged_of : (s : Session) (version : Version) (side : Side) (body : List ℕ) → judge_read s (body_read version side body) ≡ judge_from s version side body
+judged_of : (s : Session) (version : Version) (side : Side) (body : List ℕ) → judge_read s (body_read version side body)
+    ≡ judge_from s version side body
 judged_of s version Client body = refl
 judged_of s version Server body = refl
 
 canonical_of : (s : Session) (version : Version) (side : Side) (body : List ℕ)
-    → canonical_read s (body_read version side body) ≡ canonical_if s.server (change_in (incoming_of (reading body))) (judge_from s version side body).verdict
+    → canonical_read s (body_read version side body) ≡ canonical_if s.server (change_in (incoming_of (reading body)))
+    (judge_from s version side body).verdict
 canonical_of s version Client body = refl
-canonical_of s version Server body = sym (heard_has_none s.server (change_in (incoming_of (reading body))) s s.expected body)
+canonical_of s version Server body =
+    sym (heard_has_none s.server (change_in (incoming_of (reading body))) s s.expected body)
 
 writing_of : (s : Session) (run : Option SquashData) (version : Version) (side : Side) (body : List ℕ) (w : Writing)
-    → IsWriting s.server run (change_of (body_read version side body)) (judge_read s (body_read version side body)).verdict w
+    → IsWriting s.server run (change_of (body_read version side body))
+    (judge_read s (body_read version side body)).verdict w
     → IsWriting s.server run (change_in (incoming_of (reading body))) (judge_from s version side body).verdict w
 writing_of s run version Client body w is = is
-writing_of s run version Server body (AsItIs ended) is = (heard_has_none s.server (change_in (incoming_of (reading body))) s s.expected body, is.1)
+writing_of s run version Server body (AsItIs ended) is =
+    (heard_has_none s.server (change_in (incoming_of (reading body))) s s.expected body, is.1)
 writing_of s run version Server body TooLong is = absurd (let none : None ≡ Some is.0 = is.1 in cc)
-writing_of s run version Server body (Continues canonical batches) is = absurd (let none : None ≡ Some is.0.params = is.0.is in cc)
-writing_of s run version Server body (Begins canonical ended batches) is = absurd (let none : None ≡ Some is.0.params = is.0.is in cc)
+writing_of s run version Server body (Continues canonical batches) is =
+    absurd (let none : None ≡ Some is.0.params = is.0.is in cc)
+writing_of s run version Server body (Begins canonical ended batches) is =
+    absurd (let none : None ≡ Some is.0.params = is.0.is in cc)
 
 -- a session, the same after it read a record's body, and what it read
-module _ (s : Session) (head : Head) (body : List ℕ) (t : Session) (read : BodyData) (same : t ≡ s) (is_read : read ≡ body_read head.version head.side body) where
+module _ (s : Session) (head : Head) (body : List ℕ) (t : Session) (read : BodyData) (same : t ≡ s)
+    (is_read : read ≡ body_read head.version head.side body) where
   pub judged_at : judge_read t read ≡ judge_from s head.version head.side body
-  judged_at = ap (λ (u : Session). judge_read u read) same ∙ ap (judge_read s) is_read ∙ judged_of s head.version head.side body
+  judged_at = ap (λ (u : Session). judge_read u read) same ∙ ap (judge_read s) is_read
+      ∙ judged_of s head.version head.side body
 
   pub server_at : t.server ≡ s.server
   server_at = ap (λ (u : Session). u.server) same
 
-  pub appended_at : (a : Option Appended) (old new : List ℕ) → IsAppended t.server.config.limits.max_body (canonical_read t read) a old new
+  pub appended_at : (a : Option Appended) (old new : List ℕ) → IsAppended t.server.config.limits.max_body
+      (canonical_read t read) a old new
       → IsAppended s.server.config.limits.max_body (canonical_of_record s body (judge_at s head body).verdict) a old new
   appended_at a old new appended =
-      subst (λ (c : Option (List ℕ)). IsAppended s.server.config.limits.max_body c a old new) (ap (canonical_read s) is_read ∙ canonical_of s head.version head.side body)
-      (subst (λ (u : Session). IsAppended u.server.config.limits.max_body (canonical_read u read) a old new) same appended)
+      subst (λ (c : Option (List ℕ)). IsAppended s.server.config.limits.max_body c a old new)
+      (ap (canonical_read s) is_read ∙ canonical_of s head.version head.side body)
+      (subst (λ (u : Session). IsAppended u.server.config.limits.max_body (canonical_read u read) a old new) same
+      appended)
 
-  pub writing_at : (run : Option SquashData) (w : Writing) → IsWriting t.server run (change_of read) (judge_read t read).verdict w
+  pub writing_at : (run : Option SquashData) (w : Writing) → IsWriting t.server run (change_of read)
+      (judge_read t read).verdict w
       → IsWriting s.server run (change_in (incoming_of (reading body))) (judge_at s head body).verdict w
   writing_at run w writing =
       writing_of s run head.version head.side body w
@@ -73,6 +86,7 @@ module _ (s : Session) (head : Head) (body : List ℕ) (t : Session) (read : Bod
 -- ---- a change that a running server is to receive
 
 -- only a client's record is a change
-pub asked_in : (read : BodyData) (p : ChangeData) → change_of read ≡ Some p → (version : Version) × (read ≡ from_client version (did_change (Some p)))
+pub asked_in : (read : BodyData) (p : ChangeData) → change_of read ≡ Some p → (version : Version)
+    × (read ≡ from_client version (did_change (Some p)))
 asked_in (from_client version m) p is = (version, ap (from_client version) (asks_change m p is))
 asked_in (from_server body) p is = absurd (let none : None ≡ Some p = is in cc)

@@ -32,7 +32,8 @@ abbrev pub IsOtherKind : ServerData → Option ChangeData → Verdict → Type 0
 IsOtherKind server change verdict = (verdict ≢ bad) × (canonical_if server change verdict ≡ None)
 
 abbrev pub IsChangeKind : ServerData → Option ChangeData → Verdict → Type 0
-IsChangeKind server change verdict = (p : ChangeData) × (change ≡ Some p) × (verdict ≡ answered changed) × (length (canonical_change_body server p) ≤ server.config.limits.max_body)
+IsChangeKind server change verdict = (p : ChangeData) × (change ≡ Some p) × (verdict ≡ answered changed)
+    × (length (canonical_change_body server p) ≤ server.config.limits.max_body)
 
 abbrev IsKind : ServerData → Option ChangeData → Verdict → Type 0
 IsKind server change verdict = IsOtherKind server change verdict ⊎ IsChangeKind server change verdict
@@ -43,7 +44,8 @@ not_bad answer e = cc
 not_recorded : recorded ≢ bad
 not_recorded e = cc
 
-pub kind_of : (server : ServerData) (r : Record) (front : List ℕ) (run : Option Run) (change : Option ChangeData) (verdict : Verdict) → (step_if server r front run change verdict).end ≡ None → IsKind server change verdict
+pub kind_of : (server : ServerData) (r : Record) (front : List ℕ) (run : Option Run) (change : Option ChangeData)
+    (verdict : Verdict) → (step_if server r front run change verdict).end ≡ None → IsKind server change verdict
 kind_of server r front run None bad e = absurd (let wrong : Some (Err (BadLog r.head.place)) ≡ None = e in cc)
 kind_of server r front run (Some p) bad e = absurd (let wrong : Some (Err (BadLog r.head.place)) ≡ None = e in cc)
 kind_of server r front run None recorded e = inl (not_recorded, refl)
@@ -56,14 +58,22 @@ kind_of server r front run (Some p) (answered already_ended) e = inl (not_bad al
 kind_of server r front run (Some p) (answered (refused why)) e = inl (not_bad (refused why), refl)
 kind_of server r front run (Some p) (answered (exits status)) e = inl (not_bad (exits status), refl)
 kind_of server r front run (Some p) (answered changed) e =
-    inr (p, refl, refl, ltb-false server.config.limits.max_body (length (canonical_change_body server p)) (short (nat_lt server.config.limits.max_body (length (canonical_change_body server p))) e))
+    inr (
+      p,
+      refl,
+      refl,
+      ltb-false server.config.limits.max_body (length (canonical_change_body server p))
+          (short (nat_lt server.config.limits.max_body (length (canonical_change_body server p))) e),
+    )
   where
-    short : (over : Bool) → (if over then faulty (BodyTooLong r.head.place) else change_output server p front (front ++ frame (canonical_change_body server p)) run).end ≡ None → over ≡ false
+    short : (over : Bool) → (if over then faulty (BodyTooLong r.head.place) else change_output server p front
+        (front ++ frame (canonical_change_body server p)) run).end ≡ None → over ≡ false
     short true f = absurd (let wrong : Some (Err (BodyTooLong r.head.place)) ≡ None = f in cc)
     short false f = refl
 
 -- neither is bad
-pub not_bad_of : (server : ServerData) (r : Record) (front : List ℕ) (run : Option Run) (change : Option ChangeData) (verdict : Verdict) → (step_if server r front run change verdict).end ≡ None → verdict ≢ bad
+pub not_bad_of : (server : ServerData) (r : Record) (front : List ℕ) (run : Option Run) (change : Option ChangeData)
+    (verdict : Verdict) → (step_if server r front run change verdict).end ≡ None → verdict ≢ bad
 not_bad_of server r front run None bad e = absurd (let wrong : Some (Err (BadLog r.head.place)) ≡ None = e in cc)
 not_bad_of server r front run (Some p) bad e = absurd (let wrong : Some (Err (BadLog r.head.place)) ≡ None = e in cc)
 not_bad_of server r front run change recorded e = not_recorded
@@ -83,7 +93,8 @@ pub record IsAccepted (s : Session) (r : Record) (p : ChangeData) : Type 0 where
   pub may : refusal_of s.server p ≡ None
 
 module _ (s : Session) (version : Version) (p : ChangeData) where
-  runs : (phase : Phase) → s.server.phase ≡ phase → (expected : Option IdData) → s.expected ≡ expected → (judge_incoming s version (did_change (Some p))).verdict ≡ answered changed
+  runs : (phase : Phase) → s.server.phase ≡ phase → (expected : Option IdData) → s.expected ≡ expected
+      → (judge_incoming s version (did_change (Some p))).verdict ≡ answered changed
       → (s.server.phase ≡ Running) × (s.expected ≡ None)
   runs Running is None none e = (is, none)
   runs Running is (Some id) some e = absurd (let wrong = rw (is, some) at e in cc)
@@ -94,7 +105,8 @@ module _ (s : Session) (version : Version) (p : ChangeData) where
   runs Ended is expected waits e = absurd (let wrong = rw is at e in cc)
 
 -- what it is that a record is accepted for
-pub was_accepted : (s : Session) (r : Record) (p : ChangeData) → change_in (incoming_of (reading r.body)) ≡ Some p → (judge s r).verdict ≡ answered changed → IsAccepted s r p
+pub was_accepted : (s : Session) (r : Record) (p : ChangeData) → change_in (incoming_of (reading r.body)) ≡ Some p
+    → (judge s r).verdict ≡ answered changed → IsAccepted s r p
 was_accepted s r p is error = by r.head.side refl
   where
     asks : incoming_of (reading r.body) ≡ did_change (Some p)
@@ -103,11 +115,13 @@ was_accepted s r p is error = by r.head.side refl
     by : (side : Side) → r.head.side ≡ side → IsAccepted s r p
     by Server server =
         let heard = ap (λ side. (judge_from s r.head.version side r.body).verdict) (sym server) ∙ error in
-        let none : canonical_if s.server (Some p) (answered changed) ≡ None = ap (canonical_if s.server (Some p)) (sym heard) ∙ heard_has_none s.server (Some p) s s.expected r.body in
+        let none : canonical_if s.server (Some p) (answered changed) ≡ None =
+        ap (canonical_if s.server (Some p)) (sym heard) ∙ heard_has_none s.server (Some p) s s.expected r.body in
         absurd (let wrong : Some (canonical_change_body s.server p) ≡ None = none in cc)
     by Client client =
         let told_here : (judge_incoming s r.head.version (did_change (Some p))).verdict ≡ answered changed =
-        ap (λ x. (judge_incoming s r.head.version x).verdict) (sym asks) ∙ ap (λ side. (judge_from s r.head.version side r.body).verdict) (sym client) ∙ error in
+        ap (λ x. (judge_incoming s r.head.version x).verdict) (sym asks)
+        ∙ ap (λ side. (judge_from s r.head.version side r.body).verdict) (sym client) ∙ error in
         let where_it_runs = runs s r.head.version p s.server.phase refl s.expected refl told_here in
         record {
           side = client;
@@ -125,14 +139,20 @@ pub record IsDone (s : Session) (r : Record) (p : ChangeData) : Type 0 where
   pub error : (judge s r).verdict ≡ answered changed
   pub leaves : IsAlike (session_after s p) (judge s r).session
 
-pub done_session : (s : Session) (version : Version) (p : ChangeData) → s.server.phase ≡ Running → s.expected ≡ None → refusal_of s.server p ≡ None
-    → (counted (judge_incoming s version (did_change (Some p)))).session ≡ numbered (one_more s.records) (one_more s.messages) (session_after s p)
+pub done_session : (s : Session) (version : Version) (p : ChangeData) → s.server.phase ≡ Running → s.expected ≡ None
+    → refusal_of s.server p ≡ None
+    → (counted (judge_incoming s version (did_change (Some p)))).session ≡ numbered (one_more s.records)
+    (one_more s.messages) (session_after s p)
 done_session s version p running waits may = rw (running, waits, may) refl
 
 pub is_done : (s : Session) (r : Record) (p : ChangeData) → IsAccepted s r p → IsDone s r p
 is_done s r p a = record {
   error = ap (λ (j : Judged). j.verdict) here ∙ running_accepted s r.head.version p a.running a.waits a.may;
-  leaves = (one_more s.records, one_more s.messages, ap (λ (j : Judged). (counted j).session) here ∙ done_session s r.head.version p a.running a.waits a.may);
+  leaves = (
+    one_more s.records,
+    one_more s.messages,
+    ap (λ (j : Judged). (counted j).session) here ∙ done_session s r.head.version p a.running a.waits a.may,
+  );
 }
   where
     here : judge_from s r.head.version r.head.side r.body ≡ judge_incoming s r.head.version (did_change (Some p))

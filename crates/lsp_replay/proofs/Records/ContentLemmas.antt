@@ -28,13 +28,16 @@ drop_front (y ∷ front) xs x = drop_front front xs x
 pub before_ascii : (front : List ℕ) (x : ℕ) (xs : List ℕ) → x < 128 → IsUtf8 (front ++ x ∷ xs) → IsUtf8 front
 before_ascii front x xs small u =
     subst IsUtf8 (take_front front (x ∷ xs)) (IsUtf8-take (front ++ x ∷ xs) (length front) u
-    (IsCharBoundary-before_ascii (front ++ x ∷ xs) (length front) (omega (arith, length-append front (x ∷ xs))) (omega (arith, byte_at front x xs))))
+    (IsCharBoundary-before_ascii (front ++ x ∷ xs) (length front) (omega (arith, length-append front (x ∷ xs)))
+    (omega (arith, byte_at front x xs))))
 
 pub behind_ascii : (front : List ℕ) (x : ℕ) (xs : List ℕ) → x < 128 → IsUtf8 (front ++ x ∷ xs) → IsUtf8 xs
 behind_ascii front x xs small u =
     let next : length front + 1 ≡ suc (length front) = omega arith in
-    subst IsUtf8 (ap (λ k. drop k (front ++ x ∷ xs)) next ∙ drop_front front xs x) (IsUtf8-drop (front ++ x ∷ xs) (length front + 1) u
-    (IsCharBoundary-after_ascii (front ++ x ∷ xs) (length front) u (omega (arith, length-append front (x ∷ xs))) (omega (arith, byte_at front x xs))))
+    subst IsUtf8 (ap (λ k. drop k (front ++ x ∷ xs)) next ∙ drop_front front xs x)
+    (IsUtf8-drop (front ++ x ∷ xs) (length front + 1) u
+    (IsCharBoundary-after_ascii (front ++ x ∷ xs) (length front) u (omega (arith, length-append front (x ∷ xs)))
+    (omega (arith, byte_at front x xs))))
 
 ascii_utf8 : (x : ℕ) → x < 128 → IsUtf8 (x ∷ [])
 ascii_utf8 x small = subst IsUtf8 (encode_ascii x small) (IsUtf8-encode x (low_scalar x (omega arith)))
@@ -47,11 +50,14 @@ GoodAfter front (Some s) = IsUtf8 (front ++ s)
 abbrev pub GoodText : Option (List ℕ) → Type 0
 GoodText found = GoodAfter [] found
 
-good_prepend : (front bytes : List ℕ) → IsUtf8 (front ++ bytes) → (rest : Option (List ℕ)) → GoodText rest → GoodAfter front (prepend bytes rest)
+good_prepend : (front bytes : List ℕ) → IsUtf8 (front ++ bytes) → (rest : Option (List ℕ)) → GoodText rest
+    → GoodAfter front (prepend bytes rest)
 good_prepend front bytes u None good = tt
-good_prepend front bytes u (Some s) good = subst IsUtf8 (append_assoc front bytes s) (IsUtf8-append (front ++ bytes) s u good)
+good_prepend front bytes u (Some s) good =
+    subst IsUtf8 (append_assoc front bytes s) (IsUtf8-append (front ++ bytes) s u good)
 
-good_more : (front : List ℕ) (x : ℕ) (rest : Option (List ℕ)) → GoodAfter (front ++ x ∷ []) rest → GoodAfter front (prepend (x ∷ []) rest)
+good_more : (front : List ℕ) (x : ℕ) (rest : Option (List ℕ)) → GoodAfter (front ++ x ∷ []) rest
+    → GoodAfter front (prepend (x ∷ []) rest)
 good_more front x None good = tt
 good_more front x (Some s) good = subst IsUtf8 (append_assoc front (x ∷ []) s) good
 
@@ -67,14 +73,16 @@ ShortAt x None = ⊤
 ShortAt x (Some c) = (c < 128) × (x < 128)
 
 is_byte : (x n c : ℕ) (rest : Option ℕ) → n < 128 → c < 128 → ShortAt x rest → ShortAt x (cond (x == n) (Some c) rest)
-is_byte x n c rest small also good = cond_both (x == n) (Some c) rest (ShortAt x) (λ e. (also, omega (arith, eqb-true x n e))) (λ e. good)
+is_byte x n c rest small also good =
+    cond_both (x == n) (Some c) rest (ShortAt x) (λ e. (also, omega (arith, eqb-true x n e))) (λ e. good)
 
 short_ascii : (x : ℕ) → ShortAt x (short_escape x)
 unfolding short_escape
 short_ascii x =
     cond_both ((x == 34) || (x == 92) || (x == 47)) (Some x) _ (ShortAt x)
     (λ e. let small : x < 128 = grind (arith, nat_tests) in (small, small))
-    (λ e. is_byte x 98 8 _ (omega arith) (omega arith) (is_byte x 102 12 _ (omega arith) (omega arith) (is_byte x 110 10 _ (omega arith) (omega arith)
+    (λ e. is_byte x 98 8 _ (omega arith) (omega arith) (is_byte x 102 12 _ (omega arith) (omega arith)
+    (is_byte x 110 10 _ (omega arith) (omega arith)
     (is_byte x 114 13 _ (omega arith) (omega arith) (is_byte x 116 9 None (omega arith) (omega arith) tt)))))
 
 -- four hex digits are ASCII, and spell no more than 16 bits
@@ -95,23 +103,32 @@ digit_ascii x h = grind arith
 hex_good : (a b c d : ℕ) → HexAt a b c d (code_unit a b c d)
 unfolding code_unit
 hex_good a b c d =
-    cond_both (nat_lt (digit_value a) 16 && nat_lt (digit_value b) 16 && nat_lt (digit_value c) 16 && nat_lt (digit_value d) 16) _ None (HexAt a b c d)
+    cond_both (nat_lt (digit_value a) 16 && nat_lt (digit_value b) 16 && nat_lt (digit_value c) 16
+    && nat_lt (digit_value d) 16) _ None (HexAt a b c d)
     (λ e.
-    let p = and_parts (nat_lt (digit_value a) 16 && nat_lt (digit_value b) 16 && nat_lt (digit_value c) 16) (nat_lt (digit_value d) 16) e in
+    let p = and_parts (nat_lt (digit_value a) 16 && nat_lt (digit_value b) 16 && nat_lt (digit_value c) 16)
+    (nat_lt (digit_value d) 16) e in
     let q = and_parts (nat_lt (digit_value a) 16 && nat_lt (digit_value b) 16) (nat_lt (digit_value c) 16) p.0 in
     let r = and_parts (nat_lt (digit_value a) 16) (nat_lt (digit_value b) 16) q.0 in
     let i = ltb-true (digit_value a) 16 r.0 in
     let j = ltb-true (digit_value b) 16 r.1 in
     let k = ltb-true (digit_value c) 16 q.1 in
     let l = ltb-true (digit_value d) 16 p.1 in
-    record { first = digit_ascii a i; second = digit_ascii b j; third = digit_ascii c k; fourth = digit_ascii d l; small = omega arith })
+    record {
+      first = digit_ascii a i;
+      second = digit_ascii b j;
+      third = digit_ascii c k;
+      fourth = digit_ascii d l;
+      small = omega arith;
+    })
     (λ e. tt)
 
 -- a code unit that is no surrogate is a scalar value, and so is what a pair spells
 unit_scalar : (u : ℕ) → u < 65536 → is_high_surrogate u ≡ false → is_low_surrogate u ≡ false → scalar u ≡ true
 unit_scalar u small high low = grind (arith, nat_tests)
 
-pair_scalar : (high low : ℕ) → is_high_surrogate high ≡ true → is_low_surrogate low ≡ true → scalar (surrogate_pair high low) ≡ true
+pair_scalar : (high low : ℕ) → is_high_surrogate high ≡ true → is_low_surrogate low ≡ true
+    → scalar (surrogate_pair high low) ≡ true
 pair_scalar high low h l =
     let p = and_parts (nat_le 0xd800 high) (nat_lt high 0xdc00) h in
     let q = and_parts (nat_le 0xdc00 low) (nat_lt low 0xe000) l in
@@ -129,23 +146,31 @@ abbrev GoodUpTo : ℕ → Type 0
 GoodUpTo n = (xs front : List ℕ) → length xs < n → IsUtf8 (front ++ xs) → GoodAfter front (content plain xs)
 
 module _ (n : ℕ) (shorter : GoodUpTo n) where
-  encoded : (u : ℕ) (zs : List ℕ) → scalar u ≡ true → length zs < n → IsUtf8 zs → GoodText (prepend (encode_utf8 u) (content plain zs))
-  encoded u zs is small text = good_prepend [] (encode_utf8 u) (IsUtf8-encode u is) (content plain zs) (shorter zs [] small text)
+  encoded : (u : ℕ) (zs : List ℕ) → scalar u ≡ true → length zs < n → IsUtf8 zs
+      → GoodText (prepend (encode_utf8 u) (content plain zs))
+  encoded u zs is small text = good_prepend [] (encode_utf8 u) (IsUtf8-encode u is) (content plain zs)
+      (shorter zs [] small text)
 
   after_low : (high : ℕ) (zs : List ℕ) → is_high_surrogate high ≡ true → length zs < n → IsUtf8 zs → (found : Option ℕ)
-      → GoodText (option_and_then (λ l. cond (is_low_surrogate l) (prepend (encode_utf8 (surrogate_pair high l)) (content plain zs)) None) found)
+      → GoodText (option_and_then
+      (λ l. cond (is_low_surrogate l) (prepend (encode_utf8 (surrogate_pair high l)) (content plain zs)) None) found)
   after_low high zs is small text None = tt
   after_low high zs is small text (Some l) =
       cond_both (is_low_surrogate l) (prepend (encode_utf8 (surrogate_pair high l)) (content plain zs)) None GoodText
       (λ e. encoded (surrogate_pair high l) zs (pair_scalar high l is e) small text) (λ e. tt)
 
-  behind_hex : (a b c d : ℕ) (zs : List ℕ) (found : Option ℕ) → HexAt a b c d found → IsUtf8 (a ∷ b ∷ c ∷ d ∷ zs) → (P : Option ℕ → Type 0) → P None
+  behind_hex : (a b c d : ℕ) (zs : List ℕ) (found : Option ℕ) → HexAt a b c d found → IsUtf8 (a ∷ b ∷ c ∷ d ∷ zs)
+      → (P : Option ℕ → Type 0) → P None
       → ((u : ℕ) → u < 65536 → IsUtf8 zs → P (Some u)) → P found
   behind_hex a b c d zs None hex text P none some = none
   behind_hex a b c d zs (Some u) hex text P none some =
-      some u hex.small (tail_utf8 d zs hex.fourth (tail_utf8 c (d ∷ zs) hex.third (tail_utf8 b (c ∷ d ∷ zs) hex.second (tail_utf8 a (b ∷ c ∷ d ∷ zs) hex.first text))))
+      some u hex.small
+      (tail_utf8 d zs hex.fourth
+      (tail_utf8 c (d ∷ zs) hex.third
+      (tail_utf8 b (c ∷ d ∷ zs) hex.second (tail_utf8 a (b ∷ c ∷ d ∷ zs) hex.first text))))
 
-  good_high : (high : ℕ) (ys : List ℕ) → is_high_surrogate high ≡ true → length ys < n → IsUtf8 ys → GoodText (content (after_high high) ys)
+  good_high : (high : ℕ) (ys : List ℕ) → is_high_surrogate high ≡ true → length ys < n → IsUtf8 ys
+      → GoodText (content (after_high high) ys)
   unfolding content
   good_high high [] is small text = tt
   good_high high (s ∷ []) is small text = tt
@@ -159,9 +184,13 @@ module _ (n : ℕ) (shorter : GoodUpTo n) where
       let p = and_parts (s == 92) (u == 117) e in
       let slash : s ≡ 92 = eqb-true s 92 p.0 in
       let letter : u ≡ 117 = eqb-true u 117 p.1 in
-      let rest : IsUtf8 (a ∷ b ∷ c ∷ d ∷ zs) = tail_utf8 u (a ∷ b ∷ c ∷ d ∷ zs) (omega arith) (tail_utf8 s (u ∷ a ∷ b ∷ c ∷ d ∷ zs) (omega arith) text) in
+      let rest : IsUtf8 (a ∷ b ∷ c ∷ d ∷ zs) =
+      tail_utf8 u (a ∷ b ∷ c ∷ d ∷ zs) (omega arith) (tail_utf8 s (u ∷ a ∷ b ∷ c ∷ d ∷ zs) (omega arith) text) in
       behind_hex a b c d zs (code_unit a b c d) (hex_good a b c d) rest
-      (λ found. GoodText (option_and_then (λ l. cond (is_low_surrogate l) (prepend (encode_utf8 (surrogate_pair high l)) (content plain zs)) None) found)) tt
+      (λ found. GoodText
+      (option_and_then
+      (λ l. cond (is_low_surrogate l) (prepend (encode_utf8 (surrogate_pair high l)) (content plain zs)) None) found))
+      tt
       (λ l fits more. after_low high zs is (omega arith) more (Some l)))
       (λ e. tt)
 
@@ -173,15 +202,19 @@ module _ (n : ℕ) (shorter : GoodUpTo n) where
   good_u (a ∷ b ∷ c ∷ []) small text = tt
   good_u (a ∷ b ∷ c ∷ d ∷ zs) small text =
       behind_hex a b c d zs (code_unit a b c d) (hex_good a b c d) text
-      (λ found. GoodText (option_and_then (λ u. cond (is_high_surrogate u) (content (after_high u) zs) (cond (is_low_surrogate u) None (prepend (encode_utf8 u) (content plain zs)))) found)) tt
+      (λ found. GoodText
+      (option_and_then (λ u. cond (is_high_surrogate u) (content (after_high u) zs)
+      (cond (is_low_surrogate u) None (prepend (encode_utf8 u) (content plain zs)))) found)) tt
       (λ u fits more.
       cond_both (is_high_surrogate u) (content (after_high u) zs) _ GoodText (λ h. good_high u zs h (omega arith) more)
-      (λ h. cond_both (is_low_surrogate u) None (prepend (encode_utf8 u) (content plain zs)) GoodText (λ l. tt) (λ l. encoded u zs (unit_scalar u fits h l) (omega arith) more)))
+      (λ h. cond_both (is_low_surrogate u) None (prepend (encode_utf8 u) (content plain zs)) GoodText (λ l. tt)
+      (λ l. encoded u zs (unit_scalar u fits h l) (omega arith) more)))
 
   short_then : (y : ℕ) (zs : List ℕ) (found : Option ℕ) → ShortAt y found → length zs < n → IsUtf8 (y ∷ zs)
       → GoodText (option_and_then (λ c. prepend (c ∷ []) (content plain zs)) found)
   short_then y zs None short small text = tt
-  short_then y zs (Some c) short small text = good_prepend [] (c ∷ []) (ascii_utf8 c short.0) (content plain zs) (shorter zs [] small (tail_utf8 y zs short.1 text))
+  short_then y zs (Some c) short small text = good_prepend [] (c ∷ []) (ascii_utf8 c short.0) (content plain zs)
+      (shorter zs [] small (tail_utf8 y zs short.1 text))
 
   good_backslash : (ys : List ℕ) → length ys < n → IsUtf8 ys → GoodText (content after_backslash ys)
   unfolding content
@@ -196,13 +229,16 @@ module _ (n : ℕ) (shorter : GoodUpTo n) where
   good_next [] front small text = tt
   good_next (x ∷ ys) front small text =
       cond_both (x == 34) (Some []) _ (GoodAfter front)
-      (λ e. let quote : x ≡ 34 = eqb-true x 34 e in subst IsUtf8 (sym (append-nil front)) (before_ascii front x ys (omega arith) text))
+      (λ e. let quote : x ≡ 34 = eqb-true x 34 e in
+      subst IsUtf8 (sym (append-nil front)) (before_ascii front x ys (omega arith) text))
       (λ _. cond_both (x == 92) (content after_backslash ys) _ (GoodAfter front)
       (λ e.
       let slash : x ≡ 92 = eqb-true x 92 e in
-      good_behind front (before_ascii front x ys (omega arith) text) (content after_backslash ys) (good_backslash ys (omega arith) (behind_ascii front x ys (omega arith) text)))
+      good_behind front (before_ascii front x ys (omega arith) text) (content after_backslash ys)
+      (good_backslash ys (omega arith) (behind_ascii front x ys (omega arith) text)))
       (λ _. cond_both (nat_lt x 32) None (prepend (x ∷ []) (content plain ys)) (GoodAfter front) (λ _. tt)
-      (λ _. good_more front x (content plain ys) (shorter ys (front ++ x ∷ []) (omega arith) (subst IsUtf8 (sym (append_assoc front (x ∷ []) ys)) text)))))
+      (λ _. good_more front x (content plain ys)
+      (shorter ys (front ++ x ∷ []) (omega arith) (subst IsUtf8 (sym (append_assoc front (x ∷ []) ys)) text)))))
 
 good_up_to : (n : ℕ) → GoodUpTo n
 good_up_to zero xs front small text = absurd (omega arith)

@@ -1,4 +1,5 @@
--- What becomes of a record is told by its body, its side and its log's version; the canonical body of an accepted change is judged as the
+-- What becomes of a record is told by its body, its side and its log's version; the canonical body of an accepted
+-- change is judged as the
 -- change was.
 use Rattle.std.proofs.Common.{◌≡◌, ℕ, ◌≤◌, Bool, true, false, List, length, Option, Some, None, refl, sym, ap, ◌∙◌, subst, arith}
 use Rattle.std.specs.Prelude.{if◌then◌else◌}
@@ -33,34 +34,56 @@ both P true x y p q = p
 both P false x y p q = q
 
 module _ (P : Judged → Type 0) (s : Session) where
-  of_settled_in : P (judged bad s) → ((encoding : Encoding) → P (judged recorded (record s { server = with_encoding s.server encoding; expected = None }))) → (encoding : Option Encoding) → P (settle_in s encoding)
+  of_settled_in : P (judged bad s)
+      → ((encoding : Encoding)
+      → P (judged recorded (record s { server = with_encoding s.server encoding; expected = None })))
+      → (encoding : Option Encoding) → P (settle_in s encoding)
   of_settled_in refuses goes None = refuses
   of_settled_in refuses goes (Some encoding) = goes encoding
 
-  of_settled : P (judged bad s) → ((encoding : Encoding) → P (judged recorded (record s { server = with_encoding s.server encoding; expected = None }))) → (announced : Option Announced) → P (settle_by s announced)
+  of_settled : P (judged bad s)
+      → ((encoding : Encoding)
+      → P (judged recorded (record s { server = with_encoding s.server encoding; expected = None })))
+      → (announced : Option Announced) → P (settle_by s announced)
   of_settled refuses goes None = refuses
   of_settled refuses goes (Some announced) = of_settled_in refuses goes announced.encoding
 
-  of_result : P (judged recorded s) → P (judged bad s) → ((encoding : Encoding) → P (judged recorded (record s { server = with_encoding s.server encoding; expected = None }))) → (result : Option Data) → P (heard s result)
+  of_result : P (judged recorded s) → P (judged bad s)
+      → ((encoding : Encoding)
+      → P (judged recorded (record s { server = with_encoding s.server encoding; expected = None })))
+      → (result : Option Data) → P (heard s result)
   of_result stays refuses goes None = stays
   of_result stays refuses goes (Some result) = of_settled refuses goes (announced_of result)
 
-  of_heard : P (judged recorded s) → P (judged bad s) → ((encoding : Encoding) → P (judged recorded (record s { server = with_encoding s.server encoding; expected = None }))) → (id : Option IdData) (body : List ℕ) → P (hear_for s id body)
+  of_heard : P (judged recorded s) → P (judged bad s)
+      → ((encoding : Encoding)
+      → P (judged recorded (record s { server = with_encoding s.server encoding; expected = None })))
+      → (id : Option IdData) (body : List ℕ) → P (hear_for s id body)
   of_heard stays refuses goes None body = stays
   of_heard stays refuses goes (Some id) body = of_result stays refuses goes (result_for id (reading body))
 
-  of_incoming : (version : Version) (m : IncomingData) → P (judged bad s) → P (handled s version m (step_on s.server m).state (as_sent (step_on s.server m).answer)) → P (judge_incoming s version m)
+  of_incoming : (version : Version) (m : IncomingData) → P (judged bad s)
+      → P (handled s version m (step_on s.server m).state (as_sent (step_on s.server m).answer))
+      → P (judge_incoming s version m)
   of_incoming version m refuses goes =
-      both P (is_ended s.server.phase) (judged bad s) (if is_early s m then judged bad s else handled s version m (step_on s.server m).state (as_sent (step_on s.server m).answer)) refuses
-      (both P (is_early s m) (judged bad s) (handled s version m (step_on s.server m).state (as_sent (step_on s.server m).answer)) refuses goes)
+      both P (is_ended s.server.phase) (judged bad s) (if is_early s m then judged bad s else handled s version m
+      (step_on s.server m).state (as_sent (step_on s.server m).answer)) refuses
+      (both P (is_early s m) (judged bad s) (handled s version m (step_on s.server m).state
+      (as_sent (step_on s.server m).answer)) refuses goes)
 
-from_held : (limits : LimitsData) (s : Session) (version : Version) (side : Side) (body : List ℕ) → IsHeldState limits s.server → IsHeldState limits (judge_from s version side body).session.server
+from_held : (limits : LimitsData) (s : Session) (version : Version) (side : Side) (body : List ℕ)
+    → IsHeldState limits s.server → IsHeldState limits (judge_from s version side body).session.server
 from_held limits s version Client body received =
-    of_incoming (λ (j : Judged). IsHeldState limits j.session.server) s version (incoming_of (reading body)) received (step_on_held limits s.server (incoming_of (reading body)) (asked_proper body) received)
+    of_incoming (λ (j : Judged). IsHeldState limits j.session.server) s version (incoming_of (reading body)) received
+    (step_on_held limits s.server (incoming_of (reading body)) (asked_proper body) received)
 from_held limits s version Server body received =
-    of_heard (λ (j : Judged). IsHeldState limits j.session.server) s received received (λ encoding. record { limit = received.limit; table = received.table }) s.expected body
+    of_heard (λ (j : Judged). IsHeldState limits j.session.server) s received received (λ encoding. record {
+      limit = received.limit;
+      table = received.table;
+    }) s.expected body
 
-pub judged_held : (limits : LimitsData) (s : Session) (r : Record) → IsHeldState limits s.server → IsHeldState limits (judge s r).session.server
+pub judged_held : (limits : LimitsData) (s : Session) (r : Record) → IsHeldState limits s.server
+    → IsHeldState limits (judge s r).session.server
 judged_held limits s r received = from_held limits s r.head.version r.head.side r.body received
 
 -- ---- the record of an accepted change
@@ -72,14 +95,18 @@ record IsNormalCase (server : ServerData) (m : IncomingData) (verdict : Verdict)
   is : body ≡ canonical_change_body server change
 
 abbrev CaseOf : ServerData → Option ChangeData → Verdict → List ℕ → Type 0
-CaseOf server change verdict body = (p : ChangeData) × (change ≡ Some p) × (verdict ≡ answered changed) × (body ≡ canonical_change_body server p)
+CaseOf server change verdict body = (p : ChangeData) × (change ≡ Some p) × (verdict ≡ answered changed)
+    × (body ≡ canonical_change_body server p)
 
-none_some : (server : ServerData) (change : Option ChangeData) (verdict : Verdict) (body : List ℕ) → None ≡ Some body → CaseOf server change verdict body
+none_some : (server : ServerData) (change : Option ChangeData) (verdict : Verdict) (body : List ℕ) → None ≡ Some body
+    → CaseOf server change verdict body
 none_some server change verdict body e = absurd (cc)
 
-by_change : (server : ServerData) (change : Option ChangeData) (verdict : Verdict) (body : List ℕ) → canonical_if server change verdict ≡ Some body → CaseOf server change verdict body
+by_change : (server : ServerData) (change : Option ChangeData) (verdict : Verdict) (body : List ℕ)
+    → canonical_if server change verdict ≡ Some body → CaseOf server change verdict body
 by_change server None verdict body e = none_some server None verdict body e
-by_change server (Some p) (answered changed) body e = let some : Some (canonical_change_body server p) ≡ Some body = e in let is : canonical_change_body server p ≡ body = cc in (p, refl, refl, sym is)
+by_change server (Some p) (answered changed) body e = let some : Some (canonical_change_body server p) ≡ Some body =
+    e in let is : canonical_change_body server p ≡ body = cc in (p, refl, refl, sym is)
 by_change server (Some p) (answered (reply m)) body e = none_some server (Some p) (answered (reply m)) body e
 by_change server (Some p) (answered dropped) body e = none_some server (Some p) (answered dropped) body e
 by_change server (Some p) (answered ignored) body e = none_some server (Some p) (answered ignored) body e
@@ -105,18 +132,21 @@ asks_change (did_open params) p e = no_change (did_open params) p e
 asks_change (did_close params) p e = no_change (did_close params) p e
 asks_change (other_notification method) p e = no_change (other_notification method) p e
 
-case_of : (server : ServerData) (m : IncomingData) (verdict : Verdict) (body : List ℕ) → canonical_if server (change_in m) verdict ≡ Some body → IsNormalCase server m verdict body
+case_of : (server : ServerData) (m : IncomingData) (verdict : Verdict) (body : List ℕ)
+    → canonical_if server (change_in m) verdict ≡ Some body → IsNormalCase server m verdict body
 case_of server m verdict body e =
     let found = by_change server (change_in m) verdict body e in
     record { change = found.0; asks = asks_change m found.0 found.1; error = found.2; is = found.3 }
 
 -- ---- the canonical body is judged as the change was
 
-expects_same : (version : Version) (params : Option ChangeData) (expected : Option IdData) → expected_of version (did_change params) expected ≡ expected
+expects_same : (version : Version) (params : Option ChangeData) (expected : Option IdData)
+    → expected_of version (did_change params) expected ≡ expected
 expects_same One params expected = refl
 expects_same Two params expected = refl
 
-handled_same : (s : Session) (version : Version) (params others : Option ChangeData) (server : ServerData) (answer : AnswerData Sent)
+handled_same : (s : Session) (version : Version) (params others : Option ChangeData) (server : ServerData)
+    (answer : AnswerData Sent)
     → handled s version (did_change params) server answer ≡ handled s version (did_change others) server answer
 handled_same s version params others server answer =
     ap (λ (e : Option IdData). judged (answered answer) (record s {
@@ -126,44 +156,66 @@ handled_same s version params others server answer =
       refusals = count_if (is_refused answer) s.refusals;
     })) (expects_same version params s.expected ∙ sym (expects_same version others s.expected))
 
-again_incoming : (s : Session) (version : Version) (p again : ChangeData) → step_on s.server (did_change (Some again)) ≡ step_on s.server (did_change (Some p))
+again_incoming : (s : Session) (version : Version) (p again : ChangeData) → step_on s.server (did_change (Some again))
+    ≡ step_on s.server (did_change (Some p))
     → judge_incoming s version (did_change (Some again)) ≡ judge_incoming s version (did_change (Some p))
 again_incoming s version p again same =
-    ap (λ (step : Step). if is_ended s.server.phase then judged bad s else if is_early s (did_change (Some again)) then judged bad s else handled s version (did_change (Some again)) step.state (as_sent step.answer)) same
-    ∙ ap (λ (j : Judged). if is_ended s.server.phase then judged bad s else if is_early s (did_change (Some again)) then judged bad s else j)
-    (handled_same s version (Some again) (Some p) (step_on s.server (did_change (Some p))).state (as_sent (step_on s.server (did_change (Some p))).answer))
+    ap (λ (step : Step). if is_ended s.server.phase then judged bad s else if is_early s (did_change (Some again)) then
+    judged bad s else handled s version (did_change (Some again)) step.state (as_sent step.answer)) same
+    ∙ ap (λ (j : Judged). if is_ended s.server.phase then judged bad s else if is_early s (did_change (Some again)) then
+    judged bad s else j)
+    (handled_same s version (Some again) (Some p) (step_on s.server (did_change (Some p))).state
+    (as_sent (step_on s.server (did_change (Some p))).answer))
 
 -- a body is judged as another, and it is its own canonical body
 abbrev IsJudgedAgain : Session → Version → Side → List ℕ → List ℕ → Type 0
 IsJudgedAgain s version side body again =
-    (judge_from s version side again ≡ judge_from s version side body) × (canonical_if s.server (change_in (incoming_of (reading again))) (judge_from s version side body).verdict ≡ Some again)
+    (judge_from s version side again ≡ judge_from s version side body)
+    × (canonical_if s.server (change_in (incoming_of (reading again))) (judge_from s version side body).verdict
+    ≡ Some again)
 
 module _ (limits : LimitsData) (ranges : AreInRange limits) where
   again_client : (s : Session) (version : Version) (body again : List ℕ) → IsHeldState limits s.server
-      → canonical_if s.server (change_in (incoming_of (reading body))) (judge_from s version Client body).verdict ≡ Some again → length again ≤ limits.max_body → IsJudgedAgain s version Client body again
+      → canonical_if s.server (change_in (incoming_of (reading body))) (judge_from s version Client body).verdict
+      ≡ Some again → length again ≤ limits.max_body → IsJudgedAgain s version Client body again
   again_client s version body again received canonical_log fits =
       let m = incoming_of (reading body) in
       let c = case_of s.server m (judge_incoming s version m).verdict again canonical_log in
       let p = c.change in
       let proper : IsProperIncoming (did_change (Some p)) = subst IsProperIncoming c.asks (asked_proper body) in
-      let error : (judge_incoming s version (did_change (Some p))).verdict ≡ answered changed = ap (λ (x : IncomingData). (judge_incoming s version x).verdict) (sym c.asks) ∙ c.error in
+      let error : (judge_incoming s version (did_change (Some p))).verdict ≡ answered changed =
+      ap (λ (x : IncomingData). (judge_incoming s version x).verdict) (sym c.asks) ∙ c.error in
       let here : AreInRange s.server.config.limits = subst AreInRange (sym received.limit) ranges in
-      let own : IsHeldState s.server.config.limits s.server = subst (λ (l : LimitsData). IsHeldState l s.server) (sym received.limit) received in
-      let short : length (canonical_change_body s.server p) ≤ s.server.config.limits.max_body = omega (arith, fits, ap length c.is, ap (λ (l : LimitsData). l.max_body) received.limit) in
-      let set : IsSettledChange s.server p = settled_change s.server p here own proper (accepted s version p error) short in
-      let asks : incoming_of (reading again) ≡ did_change (Some set.again) = ap (λ b. incoming_of (reading b)) c.is ∙ set.asks in (
-        ap (judge_incoming s version) asks ∙ again_incoming s version p set.again set.same_step ∙ ap (judge_incoming s version) (sym c.asks),
-        ap (λ (x : IncomingData). canonical_if s.server (change_in x) (judge_incoming s version m).verdict) asks ∙ ap (canonical_if s.server (Some set.again)) c.error ∙ ap Some (set.same_body ∙ sym c.is),
+      let own : IsHeldState s.server.config.limits s.server =
+      subst (λ (l : LimitsData). IsHeldState l s.server) (sym received.limit) received in
+      let short : length (canonical_change_body s.server p) ≤ s.server.config.limits.max_body =
+      omega (arith, fits, ap length c.is, ap (λ (l : LimitsData). l.max_body) received.limit) in
+      let set : IsSettledChange s.server p = settled_change s.server p here own proper (accepted s version p error)
+      short in
+      let asks : incoming_of (reading again) ≡ did_change (Some set.again) = ap (λ b. incoming_of (reading b)) c.is
+      ∙ set.asks in (
+        ap (judge_incoming s version) asks ∙ again_incoming s version p set.again set.same_step
+            ∙ ap (judge_incoming s version) (sym c.asks),
+        ap (λ (x : IncomingData). canonical_if s.server (change_in x) (judge_incoming s version m).verdict) asks
+            ∙ ap (canonical_if s.server (Some set.again)) c.error ∙ ap Some (set.same_body ∙ sym c.is),
       )
 
   again_from : (s : Session) (version : Version) (side : Side) (body again : List ℕ) → IsHeldState limits s.server
-      → canonical_if s.server (change_in (incoming_of (reading body))) (judge_from s version side body).verdict ≡ Some again → length again ≤ limits.max_body → IsJudgedAgain s version side body again
-  again_from s version Client body again received canonical_log fits = again_client s version body again received canonical_log fits
+      → canonical_if s.server (change_in (incoming_of (reading body))) (judge_from s version side body).verdict
+      ≡ Some again → length again ≤ limits.max_body → IsJudgedAgain s version side body again
+  again_from s version Client body again received canonical_log fits =
+      again_client s version body again received canonical_log fits
   again_from s version Server body again received canonical_log fits =
-      let none : None ≡ Some again = sym (heard_has_none s.server (change_in (incoming_of (reading body))) s s.expected body) ∙ canonical_log in absurd (cc)
+      let none : None ≡ Some again =
+      sym (heard_has_none s.server (change_in (incoming_of (reading body))) s s.expected body) ∙ canonical_log in
+      absurd (cc)
 
-  pub judged_again : (s : Session) (head : Head) (body again : List ℕ) → IsHeldState limits s.server → canonical_of_record s body (judge_at s head body).verdict ≡ Some again → length again ≤ limits.max_body
-      → (judge_at s head again ≡ judge_at s head body) × (canonical_of_record s again (judge_at s head body).verdict ≡ Some again)
+  pub judged_again : (s : Session) (head : Head) (body again : List ℕ) → IsHeldState limits s.server
+      → canonical_of_record s body (judge_at s head body).verdict ≡ Some again → length again ≤ limits.max_body
+      → (judge_at s head again ≡ judge_at s head body) × (canonical_of_record s again (judge_at s head body).verdict
+      ≡ Some again)
   judged_again s head body again received canonical_log fits =
-      let same = again_from s head.version head.side body again received canonical_log fits in
-      (ap (λ (j : Judged). record j { session = record j.session { records = one_more j.session.records } }) same.0, same.1)
+      let same = again_from s head.version head.side body again received canonical_log fits in (
+        ap (λ (j : Judged). record j { session = record j.session { records = one_more j.session.records } }) same.0,
+        same.1,
+      )

@@ -17,10 +17,14 @@ use Rattle.lsp_replay.proofs.Records.AskedLemmas.{IsProperAsked, IsTextOpened, I
 
 -- ---- commands
 
-opened_short : (limits : LimitsData) (table : List DocumentItem) (entry : DocumentItem) → open_refusal limits table entry ≡ None → length entry.text ≤ limits.max_text
-opened_short limits table entry e = by (is_taken limits table entry.uri) (nat_le limits.max_docs (length (after_close table entry.uri))) (nat_lt limits.max_text (length entry.text)) e (ltb-false limits.max_text (length entry.text))
+opened_short : (limits : LimitsData) (table : List DocumentItem) (entry : DocumentItem)
+    → open_refusal limits table entry ≡ None → length entry.text ≤ limits.max_text
+opened_short limits table entry e =
+    by (is_taken limits table entry.uri) (nat_le limits.max_docs (length (after_close table entry.uri)))
+    (nat_lt limits.max_text (length entry.text)) e (ltb-false limits.max_text (length entry.text))
   where
-    by : (a b c : Bool) → (if a then Some already_open else if b then Some too_many_documents else if c then Some text_too_long else None) ≡ None
+    by : (a b c : Bool) → (if a then Some already_open else if b then Some too_many_documents else if c then
+        Some text_too_long else None) ≡ None
         → (c ≡ false → length entry.text ≤ limits.max_text) → length entry.text ≤ limits.max_text
     by true b c f is = absurd (let bad : Some already_open ≡ None = f in cc)
     by false true c f is = absurd (let bad : Some too_many_documents ≡ None = f in cc)
@@ -34,11 +38,14 @@ pub record IsHeldState (limits : LimitsData) (s : ServerData) : Type 0 where
   pub limit : s.config.limits ≡ limits
   pub table : AllWithin limits s.table
 
-obeyed_held : (limits : LimitsData) (s : ServerData) (refusal : Option Refusal) (next : List DocumentItem) → IsHeldState limits s → (refusal ≡ None → AllWithin limits next) → IsHeldState limits (obeyed s (unless_refused refusal next)).state
+obeyed_held : (limits : LimitsData) (s : ServerData) (refusal : Option Refusal) (next : List DocumentItem)
+    → IsHeldState limits s → (refusal ≡ None → AllWithin limits next)
+    → IsHeldState limits (obeyed s (unless_refused refusal next)).state
 obeyed_held limits s None next received buffer = record { limit = received.limit; table = buffer refl }
 obeyed_held limits s (Some refusal) next received buffer = received
 
-open_step : (limits : LimitsData) (s : ServerData) (params : Option DocumentItem) → OnSome IsTextOpened params → IsHeldState limits s → IsHeldState limits (step_in Running s (did_open params)).state
+open_step : (limits : LimitsData) (s : ServerData) (params : Option DocumentItem) → OnSome IsTextOpened params
+    → IsHeldState limits s → IsHeldState limits (step_in Running s (did_open params)).state
 open_step limits s None proper received = received
 open_step limits s (Some p) proper received =
     obeyed_held limits s (open_refusal s.config.limits s.table p) _ received
@@ -46,23 +53,29 @@ open_step limits s (Some p) proper received =
     let none : open_refusal limits s.table p ≡ None = rw received.limit at e in
     within_end limits s.table _ received.table (record { utf8 = proper; short = opened_short limits s.table p none }))
 
-change_step : (limits : LimitsData) (s : ServerData) (params : Option ChangeData) → OnSome IsProperAsked params → IsHeldState limits s → IsHeldState limits (step_in Running s (did_change params)).state
+change_step : (limits : LimitsData) (s : ServerData) (params : Option ChangeData) → OnSome IsProperAsked params
+    → IsHeldState limits s → IsHeldState limits (step_in Running s (did_change params)).state
 change_step limits s None proper received = received
 change_step limits s (Some p) proper received =
-    obeyed_held limits s (change_refusal s.config.limits (units_in (session_encoding s)) s.table p.uri p.version (map edit_from_data p.changes)) _ received
+    obeyed_held limits s (change_refusal s.config.limits (units_in (session_encoding s)) s.table p.uri p.version
+    (map edit_from_data p.changes)) _ received
     (λ e.
-    let none : change_refusal limits (units_in (session_encoding s)) s.table p.uri p.version (map edit_from_data p.changes) ≡ None = rw received.limit at e in
-    within_change limits (units_in (session_encoding s)) s.table p.uri p.version (map edit_from_data p.changes) proper.texts received.table none)
+    let none : change_refusal limits (units_in (session_encoding s)) s.table p.uri p.version
+    (map edit_from_data p.changes) ≡ None = rw received.limit at e in
+    within_change limits (units_in (session_encoding s)) s.table p.uri p.version (map edit_from_data p.changes)
+    proper.texts received.table none)
 
 -- A step keeps it.
-step_held : (limits : LimitsData) (phase : Phase) (s : ServerData) (m : IncomingData) → IsProperIncoming m → IsHeldState limits s → IsHeldState limits (step_in phase s m).state
+step_held : (limits : LimitsData) (phase : Phase) (s : ServerData) (m : IncomingData) → IsProperIncoming m
+    → IsHeldState limits s → IsHeldState limits (step_in phase s m).state
 step_held limits Ended s m proper received = received
 step_held limits New s not_json proper received = received
 step_held limits New s (not_a_message id) proper received = received
 step_held limits New s (response id) proper received = received
 step_held limits New s exit proper received = record { limit = received.limit; table = received.table }
 step_held limits New s (initialize id None) proper received = received
-step_held limits New s (initialize id (Some offers)) proper received = record { limit = received.limit; table = received.table }
+step_held limits New s (initialize id (Some offers)) proper received =
+    record { limit = received.limit; table = received.table }
 step_held limits New s (shutdown id) proper received = received
 step_held limits New s (other_request id method) proper received = received
 step_held limits New s (did_open params) proper received = received
@@ -79,7 +92,9 @@ step_held limits Running s (other_request id method) proper received = received
 step_held limits Running s (did_open params) proper received = open_step limits s params proper received
 step_held limits Running s (did_change params) proper received = change_step limits s params proper received
 step_held limits Running s (did_close None) proper received = received
-step_held limits Running s (did_close (Some p)) proper received = obeyed_held limits s (close_refusal s.table p.uri) _ received (λ e. within_close limits s.table p.uri received.table)
+step_held limits Running s (did_close (Some p)) proper received =
+    obeyed_held limits s (close_refusal s.table p.uri) _ received
+    (λ e. within_close limits s.table p.uri received.table)
 step_held limits Running s (other_notification method) proper received = received
 step_held limits Down s not_json proper received = received
 step_held limits Down s (not_a_message id) proper received = received
@@ -93,5 +108,6 @@ step_held limits Down s (did_change params) proper received = received
 step_held limits Down s (did_close params) proper received = received
 step_held limits Down s (other_notification method) proper received = received
 
-pub step_on_held : (limits : LimitsData) (s : ServerData) (m : IncomingData) → IsProperIncoming m → IsHeldState limits s → IsHeldState limits (step_on s m).state
+pub step_on_held : (limits : LimitsData) (s : ServerData) (m : IncomingData) → IsProperIncoming m → IsHeldState limits s
+    → IsHeldState limits (step_on s m).state
 step_on_held limits s m proper received = step_held limits s.phase s m proper received

@@ -24,34 +24,45 @@ use Rattle.lsp_replay.proofs.Reports.KeptLemmas.{hear_table}
 
 -- ---- another document
 
-same_last : (table : List DocumentItem) (entry : DocumentItem) (uri : List ℕ) → bytes_eq uri entry.uri ≡ false → entry_at (table ++ entry ∷ []) uri ≡ entry_at table uri
+same_last : (table : List DocumentItem) (entry : DocumentItem) (uri : List ℕ) → bytes_eq uri entry.uri ≡ false
+    → entry_at (table ++ entry ∷ []) uri ≡ entry_at table uri
 same_last [] entry uri other = rw other refl
-same_last (x ∷ table) entry uri other = ap (λ (found : Option DocumentItem). if bytes_eq uri x.uri then Some x else found) (same_last table entry uri other)
+same_last (x ∷ table) entry uri other =
+    ap (λ (found : Option DocumentItem). if bytes_eq uri x.uri then Some x else found) (same_last table entry uri other)
 
 -- an entry of the document that a message is about is no entry of another one
-differs : (uri other entry : List ℕ) → bytes_eq uri other ≡ false → bytes_eq other entry ≡ true → bytes_eq uri entry ≡ false
+differs : (uri other entry : List ℕ) → bytes_eq uri other ≡ false → bytes_eq other entry ≡ true → bytes_eq uri entry
+    ≡ false
 differs uri other entry differ same = ap (bytes_eq uri) (sym ((bytes_eq-Decides other entry).0 same)) ∙ differ
 
-same_changed : (units : ℕ → ℕ) (table : List DocumentItem) (other : List ℕ) (version : ℤ) (batch : List Edit) (uri : List ℕ) → bytes_eq uri other ≡ false → entry_at (after_change units table other version batch) uri ≡ entry_at table uri
+same_changed : (units : ℕ → ℕ) (table : List DocumentItem) (other : List ℕ) (version : ℤ) (batch : List Edit)
+    (uri : List ℕ) → bytes_eq uri other ≡ false → entry_at (after_change units table other version batch) uri
+    ≡ entry_at table uri
 same_changed units [] other version batch uri differ = refl
-same_changed units (x ∷ table) other version batch uri differ = by (same_changed units table other version batch uri differ) (bytes_eq other x.uri) refl
+same_changed units (x ∷ table) other version batch uri differ =
+    by (same_changed units table other version batch uri differ) (bytes_eq other x.uri) refl
   where
     by : entry_at (after_change units table other version batch) uri ≡ entry_at table uri
-        → (b : Bool) → bytes_eq other x.uri ≡ b → entry_at (if b then changed units x version batch ∷ table else x ∷ after_change units table other version batch) uri ≡ entry_at (x ∷ table) uri
+        → (b : Bool) → bytes_eq other x.uri ≡ b → entry_at (if b then changed units x version batch ∷ table
+        else x ∷ after_change units table other version batch) uri ≡ entry_at (x ∷ table) uri
     by later true same = rw (differs uri other x.uri differ same) refl
     by later false same = ap (λ (found : Option DocumentItem). if bytes_eq uri x.uri then Some x else found) later
 
-same_closed : (table : List DocumentItem) (other uri : List ℕ) → bytes_eq uri other ≡ false → entry_at (after_close table other) uri ≡ entry_at table uri
+same_closed : (table : List DocumentItem) (other uri : List ℕ) → bytes_eq uri other ≡ false
+    → entry_at (after_close table other) uri ≡ entry_at table uri
 same_closed [] other uri differ = refl
 same_closed (x ∷ table) other uri differ = by (same_closed table other uri differ) (bytes_eq other x.uri) refl
   where
     by : entry_at (after_close table other) uri ≡ entry_at table uri
-        → (b : Bool) → bytes_eq other x.uri ≡ b → entry_at (if b then table else x ∷ after_close table other) uri ≡ entry_at (x ∷ table) uri
+        → (b : Bool) → bytes_eq other x.uri ≡ b → entry_at (if b then table else x ∷ after_close table other) uri
+        ≡ entry_at (x ∷ table) uri
     by later true same = rw (differs uri other x.uri differ same) refl
     by later false same = ap (λ (found : Option DocumentItem). if bytes_eq uri x.uri then Some x else found) later
 
-same_open : (table : List DocumentItem) (entry : DocumentItem) (uri : List ℕ) → bytes_eq uri entry.uri ≡ false → entry_at (after_open table entry) uri ≡ entry_at table uri
-same_open table entry uri other = same_last (after_close table entry.uri) entry uri other ∙ same_closed table entry.uri uri other
+same_open : (table : List DocumentItem) (entry : DocumentItem) (uri : List ℕ) → bytes_eq uri entry.uri ≡ false
+    → entry_at (after_open table entry) uri ≡ entry_at table uri
+same_open table entry uri other = same_last (after_close table entry.uri) entry uri other ∙ same_closed table entry.uri
+    uri other
 
 -- ---- a step
 
@@ -62,7 +73,8 @@ Touches uri side m step = is_changed (answered (as_sent step.answer)) && is_docu
 abbrev Keeps : List ℕ → ServerData → IncomingData → Step → Type 0
 Keeps uri s m step = Touches uri Client m step ≡ false → entry_at step.state.table uri ≡ entry_at s.table uri
 
-obeyed_keeps : (uri : List ℕ) (s : ServerData) (m : IncomingData) (refusal : Option Refusal) (next : List DocumentItem) → (is_document uri (uri_of Client m) ≡ false → entry_at next uri ≡ entry_at s.table uri)
+obeyed_keeps : (uri : List ℕ) (s : ServerData) (m : IncomingData) (refusal : Option Refusal) (next : List DocumentItem)
+    → (is_document uri (uri_of Client m) ≡ false → entry_at next uri ≡ entry_at s.table uri)
     → Keeps uri s m (obeyed s (unless_refused refusal next))
 obeyed_keeps uri s m None next keeps other = keeps other
 obeyed_keeps uri s m (Some refusal) next keeps other = refl
@@ -90,16 +102,19 @@ step_keeps Running uri s (shutdown id) other = refl
 step_keeps Running uri s (other_request id method) other = refl
 step_keeps Running uri s (did_open None) other = refl
 step_keeps Running uri s (did_open (Some p)) other =
-    obeyed_keeps uri s (did_open (Some p)) (open_refusal s.config.limits s.table p) (after_open s.table p) (same_open s.table p uri) other
+    obeyed_keeps uri s (did_open (Some p)) (open_refusal s.config.limits s.table p) (after_open s.table p)
+    (same_open s.table p uri) other
 step_keeps Running uri s (did_change None) other = refl
 step_keeps Running uri s (did_change (Some p)) other =
     let units = units_in (session_encoding s) in
     let batch = map edit_from_data p.changes in
-    obeyed_keeps uri s (did_change (Some p)) (change_refusal s.config.limits units s.table p.uri p.version batch) (after_change units s.table p.uri p.version batch)
+    obeyed_keeps uri s (did_change (Some p)) (change_refusal s.config.limits units s.table p.uri p.version batch)
+    (after_change units s.table p.uri p.version batch)
     (same_changed units s.table p.uri p.version batch uri) other
 step_keeps Running uri s (did_close None) other = refl
 step_keeps Running uri s (did_close (Some p)) other =
-    obeyed_keeps uri s (did_close (Some p)) (close_refusal s.table p.uri) (after_close s.table p.uri) (same_closed s.table p.uri uri) other
+    obeyed_keeps uri s (did_close (Some p)) (close_refusal s.table p.uri) (after_close s.table p.uri)
+    (same_closed s.table p.uri uri) other
 step_keeps Running uri s (other_notification method) other = refl
 step_keeps Down uri s not_json other = refl
 step_keeps Down uri s (not_a_message id) other = refl
@@ -116,20 +131,26 @@ step_keeps Down uri s (other_notification method) other = refl
 -- ---- a record
 
 abbrev IsKept : List ℕ → Session → Side → IncomingData → Judged → Type 0
-IsKept uri s side m j = (is_changed j.verdict && is_document uri (uri_of side m)) ≡ false → entry_at j.session.server.table uri ≡ entry_at s.server.table uri
+IsKept uri s side m j = (is_changed j.verdict && is_document uri (uri_of side m)) ≡ false
+    → entry_at j.session.server.table uri ≡ entry_at s.server.table uri
 
-client_keeps : (uri : List ℕ) (s : Session) (version : Version) (m : IncomingData) → IsKept uri s Client m (judge_incoming s version m)
+client_keeps : (uri : List ℕ) (s : Session) (version : Version) (m : IncomingData)
+    → IsKept uri s Client m (judge_incoming s version m)
 client_keeps uri s version m = by (is_ended s.server.phase) (is_early s m)
   where
     by : (ended early : Bool)
-        → IsKept uri s Client m (if ended then judged bad s else if early then judged bad s else handled s version m (step_on s.server m).state (as_sent (step_on s.server m).answer))
+        → IsKept uri s Client m (if ended then judged bad s else if early then judged bad s else handled s version m
+        (step_on s.server m).state (as_sent (step_on s.server m).answer))
     by true early other = refl
     by false true other = refl
     by false false other = step_keeps s.server.phase uri s.server m other
 
-side_keeps : (uri : List ℕ) (s : Session) (version : Version) (side : Side) (body : List ℕ) → IsKept uri s side (incoming_of (reading body)) (judge_from s version side body)
+side_keeps : (uri : List ℕ) (s : Session) (version : Version) (side : Side) (body : List ℕ)
+    → IsKept uri s side (incoming_of (reading body)) (judge_from s version side body)
 side_keeps uri s version Client body = client_keeps uri s version (incoming_of (reading body))
-side_keeps uri s version Server body = λ other. ap (λ (table : List DocumentItem). entry_at table uri) (hear_table s s.expected body)
+side_keeps uri s version Server body =
+    λ other. ap (λ (table : List DocumentItem). entry_at table uri) (hear_table s s.expected body)
 
-pub record_keeps : (uri : List ℕ) (s : Session) (r : Record) → IsKept uri s r.head.side (incoming_of (reading r.body)) (judge s r)
+pub record_keeps : (uri : List ℕ) (s : Session) (r : Record) → IsKept uri s r.head.side (incoming_of (reading r.body))
+    (judge s r)
 record_keeps uri s r = side_keeps uri s r.head.version r.head.side r.body

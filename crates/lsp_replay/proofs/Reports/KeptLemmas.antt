@@ -27,66 +27,87 @@ use Rattle.lsp_replay.specs.inside.Kept.{closed_by, kept_after, text_at, text_cl
 abbrev Stays : List DocumentItem → List DocumentItem → List ℕ → Type 0
 Stays table next uri = entry_at next uri ≡ None → entry_at table uri ≡ None
 
-none_more : (b : Bool) (entry : DocumentItem) (found other : Option DocumentItem) → (other ≡ None → found ≡ None) → (if b then Some entry else other) ≡ None → (if b then Some entry else found) ≡ None
+none_more : (b : Bool) (entry : DocumentItem) (found other : Option DocumentItem) → (other ≡ None → found ≡ None)
+    → (if b then Some entry else other) ≡ None → (if b then Some entry else found) ≡ None
 none_more true entry found other stays e = absurd (let wrong : Some entry ≡ None = e in cc)
 none_more false entry found other stays e = stays e
 
 stays_last : (table : List DocumentItem) (entry : DocumentItem) (uri : List ℕ) → Stays table (table ++ entry ∷ []) uri
 stays_last [] entry uri e = refl
-stays_last (x ∷ table) entry uri e = none_more (bytes_eq uri x.uri) x (entry_at table uri) (entry_at (table ++ entry ∷ []) uri) (stays_last table entry uri) e
+stays_last (x ∷ table) entry uri e =
+    none_more (bytes_eq uri x.uri) x (entry_at table uri) (entry_at (table ++ entry ∷ []) uri)
+    (stays_last table entry uri) e
 
-last_found : (table : List DocumentItem) (entry : DocumentItem) (uri : List ℕ) → bytes_eq uri entry.uri ≡ true → entry_at (table ++ entry ∷ []) uri ≡ None → ⊥
+last_found : (table : List DocumentItem) (entry : DocumentItem) (uri : List ℕ) → bytes_eq uri entry.uri ≡ true
+    → entry_at (table ++ entry ∷ []) uri ≡ None → ⊥
 last_found [] entry uri is e = let wrong : Some entry ≡ None = rw is at e in cc
 last_found (x ∷ table) entry uri is e = by (bytes_eq uri x.uri) (last_found table entry uri is) e
   where
-    by : (b : Bool) → (entry_at (table ++ entry ∷ []) uri ≡ None → ⊥) → (if b then Some x else entry_at (table ++ entry ∷ []) uri) ≡ None → ⊥
+    by : (b : Bool) → (entry_at (table ++ entry ∷ []) uri ≡ None → ⊥)
+        → (if b then Some x else entry_at (table ++ entry ∷ []) uri) ≡ None → ⊥
     by true later f = let wrong : Some x ≡ None = f in cc
     by false later f = later f
 
-stays_changed : (units : ℕ → ℕ) (table : List DocumentItem) (other : List ℕ) (version : ℤ) (batch : List Edit) (uri : List ℕ) → Stays table (after_change units table other version batch) uri
+stays_changed : (units : ℕ → ℕ) (table : List DocumentItem) (other : List ℕ) (version : ℤ) (batch : List Edit)
+    (uri : List ℕ) → Stays table (after_change units table other version batch) uri
 stays_changed units [] other version batch uri e = refl
-stays_changed units (x ∷ table) other version batch uri e = by (stays_changed units table other version batch uri) (bytes_eq other x.uri) e
+stays_changed units (x ∷ table) other version batch uri e =
+    by (stays_changed units table other version batch uri) (bytes_eq other x.uri) e
   where
-    here : (b : Bool) → (if b then Some (changed units x version batch) else entry_at table uri) ≡ None → (if b then Some x else entry_at table uri) ≡ None
+    here : (b : Bool) → (if b then Some (changed units x version batch) else entry_at table uri) ≡ None
+        → (if b then Some x else entry_at table uri) ≡ None
     here true f = absurd (let wrong : Some (changed units x version batch) ≡ None = f in cc)
     here false f = f
 
-    by : Stays table (after_change units table other version batch) uri → (b : Bool) → entry_at (if b then changed units x version batch ∷ table else x ∷ after_change units table other version batch) uri ≡ None → entry_at (x ∷ table) uri ≡ None
+    by : Stays table (after_change units table other version batch) uri → (b : Bool)
+        → entry_at (if b then changed units x version batch ∷ table else x ∷ after_change units table other version
+        batch) uri ≡ None → entry_at (x ∷ table) uri ≡ None
     by others true f = here (bytes_eq uri x.uri) f
-    by others false f = none_more (bytes_eq uri x.uri) x (entry_at table uri) (entry_at (after_change units table other version batch) uri) others f
+    by others false f =
+        none_more (bytes_eq uri x.uri) x (entry_at table uri) (entry_at (after_change units table other version batch)
+        uri) others f
 
-stays_closed : (table : List DocumentItem) (other uri : List ℕ) → bytes_eq other uri ≡ false → Stays table (after_close table other) uri
+stays_closed : (table : List DocumentItem) (other uri : List ℕ) → bytes_eq other uri ≡ false
+    → Stays table (after_close table other) uri
 stays_closed [] other uri differ e = refl
 stays_closed (x ∷ table) other uri differ e = by (stays_closed table other uri differ) (bytes_eq other x.uri) refl e
   where
-    of_other : (b : Bool) → bytes_eq uri x.uri ≡ b → bytes_eq other x.uri ≡ true → entry_at table uri ≡ None → (if b then Some x else entry_at table uri) ≡ None
+    of_other : (b : Bool) → bytes_eq uri x.uri ≡ b → bytes_eq other x.uri ≡ true → entry_at table uri ≡ None
+        → (if b then Some x else entry_at table uri) ≡ None
     of_other true is same f =
         let one : other ≡ uri = (bytes_eq-Decides other x.uri).0 same ∙ sym ((bytes_eq-Decides uri x.uri).0 is) in
         absurd (let wrong : true ≡ false = sym ((bytes_eq-Decides other uri).1 one) ∙ differ in cc)
     of_other false is same f = f
 
-    by : Stays table (after_close table other) uri → (b : Bool) → bytes_eq other x.uri ≡ b → entry_at (if b then table else x ∷ after_close table other) uri ≡ None → entry_at (x ∷ table) uri ≡ None
+    by : Stays table (after_close table other) uri → (b : Bool) → bytes_eq other x.uri ≡ b
+        → entry_at (if b then table else x ∷ after_close table other) uri ≡ None → entry_at (x ∷ table) uri ≡ None
     by others true is f = of_other (bytes_eq uri x.uri) refl is f
-    by others false is f = none_more (bytes_eq uri x.uri) x (entry_at table uri) (entry_at (after_close table other) uri) others f
+    by others false is f =
+        none_more (bytes_eq uri x.uri) x (entry_at table uri) (entry_at (after_close table other) uri) others f
 
-stays_open : (table : List DocumentItem) (entry : DocumentItem) (uri : List ℕ) → Stays table (after_open table entry) uri
+stays_open : (table : List DocumentItem) (entry : DocumentItem) (uri : List ℕ) → Stays table (after_open table entry)
+    uri
 stays_open table entry uri = by (bytes_eq entry.uri uri) refl
   where
     by : (b : Bool) → bytes_eq entry.uri uri ≡ b → Stays table (after_open table entry) uri
     by true is e =
-        absurd (last_found (after_close table entry.uri) entry uri ((bytes_eq-Decides uri entry.uri).1 (sym ((bytes_eq-Decides entry.uri uri).0 is))) e)
+        absurd (last_found (after_close table entry.uri) entry uri
+        ((bytes_eq-Decides uri entry.uri).1 (sym ((bytes_eq-Decides entry.uri uri).0 is))) e)
     by false differ e = stays_closed table entry.uri uri differ (stays_last (after_close table entry.uri) entry uri e)
 
-obeyed_stays : (s : ServerData) (refusal : Option Refusal) (next : List DocumentItem) (uri : List ℕ) → Stays s.table next uri → Stays s.table (obeyed s (unless_refused refusal next)).state.table uri
+obeyed_stays : (s : ServerData) (refusal : Option Refusal) (next : List DocumentItem) (uri : List ℕ)
+    → Stays s.table next uri → Stays s.table (obeyed s (unless_refused refusal next)).state.table uri
 obeyed_stays s None next uri stays e = stays e
 obeyed_stays s (Some refusal) next uri stays e = e
 
 -- ---- a message closes the document, or the document stays
 
 abbrev Keeps : List DocumentItem → List ℕ → IncomingData → List DocumentItem → Type 0
-Keeps table uri m next = (text_closed table uri m ≡ text_at table uri) ⊎ ((text_closed table uri m ≡ None) × Stays table next uri)
+Keeps table uri m next = (text_closed table uri m ≡ text_at table uri)
+    ⊎ ((text_closed table uri m ≡ None) × Stays table next uri)
 
-close_same : (table : List DocumentItem) (uri : List ℕ) (p : CloseData) (b : Bool) → bytes_eq p.uri uri ≡ b → Keeps table uri (did_close (Some p)) table
+close_same : (table : List DocumentItem) (uri : List ℕ) (p : CloseData) (b : Bool) → bytes_eq p.uri uri ≡ b
+    → Keeps table uri (did_close (Some p)) table
 close_same table uri p true is = inl (rw is refl)
 close_same table uri p false is = inr (rw is refl, λ e. e)
 
@@ -104,11 +125,16 @@ same_table table uri (did_close None) = inr (refl, λ e. e)
 same_table table uri (did_close (Some p)) = close_same table uri p (bytes_eq p.uri uri) refl
 same_table table uri (other_notification method) = inr (refl, λ e. e)
 
-close_kept : (s : ServerData) (uri : List ℕ) (p : CloseData) (b : Bool) → bytes_eq p.uri uri ≡ b → Keeps s.table uri (did_close (Some p)) (step_in Running s (did_close (Some p))).state.table
+close_kept : (s : ServerData) (uri : List ℕ) (p : CloseData) (b : Bool) → bytes_eq p.uri uri ≡ b
+    → Keeps s.table uri (did_close (Some p)) (step_in Running s (did_close (Some p))).state.table
 close_kept s uri p true is = inl (rw is refl)
-close_kept s uri p false is = inr (rw is refl, obeyed_stays s (close_refusal s.table p.uri) _ uri (stays_closed s.table p.uri uri is))
+close_kept s uri p false is = inr (
+  rw is refl,
+  obeyed_stays s (close_refusal s.table p.uri) _ uri (stays_closed s.table p.uri uri is),
+)
 
-step_kept : (phase : Phase) (s : ServerData) (uri : List ℕ) (m : IncomingData) → Keeps s.table uri m (step_in phase s m).state.table
+step_kept : (phase : Phase) (s : ServerData) (uri : List ℕ) (m : IncomingData)
+    → Keeps s.table uri m (step_in phase s m).state.table
 step_kept Ended s uri m = same_table s.table uri m
 step_kept New s uri not_json = same_table s.table uri not_json
 step_kept New s uri (not_a_message id) = same_table s.table uri (not_a_message id)
@@ -130,12 +156,14 @@ step_kept Running s uri (initialize id offers) = same_table s.table uri (initial
 step_kept Running s uri (shutdown id) = same_table s.table uri (shutdown id)
 step_kept Running s uri (other_request id method) = same_table s.table uri (other_request id method)
 step_kept Running s uri (did_open None) = same_table s.table uri (did_open None)
-step_kept Running s uri (did_open (Some p)) = inr (refl, obeyed_stays s (open_refusal s.config.limits s.table p) _ uri (stays_open s.table p uri))
+step_kept Running s uri (did_open (Some p)) =
+    inr (refl, obeyed_stays s (open_refusal s.config.limits s.table p) _ uri (stays_open s.table p uri))
 step_kept Running s uri (did_change None) = same_table s.table uri (did_change None)
 step_kept Running s uri (did_change (Some p)) =
     inr (
       refl,
-      obeyed_stays s (change_refusal s.config.limits (units_in (session_encoding s)) s.table p.uri p.version (map edit_from_data p.changes)) _ uri
+      obeyed_stays s (change_refusal s.config.limits (units_in (session_encoding s)) s.table p.uri p.version
+          (map edit_from_data p.changes)) _ uri
           (stays_changed (units_in (session_encoding s)) s.table p.uri p.version (map edit_from_data p.changes) uri),
     )
 step_kept Running s uri (did_close None) = same_table s.table uri (did_close None)
@@ -153,22 +181,26 @@ step_kept Down s uri (did_change params) = same_table s.table uri (did_change pa
 step_kept Down s uri (did_close params) = same_table s.table uri (did_close params)
 step_kept Down s uri (other_notification method) = same_table s.table uri (other_notification method)
 
-client_kept : (s : Session) (version : Version) (uri : List ℕ) (m : IncomingData) → Keeps s.server.table uri m (judge_incoming s version m).session.server.table
+client_kept : (s : Session) (version : Version) (uri : List ℕ) (m : IncomingData)
+    → Keeps s.server.table uri m (judge_incoming s version m).session.server.table
 client_kept s version uri m = by (is_ended s.server.phase) (is_early s m)
   where
     by : (ended early : Bool)
-        → Keeps s.server.table uri m (if ended then judged bad s else if early then judged bad s else handled s version m (step_on s.server m).state (as_sent (step_on s.server m).answer)).session.server.table
+        → Keeps s.server.table uri m (if ended then judged bad s else if early then judged bad s else handled s version
+        m (step_on s.server m).state (as_sent (step_on s.server m).answer)).session.server.table
     by true early = same_table s.server.table uri m
     by false true = same_table s.server.table uri m
     by false false = step_kept s.server.phase s.server uri m
 
 -- ---- a server's record leaves the documents alone
 
-settled_in_table : (s : Session) (encoding : Option Encoding) → (settle_in s encoding).session.server.table ≡ s.server.table
+settled_in_table : (s : Session) (encoding : Option Encoding) → (settle_in s encoding).session.server.table
+    ≡ s.server.table
 settled_in_table s None = refl
 settled_in_table s (Some encoding) = refl
 
-settled_table : (s : Session) (announced : Option Announced) → (settle_by s announced).session.server.table ≡ s.server.table
+settled_table : (s : Session) (announced : Option Announced) → (settle_by s announced).session.server.table
+    ≡ s.server.table
 settled_table s None = refl
 settled_table s (Some announced) = settled_in_table s announced.encoding
 
@@ -176,38 +208,50 @@ heard_table : (s : Session) (result : Option Data) → (heard s result).session.
 heard_table s None = refl
 heard_table s (Some result) = settled_table s (announced_of result)
 
-pub hear_table : (s : Session) (expected : Option IdData) (body : List ℕ) → (hear_for s expected body).session.server.table ≡ s.server.table
+pub hear_table : (s : Session) (expected : Option IdData) (body : List ℕ)
+    → (hear_for s expected body).session.server.table ≡ s.server.table
 hear_table s None body = refl
 hear_table s (Some id) body = heard_table s (result_for id (reading body))
 
 -- ---- the last text over a record
 
-kept_text : (found : Option DocumentItem) (old : Option (List ℕ)) → kept_after (option_map (λ (entry : DocumentItem). entry.text) found) old ≡ last_text old found
+kept_text : (found : Option DocumentItem) (old : Option (List ℕ))
+    → kept_after (option_map (λ (entry : DocumentItem). entry.text) found) old ≡ last_text old found
 kept_text None old = refl
 kept_text (Some entry) old = refl
 
-text_over : (uri : List ℕ) (table next : List DocumentItem) (closed old new : Option (List ℕ)) → new ≡ kept_after closed old → (closed ≡ text_at table uri) ⊎ ((closed ≡ None) × Stays table next uri)
+text_over : (uri : List ℕ) (table next : List DocumentItem) (closed old new : Option (List ℕ))
+    → new ≡ kept_after closed old → (closed ≡ text_at table uri) ⊎ ((closed ≡ None) × Stays table next uri)
     → last_text new (entry_at next uri) ≡ last_text (last_text old (entry_at table uri)) (entry_at next uri)
 text_over uri table next closed old new is (inl closes) =
-    ap (λ (k : Option (List ℕ)). last_text k (entry_at next uri)) (is ∙ ap (λ (c : Option (List ℕ)). kept_after c old) closes ∙ kept_text (entry_at table uri) old)
+    ap (λ (k : Option (List ℕ)). last_text k (entry_at next uri)) (is ∙ ap (λ (c : Option (List ℕ)). kept_after c old)
+    closes ∙ kept_text (entry_at table uri) old)
 text_over uri table next closed old new is (inr stays) = by (entry_at next uri) refl
   where
-    by : (found : Option DocumentItem) → entry_at next uri ≡ found → last_text new found ≡ last_text (last_text old (entry_at table uri)) found
+    by : (found : Option DocumentItem) → entry_at next uri ≡ found → last_text new found
+        ≡ last_text (last_text old (entry_at table uri)) found
     by (Some entry) e = refl
     by None e = is ∙ ap (λ (c : Option (List ℕ)). kept_after c old) stays.0 ∙ sym (ap (last_text old) (stays.1 e))
 
-over_read : (s : Session) (read : BodyData) (uri : Option (List ℕ)) (old new : Option (List ℕ)) → new ≡ kept_after (closed_by s.server.table uri read) old
-    → last_text_in uri new (judge_read s read).session.server.table ≡ last_text_in uri (last_text_in uri old s.server.table) (judge_read s read).session.server.table
+over_read : (s : Session) (read : BodyData) (uri : Option (List ℕ)) (old new : Option (List ℕ))
+    → new ≡ kept_after (closed_by s.server.table uri read) old
+    → last_text_in uri new (judge_read s read).session.server.table
+    ≡ last_text_in uri (last_text_in uri old s.server.table) (judge_read s read).session.server.table
 over_read s read None old new is = refl
 over_read s (from_client version m) (Some uri) old new is =
-    text_over uri s.server.table (judge_incoming s version m).session.server.table (text_closed s.server.table uri m) old new is (client_kept s version uri m)
+    text_over uri s.server.table (judge_incoming s version m).session.server.table (text_closed s.server.table uri m)
+    old new is (client_kept s version uri m)
 over_read s (from_server body) (Some uri) old new is =
-    text_over uri s.server.table (hear_for s s.expected body).session.server.table None old new is (inr (refl, λ e. ap (λ (t : List DocumentItem). entry_at t uri) (sym (hear_table s s.expected body)) ∙ e))
+    text_over uri s.server.table (hear_for s s.expected body).session.server.table None old new is
+    (inr (refl, λ e. ap (λ (t : List DocumentItem). entry_at t uri) (sym (hear_table s s.expected body)) ∙ e))
 
 -- the same of a session that is the same after it read the record, and of what it kept
-pub kept_over : (s t u : Session) (read : BodyData) (uri : Option (List ℕ)) (closed old new : Option (List ℕ)) → t ≡ s → closed ≡ closed_by t.server.table uri read → u ≡ (counted (judge_read t read)).session → new ≡ kept_after closed old
+pub kept_over : (s t u : Session) (read : BodyData) (uri : Option (List ℕ)) (closed old new : Option (List ℕ)) → t ≡ s
+    → closed ≡ closed_by t.server.table uri read → u ≡ (counted (judge_read t read)).session
+    → new ≡ kept_after closed old
     → last_text_in uri new u.server.table ≡ last_text_in uri (last_text_in uri old s.server.table) u.server.table
 kept_over s t u read uri closed old new same is judged kept =
     rw judged
     (over_read t read uri old new (kept ∙ ap (λ (c : Option (List ℕ)). kept_after c old) is)
-    ∙ ap (λ (v : Session). last_text_in uri (last_text_in uri old v.server.table) (judge_read t read).session.server.table) same)
+    ∙ ap (λ (v : Session). last_text_in uri (last_text_in uri old v.server.table)
+    (judge_read t read).session.server.table) same)

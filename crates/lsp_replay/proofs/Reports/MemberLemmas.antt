@@ -11,17 +11,20 @@ on_ok (Ok a) then p = then p
 on_ok (Err e) then p = tt
 
 -- a name and a value, as they are written one after the other
-pub one_member : {A E : Type 0} (r : Result A E) (new old front value : List ℕ) → OnOk r (new ≡ (old ++ front) ++ value) → OnOk r (new ≡ old ++ (front ++ value))
+pub one_member : {A E : Type 0} (r : Result A E) (new old front value : List ℕ) → OnOk r (new ≡ (old ++ front) ++ value)
+    → OnOk r (new ≡ old ++ (front ++ value))
 one_member (Ok a) new old front value is = is ∙ append_assoc old front value
 one_member (Err e) new old front value is = tt
 
 -- ---- the first members
 
-first_parts : (old a d b p c s q m i u : List ℕ) → old ++ a ++ d ++ b ++ p ++ c ++ s ++ q ++ m ++ i ++ u ≡ old ++ (a ++ d ++ b ++ p ++ c ++ s ++ q ++ m ++ i ++ u)
+first_parts : (old a d b p c s q m i u : List ℕ) → old ++ a ++ d ++ b ++ p ++ c ++ s ++ q ++ m ++ i ++ u
+    ≡ old ++ (a ++ d ++ b ++ p ++ c ++ s ++ q ++ m ++ i ++ u)
 first_parts old a d b p c s q m i u = simp append_assoc
 
 pub first_is : (number : ℕ) (head : Head) (m : IncomingData) (old one two three four : List ℕ)
-    → one ≡ old ++ codes "{\"number\":" ++ decimal number ++ codes ",\"offset\":" ++ decimal head.place ++ codes ",\"from\":\"" ++ side_word head.side ++ codes "\""
+    → one ≡ old ++ codes "{\"number\":" ++ decimal number ++ codes ",\"offset\":" ++ decimal head.place
+    ++ codes ",\"from\":\"" ++ side_word head.side ++ codes "\""
     → two ≡ one ++ member (codes ",\"method\":") (option_map json_string (method_of m))
     → three ≡ two ++ member (codes ",\"id\":") (option_map id_json (id_of m))
     → four ≡ three ++ member (codes ",\"uri\":") (option_map json_string (uri_of head.side m))
@@ -30,15 +33,19 @@ first_is number head m old one two three four a b c d =
     let method = member (codes ",\"method\":") (option_map json_string (method_of m)) in
     let id = member (codes ",\"id\":") (option_map id_json (id_of m)) in
     let document = member (codes ",\"uri\":") (option_map json_string (uri_of head.side m)) in
-    d ∙ ap (λ (bs : List ℕ). bs ++ document) (c ∙ ap (λ (bs : List ℕ). bs ++ id) (b ∙ ap (λ (bs : List ℕ). bs ++ method) a))
-    ∙ first_parts old (codes "{\"number\":") (decimal number) (codes ",\"offset\":") (decimal head.place) (codes ",\"from\":\"") (side_word head.side) (codes "\"") method id document
+    d ∙ ap (λ (bs : List ℕ). bs ++ document)
+    (c ∙ ap (λ (bs : List ℕ). bs ++ id) (b ∙ ap (λ (bs : List ℕ). bs ++ method) a))
+    ∙ first_parts old (codes "{\"number\":") (decimal number) (codes ",\"offset\":") (decimal head.place)
+    (codes ",\"from\":\"") (side_word head.side) (codes "\"") method id document
 
 -- ---- the others
 
-last_parts : (old a w q r l n v c t b e : List ℕ) → old ++ a ++ w ++ q ++ r ++ l ++ n ++ v ++ c ++ t ++ b ++ e ≡ old ++ (a ++ w ++ q ++ r ++ l ++ n ++ v ++ c ++ t ++ b ++ e)
+last_parts : (old a w q r l n v c t b e : List ℕ) → old ++ a ++ w ++ q ++ r ++ l ++ n ++ v ++ c ++ t ++ b ++ e
+    ≡ old ++ (a ++ w ++ q ++ r ++ l ++ n ++ v ++ c ++ t ++ b ++ e)
 last_parts old a w q r l n v c t b e = simp append_assoc
 
-pub last_is : (word : List ℕ) (reason last notes version canonical shown body : Option (List ℕ)) (old one two three four five six seven eight nine : List ℕ)
+pub last_is : (word : List ℕ) (reason last notes version canonical shown body : Option (List ℕ))
+    (old one two three four five six seven eight nine : List ℕ)
     → one ≡ old ++ codes ",\"word\":\"" ++ word ++ codes "\""
     → two ≡ one ++ member (codes ",\"reason\":") reason
     → three ≡ two ++ member (codes ",\"last\":") last
@@ -49,7 +56,8 @@ pub last_is : (word : List ℕ) (reason last notes version canonical shown body 
     → eight ≡ seven ++ member (codes ",\"body\":") body
     → nine ≡ eight ++ codes "}\n"
     → nine ≡ old ++ last_members word reason last notes version canonical shown body
-last_is word reason last notes version canonical shown body old one two three four five six seven eight nine a b c d e f g h i =
+last_is word reason last notes version canonical shown body old one two three four five six seven eight nine a b c d e f
+    g h i =
     let r = member (codes ",\"reason\":") reason in
     let l = member (codes ",\"last\":") last in
     let n = member (codes ",\"notes\":") notes in
@@ -58,11 +66,16 @@ last_is word reason last notes version canonical shown body old one two three fo
     let t = member (codes ",\"text\":") shown in
     let o = member (codes ",\"body\":") body in
     i ∙ ap (λ (bs : List ℕ). bs ++ codes "}\n")
-    (h ∙ ap (λ (bs : List ℕ). bs ++ o) (g ∙ ap (λ (bs : List ℕ). bs ++ t) (f ∙ ap (λ (bs : List ℕ). bs ++ k) (e ∙ ap (λ (bs : List ℕ). bs ++ v) (d ∙ ap (λ (bs : List ℕ). bs ++ n) (c ∙ ap (λ (bs : List ℕ). bs ++ l) (b ∙ ap (λ (bs : List ℕ). bs ++ r) a)))))))
+    (h ∙ ap (λ (bs : List ℕ). bs ++ o)
+    (g ∙ ap (λ (bs : List ℕ). bs ++ t)
+    (f ∙ ap (λ (bs : List ℕ). bs ++ k)
+    (e ∙ ap (λ (bs : List ℕ). bs ++ v)
+    (d ∙ ap (λ (bs : List ℕ). bs ++ n) (c ∙ ap (λ (bs : List ℕ). bs ++ l) (b ∙ ap (λ (bs : List ℕ). bs ++ r) a)))))))
     ∙ last_parts old (codes ",\"word\":\"") word (codes "\"") r l n v k t o (codes "}\n")
 
 -- ---- a whole line: the members between those that other commands have too
 
 pub line_parts : (a d o p f s q m i u w k z r l n v c t b e : List ℕ)
-    → (a ++ d ++ o ++ p ++ f ++ s ++ q ++ m ++ i ++ u) ++ (w ++ k ++ z ++ r ++ l ++ n ++ v ++ c ++ t ++ b ++ e) ≡ a ++ d ++ (o ++ p ++ f ++ s ++ q ++ m ++ i) ++ u ++ w ++ k ++ z ++ (r ++ l ++ n ++ v ++ c) ++ t ++ (b ++ e)
+    → (a ++ d ++ o ++ p ++ f ++ s ++ q ++ m ++ i ++ u) ++ (w ++ k ++ z ++ r ++ l ++ n ++ v ++ c ++ t ++ b ++ e)
+    ≡ a ++ d ++ (o ++ p ++ f ++ s ++ q ++ m ++ i) ++ u ++ w ++ k ++ z ++ (r ++ l ++ n ++ v ++ c) ++ t ++ (b ++ e)
 line_parts a d o p f s q m i u w k z r l n v c t b e = simp append_assoc

@@ -28,11 +28,13 @@ use Rattle.lsp_replay.specs.Notes.{Terms, batch_notes, change_notes, left_by, no
 -- ---- a position
 
 module _ (units : ℕ → ℕ) (text : List ℕ) (p : Position) where
-  pub taken_is : (offset : ℕ) (taken : Position) → Some offset ≡ option_map (place_of text) (denoted units text p) → ((k : ℕ) → k ≤ length text → place_of text k ≡ offset → taken ≡ exact_position units text k)
+  pub taken_is : (offset : ℕ) (taken : Position) → Some offset ≡ option_map (place_of text) (denoted units text p)
+      → ((k : ℕ) → k ≤ length text → place_of text k ≡ offset → taken ≡ exact_position units text k)
       → Some taken ≡ taken_as units text p
   taken_is offset taken is exact = by (denoted units text p) refl is
     where
-      by : (found : Option ℕ) → denoted units text p ≡ found → Some offset ≡ option_map (place_of text) found → Some taken ≡ option_map (exact_position units text) found
+      by : (found : Option ℕ) → denoted units text p ≡ found → Some offset ≡ option_map (place_of text) found
+          → Some taken ≡ option_map (exact_position units text) found
       by None e at = absurd (cc)
       by (Some k) e at =
           let whole = denoted_whole units text p k e in
@@ -42,7 +44,8 @@ module _ (units : ℕ → ℕ) (text : List ℕ) (p : Position) where
   pub taken_none : None ≡ option_map (place_of text) (denoted units text p) → None ≡ taken_as units text p
   taken_none is = by (denoted units text p) is
     where
-      by : (found : Option ℕ) → ◌≡◌ {A = Option ℕ} None (option_map (place_of text) found) → ◌≡◌ {A = Option Position} None (option_map (exact_position units text) found)
+      by : (found : Option ℕ) → ◌≡◌ {A = Option ℕ} None (option_map (place_of text) found)
+          → ◌≡◌ {A = Option Position} None (option_map (exact_position units text) found)
       by None at = refl
       by (Some k) at = absurd (let wrong : None ≡ Some (place_of text k) = at in cc)
 
@@ -52,19 +55,24 @@ module _ (units : ℕ → ℕ) (bytes : List ℕ) (range : Range) where
   abbrev text : List ℕ
   text = chars bytes
 
-  pub part_is : (start stop : ℕ) → IsUtf8 bytes → Ok (start, stop) ≡ places_at 0 text (ends_of units text range) → Some (chars (slice_range bytes start stop)) ≡ replaced_by units text (Some range)
+  pub part_is : (start stop : ℕ) → IsUtf8 bytes → Ok (start, stop) ≡ places_at 0 text (ends_of units text range)
+      → Some (chars (slice_range bytes start stop)) ≡ replaced_by units text (Some range)
   part_is start stop utf8 is =
       let e = ends_told units text range 0 start stop is in
-      let found : ends_of units text range ≡ Ok (e.low, e.high) = rw (e.low_is, e.high_is, le-leb e.low e.high e.order) refl in
+      let found : ends_of units text range ≡ Ok (e.low, e.high) =
+      rw (e.low_is, e.high_is, le-leb e.low e.high e.order) refl in
       let part : chars (slice_range bytes start stop) ≡ slice_range text e.low e.high
-      = ap₂ (λ (a b : ℕ). chars (slice_range bytes a b)) (sym e.start_is) (sym e.stop_is) ∙ chars_part bytes e.low e.high utf8 e.order e.within in
+      = ap₂ (λ (a b : ℕ). chars (slice_range bytes a b)) (sym e.start_is) (sym e.stop_is)
+      ∙ chars_part bytes e.low e.high utf8 e.order e.within in
       rw found (ap (λ (t : List ℕ). Some t) part)
 
   -- an end denotes nothing, or the range is reversed
-  pub no_part : (fault : EditFault) → Err fault ≡ places_at 0 text (ends_of units text range) → replaced_by units text (Some range) ≡ None
+  pub no_part : (fault : EditFault) → Err fault ≡ places_at 0 text (ends_of units text range)
+      → replaced_by units text (Some range) ≡ None
   no_part fault is = by (ends_of units text range) refl is
     where
-      by : (ends : Result (ℕ × ℕ) Fault) → ends_of units text range ≡ ends → Err fault ≡ places_at 0 text ends → replaced_by units text (Some range) ≡ None
+      by : (ends : Result (ℕ × ℕ) Fault) → ends_of units text range ≡ ends → Err fault ≡ places_at 0 text ends
+          → replaced_by units text (Some range) ≡ None
       by (Ok ends) e at = absurd (cc)
       by (Err why) e at = rw e refl
 
@@ -81,24 +89,32 @@ same_chars a b utf8_a utf8_b = by (bytes_eq (chars a) (chars b)) (bytes_eq a b) 
         let equal : bytes_eq a b ≡ true = (bytes_eq-Decides a b).1 bytes in
         absurd (cc)
     by false true p q =
-        let equal : bytes_eq (chars a) (chars b) ≡ true = (bytes_eq-Decides (chars a) (chars b)).1 (ap chars ((bytes_eq-Decides a b).0 q)) in
+        let equal : bytes_eq (chars a) (chars b) ≡ true =
+        (bytes_eq-Decides (chars a) (chars b)).1 (ap chars ((bytes_eq-Decides a b).0 q)) in
         absurd (cc)
 
 -- ---- the changes of a message
 
 -- The text of a change has the bytes of its characters.
 long_text : (change : Change) → length (encode_utf8_all (chars (string_bytes change.text))) ≡ string_len change.text
-long_text change = ap length (encodes-chars (string_bytes change.text) (IsUtf8-string_bytes change.text)) ∙ sym change.text.bytes.ok.0
+long_text change = ap length (encodes-chars (string_bytes change.text) (IsUtf8-string_bytes change.text))
+    ∙ sym change.text.bytes.ok.0
 
 module _ (units : ℕ → ℕ) (text : List ℕ) (change : Change) where
   pub nothing_left : 1073741824 < string_len change.text → left_by units text (edit_of change) ≡ None
   nothing_left long =
-      let e : nat_lt 1073741824 (length (encode_utf8_all (chars (string_bytes change.text)))) ≡ true = lt-ltb 1073741824 (length (encode_utf8_all (chars (string_bytes change.text)))) (omega (arith, long, long_text change)) in
+      let e : nat_lt 1073741824 (length (encode_utf8_all (chars (string_bytes change.text)))) ≡ true =
+      lt-ltb 1073741824 (length (encode_utf8_all (chars (string_bytes change.text))))
+      (omega (arith, long, long_text change)) in
       rw e refl
 
-  pub text_left : (left : List ℕ) → string_len change.text ≤ 1073741824 → text_within 1073741824 text (meaning units (chars text) (edit_of change ∷ [])) ≡ Ok left → left_by units text (edit_of change) ≡ Some left
+  pub text_left : (left : List ℕ) → string_len change.text ≤ 1073741824
+      → text_within 1073741824 text (meaning units (chars text) (edit_of change ∷ [])) ≡ Ok left
+      → left_by units text (edit_of change) ≡ Some left
   text_left left fits is =
-      let e : nat_lt 1073741824 (length (encode_utf8_all (chars (string_bytes change.text)))) ≡ false = le-ltb 1073741824 (length (encode_utf8_all (chars (string_bytes change.text)))) (omega (arith, fits, long_text change)) in
+      let e : nat_lt 1073741824 (length (encode_utf8_all (chars (string_bytes change.text)))) ≡ false =
+      le-ltb 1073741824 (length (encode_utf8_all (chars (string_bytes change.text))))
+      (omega (arith, fits, long_text change)) in
       rw e (ap (λ (r : Result (List ℕ) TextFault). result_ok r) is)
 
 -- A change, by what the reader returns of it.
@@ -110,30 +126,40 @@ nothing_after : (left : Option (List ℕ)) → notes_after (λ (next : List ℕ)
 nothing_after None = refl
 nothing_after (Some next) = refl
 
-one_change : (terms : Terms) (text : List ℕ) (change : Edit) → notes_from terms 0 text (change ∷ []) ≡ change_notes terms (chars text) 0 change
+one_change : (terms : Terms) (text : List ℕ) (change : Edit) → notes_from terms 0 text (change ∷ [])
+    ≡ change_notes terms (chars text) 0 change
 one_change terms text change =
-    ap (λ (notes : List Note). change_notes terms (chars text) 0 change ++ notes) (nothing_after (left_by terms.units text change))
+    ap (λ (notes : List Note). change_notes terms (chars text) 0 change ++ notes)
+    (nothing_after (left_by terms.units text change))
     ∙ append-nil (change_notes terms (chars text) 0 change)
 
-pub one_noted : (terms : Terms) (text : List ℕ) (changes : List Change) (change : Change) → length changes ≡ 1 → change ≡ get_or changes 0 change → batch_notes terms text (map edit_of changes) ≡ change_notes terms (chars text) 0 (edit_of change)
+pub one_noted : (terms : Terms) (text : List ℕ) (changes : List Change) (change : Change) → length changes ≡ 1
+    → change ≡ get_or changes 0 change → batch_notes terms text (map edit_of changes) ≡ change_notes terms (chars text)
+    0 (edit_of change)
 one_noted terms text [] change one is = absurd (omega (arith, one))
-one_noted terms text (first ∷ []) change one is = one_change terms text (edit_of first) ∙ ap (λ (c : Change). change_notes terms (chars text) 0 (edit_of c)) (sym is)
+one_noted terms text (first ∷ []) change one is =
+    one_change terms text (edit_of first) ∙ ap (λ (c : Change). change_notes terms (chars text) 0 (edit_of c)) (sym is)
 one_noted terms text (first ∷ second ∷ more) change one is = absurd (omega (arith, one))
 
 -- How far changes were noted: what there is to note of the rest leads to all.
-pub record Noting (terms : Terms) (all : List Note) (index : ℕ) (rest : List Change) (left : List ℕ) (notes : List Note) : Type 0 where
+pub record Noting (terms : Terms) (all : List Note) (index : ℕ) (rest : List Change) (left : List ℕ)
+    (notes : List Note) : Type 0 where
   pub noted : notes ++ notes_from terms index left (map edit_of rest) ≡ all
   pub size : length left ≤ 1073741824
 
-module _ (terms : Terms) (all : List Note) (index : ℕ) (change : Change) (rest more : List Change) (left : List ℕ) (notes next : List Note) (is : rest ≡ change ∷ more) (noting : Noting terms all index rest left notes)
+module _ (terms : Terms) (all : List Note) (index : ℕ) (change : Change) (rest more : List Change) (left : List ℕ)
+    (notes next : List Note) (is : rest ≡ change ∷ more) (noting : Noting terms all index rest left notes)
     (pushed : next ≡ notes ++ change_notes terms (chars left) index (edit_of change)) where
-  here : next ++ notes_after (λ (text : List ℕ). notes_from terms (suc index) text (map edit_of more)) (left_by terms.units left (edit_of change)) ≡ all
+  here : next ++ notes_after (λ (text : List ℕ). notes_from terms (suc index) text (map edit_of more))
+      (left_by terms.units left (edit_of change)) ≡ all
   here =
-      ap (λ (ns : List Note). ns ++ notes_after (λ (text : List ℕ). notes_from terms (suc index) text (map edit_of more)) (left_by terms.units left (edit_of change))) pushed
+      ap (λ (ns : List Note). ns ++ notes_after (λ (text : List ℕ). notes_from terms (suc index) text
+      (map edit_of more)) (left_by terms.units left (edit_of change))) pushed
       ∙ append_assoc notes (change_notes terms (chars left) index (edit_of change)) _
       ∙ (rw is at noting.noted)
 
-  pub noting_on : (text : List ℕ) → left_by terms.units left (edit_of change) ≡ Some text → length text ≤ 1073741824 → Noting terms all (index + 1) more text next
+  pub noting_on : (text : List ℕ) → left_by terms.units left (edit_of change) ≡ Some text → length text ≤ 1073741824
+      → Noting terms all (index + 1) more text next
   noting_on text leaves size =
       let n : index + 1 ≡ suc index = omega arith in
       record {
@@ -144,7 +170,8 @@ module _ (terms : Terms) (all : List Note) (index : ℕ) (change : Change) (rest
   pub noting_ends : left_by terms.units left (edit_of change) ≡ None → next ≡ all
   noting_ends leaves = sym (append-nil next) ∙ (rw leaves at here)
 
-pub noting_done : (terms : Terms) (all : List Note) (index : ℕ) (rest : List Change) (left : List ℕ) (notes : List Note) → rest ≡ [] → Noting terms all index rest left notes → notes ≡ all
+pub noting_done : (terms : Terms) (all : List Note) (index : ℕ) (rest : List Change) (left : List ℕ) (notes : List Note)
+    → rest ≡ [] → Noting terms all index rest left notes → notes ≡ all
 noting_done terms all index rest left notes none noting = sym (append-nil notes) ∙ (rw none at noting.noted)
 
 -- ---- in words
@@ -153,7 +180,9 @@ noting_done terms all index rest left notes none noting = sym (append-nil notes)
 abbrev pub Writing : List ℕ → List ℕ → List Note → List ℕ → Type 0
 Writing all between rest buffer = buffer ++ flat_map (λ note. between ++ note_words note) rest ≡ all
 
-pub writing_on : (all between buffer one two : List ℕ) (note : Note) (rest more : List Note) → rest ≡ note ∷ more → Writing all between rest buffer → one ≡ buffer ++ between → two ≡ one ++ note_words note → Writing all between more two
+pub writing_on : (all between buffer one two : List ℕ) (note : Note) (rest more : List Note) → rest ≡ note ∷ more
+    → Writing all between rest buffer → one ≡ buffer ++ between → two ≡ one ++ note_words note
+    → Writing all between more two
 writing_on all between buffer one two note rest more is writing first second =
     let words = flat_map (λ (n : Note). between ++ note_words n) more in
     ap (λ (bs : List ℕ). bs ++ words) (second ∙ ap (λ (bs : List ℕ). bs ++ note_words note) first)
@@ -162,5 +191,6 @@ writing_on all between buffer one two note rest more is writing first second =
     parts : (b w n r : List ℕ) → ((b ++ w) ++ n) ++ r ≡ b ++ ((w ++ n) ++ r)
     parts b w n r = simp append_assoc
 
-pub writing_done : (all between buffer : List ℕ) (rest : List Note) → rest ≡ [] → Writing all between rest buffer → buffer ≡ all
+pub writing_done : (all between buffer : List ℕ) (rest : List Note) → rest ≡ [] → Writing all between rest buffer
+    → buffer ≡ all
 writing_done all between buffer rest none writing = sym (append-nil buffer) ∙ (rw none at writing)

@@ -14,14 +14,16 @@ quiet_gives r (answered answer) = refl
 quiet_gives r recorded = refl
 quiet_gives r bad = refl
 
-quiet_on : (out : List ℕ) (end : Option (Result Outcome EngineFault)) (c : RunOutput) → out ≡ [] → c.out ≡ [] → (continue_with out end c).out ≡ []
+quiet_on : (out : List ℕ) (end : Option (Result Outcome EngineFault)) (c : RunOutput) → out ≡ [] → c.out ≡ []
+    → (continue_with out end c).out ≡ []
 quiet_on out None c here later = ap (λ z. z ++ c.out) here ∙ later
 quiet_on out (Some answer) c here later = here
 
 quiet : (s : Session) (rs : List Record) → (run_output_in replaying s rs).out ≡ []
 quiet s [] = refl
 quiet s (r ∷ rs) =
-    quiet_on (unless_bad r (judge s r).verdict (writes [])).out (unless_bad r (judge s r).verdict (writes [])).end (run_output_in replaying (judge s r).session rs) (quiet_gives r (judge s r).verdict)
+    quiet_on (unless_bad r (judge s r).verdict (writes [])).out (unless_bad r (judge s r).verdict (writes [])).end
+    (run_output_in replaying (judge s r).session rs) (quiet_gives r (judge s r).verdict)
     (quiet (judge s r).session rs)
 
 pub report_law : ReportLaw

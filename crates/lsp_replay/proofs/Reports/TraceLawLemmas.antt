@@ -29,7 +29,8 @@ use Rattle.lsp_replay.proofs.Records.TableLemmas.{record_keeps}
 abbrev text_if : Bool → Option DocumentItem → Option (List ℕ)
 text_if is_asked document = if is_asked then option_map (λ (entry : DocumentItem). entry.text) document else None
 
-text_member : (is_asked : Bool) (document : Option DocumentItem) → text_json is_asked document ≡ option_map json_string (text_if is_asked document)
+text_member : (is_asked : Bool) (document : Option DocumentItem) → text_json is_asked document
+    ≡ option_map json_string (text_if is_asked document)
 text_member true (Some entry) = refl
 text_member true None = refl
 text_member false document = refl
@@ -50,28 +51,53 @@ module _ (details : Details) (known : Known) (s : Session) (r : Record) (m : Inc
   abbrev before : List ℕ
   before =
       codes ",\"offset\":" ++ decimal r.head.place ++ codes ",\"from\":\"" ++ side_word r.head.side ++ codes "\""
-      ++ member (codes ",\"method\":") (option_map json_string (method_of m)) ++ member (codes ",\"id\":") (option_map id_json (id_of m))
+      ++ member (codes ",\"method\":") (option_map json_string (method_of m)) ++ member (codes ",\"id\":")
+      (option_map id_json (id_of m))
 
   abbrev between : List ℕ
   between =
-      member (codes ",\"reason\":") (reason_json j.session.server.config.limits m j.verdict) ++ member (codes ",\"last\":") (option_map decimal (last_for known.mentions uri j.verdict))
-      ++ member (codes ",\"notes\":") (notes_json (notes_of s known.ranged r.body j.verdict)) ++ member (codes ",\"version\":") (version_json document) ++ member (codes ",\"canonical\":") (within s.server.config.limits.max_body (canonical_of_record s r.body j.verdict))
+      member (codes ",\"reason\":") (reason_json j.session.server.config.limits m j.verdict)
+      ++ member (codes ",\"last\":") (option_map decimal (last_for known.mentions uri j.verdict))
+      ++ member (codes ",\"notes\":") (notes_json (notes_of s known.ranged r.body j.verdict))
+      ++ member (codes ",\"version\":") (version_json document) ++ member (codes ",\"canonical\":")
+      (within s.server.config.limits.max_body (canonical_of_record s r.body j.verdict))
 
   abbrev after : List ℕ
   after = member (codes ",\"body\":") (body_json (details.bodies && is_json m) r.body) ++ codes "}\n"
 
   abbrev line_of : Line
-  line_of = record { number = j.session.records; word = verdict_word j.verdict; uri = uri; text = text; before = before; between = between; after = after }
+  line_of = record {
+    number = j.session.records;
+    word = verdict_word j.verdict;
+    uri = uri;
+    text = text;
+    before = before;
+    between = between;
+    after = after;
+  }
 
   line_of_trace : trace_line details known s r j m ≡ traced_line line_of
   line_of_trace =
-      ap (λ (t : Option (List ℕ)). first_members j.session.records r.head m ++ last_members (verdict_word j.verdict) (reason_json j.session.server.config.limits m j.verdict) (option_map decimal (last_for known.mentions uri j.verdict)) (notes_json (notes_of s known.ranged r.body j.verdict))
-      (version_json document) (within s.server.config.limits.max_body (canonical_of_record s r.body j.verdict)) t (body_json (details.bodies && is_json m) r.body)) (text_member (details.texts && is_changed j.verdict) document)
-      ∙ line_parts (codes "{\"number\":") (decimal j.session.records) (codes ",\"offset\":") (decimal r.head.place) (codes ",\"from\":\"") (side_word r.head.side) (codes "\"")
-      (member (codes ",\"method\":") (option_map json_string (method_of m))) (member (codes ",\"id\":") (option_map id_json (id_of m))) (member (codes ",\"uri\":") (option_map json_string uri))
-      (codes ",\"word\":\"") (verdict_word j.verdict) (codes "\"") (member (codes ",\"reason\":") (reason_json j.session.server.config.limits m j.verdict)) (member (codes ",\"last\":") (option_map decimal (last_for known.mentions uri j.verdict)))
-      (member (codes ",\"notes\":") (notes_json (notes_of s known.ranged r.body j.verdict))) (member (codes ",\"version\":") (version_json document)) (member (codes ",\"canonical\":") (within s.server.config.limits.max_body (canonical_of_record s r.body j.verdict)))
-      (member (codes ",\"text\":") (option_map json_string text)) (member (codes ",\"body\":") (body_json (details.bodies && is_json m) r.body)) (codes "}\n")
+      ap (λ (t : Option (List ℕ)). first_members j.session.records r.head m ++ last_members (verdict_word j.verdict)
+      (reason_json j.session.server.config.limits m j.verdict)
+      (option_map decimal (last_for known.mentions uri j.verdict))
+      (notes_json (notes_of s known.ranged r.body j.verdict))
+      (version_json document) (within s.server.config.limits.max_body (canonical_of_record s r.body j.verdict)) t
+      (body_json (details.bodies && is_json m) r.body)) (text_member (details.texts && is_changed j.verdict) document)
+      ∙ line_parts (codes "{\"number\":") (decimal j.session.records) (codes ",\"offset\":") (decimal r.head.place)
+      (codes ",\"from\":\"") (side_word r.head.side) (codes "\"")
+      (member (codes ",\"method\":") (option_map json_string (method_of m)))
+      (member (codes ",\"id\":") (option_map id_json (id_of m)))
+      (member (codes ",\"uri\":") (option_map json_string uri))
+      (codes ",\"word\":\"") (verdict_word j.verdict) (codes "\"")
+      (member (codes ",\"reason\":") (reason_json j.session.server.config.limits m j.verdict))
+      (member (codes ",\"last\":") (option_map decimal (last_for known.mentions uri j.verdict)))
+      (member (codes ",\"notes\":") (notes_json (notes_of s known.ranged r.body j.verdict)))
+      (member (codes ",\"version\":") (version_json document))
+      (member (codes ",\"canonical\":")
+      (within s.server.config.limits.max_body (canonical_of_record s r.body j.verdict)))
+      (member (codes ",\"text\":") (option_map json_string text))
+      (member (codes ",\"body\":") (body_json (details.bodies && is_json m) r.body)) (codes "}\n")
 
 -- ---- the text after a record
 
@@ -98,7 +124,8 @@ abbrev text_in : List DocumentItem → List ℕ → Option (List ℕ)
 text_in table uri = option_map (λ (entry : DocumentItem). entry.text) (entry_at table uri)
 
 -- the text in the line of an accepted record about the document
-text_there : (asked here : Bool) (table : List DocumentItem) (uri : List ℕ) (other : Option (List ℕ)) → asked ≡ true → (here && is_document uri other) ≡ true
+text_there : (asked here : Bool) (table : List DocumentItem) (uri : List ℕ) (other : Option (List ℕ)) → asked ≡ true
+    → (here && is_document uri other) ≡ true
     → text_if (asked && here) (document_after table other) ≡ text_in table uri
 text_there asked false table uri other is both = absurd (let wrong : false ≡ true = both in cc)
 text_there asked true table uri None is both = absurd (let wrong : false ≡ true = both in cc)
@@ -106,7 +133,8 @@ text_there asked true table uri (Some other) is both =
     ap (λ (b : Bool). text_if (b && true) (entry_at table other)) is
     ∙ ap (λ (u : List ℕ). text_in table u) (sym ((bytes_eq-Decides uri other).0 both))
 
-module _ (details : Details) (known : Known) (s : Session) (r : Record) (uri : List ℕ) (asked : details.texts ≡ true) where
+module _ (details : Details) (known : Known) (s : Session) (r : Record) (uri : List ℕ)
+    (asked : details.texts ≡ true) where
   abbrev l : Line
   l = line_of details known s r (incoming_of (reading r.body))
 
@@ -116,12 +144,16 @@ module _ (details : Details) (known : Known) (s : Session) (r : Record) (uri : L
   abbrev is_changed_here : Bool
   is_changed_here = is_changed (judge s r).verdict && is_document uri l.uri
 
-  by_case : (old : Option (List ℕ)) → old ≡ text_in s.server.table uri → (b : Bool) → is_changed_here ≡ b → (if b then l.text else old) ≡ text_in table_after uri
+  by_case : (old : Option (List ℕ)) → old ≡ text_in s.server.table uri → (b : Bool) → is_changed_here ≡ b
+      → (if b then l.text else old) ≡ text_in table_after uri
   by_case old is true here = text_there details.texts (is_changed (judge s r).verdict) table_after uri l.uri asked here
-  by_case old is false here = is ∙ ap (option_map (λ (entry : DocumentItem). entry.text)) (sym (record_keeps uri s r here))
+  by_case old is false here =
+      is ∙ ap (option_map (λ (entry : DocumentItem). entry.text)) (sym (record_keeps uri s r here))
 
-  text_after : (old : Option (List ℕ)) → old ≡ text_in s.server.table uri → (if bytes_eq l.word (codes "changed") && is_document uri l.uri then l.text else old) ≡ text_in table_after uri
-  text_after old is = ap (λ (b : Bool). if b && is_document uri l.uri then l.text else old) (word_changed (judge s r).verdict) ∙ by_case old is is_changed_here refl
+  text_after : (old : Option (List ℕ)) → old ≡ text_in s.server.table uri
+      → (if bytes_eq l.word (codes "changed") && is_document uri l.uri then l.text else old) ≡ text_in table_after uri
+  text_after old is = ap (λ (b : Bool). if b && is_document uri l.uri then l.text else old)
+      (word_changed (judge s r).verdict) ∙ by_case old is is_changed_here refl
 
 -- ---- `trace` beside `check` and `replay`
 
@@ -129,7 +161,8 @@ module _ (details : Details) (known : Known) (s : Session) (r : Record) (uri : L
 record TextsFrom (s : Session) (report : RunOutput) (lines : List Line) : Type 0 where
   table : List DocumentItem
   reported : (line_due : Bool) → report.last line_due ≡ report_from 0 table
-  texts : (uri : List ℕ) (old : Option (List ℕ)) → old ≡ text_in s.server.table uri → written_text uri old lines ≡ text_in table uri
+  texts : (uri : List ℕ) (old : Option (List ℕ)) → old ≡ text_in s.server.table uri → written_text uri old lines
+      ≡ text_in table uri
 
 record Beside (details : Details) (s : Session) (trace check report : RunOutput) : Type 0 where
   stop : trace.stop ≡ check.stop
@@ -140,7 +173,8 @@ record Beside (details : Details) (s : Session) (trace check report : RunOutput)
   texts : details.texts ≡ true → trace.stop ≡ None → TextsFrom s report lines
 
 abbrev given_by : Record → Verdict → List ℕ → RunOutput → RunOutput
-given_by r verdict out c = continue_with (unless_bad r verdict (writes out)).out (unless_bad r verdict (writes out)).end c
+given_by r verdict out c = continue_with (unless_bad r verdict (writes out)).out (unless_bad r verdict (writes out)).end
+    c
 
 module _ (details : Details) (known : Known) (s : Session) (r : Record) where
   abbrev what : IncomingData
@@ -149,30 +183,56 @@ module _ (details : Details) (known : Known) (s : Session) (r : Record) where
   abbrev this : Line
   this = line_of details known s r what
 
-  goes : (c d e : RunOutput) → Beside details (judge s r).session c d e → Beside details s (written_first (trace_line details known s r (judge s r) what) c) (written_first (check_line (judge s r).session.records (judge s r).verdict) d) (written_first [] e)
+  goes : (c d e : RunOutput) → Beside details (judge s r).session c d e
+      → Beside details s (written_first (trace_line details known s r (judge s r) what) c)
+      (written_first (check_line (judge s r).session.records (judge s r).verdict) d) (written_first [] e)
   goes c d e is = record {
     stop = is.stop;
     outcome = is.outcome;
     lines = this ∷ is.lines;
-    traced = ap (λ (bs : List ℕ). bs ++ c.out) (line_of_trace details known s r what) ∙ ap (λ (bs : List ℕ). traced_line this ++ bs) is.traced;
+    traced = ap (λ (bs : List ℕ). bs ++ c.out) (line_of_trace details known s r what)
+        ∙ ap (λ (bs : List ℕ). traced_line this ++ bs) is.traced;
     checked = ap (λ (bs : List ℕ). checked_line this ++ bs) is.checked;
     texts = λ asked none.
         let after = is.texts asked none in
-        record { table = after.table; reported = after.reported; texts = λ uri old old_is. after.texts uri _ (text_after details known s r uri asked old old_is) };
+        record {
+          table = after.table;
+          reported = after.reported;
+          texts = λ uri old old_is. after.texts uri _ (text_after details known s r uri asked old old_is);
+        };
   }
 
-  by_verdict : (verdict : Verdict) → (judge s r).verdict ≡ verdict → (c d e : RunOutput) → Beside details (judge s r).session c d e
-      → Beside details s (given_by r verdict (trace_line details known s r (judge s r) what) c) (given_by r verdict (check_line (judge s r).session.records (judge s r).verdict) d) (given_by r verdict [] e)
-  by_verdict bad is c d e beside = record { stop = refl; outcome = refl; lines = []; traced = refl; checked = refl; texts = λ asked none. absurd (let wrong : Some (Err (BadLog r.head.place)) ≡ None = none in cc) }
+  by_verdict : (verdict : Verdict) → (judge s r).verdict ≡ verdict → (c d e : RunOutput)
+      → Beside details (judge s r).session c d e
+      → Beside details s (given_by r verdict (trace_line details known s r (judge s r) what) c)
+      (given_by r verdict (check_line (judge s r).session.records (judge s r).verdict) d) (given_by r verdict [] e)
+  by_verdict bad is c d e beside = record {
+    stop = refl;
+    outcome = refl;
+    lines = [];
+    traced = refl;
+    checked = refl;
+    texts = λ asked none. absurd (let wrong : Some (Err (BadLog r.head.place)) ≡ None = none in cc);
+  }
   by_verdict recorded is c d e beside = goes c d e beside
   by_verdict (answered answer) is c d e beside = goes c d e beside
 
-trace_beside : (details : Details) (known : Known) (s : Session) (rs : List Record) → Beside details s (lines_in (tracing details) known s rs) (run_output_in checking s rs) (run_output_in replaying s rs)
+trace_beside : (details : Details) (known : Known) (s : Session) (rs : List Record)
+    → Beside details s (lines_in (tracing details) known s rs) (run_output_in checking s rs)
+    (run_output_in replaying s rs)
 trace_beside details known s [] =
-    record { stop = refl; outcome = refl; lines = []; traced = refl; checked = refl; texts = λ asked none. record { table = s.server.table; reported = λ line_due. refl; texts = λ uri old is. is } }
+    record {
+      stop = refl;
+      outcome = refl;
+      lines = [];
+      traced = refl;
+      checked = refl;
+      texts = λ asked none. record { table = s.server.table; reported = λ line_due. refl; texts = λ uri old is. is };
+    }
 trace_beside details known s (r ∷ rs) =
     let next = known_after known s r.head r.body (judge s r) in
-    by_verdict details known s r (judge s r).verdict refl (lines_in (tracing details) next (judge s r).session rs) (run_output_in checking (judge s r).session rs) (run_output_in replaying (judge s r).session rs)
+    by_verdict details known s r (judge s r).verdict refl (lines_in (tracing details) next (judge s r).session rs)
+    (run_output_in checking (judge s r).session rs) (run_output_in replaying (judge s r).session rs)
     (trace_beside details next (judge s r).session rs)
 
 pub trace_law : TraceLaw
@@ -184,5 +244,6 @@ trace_law settings details records =
       lines = is.lines;
       traced = is.traced;
       checked = is.checked;
-      texts = λ asked none. let here = is.texts asked none in record { table = here.table; reported = here.reported; texts = λ uri. here.texts uri None refl };
+      texts = λ asked none. let here = is.texts asked none in
+          record { table = here.table; reported = here.reported; texts = λ uri. here.texts uri None refl };
     }

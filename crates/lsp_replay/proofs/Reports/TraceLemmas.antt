@@ -27,7 +27,8 @@ use Rattle.lsp_replay.specs.inside.Verdicts.{IsAppended}
 
 -- ---- one record more was judged
 
-either : (b : Bool) (x y : Judged) (n : ℕ) → x.session.records ≡ n → y.session.records ≡ n → (if b then x else y).session.records ≡ n
+either : (b : Bool) (x y : Judged) (n : ℕ) → x.session.records ≡ n → y.session.records ≡ n
+    → (if b then x else y).session.records ≡ n
 either true x y n p q = p
 either false x y n p q = q
 
@@ -43,17 +44,21 @@ of_result : (s : Session) (result : Option Data) → (heard s result).session.re
 of_result s None = refl
 of_result s (Some result) = of_announced s (announced_of result)
 
-of_heard : (s : Session) (expected : Option IdData) (body : List ℕ) → (hear_for s expected body).session.records ≡ s.records
+of_heard : (s : Session) (expected : Option IdData) (body : List ℕ) → (hear_for s expected body).session.records
+    ≡ s.records
 of_heard s None body = refl
 of_heard s (Some id) body = of_result s (result_for id (reading body))
 
-of_incoming : (s : Session) (version : Version) (m : IncomingData) → (judge_incoming s version m).session.records ≡ s.records
+of_incoming : (s : Session) (version : Version) (m : IncomingData) → (judge_incoming s version m).session.records
+    ≡ s.records
 of_incoming s version m =
     let step = step_on s.server m in
-    either (is_ended s.server.phase) (judged bad s) (if is_early s m then judged bad s else handled s version m step.state (as_sent step.answer)) s.records refl
+    either (is_ended s.server.phase) (judged bad s) (if is_early s m then judged bad s else handled s version m
+    step.state (as_sent step.answer)) s.records refl
     (either (is_early s m) (judged bad s) (handled s version m step.state (as_sent step.answer)) s.records refl refl)
 
-of_body : (s : Session) (version : Version) (side : Side) (body : List ℕ) → (judge_from s version side body).session.records ≡ s.records
+of_body : (s : Session) (version : Version) (side : Side) (body : List ℕ)
+    → (judge_from s version side body).session.records ≡ s.records
 of_body s version Client body = of_incoming s version (incoming_of (reading body))
 of_body s version Server body = of_heard s s.expected body
 
@@ -62,7 +67,8 @@ one_more_record s r = ap one_more (of_body s r.head.version r.head.side r.body)
 
 -- ---- a line
 
-pub canonical_is : (max_body : ℕ) (body : Option (List ℕ)) (a : Option Appended) (new : List ℕ) → IsAppended max_body body a [] new → canonical_json a new ≡ within max_body body
+pub canonical_is : (max_body : ℕ) (body : Option (List ℕ)) (a : Option Appended) (new : List ℕ)
+    → IsAppended max_body body a [] new → canonical_json a new ≡ within max_body body
 canonical_is max_body None None new is = refl
 canonical_is max_body None (Some a) new is = absurd (let wrong : Some a ≡ None = is in cc)
 canonical_is max_body (Some body) None new is = absurd is
@@ -70,7 +76,9 @@ canonical_is max_body (Some body) (Some Body) new is = rw (le-ltb max_body (leng
 canonical_is max_body (Some body) (Some TooLong) new is = rw (lt-ltb max_body (length body) is) refl
 
 -- A line by its two halves, as they are written one after the other.
-module _ (details : Details) (known : Known) (s : Session) (r : Record) (t : Session) (session : t ≡ (judge s r).session) (traced : Traced) (before new : List ℕ) (cleared : before ≡ []) (is : IsTraced known s r.head r.body before new traced) where
+module _ (details : Details) (known : Known) (s : Session) (r : Record) (t : Session)
+    (session : t ≡ (judge s r).session) (traced : Traced) (before new : List ℕ) (cleared : before ≡ [])
+    (is : IsTraced known s r.head r.body before new traced) where
   abbrev m : IncomingData
   m = incoming_of (reading r.body)
 
@@ -80,10 +88,22 @@ module _ (details : Details) (known : Known) (s : Session) (r : Record) (t : Ses
   abbrev canonical : Option (List ℕ)
   canonical = canonical_of_record s r.body (judge s r).verdict
 
-  pub line_is : (old first bytes : List ℕ) → old ≡ [] → first ≡ old ++ first_members (one_more s.records) r.head m → bytes ≡ first ++ members_by details t m traced new r.body
+  pub line_is : (old first bytes : List ℕ) → old ≡ [] → first ≡ old ++ first_members (one_more s.records) r.head m
+      → bytes ≡ first ++ members_by details t m traced new r.body
       → bytes ≡ trace_line details known s r (judge s r) m
   line_is old first bytes empty first_is bytes_is =
       bytes_is
-      ∙ ap (λ (bs : List ℕ). bs ++ members_by details t m traced new r.body) (first_is ∙ ap (λ (bs : List ℕ). bs ++ first_members (one_more s.records) r.head m) empty ∙ ap (λ (n : ℕ). first_members n r.head m) (sym (one_more_record s r)))
-      ∙ ap (λ (u : Session). first_members (judge s r).session.records r.head m ++ members_by details u m traced new r.body) session
-      ∙ rw (is.noted.verdict, is.noted.uri, is.noted.last, is.is_json, is.noted.notes, canonical_is max_body canonical traced.canonical new (subst (λ (b : List ℕ). IsAppended max_body canonical traced.canonical b new) cleared is.canonical)) refl
+      ∙ ap (λ (bs : List ℕ). bs ++ members_by details t m traced new r.body)
+      (first_is ∙ ap (λ (bs : List ℕ). bs ++ first_members (one_more s.records) r.head m) empty
+      ∙ ap (λ (n : ℕ). first_members n r.head m) (sym (one_more_record s r)))
+      ∙ ap (λ (u : Session). first_members (judge s r).session.records r.head m ++ members_by details u m traced new
+      r.body) session
+      ∙ rw (
+        is.noted.verdict,
+        is.noted.uri,
+        is.noted.last,
+        is.is_json,
+        is.noted.notes,
+        canonical_is max_body canonical traced.canonical new
+            (subst (λ (b : List ℕ). IsAppended max_body canonical traced.canonical b new) cleared is.canonical),
+      ) refl

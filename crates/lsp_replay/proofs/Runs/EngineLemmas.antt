@@ -28,131 +28,203 @@ pub record IsQuiet (now : List Record → RunOutput) : Type 0 where
   pub silent : (now []).out ≡ []
   pub unstopped : (now []).stop ≡ None
 
-module _ (log_rules : LogRules) (run_output : List Record → RunOutput) (received : Option (List ℕ)) (input : List ℕ) where
+module _ (log_rules : LogRules) (run_output : List Record → RunOutput) (received : Option (List ℕ))
+    (input : List ℕ) where
   -- the course of the records that were handled, and of more
   written_again : (a b : List ℕ) (c : RunOutput) → written_first a (written_first b c) ≡ written_first (a ++ b) c
   written_again a b c = ap (λ z. record c { out = z }) (sym (append_assoc a b c.out))
 
-  pub went_on : (more : List ℕ) (s n : Splitter) (now new : List Record → RunOutput) (received_now received_new : Option (List ℕ)) (r : Record) (w : IsProgress log_rules run_output received input more s now received_now)
-      → IsAfter log_rules input more (w.records ++ r ∷ []) n → Continues now new received_now received_new r → IsProgress log_rules run_output received input more n new received_new
+  pub went_on : (more : List ℕ) (s n : Splitter) (now new : List Record → RunOutput)
+      (received_now received_new : Option (List ℕ)) (r : Record)
+      (w : IsProgress log_rules run_output received input more s now received_now)
+      → IsAfter log_rules input more (w.records ++ r ∷ []) n → Continues now new received_now received_new r
+      → IsProgress log_rules run_output received input more n new received_new
   went_on more s n now new received_now received_new r w is_after on = record {
     records = w.records ++ r ∷ [];
     is_after = is_after;
     out = w.out ++ on.out;
-    outputs = λ others. ap run_output (append_assoc w.records (r ∷ []) others) ∙ w.outputs (r ∷ others) ∙ ap (written_first w.out) (on.run_output others) ∙ written_again w.out on.out (new others);
+    outputs = λ others. ap run_output (append_assoc w.records (r ∷ []) others) ∙ w.outputs (r ∷ others)
+        ∙ ap (written_first w.out) (on.run_output others) ∙ written_again w.out on.out (new others);
     wrote = Appends-trans received received_now received_new w.out on.out w.wrote on.wrote;
   }
 
-  pub went_to_end : (log : Log) (more : List ℕ) (s : Splitter) (now : List Record → RunOutput) (received_now received_new : Option (List ℕ)) (r : Record) (answer : Result Outcome EngineFault) (w : IsProgress log_rules run_output received input more s now received_now)
-      → IsReadAs log_rules input log → log.records ≡ w.records ++ r ∷ [] → Ends now received_now received_new r answer → Stopped log_rules run_output input received received_new answer
+  pub went_to_end : (log : Log) (more : List ℕ) (s : Splitter) (now : List Record → RunOutput)
+      (received_now received_new : Option (List ℕ)) (r : Record) (answer : Result Outcome EngineFault)
+      (w : IsProgress log_rules run_output received input more s now received_now)
+      → IsReadAs log_rules input log → log.records ≡ w.records ++ r ∷ [] → Ends now received_now received_new r answer
+      → Stopped log_rules run_output input received received_new answer
   went_to_end log more s now received_now received_new r answer w reads is ends =
-      let whole : run_output log.records ≡ written_first w.out (stopped ends.out answer) = ap run_output is ∙ w.outputs (r ∷ []) ∙ ap (written_first w.out) (ends.run_output []) in
+      let whole : run_output log.records ≡ written_first w.out (stopped ends.out answer) =
+      ap run_output is ∙ w.outputs (r ∷ []) ∙ ap (written_first w.out) (ends.run_output []) in
       record {
         log = log;
         reads = reads;
         stops = ap (λ (c : RunOutput). c.stop) whole;
-        wrote = subst (λ (z : List ℕ). Appends received received_new z) (sym (ap (λ (c : RunOutput). c.out) whole)) (Appends-trans received received_now received_new w.out ends.out w.wrote ends.wrote);
+        wrote = subst (λ (z : List ℕ). Appends received received_new z) (sym (ap (λ (c : RunOutput). c.out) whole))
+            (Appends-trans received received_now received_new w.out ends.out w.wrote ends.wrote);
       }
 
   -- nothing was written since
-  pub went_so_far : (more : List ℕ) (s : Splitter) (now : List Record → RunOutput) (received_now received_new : Option (List ℕ)) (IsRest : Log → Type 0) (w : IsProgress log_rules run_output received input more s now received_now)
-      → IsQuiet now → Appends received_now received_new [] → IsRest (log_at s w.records more) → Reached log_rules run_output input received received_new IsRest
+  pub went_so_far : (more : List ℕ) (s : Splitter) (now : List Record → RunOutput)
+      (received_now received_new : Option (List ℕ)) (IsRest : Log → Type 0)
+      (w : IsProgress log_rules run_output received input more s now received_now)
+      → IsQuiet now → Appends received_now received_new [] → IsRest (log_at s w.records more)
+      → Reached log_rules run_output input received received_new IsRest
   went_so_far more s now received_now received_new IsRest w quiet nothing rest =
-      let whole : run_output w.records ≡ written_first w.out (now []) = ap run_output (sym (append-nil w.records)) ∙ w.outputs [] in
-      let out : (run_output w.records).out ≡ w.out ++ [] = ap (λ (c : RunOutput). c.out) whole ∙ ap (λ z. w.out ++ z) quiet.silent in
+      let whole : run_output w.records ≡ written_first w.out (now []) = ap run_output (sym (append-nil w.records))
+      ∙ w.outputs [] in
+      let out : (run_output w.records).out ≡ w.out ++ [] =
+      ap (λ (c : RunOutput). c.out) whole ∙ ap (λ z. w.out ++ z) quiet.silent in
       record {
         log = log_at s w.records more;
         reads = w.is_after.reads;
         rest = rest;
         continues = ap (λ (c : RunOutput). c.stop) whole ∙ quiet.unstopped;
-        wrote = subst (λ (z : List ℕ). Appends received received_new z) (sym out) (Appends-trans received received_now received_new w.out [] w.wrote nothing);
+        wrote = subst (λ (z : List ℕ). Appends received received_new z) (sym out)
+            (Appends-trans received received_now received_new w.out [] w.wrote nothing);
       }
 
-  broken_at : (log : Log) (more : List ℕ) (s : Splitter) (now : List Record → RunOutput) (received_now received_new : Option (List ℕ)) (r : Record) (w : IsProgress log_rules run_output received input more s now received_now)
-      → IsReadAs log_rules input log → log.records ≡ w.records ++ r ∷ [] → AppendsFront received_now received_new (now (r ∷ [])).out → Broken log_rules run_output input received received_new
+  broken_at : (log : Log) (more : List ℕ) (s : Splitter) (now : List Record → RunOutput)
+      (received_now received_new : Option (List ℕ)) (r : Record)
+      (w : IsProgress log_rules run_output received input more s now received_now)
+      → IsReadAs log_rules input log → log.records ≡ w.records ++ r ∷ [] → AppendsFront received_now received_new
+      (now (r ∷ [])).out → Broken log_rules run_output input received received_new
   broken_at log more s now received_now received_new r w reads is cut =
       let whole : run_output log.records ≡ written_first w.out (now (r ∷ [])) = ap run_output is ∙ w.outputs (r ∷ []) in
       record {
         log = log;
         reads = reads;
-        wrote = (w.out ++ cut.0, cut.1, ap (λ (c : RunOutput). c.out) whole ∙ ap (λ z. w.out ++ z) cut.2 ∙ sym (append_assoc w.out cut.0 cut.1), Appends-trans received received_now received_new w.out cut.0 w.wrote cut.3);
+        wrote = (
+          w.out ++ cut.0,
+          cut.1,
+          ap (λ (c : RunOutput). c.out) whole ∙ ap (λ z. w.out ++ z) cut.2 ∙ sym (append_assoc w.out cut.0 cut.1),
+          Appends-trans received received_now received_new w.out cut.0 w.wrote cut.3,
+        );
       }
 
-  short_at : (unflushed : Bool) (log : Log) (more : List ℕ) (s : Splitter) (now : List Record → RunOutput) (received_now received_new : Option (List ℕ)) (r : Record) (w : IsProgress log_rules run_output received input more s now received_now)
-      → IsReadAs log_rules input log → log.records ≡ w.records ++ r ∷ [] → AppendsShort unflushed received_now received_new (now (r ∷ [])).out → RanOut log_rules run_output unflushed input received received_new
+  short_at : (unflushed : Bool) (log : Log) (more : List ℕ) (s : Splitter) (now : List Record → RunOutput)
+      (received_now received_new : Option (List ℕ)) (r : Record)
+      (w : IsProgress log_rules run_output received input more s now received_now)
+      → IsReadAs log_rules input log → log.records ≡ w.records ++ r ∷ [] → AppendsShort unflushed received_now
+      received_new (now (r ∷ [])).out → RanOut log_rules run_output unflushed input received received_new
   short_at unflushed log more s now received_now received_new r w reads is cut =
       let whole : run_output log.records ≡ written_first w.out (now (r ∷ [])) = ap run_output is ∙ w.outputs (r ∷ []) in
       record {
         log = log;
         reads = reads;
-        wrote = (w.out ++ cut.0, cut.1, ap (λ (c : RunOutput). c.out) whole ∙ ap (λ z. w.out ++ z) cut.2 ∙ sym (append_assoc w.out cut.0 cut.1), Appends-trans received received_now received_new w.out cut.0 w.wrote cut.3, cut.4);
+        wrote = (
+          w.out ++ cut.0,
+          cut.1,
+          ap (λ (c : RunOutput). c.out) whole ∙ ap (λ z. w.out ++ z) cut.2 ∙ sym (append_assoc w.out cut.0 cut.1),
+          Appends-trans received received_now received_new w.out cut.0 w.wrote cut.3,
+          cut.4,
+        );
       }
 
   -- a fault at a record
-  pub record_fault : (unflushed : Bool) (log : Log) (more : List ℕ) (s : Splitter) (now : List Record → RunOutput) (received_now received_new : Option (List ℕ)) (r : Record) (fault : EngineFault) (w : IsProgress log_rules run_output received input more s now received_now)
-      → IsReadAs log_rules input log → log.records ≡ w.records ++ r ∷ [] → IsQuiet now → IsHandleFault now unflushed received_now received_new r fault → IsPieceFault log_rules run_output unflushed input received received_new fault
+  pub record_fault : (unflushed : Bool) (log : Log) (more : List ℕ) (s : Splitter) (now : List Record → RunOutput)
+      (received_now received_new : Option (List ℕ)) (r : Record) (fault : EngineFault)
+      (w : IsProgress log_rules run_output received input more s now received_now)
+      → IsReadAs log_rules input log → log.records ≡ w.records ++ r ∷ [] → IsQuiet now
+      → IsHandleFault now unflushed received_now received_new r fault → IsPieceFault log_rules run_output unflushed
+      input received received_new fault
   record_fault unflushed log more s now received_now received_new r Read w reads is quiet why = absurd why
-  record_fault unflushed log more s now received_now received_new r Write w reads is quiet why = broken_at log more s now received_now received_new r w reads is why
+  record_fault unflushed log more s now received_now received_new r Write w reads is quiet why =
+      broken_at log more s now received_now received_new r w reads is why
   record_fault unflushed log more s now received_now received_new r (Frame fault) w reads is quiet why = absurd why
   record_fault unflushed log more s now received_now received_new r (Truncated place) w reads is quiet why = absurd why
-  record_fault unflushed log more s now received_now received_new r (BodyTooLong place) w reads is quiet why = went_to_end log more s now received_now received_new r (Err (BodyTooLong place)) w reads is why
-  record_fault unflushed log more s now received_now received_new r NoMemory w reads is quiet why = went_so_far more s now received_now received_new (λ _. Unit {0}) w quiet why tt
-  record_fault unflushed log more s now received_now received_new r TooManyTurns w reads is quiet why = short_at unflushed log more s now received_now received_new r w reads is why
-  record_fault unflushed log more s now received_now received_new r (BadLog place) w reads is quiet why = inl (went_to_end log more s now received_now received_new r (Err (BadLog place)) w reads is why)
+  record_fault unflushed log more s now received_now received_new r (BodyTooLong place) w reads is quiet why =
+      went_to_end log more s now received_now received_new r (Err (BodyTooLong place)) w reads is why
+  record_fault unflushed log more s now received_now received_new r NoMemory w reads is quiet why =
+      went_so_far more s now received_now received_new (λ _. Unit {0}) w quiet why tt
+  record_fault unflushed log more s now received_now received_new r TooManyTurns w reads is quiet why =
+      short_at unflushed log more s now received_now received_new r w reads is why
+  record_fault unflushed log more s now received_now received_new r (BadLog place) w reads is quiet why =
+      inl (went_to_end log more s now received_now received_new r (Err (BadLog place)) w reads is why)
 
   -- a fault in front of the next record
-  pub split_faults : (unflushed : Bool) (more : List ℕ) (s : Splitter) (now : List Record → RunOutput) (received_now received_new : Option (List ℕ)) (fault : EngineFault) (w : IsProgress log_rules run_output received input more s now received_now)
-      → IsQuiet now → Appends received_now received_new [] → IsSplitFault log_rules.max_body input (log_at s w.records more) fault → IsPieceFault log_rules run_output unflushed input received received_new fault
+  pub split_faults : (unflushed : Bool) (more : List ℕ) (s : Splitter) (now : List Record → RunOutput)
+      (received_now received_new : Option (List ℕ)) (fault : EngineFault)
+      (w : IsProgress log_rules run_output received input more s now received_now)
+      → IsQuiet now → Appends received_now received_new [] → IsSplitFault log_rules.max_body input
+      (log_at s w.records more) fault → IsPieceFault log_rules run_output unflushed input received received_new fault
   split_faults unflushed more s now received_now received_new Read w quiet nothing why = absurd why
   split_faults unflushed more s now received_now received_new Write w quiet nothing why = absurd why
-  split_faults unflushed more s now received_now received_new (Frame fault) w quiet nothing why = went_so_far more s now received_now received_new _ w quiet nothing why
+  split_faults unflushed more s now received_now received_new (Frame fault) w quiet nothing why =
+      went_so_far more s now received_now received_new _ w quiet nothing why
   split_faults unflushed more s now received_now received_new (Truncated place) w quiet nothing why = absurd why
   split_faults unflushed more s now received_now received_new (BodyTooLong place) w quiet nothing why = absurd why
-  split_faults unflushed more s now received_now received_new NoMemory w quiet nothing why = went_so_far more s now received_now received_new (λ _. Unit {0}) w quiet nothing tt
+  split_faults unflushed more s now received_now received_new NoMemory w quiet nothing why =
+      went_so_far more s now received_now received_new (λ _. Unit {0}) w quiet nothing tt
   split_faults unflushed more s now received_now received_new TooManyTurns w quiet nothing why = absurd why
-  split_faults unflushed more s now received_now received_new (BadLog place) w quiet nothing why = inr (went_so_far more s now received_now received_new _ w quiet nothing why)
+  split_faults unflushed more s now received_now received_new (BadLog place) w quiet nothing why =
+      inr (went_so_far more s now received_now received_new _ w quiet nothing why)
 
   -- The record that is held was handled.
-  held_record : (s : Splitter) (head : Head) (raw body : List ℕ) → head ≡ head_of s → raw ≡ s.framer.buffered → record_at s body ≡ (record { head = head; raw = raw; body = body })
-  held_record s head raw body e f = ap (λ (h : Head). record { head = h; raw = s.framer.buffered; body = body }) (sym e) ∙ ap (λ z. record { head = head; raw = z; body = body }) (sym f)
+  held_record : (s : Splitter) (head : Head) (raw body : List ℕ) → head ≡ head_of s → raw ≡ s.framer.buffered
+      → record_at s body ≡ (record { head = head; raw = raw; body = body })
+  held_record s head raw body e f = ap (λ (h : Head). record { head = h; raw = s.framer.buffered; body = body }) (sym e)
+      ∙ ap (λ z. record { head = head; raw = z; body = body }) (sym f)
 
-  is_frame_here : (more : List ℕ) (s : Splitter) (now : List Record → RunOutput) (received_now : Option (List ℕ)) (body : List ℕ) → IsProgress log_rules run_output received input more s now received_now
+  is_frame_here : (more : List ℕ) (s : Splitter) (now : List Record → RunOutput) (received_now : Option (List ℕ))
+      (body : List ℕ) → IsProgress log_rules run_output received input more s now received_now
       → IsFrameOf s.framer.limits.max_body s.framer.buffered body → IsFrameOf log_rules.max_body s.framer.buffered body
-  is_frame_here more s now received_now body w is_frame_of = subst (λ (m : ℕ). IsFrameOf m s.framer.buffered body) w.is_after.limit is_frame_of
+  is_frame_here more s now received_now body w is_frame_of =
+      subst (λ (m : ℕ). IsFrameOf m s.framer.buffered body) w.is_after.limit is_frame_of
 
-  pub taken_fault : (unflushed : Bool) → BufferedLaw → (more : List ℕ) (s : Splitter) (now : List Record → RunOutput) (received_now received_new : Option (List ℕ)) (head : Head) (raw body : List ℕ) (fault : EngineFault) → IsFed s
-      → head ≡ head_of s → raw ≡ s.framer.buffered → IsFrameOf s.framer.limits.max_body s.framer.buffered body → IsQuiet now
-      → IsHandleFault now unflushed received_now received_new (record { head = head; raw = raw; body = body }) fault
-      → IsProgress log_rules run_output received input more s now received_now → IsPieceFault log_rules run_output unflushed input received received_new fault
-  taken_fault unflushed buffered_law more s now received_now received_new head raw body fault fed e f is_frame_of quiet why w =
-      let reads = buffered_law log_rules input more body w.records s fed is_frame_of w.is_after in
-      record_fault unflushed (record { version = s.version; records = w.records ++ record_at s body ∷ []; rest = more }) more s now received_now received_new (record_at s body) fault w reads refl quiet
-      (subst (λ (r : Record). IsHandleFault now unflushed received_now received_new r fault) (sym (held_record s head raw body e f)) why)
-
-  handled_went : (more : List ℕ) (s n : Splitter) (now new : List Record → RunOutput) (received_now received_new : Option (List ℕ)) (r : Record) (answer : Option Outcome) (w : IsProgress log_rules run_output received input more s now received_now)
-      → IsAfter log_rules input more (w.records ++ r ∷ []) n → IsHandled now new received_now received_new r answer
-      → MatchOption answer (IsProgress log_rules run_output received input more n new received_new) (λ outcome. Stopped log_rules run_output input received received_new (Ok outcome))
-  handled_went more s n now new received_now received_new r None w is_after handled = went_on more s n now new received_now received_new r w is_after handled
-  handled_went more s n now new received_now received_new r (Some outcome) w is_after handled =
-      went_to_end (log_at n (w.records ++ r ∷ []) more) more s now received_now received_new r (Ok outcome) w is_after.reads refl handled
-
-  pub taken_went : (more : List ℕ) (s n : Splitter) (now new : List Record → RunOutput) (received_now received_new : Option (List ℕ)) (head : Head) (raw body : List ℕ) (answer : Option Outcome)
+  pub taken_fault : (unflushed : Bool) → BufferedLaw → (more : List ℕ) (s : Splitter) (now : List Record → RunOutput)
+      (received_now received_new : Option (List ℕ)) (head : Head) (raw body : List ℕ) (fault : EngineFault) → IsFed s
       → head ≡ head_of s → raw ≡ s.framer.buffered → IsFrameOf s.framer.limits.max_body s.framer.buffered body
-      → ((records : List Record) → IsFrameOf log_rules.max_body s.framer.buffered body → IsAfter log_rules input more records s → IsAfter log_rules input more (records ++ record_at s body ∷ []) n)
+      → IsQuiet now
+      → IsHandleFault now unflushed received_now received_new (record { head = head; raw = raw; body = body }) fault
+      → IsProgress log_rules run_output received input more s now received_now
+      → IsPieceFault log_rules run_output unflushed input received received_new fault
+  taken_fault unflushed buffered_law more s now received_now received_new head raw body fault fed e f is_frame_of quiet
+      why w =
+      let reads = buffered_law log_rules input more body w.records s fed is_frame_of w.is_after in
+      record_fault unflushed (record { version = s.version; records = w.records ++ record_at s body ∷ []; rest = more })
+      more s now received_now received_new (record_at s body) fault w reads refl quiet
+      (subst (λ (r : Record). IsHandleFault now unflushed received_now received_new r fault)
+      (sym (held_record s head raw body e f)) why)
+
+  handled_went : (more : List ℕ) (s n : Splitter) (now new : List Record → RunOutput)
+      (received_now received_new : Option (List ℕ)) (r : Record) (answer : Option Outcome)
+      (w : IsProgress log_rules run_output received input more s now received_now)
+      → IsAfter log_rules input more (w.records ++ r ∷ []) n → IsHandled now new received_now received_new r answer
+      → MatchOption answer (IsProgress log_rules run_output received input more n new received_new)
+      (λ outcome. Stopped log_rules run_output input received received_new (Ok outcome))
+  handled_went more s n now new received_now received_new r None w is_after handled =
+      went_on more s n now new received_now received_new r w is_after handled
+  handled_went more s n now new received_now received_new r (Some outcome) w is_after handled =
+      went_to_end (log_at n (w.records ++ r ∷ []) more) more s now received_now received_new r (Ok outcome) w
+      is_after.reads refl handled
+
+  pub taken_went : (more : List ℕ) (s n : Splitter) (now new : List Record → RunOutput)
+      (received_now received_new : Option (List ℕ)) (head : Head) (raw body : List ℕ) (answer : Option Outcome)
+      → head ≡ head_of s → raw ≡ s.framer.buffered → IsFrameOf s.framer.limits.max_body s.framer.buffered body
+      → ((records : List Record) → IsFrameOf log_rules.max_body s.framer.buffered body
+      → IsAfter log_rules input more records s → IsAfter log_rules input more (records ++ record_at s body ∷ []) n)
       → IsHandled now new received_now received_new (record { head = head; raw = raw; body = body }) answer
       → IsProgress log_rules run_output received input more s now received_now
-      → MatchOption answer (IsProgress log_rules run_output received input more n new received_new) (λ outcome. Stopped log_rules run_output input received received_new (Ok outcome))
+      → MatchOption answer (IsProgress log_rules run_output received input more n new received_new)
+      (λ outcome. Stopped log_rules run_output input received received_new (Ok outcome))
   taken_went more s n now new received_now received_new head raw body answer e f is_frame_of next handled w =
-      handled_went more s n now new received_now received_new (record_at s body) answer w (next w.records (is_frame_here more s now received_now body w is_frame_of) w.is_after)
-      (subst (λ (r : Record). IsHandled now new received_now received_new r answer) (sym (held_record s head raw body e f)) handled)
+      handled_went more s n now new received_now received_new (record_at s body) answer w
+      (next w.records (is_frame_here more s now received_now body w is_frame_of) w.is_after)
+      (subst (λ (r : Record). IsHandled now new received_now received_new r answer)
+      (sym (held_record s head raw body e f)) handled)
 
   -- The bytes of a piece were taken.
-  pub went_fed : (piece bytes : List ℕ) (at k : ℕ) (s n : Splitter) (now : List Record → RunOutput) (received_now : Option (List ℕ)) → at ≤ length piece → bytes ≡ take (length piece - at) (drop at piece)
-      → ((records : List Record) → IsAfter log_rules input bytes records s → IsAfter log_rules input (drop k bytes) records n)
-      → IsProgress log_rules run_output received input (drop at piece) s now received_now → IsProgress log_rules run_output received input (drop (at + k) piece) n now received_now
+  pub went_fed : (piece bytes : List ℕ) (at k : ℕ) (s n : Splitter) (now : List Record → RunOutput)
+      (received_now : Option (List ℕ)) → at ≤ length piece → bytes ≡ take (length piece - at) (drop at piece)
+      → ((records : List Record) → IsAfter log_rules input bytes records s → IsAfter log_rules input (drop k bytes)
+      records n)
+      → IsProgress log_rules run_output received input (drop at piece) s now received_now
+      → IsProgress log_rules run_output received input (drop (at + k) piece) n now received_now
   went_fed piece bytes at k s n now received_now within is fed w =
       let all : bytes ≡ drop at piece = is ∙ between_to_end piece at (length piece) (omega arith) in
-      let is_after : IsAfter log_rules input (drop k bytes) w.records n = fed w.records (subst (λ (z : List ℕ). IsAfter log_rules input z w.records s) (sym all) w.is_after) in
+      let is_after : IsAfter log_rules input (drop k bytes) w.records n =
+      fed w.records (subst (λ (z : List ℕ). IsAfter log_rules input z w.records s) (sym all) w.is_after) in
       let rest : drop k bytes ≡ drop (at + k) piece = ap (drop k) all ∙ drop-drop k at piece in
       record {
         records = w.records;
@@ -162,19 +234,32 @@ module _ (log_rules : LogRules) (run_output : List Record → RunOutput) (receiv
         wrote = w.wrote;
       }
 
-  pub fed_fault : (unflushed : Bool) (piece bytes : List ℕ) (at : ℕ) (s : Splitter) (now : List Record → RunOutput) (received_now received_new : Option (List ℕ)) (fault : EngineFault) → at ≤ length piece → bytes ≡ take (length piece - at) (drop at piece)
-      → ((records : List Record) → IsAfter log_rules input bytes records s → IsSplitFault log_rules.max_body input (log_at s records bytes) fault) → IsQuiet now → Appends received_now received_new []
-      → IsProgress log_rules run_output received input (drop at piece) s now received_now → IsPieceFault log_rules run_output unflushed input received received_new fault
+  pub fed_fault : (unflushed : Bool) (piece bytes : List ℕ) (at : ℕ) (s : Splitter) (now : List Record → RunOutput)
+      (received_now received_new : Option (List ℕ)) (fault : EngineFault) → at ≤ length piece
+      → bytes ≡ take (length piece - at) (drop at piece)
+      → ((records : List Record) → IsAfter log_rules input bytes records s → IsSplitFault log_rules.max_body input
+      (log_at s records bytes) fault) → IsQuiet now → Appends received_now received_new []
+      → IsProgress log_rules run_output received input (drop at piece) s now received_now
+      → IsPieceFault log_rules run_output unflushed input received received_new fault
   fed_fault unflushed piece bytes at s now received_now received_new fault within is fed quiet nothing w =
       let all : bytes ≡ drop at piece = is ∙ between_to_end piece at (length piece) (omega arith) in
-      let here : IsProgress log_rules run_output received input bytes s now received_now = subst (λ (z : List ℕ). IsProgress log_rules run_output received input z s now received_now) (sym all) w in
-      split_faults unflushed bytes s now received_now received_new fault here quiet nothing (fed here.records here.is_after)
+      let here : IsProgress log_rules run_output received input bytes s now received_now =
+      subst (λ (z : List ℕ). IsProgress log_rules run_output received input z s now received_now) (sym all) w in
+      split_faults unflushed bytes s now received_now received_new fault here quiet nothing
+      (fed here.records here.is_after)
 
 -- ---- rests that no record begins
 
 pub empty_rest : (max_body : ℕ) (log : Log) → log.rest ≡ [] → HasNoRecord max_body log
 empty_rest max_body log nothing side raw body more is_frame_of e =
-    absurd (omega (arith, ap length nothing, ap length e, length-append (mark_of log.version side) (raw ++ more), length-append raw more, frame_len max_body raw body is_frame_of))
+    absurd (omega (
+      arith,
+      ap length nothing,
+      ap length e,
+      length-append (mark_of log.version side) (raw ++ more),
+      length-append raw more,
+      frame_len max_body raw body is_frame_of,
+    ))
 
 pub no_record : (max_body : ℕ) (log : Log) → IsUndecided max_body log → HasNoRecord max_body log
 no_record max_body log (inl nothing) = empty_rest max_body log nothing
@@ -184,33 +269,51 @@ cut_only : (max_body : ℕ) (log : Log) → IsUndecided max_body log → (log.re
 cut_only max_body log (inl nothing) some = absurd (some nothing)
 cut_only max_body log (inr cut) some = cut
 
-module _ (log_rules : LogRules) (run_output : List Record → RunOutput) (received : Option (List ℕ)) (input : List ℕ) where
-  pub went_cut : RestLaw → (s : Splitter) (now : List Record → RunOutput) (received_now : Option (List ℕ)) → IsReady s → IsQuiet now → (buffered_of s ≡ [] → ⊥)
-      → IsProgress log_rules run_output received input [] s now received_now → Reached log_rules run_output input received received_now (IsCut log_rules.max_body)
+module _ (log_rules : LogRules) (run_output : List Record → RunOutput) (received : Option (List ℕ))
+    (input : List ℕ) where
+  pub went_cut : RestLaw → (s : Splitter) (now : List Record → RunOutput) (received_now : Option (List ℕ)) → IsReady s
+      → IsQuiet now → (buffered_of s ≡ [] → ⊥)
+      → IsProgress log_rules run_output received input [] s now received_now → Reached log_rules run_output input
+      received received_now (IsCut log_rules.max_body)
   went_cut rest_law s now received_now ready quiet some w =
-      went_so_far log_rules run_output received input [] s now received_now received_now (IsCut log_rules.max_body) w quiet (Appends-nil received_now)
-      (cut_only log_rules.max_body (log_at s w.records []) (rest_law log_rules input w.records s ready w.is_after) (λ nothing. some (sym (append-nil (buffered_of s)) ∙ nothing)))
+      went_so_far log_rules run_output received input [] s now received_now received_now (IsCut log_rules.max_body) w
+      quiet (Appends-nil received_now)
+      (cut_only log_rules.max_body (log_at s w.records []) (rest_law log_rules input w.records s ready w.is_after)
+      (λ nothing. some (sym (append-nil (buffered_of s)) ∙ nothing)))
 
-  pub went_read : RestLaw → (s : Splitter) (now : List Record → RunOutput) (received_now : Option (List ℕ)) → IsReady s → IsQuiet now
-      → IsProgress log_rules run_output received input [] s now received_now → Reached log_rules run_output input received received_now (IsUnfinished log_rules input)
+  pub went_read : RestLaw → (s : Splitter) (now : List Record → RunOutput) (received_now : Option (List ℕ)) → IsReady s
+      → IsQuiet now
+      → IsProgress log_rules run_output received input [] s now received_now → Reached log_rules run_output input
+      received received_now (IsUnfinished log_rules input)
   went_read rest_law s now received_now ready quiet w =
       let undecided = rest_law log_rules input w.records s ready w.is_after in
-      went_so_far log_rules run_output received input [] s now received_now received_now (IsUnfinished log_rules input) w quiet (Appends-nil received_now)
+      went_so_far log_rules run_output received input [] s now received_now received_now (IsUnfinished log_rules input)
+      w quiet (Appends-nil received_now)
       (record { none = no_record log_rules.max_body (log_at s w.records []) undecided; undecided = inl undecided })
 
   -- what the course of the records says of the end
-  went_whole : (s : Splitter) (now : List Record → RunOutput) (received_now : Option (List ℕ)) (w : IsProgress log_rules run_output received input [] s now received_now) → run_output w.records ≡ written_first w.out (now [])
+  went_whole : (s : Splitter) (now : List Record → RunOutput) (received_now : Option (List ℕ))
+      (w : IsProgress log_rules run_output received input [] s now received_now) → run_output w.records
+      ≡ written_first w.out (now [])
   went_whole s now received_now w = ap run_output (sym (append-nil w.records)) ∙ w.outputs []
 
-  went_last : (s : Splitter) (now : List Record → RunOutput) (received_now : Option (List ℕ)) (w : IsProgress log_rules run_output received input [] s now received_now)
+  went_last : (s : Splitter) (now : List Record → RunOutput) (received_now : Option (List ℕ))
+      (w : IsProgress log_rules run_output received input [] s now received_now)
       → last_of run_output (log_at s w.records []) ≡ (now []).last s.line_due
-  went_last s now received_now w = ap (λ (c : RunOutput). c.last (is_line_due s.version w.records)) (went_whole s now received_now w) ∙ ap (now []).last (sym w.is_after.due)
+  went_last s now received_now w =
+      ap (λ (c : RunOutput). c.last (is_line_due s.version w.records)) (went_whole s now received_now w)
+      ∙ ap (now []).last (sym w.is_after.due)
 
-  went_out : (s : Splitter) (now : List Record → RunOutput) (received_now : Option (List ℕ)) → IsQuiet now → (w : IsProgress log_rules run_output received input [] s now received_now) → (run_output w.records).out ≡ w.out
-  went_out s now received_now quiet w = ap (λ (c : RunOutput). c.out) (went_whole s now received_now w) ∙ ap (λ z. w.out ++ z) quiet.silent ∙ append-nil w.out
+  went_out : (s : Splitter) (now : List Record → RunOutput) (received_now : Option (List ℕ)) → IsQuiet now
+      → (w : IsProgress log_rules run_output received input [] s now received_now) → (run_output w.records).out ≡ w.out
+  went_out s now received_now quiet w = ap (λ (c : RunOutput). c.out) (went_whole s now received_now w)
+      ∙ ap (λ z. w.out ++ z) quiet.silent ∙ append-nil w.out
 
-  pub went_at_end : (s : Splitter) (now : List Record → RunOutput) (received_now received_new : Option (List ℕ)) (outcome : Outcome) → IsQuiet now → buffered_of s ≡ []
-      → Appends received_now received_new ((now []).last s.line_due) → outcome ≡ (now []).outcome → IsProgress log_rules run_output received input [] s now received_now → AtEnd log_rules run_output input received received_new outcome
+  pub went_at_end : (s : Splitter) (now : List Record → RunOutput) (received_now received_new : Option (List ℕ))
+      (outcome : Outcome) → IsQuiet now → buffered_of s ≡ []
+      → Appends received_now received_new ((now []).last s.line_due) → outcome ≡ (now []).outcome
+      → IsProgress log_rules run_output received input [] s now received_now → AtEnd log_rules run_output input received
+      received_new outcome
   went_at_end s now received_now received_new outcome quiet nothing wrote error w = record {
     log = log_at s w.records [];
     reads = w.is_after.reads;
@@ -218,12 +321,15 @@ module _ (log_rules : LogRules) (run_output : List Record → RunOutput) (receiv
     continues = ap (λ (c : RunOutput). c.stop) (went_whole s now received_now w) ∙ quiet.unstopped;
     reports = error ∙ sym (ap (λ (c : RunOutput). c.outcome) (went_whole s now received_now w));
     wrote = subst (λ (z : List ℕ). Appends received received_new z)
-        (ap (λ z. z ++ (now []).last s.line_due) (sym (went_out s now received_now quiet w)) ∙ ap (λ z. (run_output w.records).out ++ z) (sym (went_last s now received_now w)))
+        (ap (λ z. z ++ (now []).last s.line_due) (sym (went_out s now received_now quiet w))
+        ∙ ap (λ z. (run_output w.records).out ++ z) (sym (went_last s now received_now w)))
         (Appends-trans received received_now received_new w.out ((now []).last s.line_due) w.wrote wrote);
   }
 
-  broken_last : (s : Splitter) (now : List Record → RunOutput) (received_now received_new : Option (List ℕ)) → IsQuiet now → buffered_of s ≡ []
-      → AppendsFront received_now received_new ((now []).last s.line_due) → IsProgress log_rules run_output received input [] s now received_now → BrokenAtEnd log_rules run_output input received received_new
+  broken_last : (s : Splitter) (now : List Record → RunOutput) (received_now received_new : Option (List ℕ))
+      → IsQuiet now → buffered_of s ≡ []
+      → AppendsFront received_now received_new ((now []).last s.line_due) → IsProgress log_rules run_output received
+      input [] s now received_now → BrokenAtEnd log_rules run_output input received received_new
   broken_last s now received_now received_new quiet nothing cut w = record {
     log = log_at s w.records [];
     reads = w.is_after.reads;
@@ -232,80 +338,119 @@ module _ (log_rules : LogRules) (run_output : List Record → RunOutput) (receiv
     first = cut.0;
     others = cut.1;
     is = went_last s now received_now w ∙ cut.2;
-    wrote = subst (λ (z : List ℕ). Appends received received_new z) (ap (λ z. z ++ cut.0) (sym (went_out s now received_now quiet w))) (Appends-trans received received_now received_new w.out cut.0 w.wrote cut.3);
+    wrote = subst (λ (z : List ℕ). Appends received received_new z)
+        (ap (λ z. z ++ cut.0) (sym (went_out s now received_now quiet w)))
+        (Appends-trans received received_now received_new w.out cut.0 w.wrote cut.3);
   }
 
-  short_last : (unflushed : Bool) (s : Splitter) (now : List Record → RunOutput) (received_now received_new : Option (List ℕ)) → IsQuiet now → buffered_of s ≡ []
-      → AppendsShort unflushed received_now received_new ((now []).last s.line_due) → IsProgress log_rules run_output received input [] s now received_now → RanOutAtEnd log_rules run_output unflushed input received received_new
+  short_last : (unflushed : Bool) (s : Splitter) (now : List Record → RunOutput)
+      (received_now received_new : Option (List ℕ)) → IsQuiet now → buffered_of s ≡ []
+      → AppendsShort unflushed received_now received_new ((now []).last s.line_due)
+      → IsProgress log_rules run_output received input [] s now received_now
+      → RanOutAtEnd log_rules run_output unflushed input received received_new
   unfolding broken_last
   short_last unflushed s now received_now received_new quiet nothing cut w = record {
     broken = broken_last s now received_now received_new quiet nothing (cut.0, cut.1, cut.2, cut.3) w;
     short = cut.4;
   }
 
-  pub last_fault : (unflushed : Bool) (place : ℕ) (s : Splitter) (now : List Record → RunOutput) (received_now received_new : Option (List ℕ)) (fault : EngineFault) → IsQuiet now → buffered_of s ≡ []
-      → AppendsFront received_now received_new ((now []).last s.line_due) → (fault ≡ TooManyTurns → AppendsShort unflushed received_now received_new ((now []).last s.line_due)) → IsLastFault fault → IsProgress log_rules run_output received input [] s now received_now → IsEndFault log_rules run_output unflushed input received received_new place fault
+  pub last_fault : (unflushed : Bool) (place : ℕ) (s : Splitter) (now : List Record → RunOutput)
+      (received_now received_new : Option (List ℕ)) (fault : EngineFault) → IsQuiet now → buffered_of s ≡ []
+      → AppendsFront received_now received_new ((now []).last s.line_due)
+      → (fault ≡ TooManyTurns → AppendsShort unflushed received_now received_new ((now []).last s.line_due))
+      → IsLastFault fault → IsProgress log_rules run_output received input [] s now received_now
+      → IsEndFault log_rules run_output unflushed input received received_new place fault
   last_fault unflushed place s now received_now received_new Read quiet nothing cut short kind w = absurd kind
-  last_fault unflushed place s now received_now received_new Write quiet nothing cut short kind w = broken_last s now received_now received_new quiet nothing cut w
+  last_fault unflushed place s now received_now received_new Write quiet nothing cut short kind w =
+      broken_last s now received_now received_new quiet nothing cut w
   last_fault unflushed place s now received_now received_new (Frame fault) quiet nothing cut short kind w = absurd kind
   last_fault unflushed place s now received_now received_new (Truncated at) quiet nothing cut short kind w = absurd kind
-  last_fault unflushed place s now received_now received_new (BodyTooLong at) quiet nothing cut short kind w = absurd kind
-  last_fault unflushed place s now received_now received_new NoMemory quiet nothing cut short kind w = broken_last s now received_now received_new quiet nothing cut w
-  last_fault unflushed place s now received_now received_new TooManyTurns quiet nothing cut short kind w = short_last unflushed s now received_now received_new quiet nothing (short refl) w
+  last_fault unflushed place s now received_now received_new (BodyTooLong at) quiet nothing cut short kind w =
+      absurd kind
+  last_fault unflushed place s now received_now received_new NoMemory quiet nothing cut short kind w =
+      broken_last s now received_now received_new quiet nothing cut w
+  last_fault unflushed place s now received_now received_new TooManyTurns quiet nothing cut short kind w =
+      short_last unflushed s now received_now received_new quiet nothing (short refl) w
   last_fault unflushed place s now received_now received_new (BadLog at) quiet nothing cut short kind w = absurd kind
 
   -- Nothing was written of what the end gives.
-  pub went_whole_records : (s : Splitter) (now : List Record → RunOutput) (received_now received_new : Option (List ℕ)) → IsQuiet now → Appends received_now received_new []
-      → IsProgress log_rules run_output received input [] s now received_now → Reached log_rules run_output input received received_new (λ _. Unit {0})
-  went_whole_records s now received_now received_new quiet nothing w = went_so_far log_rules run_output received input [] s now received_now received_new (λ _. Unit {0}) w quiet nothing tt
+  pub went_whole_records : (s : Splitter) (now : List Record → RunOutput) (received_now received_new : Option (List ℕ))
+      → IsQuiet now → Appends received_now received_new []
+      → IsProgress log_rules run_output received input [] s now received_now → Reached log_rules run_output input
+      received received_new (λ _. Unit {0})
+  went_whole_records s now received_now received_new quiet nothing w =
+      went_so_far log_rules run_output received input [] s now received_now received_new (λ _. Unit {0}) w quiet nothing
+      tt
 
 -- Bytes that are short of some bytes are short of more.
-pub still_short : (unflushed : Bool) (some more : List ℕ) → (0 < length some) ⊎ (unflushed ≡ true) → (0 < length (some ++ more)) ⊎ (unflushed ≡ true)
+pub still_short : (unflushed : Bool) (some more : List ℕ) → (0 < length some) ⊎ (unflushed ≡ true)
+    → (0 < length (some ++ more)) ⊎ (unflushed ≡ true)
 still_short unflushed some more (inl long) = inl (omega (arith, long, length-append some more))
 still_short unflushed some more (inr kept) = inr kept
 
 -- a part of what the end gives, and the next one
-pub part_short : (unflushed : Bool) (old mid new : Option (List ℕ)) (all out buffer rest : List ℕ) → all ≡ out ++ (buffer ++ rest) → Appends old mid out → AppendsShort unflushed mid new buffer → AppendsShort unflushed old new all
+pub part_short : (unflushed : Bool) (old mid new : Option (List ℕ)) (all out buffer rest : List ℕ)
+    → all ≡ out ++ (buffer ++ rest) → Appends old mid out → AppendsShort unflushed mid new buffer
+    → AppendsShort unflushed old new all
 part_short unflushed old mid new all out buffer rest is wrote cut = (
   out ++ cut.0,
   cut.1 ++ rest,
-  is ∙ ap (λ z. out ++ (z ++ rest)) cut.2 ∙ ap (λ z. out ++ z) (append_assoc cut.0 cut.1 rest) ∙ sym (append_assoc out cut.0 (cut.1 ++ rest)),
+  is ∙ ap (λ z. out ++ (z ++ rest)) cut.2 ∙ ap (λ z. out ++ z) (append_assoc cut.0 cut.1 rest)
+      ∙ sym (append_assoc out cut.0 (cut.1 ++ rest)),
   Appends-trans old mid new out cut.0 wrote cut.3,
   still_short unflushed cut.1 rest cut.4,
 )
 
-pub part_cut : (old mid new : Option (List ℕ)) (all out buffer rest : List ℕ) → all ≡ out ++ (buffer ++ rest) → Appends old mid out → AppendsFront mid new buffer → AppendsFront old new all
-part_cut old mid new all out buffer rest is wrote cut =
-    (out ++ cut.0, cut.1 ++ rest, is ∙ ap (λ z. out ++ (z ++ rest)) cut.2 ∙ ap (λ z. out ++ z) (append_assoc cut.0 cut.1 rest) ∙ sym (append_assoc out cut.0 (cut.1 ++ rest)), Appends-trans old mid new out cut.0 wrote cut.3)
+pub part_cut : (old mid new : Option (List ℕ)) (all out buffer rest : List ℕ) → all ≡ out ++ (buffer ++ rest)
+    → Appends old mid out → AppendsFront mid new buffer → AppendsFront old new all
+part_cut old mid new all out buffer rest is wrote cut = (
+  out ++ cut.0,
+  cut.1 ++ rest,
+  is ∙ ap (λ z. out ++ (z ++ rest)) cut.2 ∙ ap (λ z. out ++ z) (append_assoc cut.0 cut.1 rest)
+      ∙ sym (append_assoc out cut.0 (cut.1 ++ rest)),
+  Appends-trans old mid new out cut.0 wrote cut.3,
+)
 
-pub part_is : (answer : Option Outcome) (last buffer more : List ℕ) (A B : Type 0) (C : Outcome → Type 0) → MatchOption answer ((last ≡ buffer ++ more) × A × B) (λ outcome. (last ≡ buffer) × C outcome)
+pub part_is : (answer : Option Outcome) (last buffer more : List ℕ) (A B : Type 0) (C : Outcome → Type 0)
+    → MatchOption answer ((last ≡ buffer ++ more) × A × B) (λ outcome. (last ≡ buffer) × C outcome)
     → (rest : List ℕ) × (last ≡ buffer ++ rest)
 part_is None last buffer more A B C error = (more, error.0)
 part_is (Some outcome) last buffer more A B C error = ([], error.0 ∙ sym (append-nil buffer))
 
 -- a record's output, from the course that begins with it
-pub record_out : (old new : List Record → RunOutput) (r : Record) (out : List ℕ) (end : Option Outcome) → old (r ∷ []) ≡ after out end (new []) → (new []).out ≡ [] → (old (r ∷ [])).out ≡ out
+pub record_out : (old new : List Record → RunOutput) (r : Record) (out : List ℕ) (end : Option Outcome) → old (r ∷ [])
+    ≡ after out end (new []) → (new []).out ≡ [] → (old (r ∷ [])).out ≡ out
 record_out old new r out None is silent = ap (λ (c : RunOutput). c.out) is ∙ ap (λ z. out ++ z) silent ∙ append-nil out
 record_out old new r out (Some outcome) is silent = ap (λ (c : RunOutput). c.out) is
 
 -- a fault in writing a record's output
-pub write_fault : (unflushed : Bool) (old new : List Record → RunOutput) (received_old received_new : Option (List ℕ)) (r : Record) (bytes out : List ℕ) (end : Option Outcome) (fault : EngineFault)
-    → ((more : List Record) → old (r ∷ more) ≡ after out end (new more)) → (new []).out ≡ [] → bytes ≡ out → (fault ≡ Write) ⊎ (fault ≡ TooManyTurns)
-    → AppendsFront received_old received_new bytes → (fault ≡ TooManyTurns → AppendsShort unflushed received_old received_new bytes) → IsHandleFault old unflushed received_old received_new r fault
+pub write_fault : (unflushed : Bool) (old new : List Record → RunOutput) (received_old received_new : Option (List ℕ))
+    (r : Record) (bytes out : List ℕ) (end : Option Outcome) (fault : EngineFault)
+    → ((more : List Record) → old (r ∷ more) ≡ after out end (new more)) → (new []).out ≡ [] → bytes ≡ out
+    → (fault ≡ Write) ⊎ (fault ≡ TooManyTurns)
+    → AppendsFront received_old received_new bytes
+    → (fault ≡ TooManyTurns → AppendsShort unflushed received_old received_new bytes)
+    → IsHandleFault old unflushed received_old received_new r fault
 write_fault unflushed old new received_old received_new r bytes out end fault writes silent is (inl at) front short =
-    subst (IsHandleFault old unflushed received_old received_new r) (sym at) (subst (AppendsFront received_old received_new) (is ∙ sym (record_out old new r out end (writes []) silent)) front)
+    subst (IsHandleFault old unflushed received_old received_new r) (sym at)
+    (subst (AppendsFront received_old received_new) (is ∙ sym (record_out old new r out end (writes []) silent)) front)
 write_fault unflushed old new received_old received_new r bytes out end fault writes silent is (inr at) front short =
-    subst (IsHandleFault old unflushed received_old received_new r) (sym at) (subst (AppendsShort unflushed received_old received_new) (is ∙ sym (record_out old new r out end (writes []) silent)) (short at))
+    subst (IsHandleFault old unflushed received_old received_new r) (sym at)
+    (subst (AppendsShort unflushed received_old received_new)
+    (is ∙ sym (record_out old new r out end (writes []) silent)) (short at))
 
 -- what two clauses say of one answer
-pub ok_and : {T E : Type 0} (r : Result T E) (X : Type 0) (P Q : T → Type 0) → OnOk r X → IfOk r P → ((t : T) → X → P t → Q t) → IfOk r Q
+pub ok_and : {T E : Type 0} (r : Result T E) (X : Type 0) (P Q : T → Type 0) → OnOk r X → IfOk r P
+    → ((t : T) → X → P t → Q t) → IfOk r Q
 ok_and (Ok t) X P Q x p both = both t x p
 ok_and (Err e) X P Q x p both = tt
 
-pub err_and : {T E : Type 0} (r : Result T E) (X : Type 0) (P Q : E → Type 0) → OnErr r X → IfErr r P → ((e : E) → X → P e → Q e) → IfErr r Q
+pub err_and : {T E : Type 0} (r : Result T E) (X : Type 0) (P Q : E → Type 0) → OnErr r X → IfErr r P
+    → ((e : E) → X → P e → Q e) → IfErr r Q
 err_and (Ok t) X P Q x p both = tt
 err_and (Err e) X P Q x p both = both e x p
 
-pub err_and_two : {T E : Type 0} (r : Result T E) (X : Type 0) (P O Q : E → Type 0) → OnErr r X → IfErr r P → IfErr r O → ((e : E) → X → P e → O e → Q e) → IfErr r Q
+pub err_and_two : {T E : Type 0} (r : Result T E) (X : Type 0) (P O Q : E → Type 0) → OnErr r X → IfErr r P → IfErr r O
+    → ((e : E) → X → P e → O e → Q e) → IfErr r Q
 err_and_two (Ok t) X P O Q x p o all = tt
 err_and_two (Err e) X P O Q x p o all = all e x p o

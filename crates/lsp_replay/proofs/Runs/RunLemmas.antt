@@ -27,9 +27,11 @@ use Rattle.lsp_stream.specs.Ports.{Rose}
 use Rattle.lsp_stream.specs.Turns.{Spends, StaysWell, StaysFlushed}
 use Rattle.lsp_replay.proofs.Runs.EngineLemmas.{IsQuiet, went_read}
 
-together_more : (version : Version) (rs : List Record) (rest more : List ℕ) → together version rs (rest ++ more) ≡ together version rs rest ++ more
+together_more : (version : Version) (rs : List Record) (rest more : List ℕ) → together version rs (rest ++ more)
+    ≡ together version rs rest ++ more
 together_more version [] rest more = refl
-together_more version (q ∷ rs) rest more = ap (λ z. record_bytes version q ++ z) (together_more version rs rest more) ∙ sym (append_assoc (record_bytes version q) (together version rs rest) more)
+together_more version (q ∷ rs) rest more = ap (λ z. record_bytes version q ++ z) (together_more version rs rest more)
+    ∙ sym (append_assoc (record_bytes version q) (together version rs rest) more)
 
 ended_not : (ended : Bool) → ended ≡ false → ended ≡ true → ⊥
 ended_not ended a b = let two : false ≡ true = sym a ∙ b in cc
@@ -55,68 +57,94 @@ line_has_none = refl
 regroup : (a b c d e : List ℕ) → (((a ++ b) ++ c) ++ d) ++ e ≡ a ++ (b ++ (c ++ (d ++ e)))
 regroup a b c d e = simp append_assoc
 
-no_frame_in_line : (max_body : ℕ) (bytes raw body more : List ℕ) → IsLineFront bytes → IsFrameOf max_body raw body → bytes ≡ raw ++ more → ⊥
+no_frame_in_line : (max_body : ℕ) (bytes raw body more : List ℕ) → IsLineFront bytes → IsFrameOf max_body raw body
+    → bytes ≡ raw ++ more → ⊥
 no_frame_in_line max_body bytes raw body more front is_frame_of e =
     let line : version_line ≡ bytes ++ drop (length bytes) version_line =
-    sym (take-append-drop (length bytes) version_line) ∙ ap (λ z. z ++ drop (length bytes) version_line) (sym front.1) in
-    let frame : bytes ≡ ((lines_bytes is_frame_of.lines ++ (13 ∷ 10 ∷ [])) ++ body) ++ more = e ∙ ap (λ z. z ++ more) is_frame_of.is in
-    let all : version_line ≡ lines_bytes is_frame_of.lines ++ (13 ∷ (10 ∷ (body ++ (more ++ drop (length bytes) version_line)))) =
-    line ∙ ap (λ z. z ++ drop (length bytes) version_line) frame ∙ regroup (lines_bytes is_frame_of.lines) (13 ∷ 10 ∷ []) body more (drop (length bytes) version_line) in
-    let two : false ≡ true = sym line_has_none ∙ ap has_return all ∙ has_in (lines_bytes is_frame_of.lines) (10 ∷ (body ++ (more ++ drop (length bytes) version_line))) in
+    sym (take-append-drop (length bytes) version_line) ∙ ap (λ z. z ++ drop (length bytes) version_line)
+    (sym front.1) in
+    let frame : bytes ≡ ((lines_bytes is_frame_of.lines ++ (13 ∷ 10 ∷ [])) ++ body) ++ more =
+    e ∙ ap (λ z. z ++ more) is_frame_of.is in
+    let all : version_line ≡ lines_bytes is_frame_of.lines
+    ++ (13 ∷ (10 ∷ (body ++ (more ++ drop (length bytes) version_line)))) =
+    line ∙ ap (λ z. z ++ drop (length bytes) version_line) frame ∙ regroup (lines_bytes is_frame_of.lines)
+    (13 ∷ 10 ∷ []) body more (drop (length bytes) version_line) in
+    let two : false ≡ true = sym line_has_none ∙ ap has_return all ∙ has_in (lines_bytes is_frame_of.lines)
+    (10 ∷ (body ++ (more ++ drop (length bytes) version_line))) in
     cc
 
 -- The input may still become the line, or it is nothing.
 unopened : (versions : Bool) (max_body : ℕ) (input : List ℕ) → IsLineFront input → (versions ≡ false → input ≡ [])
-    → IsUndecided max_body (record { version = One; records = []; rest = input }) ⊎ ((versions ≡ true) × IsLineFront input)
+    → IsUndecided max_body (record { version = One; records = []; rest = input })
+    ⊎ ((versions ≡ true) × IsLineFront input)
 unopened true max_body input front none = inr (refl, front)
 unopened false max_body input front none = inl (inl (none refl))
 
 module _ (log_rules : LogRules) (run_output : List Record → RunOutput) (left received : Option (List ℕ)) where
   -- at the start
-  pub runs_at_start : (left_now : Option (List ℕ)) (ended : Bool) (len place size : ℕ) (buf : List ℕ) (s : Splitter) (version : Version) → len ≤ length buf → len < 2 ^ 64 → size ≡ length (line_of version) → place ≡ len → s.version ≡ version
+  pub runs_at_start : (left_now : Option (List ℕ)) (ended : Bool) (len place size : ℕ) (buf : List ℕ) (s : Splitter)
+      (version : Version) → len ≤ length buf → len < 2 ^ 64 → size ≡ length (line_of version) → place ≡ len → s.version
+      ≡ version
       → Consumes left left_now (take len buf)
       → ((more : List ℕ) → (ended ≡ true → more ≡ []) → IsVersion log_rules.versions version (take len buf ++ more))
-      → length (line_of version) ≤ len → take len buf ≡ line_of version ++ drop (length (line_of version)) (take len buf)
-      → (log_rules.only_one ≡ true → version ≡ One) → ((input more : List ℕ) → IsOpen log_rules input version more → IsAfter log_rules input more [] s)
-      → Runs log_rules run_output left received left_now ended place (take (len - size) (drop size buf)) s run_output received
-  runs_at_start left_now ended len place size buf s version within fits sized placed same read known short front accepted is_after =
+      → length (line_of version) ≤ len → take len buf ≡ line_of version ++ drop (length (line_of version))
+      (take len buf)
+      → (log_rules.only_one ≡ true → version ≡ One) → ((input more : List ℕ) → IsOpen log_rules input version more
+      → IsAfter log_rules input more [] s)
+      → Runs log_rules run_output left received left_now ended place (take (len - size) (drop size buf)) s run_output
+      received
+  runs_at_start left_now ended len place size buf s version within fits sized placed same read known short front
+      accepted is_after =
       let all : length (take len buf) ≡ len = omega (arith, length-take len buf) in
       let sum : size + (len - size) ≡ len = omega (arith, sized, short) in
-      let rest : drop size (take (size + (len - size)) buf) ≡ take (len - size) (drop size buf) = drop-take size (len - size) buf in
+      let rest : drop size (take (size + (len - size)) buf) ≡ take (len - size) (drop size buf) =
+      drop-take size (len - size) buf in
       let piece : drop (length (line_of version)) (take len buf) ≡ take (len - size) (drop size buf) =
       ap (λ n. drop n (take len buf)) (sym sized) ∙ ap (λ n. drop size (take n buf)) (sym sum) ∙ rest in
       let whole : IsVersion log_rules.versions version (take len buf) =
-      subst (λ (z : List ℕ). IsVersion log_rules.versions version z) (append-nil (take len buf)) (known [] (λ _. refl)) in
+      subst (λ (z : List ℕ). IsVersion log_rules.versions version z) (append-nil (take len buf))
+      (known [] (λ _. refl)) in
       record {
         input = take len buf;
         read = read;
         progress = record {
           records = [];
-          is_after = is_after (take len buf) (take (len - size) (drop size buf)) (record { known = whole; accepted = accepted; is = front ∙ ap (λ z. line_of version ++ z) piece });
+          is_after = is_after (take len buf) (take (len - size) (drop size buf)) (record {
+            known = whole;
+            accepted = accepted;
+            is = front ∙ ap (λ z. line_of version ++ z) piece;
+          });
           out = [];
           outputs = λ others. refl;
           wrote = Appends-nil received;
         };
         placed = omega (arith, placed, all, fits);
-        sure = λ more last. subst (λ (v : Version). IsVersion log_rules.versions v (take len buf ++ more)) (sym same) (known more last);
+        sure = λ more last. subst (λ (v : Version). IsVersion log_rules.versions v (take len buf ++ more)) (sym same)
+            (known more last);
       }
 
   -- a piece was taken
-  pub runs_on : (left_now : Option (List ℕ)) (ended : Bool) (place : ℕ) (piece : List ℕ) (s n : Splitter) (now new : List Record → RunOutput) (received_now received_new : Option (List ℕ)) → n.version ≡ s.version
-      → ((input : List ℕ) → IsProgress log_rules run_output received input piece s now received_now → IsProgress log_rules run_output received input [] n new received_new)
-      → Runs log_rules run_output left received left_now ended place piece s now received_now → Runs log_rules run_output left received left_now ended place [] n new received_new
+  pub runs_on : (left_now : Option (List ℕ)) (ended : Bool) (place : ℕ) (piece : List ℕ) (s n : Splitter)
+      (now new : List Record → RunOutput) (received_now received_new : Option (List ℕ)) → n.version ≡ s.version
+      → ((input : List ℕ) → IsProgress log_rules run_output received input piece s now received_now
+      → IsProgress log_rules run_output received input [] n new received_new)
+      → Runs log_rules run_output left received left_now ended place piece s now received_now
+      → Runs log_rules run_output left received left_now ended place [] n new received_new
   runs_on left_now ended place piece s n now new received_now received_new same taken r = record {
     input = r.input;
     read = r.read;
     progress = taken r.input r.progress;
     placed = r.placed;
-    sure = λ more last. subst (λ (v : Version). IsVersion log_rules.versions v (r.input ++ more)) (sym same) (r.sure more last);
+    sure = λ more last. subst (λ (v : Version). IsVersion log_rules.versions v (r.input ++ more)) (sym same)
+        (r.sure more last);
   }
 
   -- more was read
-  pub runs_more : (left_now left_new : Option (List ℕ)) (ended ended_new : Bool) (place place_new n : ℕ) (piece : List ℕ) (s : Splitter) (now : List Record → RunOutput) (received_now : Option (List ℕ)) → ended ≡ false
+  pub runs_more : (left_now left_new : Option (List ℕ)) (ended ended_new : Bool) (place place_new n : ℕ)
+      (piece : List ℕ) (s : Splitter) (now : List Record → RunOutput) (received_now : Option (List ℕ)) → ended ≡ false
       → length piece ≡ n → place_new ≡ min (place + n) (2 ^ 64 - 1) → Consumes left_now left_new piece
-      → Runs log_rules run_output left received left_now ended place [] s now received_now → Runs log_rules run_output left received left_new ended_new place_new piece s now received_now
+      → Runs log_rules run_output left received left_now ended place [] s now received_now
+      → Runs log_rules run_output left received left_new ended_new place_new piece s now received_now
   runs_more left_now left_new ended ended_new place place_new n piece s now received_now open_still len placed read r =
       let w = r.progress in
       let at = w.is_after in
@@ -133,13 +161,26 @@ module _ (log_rules : LogRules) (run_output : List Record → RunOutput) (left r
             reads = record {
               version = version;
               accepted = at.reads.accepted;
-              is = ap (λ z. z ++ piece) at.reads.is ∙ append_assoc (line_of s.version) (together s.version w.records (buffered_of s ++ [])) piece
-                  ∙ ap (λ z. line_of s.version ++ z) (sym (together_more s.version w.records (buffered_of s ++ []) piece) ∙ ap (λ z. together s.version w.records (z ++ piece)) before);
+              is = ap (λ z. z ++ piece) at.reads.is ∙ append_assoc (line_of s.version)
+                  (together s.version w.records (buffered_of s ++ [])) piece
+                  ∙ ap (λ z. line_of s.version ++ z)
+                  (sym (together_more s.version w.records (buffered_of s ++ []) piece)
+                  ∙ ap (λ z. together s.version w.records (z ++ piece)) before);
               each = at.reads.each;
             };
             limit = at.limit;
-            placed = at.placed ∙ ap (place_after 0) (omega (arith, sum, length-append (buffered_of s) piece, ap length before));
-            framed = at.framed ∙ ap (place_after 0) (omega (arith, sum, length-append s.framer.buffered piece, ap length (append-nil s.framer.buffered)));
+            placed = at.placed ∙ ap (place_after 0) (omega (
+              arith,
+              sum,
+              length-append (buffered_of s) piece,
+              ap length before,
+            ));
+            framed = at.framed ∙ ap (place_after 0) (omega (
+              arith,
+              sum,
+              length-append s.framer.buffered piece,
+              ap length (append-nil s.framer.buffered),
+            ));
             part = at.part;
             one = at.one;
             side = at.side;
@@ -150,22 +191,34 @@ module _ (log_rules : LogRules) (run_output : List Record → RunOutput) (left r
           wrote = w.wrote;
         };
         placed = omega (arith, placed, r.placed, sum, len);
-        sure = λ more last. subst (λ (z : List ℕ). IsVersion log_rules.versions s.version z) (sym (append_assoc r.input piece more)) (r.sure (piece ++ more) (not_ended (piece ++ more)));
+        sure = λ more last. subst (λ (z : List ℕ). IsVersion log_rules.versions s.version z)
+            (sym (append_assoc r.input piece more)) (r.sure (piece ++ more) (not_ended (piece ++ more)));
       }
 
   -- The run ended.
-  pub ran_stopped : (left_now : Option (List ℕ)) (ended : Bool) (state : PortState) (place : ℕ) (piece : List ℕ) (s : Splitter) (now : List Record → RunOutput) (received_now received_new : Option (List ℕ)) (outcome : Outcome)
-      → ((input : List ℕ) → IsProgress log_rules run_output received input piece s now received_now → Stopped log_rules run_output input received received_new (Ok outcome))
-      → Runs log_rules run_output left received left_now ended place piece s now received_now → Ran log_rules run_output state left left_now received received_new (Ok outcome)
-  ran_stopped left_now ended state place piece s now received_now received_new outcome stops r = record { input = r.input; read = r.read; came = inl (stops r.input r.progress) }
+  pub ran_stopped : (left_now : Option (List ℕ)) (ended : Bool) (state : PortState) (place : ℕ) (piece : List ℕ)
+      (s : Splitter) (now : List Record → RunOutput) (received_now received_new : Option (List ℕ)) (outcome : Outcome)
+      → ((input : List ℕ) → IsProgress log_rules run_output received input piece s now received_now
+      → Stopped log_rules run_output input received received_new (Ok outcome))
+      → Runs log_rules run_output left received left_now ended place piece s now received_now
+      → Ran log_rules run_output state left left_now received received_new (Ok outcome)
+  ran_stopped left_now ended state place piece s now received_now received_new outcome stops r =
+      record { input = r.input; read = r.read; came = inl (stops r.input r.progress) }
 
-  pub ran_to_end : (left_now : Option (List ℕ)) (ended : Bool) (state : PortState) (place : ℕ) (s : Splitter) (now : List Record → RunOutput) (received_now received_new : Option (List ℕ)) (outcome : Outcome) → state.ended ≡ true
-      → ((input : List ℕ) → IsProgress log_rules run_output received input [] s now received_now → AtEnd log_rules run_output input received received_new outcome)
-      → Runs log_rules run_output left received left_now ended place [] s now received_now → Ran log_rules run_output state left left_now received received_new (Ok outcome)
-  ran_to_end left_now ended state place s now received_now received_new outcome error ends r = record { input = r.input; read = r.read; came = inr (error, ends r.input r.progress) }
+  pub ran_to_end : (left_now : Option (List ℕ)) (ended : Bool) (state : PortState) (place : ℕ) (s : Splitter)
+      (now : List Record → RunOutput) (received_now received_new : Option (List ℕ)) (outcome : Outcome) → state.ended
+      ≡ true
+      → ((input : List ℕ) → IsProgress log_rules run_output received input [] s now received_now
+      → AtEnd log_rules run_output input received received_new outcome)
+      → Runs log_rules run_output left received left_now ended place [] s now received_now
+      → Ran log_rules run_output state left left_now received received_new (Ok outcome)
+  ran_to_end left_now ended state place s now received_now received_new outcome error ends r =
+      record { input = r.input; read = r.read; came = inr (error, ends r.input r.progress) }
 
   -- It ended with a fault.
-  piece_fault : (state : PortState) (input : List ℕ) (received_new : Option (List ℕ)) (fault : EngineFault) → IsPieceFault log_rules run_output state.unflushed input received received_new fault → IsRunFault log_rules run_output state input received received_new fault
+  piece_fault : (state : PortState) (input : List ℕ) (received_new : Option (List ℕ)) (fault : EngineFault)
+      → IsPieceFault log_rules run_output state.unflushed input received received_new fault
+      → IsRunFault log_rules run_output state input received received_new fault
   piece_fault state input received_new Read why = absurd why
   piece_fault state input received_new Write why = inl why
   piece_fault state input received_new (Frame fault) why = why
@@ -176,14 +229,23 @@ module _ (log_rules : LogRules) (run_output : List Record → RunOutput) (left r
   piece_fault state input received_new (BadLog place) (inl why) = inl why
   piece_fault state input received_new (BadLog place) (inr why) = inr (inl why)
 
-  pub ran_into_fault : (left_now : Option (List ℕ)) (ended : Bool) (state : PortState) (place : ℕ) (piece : List ℕ) (s : Splitter) (now : List Record → RunOutput) (received_now received_new : Option (List ℕ)) (fault : EngineFault)
-      → ((input : List ℕ) → IsProgress log_rules run_output received input piece s now received_now → IsPieceFault log_rules run_output state.unflushed input received received_new fault)
-      → Runs log_rules run_output left received left_now ended place piece s now received_now → Ran log_rules run_output state left left_now received received_new (Err fault)
+  pub ran_into_fault : (left_now : Option (List ℕ)) (ended : Bool) (state : PortState) (place : ℕ) (piece : List ℕ)
+      (s : Splitter) (now : List Record → RunOutput) (received_now received_new : Option (List ℕ)) (fault : EngineFault)
+      → ((input : List ℕ) → IsProgress log_rules run_output received input piece s now received_now
+      → IsPieceFault log_rules run_output state.unflushed input received received_new fault)
+      → Runs log_rules run_output left received left_now ended place piece s now received_now
+      → Ran log_rules run_output state left left_now received received_new (Err fault)
   ran_into_fault left_now ended state place piece s now received_now received_new fault fails r =
-      record { input = r.input; read = r.read; came = piece_fault state r.input received_new fault (fails r.input r.progress) }
+      record {
+        input = r.input;
+        read = r.read;
+        came = piece_fault state r.input received_new fault (fails r.input r.progress);
+      }
 
-  end_fault : (state : PortState) (input : List ℕ) (place : ℕ) (received_new : Option (List ℕ)) (fault : EngineFault) → state.ended ≡ true → place ≡ place_after 0 (length input)
-      → IsEndFault log_rules run_output state.unflushed input received received_new place fault → IsRunFault log_rules run_output state input received received_new fault
+  end_fault : (state : PortState) (input : List ℕ) (place : ℕ) (received_new : Option (List ℕ)) (fault : EngineFault)
+      → state.ended ≡ true → place ≡ place_after 0 (length input)
+      → IsEndFault log_rules run_output state.unflushed input received received_new place fault
+      → IsRunFault log_rules run_output state input received received_new fault
   end_fault state input place received_new Read error placed why = absurd why
   end_fault state input place received_new Write error placed why = inr (error, why)
   end_fault state input place received_new (Frame fault) error placed why = absurd why
@@ -193,42 +255,69 @@ module _ (log_rules : LogRules) (run_output : List Record → RunOutput) (left r
   end_fault state input place received_new TooManyTurns error placed why = inr (inl (error, why))
   end_fault state input place received_new (BadLog at) error placed why = absurd why
 
-  pub ran_into_end_fault : (left_now : Option (List ℕ)) (ended : Bool) (state : PortState) (place : ℕ) (s : Splitter) (now : List Record → RunOutput) (received_now received_new : Option (List ℕ)) (fault : EngineFault) → state.ended ≡ true
-      → ((input : List ℕ) → IsProgress log_rules run_output received input [] s now received_now → IsEndFault log_rules run_output state.unflushed input received received_new place fault)
-      → Runs log_rules run_output left received left_now ended place [] s now received_now → Ran log_rules run_output state left left_now received received_new (Err fault)
+  pub ran_into_end_fault : (left_now : Option (List ℕ)) (ended : Bool) (state : PortState) (place : ℕ) (s : Splitter)
+      (now : List Record → RunOutput) (received_now received_new : Option (List ℕ)) (fault : EngineFault) → state.ended
+      ≡ true
+      → ((input : List ℕ) → IsProgress log_rules run_output received input [] s now received_now
+      → IsEndFault log_rules run_output state.unflushed input received received_new place fault)
+      → Runs log_rules run_output left received left_now ended place [] s now received_now
+      → Ran log_rules run_output state left left_now received received_new (Err fault)
   ran_into_end_fault left_now ended state place s now received_now received_new fault error fails r =
-      record { input = r.input; read = r.read; came = end_fault state r.input place received_new fault error r.placed (fails r.input r.progress) }
+      record {
+        input = r.input;
+        read = r.read;
+        came = end_fault state r.input place received_new fault error r.placed (fails r.input r.progress);
+      }
 
   -- No more could be read.
-  read_fault : (state : PortState) (input : List ℕ) (received_new : Option (List ℕ)) (fault : EngineFault) → (fault ≡ Read) ⊎ (fault ≡ TooManyTurns)
-      → (fault ≡ TooManyTurns → state.ended_before ≡ false → state.ended ≡ false) → Reached log_rules run_output input received received_new (IsUnfinished log_rules input) → IsRunFault log_rules run_output state input received received_new fault
-  read_fault state input received_new fault (inl is) not_ended reached = subst (IsRunFault log_rules run_output state input received received_new) (sym is) reached
+  read_fault : (state : PortState) (input : List ℕ) (received_new : Option (List ℕ)) (fault : EngineFault)
+      → (fault ≡ Read) ⊎ (fault ≡ TooManyTurns)
+      → (fault ≡ TooManyTurns → state.ended_before ≡ false → state.ended ≡ false) → Reached log_rules run_output input
+      received received_new (IsUnfinished log_rules input) → IsRunFault log_rules run_output state input received
+      received_new fault
+  read_fault state input received_new fault (inl is) not_ended reached =
+      subst (IsRunFault log_rules run_output state input received received_new) (sym is) reached
   read_fault state input received_new fault (inr is) not_ended reached =
       subst (IsRunFault log_rules run_output state input received received_new) (sym is)
       (inr (inr (not_ended is, reached)))
 
-  pub ran_unread : (left_now left_new : Option (List ℕ)) (ended : Bool) (state : PortState) (place : ℕ) (s : Splitter) (now : List Record → RunOutput) (received_now : Option (List ℕ)) (fault : EngineFault) → RestLaw → IsReady s → IsQuiet now
-      → Keeps left_now left_new → (fault ≡ Read) ⊎ (fault ≡ TooManyTurns) → (fault ≡ TooManyTurns → state.ended_before ≡ false → state.ended ≡ false)
-      → Runs log_rules run_output left received left_now ended place [] s now received_now → Ran log_rules run_output state left left_new received received_now (Err fault)
-  ran_unread left_now left_new ended state place s now received_now fault rest_law ready quiet kept kind not_ended r = record {
-    input = r.input;
-    read = Consumes-kept left left_now left_new r.input r.read kept;
-    came = read_fault state r.input received_now fault kind not_ended (went_read log_rules run_output received r.input rest_law s now received_now ready quiet r.progress);
-  }
+  pub ran_unread : (left_now left_new : Option (List ℕ)) (ended : Bool) (state : PortState) (place : ℕ) (s : Splitter)
+      (now : List Record → RunOutput) (received_now : Option (List ℕ)) (fault : EngineFault) → RestLaw → IsReady s
+      → IsQuiet now
+      → Keeps left_now left_new → (fault ≡ Read) ⊎ (fault ≡ TooManyTurns)
+      → (fault ≡ TooManyTurns → state.ended_before ≡ false → state.ended ≡ false)
+      → Runs log_rules run_output left received left_now ended place [] s now received_now
+      → Ran log_rules run_output state left left_new received received_now (Err fault)
+  ran_unread left_now left_new ended state place s now received_now fault rest_law ready quiet kept kind not_ended r =
+      record {
+        input = r.input;
+        read = Consumes-kept left left_now left_new r.input r.read kept;
+        came = read_fault state r.input received_now fault kind not_ended
+            (went_read log_rules run_output received r.input
+            rest_law s now received_now ready quiet r.progress);
+      }
 
   -- A log of version 2 was refused.
-  pub ran_refused : (left_now : Option (List ℕ)) (state : PortState) (fault : EngineFault) (input : List ℕ) (version : Version) → (fault ≡ BadLog 0) × (log_rules.only_one ≡ true) × (version ≡ Two)
-      → Consumes left left_now input → ((more : List ℕ) → more ≡ [] → IsVersion log_rules.versions version (input ++ more)) → Ran log_rules run_output state left left_now received received (Err fault)
+  pub ran_refused : (left_now : Option (List ℕ)) (state : PortState) (fault : EngineFault) (input : List ℕ)
+      (version : Version) → (fault ≡ BadLog 0) × (log_rules.only_one ≡ true) × (version ≡ Two)
+      → Consumes left left_now input
+      → ((more : List ℕ) → more ≡ [] → IsVersion log_rules.versions version (input ++ more))
+      → Ran log_rules run_output state left left_now received received (Err fault)
   ran_refused left_now state fault input version why read known =
-      let two : IsVersion log_rules.versions Two input = subst (λ (v : Version). IsVersion log_rules.versions v input) why.2 (subst (λ (z : List ℕ). IsVersion log_rules.versions version z) (append-nil input) (known [] refl)) in
+      let two : IsVersion log_rules.versions Two input =
+      subst (λ (v : Version). IsVersion log_rules.versions v input) why.2
+      (subst (λ (z : List ℕ). IsVersion log_rules.versions version z) (append-nil input) (known [] refl)) in
       record {
         input = input;
         read = read;
-        came = subst (IsRunFault log_rules run_output state input received received) (sym why.0) (inr (inr (record { only_one = why.1; version = two; placed = refl; wrote = Appends-nil received })));
+        came = subst (IsRunFault log_rules run_output state input received received) (sym why.0)
+            (inr (inr (record { only_one = why.1; version = two; placed = refl; wrote = Appends-nil received })));
       }
 
   -- Some first bytes of the line are no log of version 2, and begin no frame.
-  pub ran_unopened : (left_new : Option (List ℕ)) (state : PortState) (fault : EngineFault) → IsQuiet run_output → IsBelowLine log_rules.versions left left_new → (fault ≡ Read) ⊎ (fault ≡ TooManyTurns) → (fault ≡ TooManyTurns → state.ended_before ≡ false → state.ended ≡ false)
+  pub ran_unopened : (left_new : Option (List ℕ)) (state : PortState) (fault : EngineFault) → IsQuiet run_output
+      → IsBelowLine log_rules.versions left left_new → (fault ≡ Read) ⊎ (fault ≡ TooManyTurns)
+      → (fault ≡ TooManyTurns → state.ended_before ≡ false → state.ended ≡ false)
       → Ran log_rules run_output state left left_new received received (Err fault)
   ran_unopened left_new state fault quiet below kind not_ended = record {
     input = below.0;
@@ -242,7 +331,8 @@ module _ (log_rules : LogRules) (run_output : List Record → RunOutput) (left r
         each = tt;
       };
       rest = record {
-        none = λ side raw body more is_frame_of e. no_frame_in_line log_rules.max_body below.0 raw body more below.1 is_frame_of e;
+        none = λ side raw body more is_frame_of e. no_frame_in_line log_rules.max_body below.0 raw body more below.1
+            is_frame_of e;
         undecided = unopened log_rules.versions log_rules.max_body below.0 below.1 below.2;
       };
       continues = quiet.unstopped;
@@ -250,47 +340,85 @@ module _ (log_rules : LogRules) (run_output : List Record → RunOutput) (left r
     });
   }
 
-  pub ran_finished : (left_now : Option (List ℕ)) (ended : Bool) (state : PortState) (place : ℕ) (s : Splitter) (now : List Record → RunOutput) (received_now received_new : Option (List ℕ)) (answer : Result Outcome EngineFault) → state.ended ≡ true
-      → IfOk answer (λ outcome. (rules : LogRules) (at_first : List Record → RunOutput) (held_first : Option (List ℕ)) (input : List ℕ) → IsProgress rules at_first held_first input [] s now received_now → AtEnd rules at_first input held_first received_new outcome)
-      → IfErr answer (λ fault. (rules : LogRules) (at_first : List Record → RunOutput) (held_first : Option (List ℕ)) (input : List ℕ) → IsProgress rules at_first held_first input [] s now received_now → IsEndFault rules at_first state.unflushed input held_first received_new place fault)
-      → Runs log_rules run_output left received left_now ended place [] s now received_now → Ran log_rules run_output state left left_now received received_new answer
-  ran_finished left_now ended state place s now received_now received_new (Ok outcome) error ends fails r = ran_to_end left_now ended state place s now received_now received_new outcome error (ends log_rules run_output received) r
-  ran_finished left_now ended state place s now received_now received_new (Err fault) error ends fails r = ran_into_end_fault left_now ended state place s now received_now received_new fault error (fails log_rules run_output received) r
+  pub ran_finished : (left_now : Option (List ℕ)) (ended : Bool) (state : PortState) (place : ℕ) (s : Splitter)
+      (now : List Record → RunOutput) (received_now received_new : Option (List ℕ))
+      (answer : Result Outcome EngineFault) → state.ended ≡ true
+      → IfOk answer (λ outcome. (rules : LogRules) (at_first : List Record → RunOutput) (held_first : Option (List ℕ))
+      (input : List ℕ) → IsProgress rules at_first held_first input [] s now received_now
+      → AtEnd rules at_first input held_first received_new outcome)
+      → IfErr answer (λ fault. (rules : LogRules) (at_first : List Record → RunOutput) (held_first : Option (List ℕ))
+      (input : List ℕ) → IsProgress rules at_first held_first input [] s now received_now
+      → IsEndFault rules at_first state.unflushed input held_first received_new place fault)
+      → Runs log_rules run_output left received left_now ended place [] s now received_now
+      → Ran log_rules run_output state left left_now received received_new answer
+  ran_finished left_now ended state place s now received_now received_new (Ok outcome) error ends fails r =
+      ran_to_end left_now ended state place s now received_now received_new outcome error
+      (ends log_rules run_output received) r
+  ran_finished left_now ended state place s now received_now received_new (Err fault) error ends fails r =
+      ran_into_end_fault left_now ended state place s now received_now received_new fault error
+      (fails log_rules run_output received) r
 
   -- Memory ran out at a record.
-  pub piece_whole : (left_now : Option (List ℕ)) (ended : Bool) (place : ℕ) (piece : List ℕ) (s : Splitter) (now : List Record → RunOutput) (received_now received_new : Option (List ℕ)) (unflushed : Bool) (fault : EngineFault)
-      → ((input : List ℕ) → IsProgress log_rules run_output received input piece s now received_now → IsPieceFault log_rules run_output unflushed input received received_new fault)
-      → Runs log_rules run_output left received left_now ended place piece s now received_now → ◌≡◌ {A = Result Outcome EngineFault} (Err fault) (Err NoMemory) → WroteRecords log_rules run_output left left_now received received_new
+  pub piece_whole : (left_now : Option (List ℕ)) (ended : Bool) (place : ℕ) (piece : List ℕ) (s : Splitter)
+      (now : List Record → RunOutput) (received_now received_new : Option (List ℕ)) (unflushed : Bool)
+      (fault : EngineFault)
+      → ((input : List ℕ) → IsProgress log_rules run_output received input piece s now received_now
+      → IsPieceFault log_rules run_output unflushed input received received_new fault)
+      → Runs log_rules run_output left received left_now ended place piece s now received_now
+      → ◌≡◌ {A = Result Outcome EngineFault} (Err fault) (Err NoMemory) → WroteRecords log_rules run_output left
+      left_now received received_new
   piece_whole left_now ended place piece s now received_now received_new unflushed fault fails r is =
       let same : fault ≡ NoMemory = cc in
-      record { input = r.input; read = r.read; reached = subst (IsPieceFault log_rules run_output unflushed r.input received received_new) same (fails r.input r.progress) }
+      record {
+        input = r.input;
+        read = r.read;
+        reached = subst (IsPieceFault log_rules run_output unflushed r.input received received_new) same
+            (fails r.input r.progress);
+      }
 
   -- And at the end of the input.
-  pub end_whole : (left_now : Option (List ℕ)) (ended : Bool) (place : ℕ) (s : Splitter) (now : List Record → RunOutput) (received_now received_new : Option (List ℕ)) (Holds : Type 0) (answer : Result Outcome EngineFault)
-      → IfErr answer (λ fault. fault ≡ NoMemory → Holds → (rules : LogRules) (at_first : List Record → RunOutput) (held_first : Option (List ℕ)) (input : List ℕ) → IsProgress rules at_first held_first input [] s now received_now → Reached rules at_first input held_first received_new (λ _. Unit {0}))
-      → Holds → Runs log_rules run_output left received left_now ended place [] s now received_now → answer ≡ Err NoMemory → WroteRecords log_rules run_output left left_now received received_new
-  end_whole left_now ended place s now received_now received_new Holds (Ok outcome) whole one r is = absurd (let two : ◌≡◌ {A = Result Outcome EngineFault} (Ok outcome) (Err NoMemory) = is in cc)
+  pub end_whole : (left_now : Option (List ℕ)) (ended : Bool) (place : ℕ) (s : Splitter) (now : List Record → RunOutput)
+      (received_now received_new : Option (List ℕ)) (Holds : Type 0) (answer : Result Outcome EngineFault)
+      → IfErr answer (λ fault. fault ≡ NoMemory → Holds → (rules : LogRules) (at_first : List Record → RunOutput)
+      (held_first : Option (List ℕ)) (input : List ℕ) → IsProgress rules at_first held_first input [] s now received_now
+      → Reached rules at_first input held_first received_new (λ _. Unit {0}))
+      → Holds → Runs log_rules run_output left received left_now ended place [] s now received_now
+      → answer ≡ Err NoMemory → WroteRecords log_rules run_output left left_now received received_new
+  end_whole left_now ended place s now received_now received_new Holds (Ok outcome) whole one r is =
+      absurd (let two : ◌≡◌ {A = Result Outcome EngineFault} (Ok outcome) (Err NoMemory) = is in cc)
   end_whole left_now ended place s now received_now received_new Holds (Err fault) whole one r is =
       let same : fault ≡ NoMemory = cc in
-      record { input = r.input; read = r.read; reached = whole same one log_rules run_output received r.input r.progress }
+      record {
+        input = r.input;
+        read = r.read;
+        reached = whole same one log_rules run_output received r.input r.progress;
+      }
 
 -- Which calls were made when a fault came.
-pub called_fault : (reads_old reads_new writes_old writes_new allowed turns : ℕ) (read_failed write_failed ended : Bool) (left : Option (List ℕ)) (fault : EngineFault) → BothSpend reads_old reads_new writes_old writes_new allowed turns
-    → (fault ≡ TooManyTurns → turns ≡ 0) → (fault ≡ Read → (read_failed ≡ true) × Rose reads_old reads_new) → (fault ≡ Write → (write_failed ≡ true) × Rose writes_old writes_new)
-    → ((fault ≡ TooManyTurns → ⊥) → ended ≡ true → IsAtEnd left × Rose reads_old reads_new) → Called reads_old reads_new writes_old writes_new allowed read_failed write_failed ended left (Err fault)
-called_fault reads_old reads_new writes_old writes_new allowed turns read_failed write_failed ended left fault spent none read write at_end = record {
-  turns = omega (arith, spent.most);
-  too_many = λ is a b. let same : fault ≡ TooManyTurns = cc in omega (arith, spent.exact a b, none same);
-  read_fault = λ is. let same : fault ≡ Read = cc in read same;
-  write_fault = λ is. let same : fault ≡ Write = cc in write same;
-  at_end = λ other ended_now. at_end (λ is. other (ap Err is)) ended_now;
-}
+pub called_fault : (reads_old reads_new writes_old writes_new allowed turns : ℕ) (read_failed write_failed ended : Bool)
+    (left : Option (List ℕ)) (fault : EngineFault) → BothSpend reads_old reads_new writes_old writes_new allowed turns
+    → (fault ≡ TooManyTurns → turns ≡ 0) → (fault ≡ Read → (read_failed ≡ true) × Rose reads_old reads_new)
+    → (fault ≡ Write → (write_failed ≡ true) × Rose writes_old writes_new)
+    → ((fault ≡ TooManyTurns → ⊥) → ended ≡ true → IsAtEnd left × Rose reads_old reads_new)
+    → Called reads_old reads_new writes_old writes_new allowed read_failed write_failed ended left (Err fault)
+called_fault reads_old reads_new writes_old writes_new allowed turns read_failed write_failed ended left fault spent
+    none read write at_end = record {
+      turns = omega (arith, spent.most);
+      too_many = λ is a b. let same : fault ≡ TooManyTurns = cc in omega (arith, spent.exact a b, none same);
+      read_fault = λ is. let same : fault ≡ Read = cc in read same;
+      write_fault = λ is. let same : fault ≡ Write = cc in write same;
+      at_end = λ other ended_now. at_end (λ is. other (ap Err is)) ended_now;
+    }
 
-pub piece_not_read : (log_rules : LogRules) (run_output : List Record → RunOutput) (unflushed : Bool) (input : List ℕ) (old new : Option (List ℕ)) (fault : EngineFault) → IsPieceFault log_rules run_output unflushed input old new fault → fault ≡ Read → ⊥
-piece_not_read log_rules run_output unflushed input old new fault why is = subst (IsPieceFault log_rules run_output unflushed input old new) is why
+pub piece_not_read : (log_rules : LogRules) (run_output : List Record → RunOutput) (unflushed : Bool) (input : List ℕ)
+    (old new : Option (List ℕ)) (fault : EngineFault) → IsPieceFault log_rules run_output unflushed input old new fault
+    → fault ≡ Read → ⊥
+piece_not_read log_rules run_output unflushed input old new fault why is =
+    subst (IsPieceFault log_rules run_output unflushed input old new) is why
 
 -- the calls of the writer
-pub both_writes : (reads_old reads_new writes_old writes_now writes_new allowed turns left : ℕ) → BothSpend reads_old reads_new writes_old writes_now allowed turns → Spends writes_now writes_new turns left
+pub both_writes : (reads_old reads_new writes_old writes_now writes_new allowed turns left : ℕ)
+    → BothSpend reads_old reads_new writes_old writes_now allowed turns → Spends writes_now writes_new turns left
     → BothSpend reads_old reads_new writes_old writes_new allowed left
 both_writes reads_old reads_new writes_old writes_now writes_new allowed turns left both more = record {
   within = omega (arith, both.within, more.within);
@@ -301,7 +429,8 @@ both_writes reads_old reads_new writes_old writes_now writes_new allowed turns l
 }
 
 -- and of the reader
-pub both_reads : (reads_old reads_now reads_new writes_old writes_new allowed turns left : ℕ) → BothSpend reads_old reads_now writes_old writes_new allowed turns → Spends reads_now reads_new turns left
+pub both_reads : (reads_old reads_now reads_new writes_old writes_new allowed turns left : ℕ)
+    → BothSpend reads_old reads_now writes_old writes_new allowed turns → Spends reads_now reads_new turns left
     → BothSpend reads_old reads_new writes_old writes_new allowed left
 both_reads reads_old reads_now reads_new writes_old writes_new allowed turns left both more = record {
   within = omega (arith, both.within, more.within);
@@ -311,7 +440,8 @@ both_reads reads_old reads_now reads_new writes_old writes_new allowed turns lef
   exact = λ a b. omega (arith, a, b, both.exact, more.exact, more.least);
 }
 
-pub both_at_start : (reads_old reads_new writes allowed turns left : ℕ) → turns ≡ allowed → Spends reads_old reads_new turns left → BothSpend reads_old reads_new writes writes allowed left
+pub both_at_start : (reads_old reads_new writes allowed turns left : ℕ) → turns ≡ allowed
+    → Spends reads_old reads_new turns left → BothSpend reads_old reads_new writes writes allowed left
 both_at_start reads_old reads_new writes allowed turns left is spent = record {
   within = omega (arith, spent.within);
   reads = spent.least;
@@ -327,7 +457,8 @@ pub read_not_write : (fault : EngineFault) → (fault ≡ Read) ⊎ (fault ≡ T
 read_not_write fault (inl is) other = let two : Read ≡ Write = sym is ∙ other in cc
 read_not_write fault (inr is) other = let two : TooManyTurns ≡ Write = sym is ∙ other in cc
 
-pub read_not_ended : (fault : EngineFault) (ended : Bool) (A B : Type 0) → (fault ≡ Read) ⊎ (fault ≡ TooManyTurns) → (fault ≡ Read → A × (ended ≡ false) × B) → (fault ≡ TooManyTurns → ⊥) → ended ≡ true → ⊥
+pub read_not_ended : (fault : EngineFault) (ended : Bool) (A B : Type 0) → (fault ≡ Read) ⊎ (fault ≡ TooManyTurns)
+    → (fault ≡ Read → A × (ended ≡ false) × B) → (fault ≡ TooManyTurns → ⊥) → ended ≡ true → ⊥
 read_not_ended fault ended A B (inl is) failed other error = ended_not ended (failed is).1 error
 read_not_ended fault ended A B (inr is) failed other error = other is
 
@@ -339,37 +470,48 @@ pub zero_is : (n : ℕ) → nat_eq n 0 ≡ true → n ≡ 0
 zero_is n is = eqb-true n 0 is
 
 -- No failure was passed over when a fault came.
-pub told_fault : (read_failed_old read_failed_new write_failed_old write_failed_new : Bool) (fault : EngineFault) → (fault ≢ Read → StaysWell read_failed_old read_failed_new)
-    → (fault ≢ Write → StaysWell write_failed_old write_failed_new) → NonePassedOver read_failed_old read_failed_new write_failed_old write_failed_new (Err fault)
+pub told_fault : (read_failed_old read_failed_new write_failed_old write_failed_new : Bool) (fault : EngineFault)
+    → (fault ≢ Read → StaysWell read_failed_old read_failed_new)
+    → (fault ≢ Write → StaysWell write_failed_old write_failed_new) → NonePassedOver read_failed_old read_failed_new
+    write_failed_old write_failed_new (Err fault)
 told_fault read_failed_old read_failed_new write_failed_old write_failed_new fault reads writes = record {
   reads = λ other. reads (λ is. other (ap Err is));
   writes = λ other. writes (λ is. other (ap Err is));
 }
 
 -- The same of what a call answered.
-pub told_result : (read_failed_old read_failed_new write_failed_old write_failed_mid write_failed_new : Bool) (r : Result Outcome EngineFault) → StaysWell read_failed_old read_failed_new
-    → StaysWell write_failed_old write_failed_mid → OnOk r (StaysWell write_failed_mid write_failed_new) → IfErr r (λ fault. fault ≢ Write → StaysWell write_failed_mid write_failed_new)
+pub told_result : (read_failed_old read_failed_new write_failed_old write_failed_mid write_failed_new : Bool)
+    (r : Result Outcome EngineFault) → StaysWell read_failed_old read_failed_new
+    → StaysWell write_failed_old write_failed_mid → OnOk r (StaysWell write_failed_mid write_failed_new)
+    → IfErr r (λ fault. fault ≢ Write → StaysWell write_failed_mid write_failed_new)
     → NonePassedOver read_failed_old read_failed_new write_failed_old write_failed_new r
-told_result read_failed_old read_failed_new write_failed_old write_failed_mid write_failed_new (Ok t) reads before ok err = record {
-  reads = λ _. reads;
-  writes = λ _ well. ok (before well);
-}
-told_result read_failed_old read_failed_new write_failed_old write_failed_mid write_failed_new (Err fault) reads before ok err = record {
-  reads = λ _. reads;
-  writes = λ other well. err (λ is. other (ap Err is)) (before well);
-}
+told_result read_failed_old read_failed_new write_failed_old write_failed_mid write_failed_new (Ok t) reads before ok
+    err = record {
+      reads = λ _. reads;
+      writes = λ _ well. ok (before well);
+    }
+told_result read_failed_old read_failed_new write_failed_old write_failed_mid write_failed_new (Err fault) reads before
+    ok err = record {
+      reads = λ _. reads;
+      writes = λ other well. err (λ is. other (ap Err is)) (before well);
+    }
 
 -- Nothing was kept back when a fault came.
-pub passed_fault : {T : Type 0} (flushes old new : Bool) (fault : EngineFault) → (flushes ≡ true → fault ≢ Write → fault ≢ TooManyTurns → StaysFlushed old new)
-    → flushes ≡ true → ◌≢◌ {A = Result T EngineFault} (Err fault) (Err Write) → ◌≢◌ {A = Result T EngineFault} (Err fault) (Err TooManyTurns) → StaysFlushed old new
-passed_fault flushes old new fault passed holds not_write not_turns = passed holds (λ is. not_write (ap Err is)) (λ is. not_turns (ap Err is))
+pub passed_fault : {T : Type 0} (flushes old new : Bool) (fault : EngineFault)
+    → (flushes ≡ true → fault ≢ Write → fault ≢ TooManyTurns → StaysFlushed old new)
+    → flushes ≡ true → ◌≢◌ {A = Result T EngineFault} (Err fault) (Err Write)
+    → ◌≢◌ {A = Result T EngineFault} (Err fault) (Err TooManyTurns) → StaysFlushed old new
+passed_fault flushes old new fault passed holds not_write not_turns =
+    passed holds (λ is. not_write (ap Err is)) (λ is. not_turns (ap Err is))
 
 -- Nor was anything by what a call answered.
-pub passed_result : {T : Type 0} (flushes old new : Bool) (r : Result T EngineFault) → OnOk r (flushes ≡ true → StaysFlushed old new)
+pub passed_result : {T : Type 0} (flushes old new : Bool) (r : Result T EngineFault)
+    → OnOk r (flushes ≡ true → StaysFlushed old new)
     → IfErr r (λ fault. flushes ≡ true → fault ≢ Write → fault ≢ TooManyTurns → StaysFlushed old new)
     → flushes ≡ true → r ≢ Err Write → r ≢ Err TooManyTurns → StaysFlushed old new
 passed_result flushes old new (Ok t) ok err holds not_write not_turns = ok holds
-passed_result flushes old new (Err fault) ok err holds not_write not_turns = passed_fault flushes old new fault err holds not_write not_turns
+passed_result flushes old new (Err fault) ok err holds not_write not_turns =
+    passed_fault flushes old new fault err holds not_write not_turns
 
 -- A read after all was passed on notes nothing.
 pub in_time : (early flushed : Bool) → flushed ≡ true → (early || not flushed) ≡ early

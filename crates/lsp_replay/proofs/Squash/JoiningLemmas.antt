@@ -41,19 +41,24 @@ if_not : (b : Bool) (x y : Option Refusal) → IsNotTooLong x → IsNotTooLong y
 if_not true x y p q = p
 if_not false x y p q = q
 
-meaning_not : (limits : LimitsData) (text : List ℕ) (meant : Result (List Item) (ℕ × Fault)) → IsNotTooLong (meaning_refusal limits text meant)
+meaning_not : (limits : LimitsData) (text : List ℕ) (meant : Result (List Item) (ℕ × Fault))
+    → IsNotTooLong (meaning_refusal limits text meant)
 meaning_not limits text (Err fault) = tt
 meaning_not limits text (Ok items) = if_not _ (Some text_too_long) None tt tt
 
-on_not : (limits : LimitsData) (units : ℕ → ℕ) (found : Option DocumentItem) (version : ℤ) (batch : List Edit) → IsNotTooLong (refusal_on limits units found version batch)
+on_not : (limits : LimitsData) (units : ℕ → ℕ) (found : Option DocumentItem) (version : ℤ) (batch : List Edit)
+    → IsNotTooLong (refusal_on limits units found version batch)
 on_not limits units None version batch = tt
 on_not limits units (Some entry) version batch =
     if_not (is_stale limits version entry.version) (Some (stale_version entry.version))
-    (if nat_lt limits.max_changes (length batch) || nat_lt greatest_batch (batch_bytes batch) then Some too_many_changes else meaning_refusal limits entry.text (meaning units (chars entry.text) batch)) tt
-    (if_not (nat_lt limits.max_changes (length batch) || nat_lt greatest_batch (batch_bytes batch)) (Some too_many_changes) (meaning_refusal limits entry.text (meaning units (chars entry.text) batch)) tt
+    (if nat_lt limits.max_changes (length batch) || nat_lt greatest_batch (batch_bytes batch) then Some too_many_changes
+    else meaning_refusal limits entry.text (meaning units (chars entry.text) batch)) tt
+    (if_not (nat_lt limits.max_changes (length batch) || nat_lt greatest_batch (batch_bytes batch))
+    (Some too_many_changes) (meaning_refusal limits entry.text (meaning units (chars entry.text) batch)) tt
     (meaning_not limits entry.text (meaning units (chars entry.text) batch)))
 
-refused_not : (refusal : Option Refusal) (body : Option Refusal) (len : ℕ) → IsNotTooLong refusal → IsRefusal (else_refused refusal body) (BodyTooLong len) → refusal ≡ None
+refused_not : (refusal : Option Refusal) (body : Option Refusal) (len : ℕ) → IsNotTooLong refusal
+    → IsRefusal (else_refused refusal body) (BodyTooLong len) → refusal ≡ None
 refused_not None body len not error = refl
 refused_not (Some refusal) body len not (inl e) = absurd (cc)
 refused_not (Some refusal) body len not (inr e) = absurd (other refusal not e)
@@ -68,10 +73,13 @@ refused_not (Some refusal) body len not (inr e) = absurd (other refusal not e)
     other (stale_version held) not e = cc
     other (edit number why) not e = cc
 
-pub too_long_accepted : (limits : LimitsData) (units : ℕ → ℕ) (table : List DocumentItem) (uri : List ℕ) (version : ℤ) (batch : List Edit) (body : Option Refusal) (len : ℕ)
-    → IsRefusal (else_refused (change_refusal limits units table uri version batch) body) (BodyTooLong len) → change_refusal limits units table uri version batch ≡ None
+pub too_long_accepted : (limits : LimitsData) (units : ℕ → ℕ) (table : List DocumentItem) (uri : List ℕ) (version : ℤ)
+    (batch : List Edit) (body : Option Refusal) (len : ℕ)
+    → IsRefusal (else_refused (change_refusal limits units table uri version batch) body) (BodyTooLong len)
+    → change_refusal limits units table uri version batch ≡ None
 too_long_accepted limits units table uri version batch body len error =
-    refused_not (change_refusal limits units table uri version batch) body len (on_not limits units (entry_at table uri) version batch) error
+    refused_not (change_refusal limits units table uri version batch) body len
+    (on_not limits units (entry_at table uri) version batch) error
 
 pub not_refused : (first other : Option Refusal) → else_refused first other ≡ None → first ≡ None
 not_refused None other e = refl
@@ -79,42 +87,57 @@ not_refused (Some refusal) other e = e
 
 -- ---- what a session makes of a change
 
-pub running_accepted : (s : Session) (version : Version) (p : ChangeData) → s.server.phase ≡ Running → s.expected ≡ None → refusal_of s.server p ≡ None → (judge_incoming s version (did_change (Some p))).verdict ≡ answered changed
+pub running_accepted : (s : Session) (version : Version) (p : ChangeData) → s.server.phase ≡ Running → s.expected ≡ None
+    → refusal_of s.server p ≡ None → (judge_incoming s version (did_change (Some p))).verdict ≡ answered changed
 running_accepted s version p running none may = rw (running, none, may) refl
 
-pub running_leaves : (s : Session) (version : Version) (p : ChangeData) → s.server.phase ≡ Running → s.expected ≡ None → refusal_of s.server p ≡ None → (judge_incoming s version (did_change (Some p))).session.server ≡ server_after s.server p
+pub running_leaves : (s : Session) (version : Version) (p : ChangeData) → s.server.phase ≡ Running → s.expected ≡ None
+    → refusal_of s.server p ≡ None → (judge_incoming s version (did_change (Some p))).session.server
+    ≡ server_after s.server p
 running_leaves s version p running none may = rw (running, none, may) refl
 
-pub running_refused : (s : Session) (version : Version) (p : ChangeData) → s.server.phase ≡ Running → s.expected ≡ None → (refusal : Option Refusal) → refusal_of s.server p ≡ refusal → refusal ≢ None
+pub running_refused : (s : Session) (version : Version) (p : ChangeData) → s.server.phase ≡ Running → s.expected ≡ None
+    → (refusal : Option Refusal) → refusal_of s.server p ≡ refusal → refusal ≢ None
     → canonical_if s.server (Some p) (judge_incoming s version (did_change (Some p))).verdict ≡ None
 running_refused s version p running none None is some = absurd (some refl)
 running_refused s version p running none (Some refusal) is some = rw (running, none, is) refl
 
 -- how a change is written, by the session that judges it
-pub change_writing : (s : Session) (version : Version) (run : Option SquashData) (p : ChangeData) (w : Writing) → s.server.phase ≡ Running → s.expected ≡ None → IsChangeWriting s.server run p w
+pub change_writing : (s : Session) (version : Version) (run : Option SquashData) (p : ChangeData) (w : Writing)
+    → s.server.phase ≡ Running → s.expected ≡ None → IsChangeWriting s.server run p w
     → IsWriting s.server run (Some p) (judge_incoming s version (did_change (Some p))).verdict w
-change_writing s version run p (AsItIs ended) running none is = (running_refused s version p running none (refusal_of s.server p) refl is.0, is.1)
+change_writing s version run p (AsItIs ended) running none is =
+    (running_refused s version p running none (refusal_of s.server p) refl is.0, is.1)
 change_writing s version run p TooLong running none is = (p, refl, running_accepted s version p running none is.0, is.1)
 change_writing s version run p (Continues canonical batches) running none is =
     (record { params = p; is = refl; accepted = running_accepted s version p running none is.0; framed = is.1 }, is.2)
-change_writing s version run p (Begins canonical ended batches) running none is =
-    (record { params = p; is = refl; accepted = running_accepted s version p running none is.0; framed = is.1 }, is.2, is.3, is.4)
+change_writing s version run p (Begins canonical ended batches) running none is = (
+  record { params = p; is = refl; accepted = running_accepted s version p running none is.0; framed = is.1 },
+  is.2,
+  is.3,
+  is.4,
+)
 
-pub change_open : (s : Session) (version : Version) (run : Option SquashData) (p : ChangeData) (w : Writing) → s.server.phase ≡ Running → s.expected ≡ None → IsChangeWriting s.server run p w
+pub change_open : (s : Session) (version : Version) (run : Option SquashData) (p : ChangeData) (w : Writing)
+    → s.server.phase ≡ Running → s.expected ≡ None → IsChangeWriting s.server run p w
     → IsOpenAfter (judge_incoming s version (did_change (Some p))).session.server w
 change_open s version run p (AsItIs ended) running none is = tt
 change_open s version run p TooLong running none is = tt
-change_open s version run p (Continues canonical batches) running none is = subst (λ (server : ServerData). IsOpenIn server batches) (sym (running_leaves s version p running none is.0)) is.3
-change_open s version run p (Begins canonical ended batches) running none is = subst (λ (server : ServerData). IsOpenIn server batches) (sym (running_leaves s version p running none is.0)) is.5
+change_open s version run p (Continues canonical batches) running none is =
+    subst (λ (server : ServerData). IsOpenIn server batches) (sym (running_leaves s version p running none is.0)) is.3
+change_open s version run p (Begins canonical ended batches) running none is =
+    subst (λ (server : ServerData). IsOpenIn server batches) (sym (running_leaves s version p running none is.0)) is.5
 
 -- URIs that aren't equal
 pub not_same : (a b : List ℕ) → b ≢ a → bytes_eq a b ≡ false
 not_same a b not =
-    ⊎_elim (λ (is : bytes_eq a b ≡ true). absurd (not (sym ((bytes_eq-Decides a b).0 is)))) (λ (differ : bytes_eq a b ≡ false). differ) (cases_Bool (bytes_eq a b))
+    ⊎_elim (λ (is : bytes_eq a b ≡ true). absurd (not (sym ((bytes_eq-Decides a b).0 is))))
+    (λ (differ : bytes_eq a b ≡ false). differ) (cases_Bool (bytes_eq a b))
 
 -- a change that is not accepted for the phase or for its encoding
 module _ (s : Session) (version : Version) (p : ChangeData) where
-  idle_phase : (phase : Phase) → s.server.phase ≡ phase → phase ≢ Running → (expected : Option IdData) → s.expected ≡ expected
+  idle_phase : (phase : Phase) → s.server.phase ≡ phase → phase ≢ Running → (expected : Option IdData) → s.expected
+      ≡ expected
       → canonical_if s.server (Some p) (judge_incoming s version (did_change (Some p))).verdict ≡ None
   idle_phase New is idle None none = rw (is, none) refl
   idle_phase New is idle (Some id) some = rw (is, some) refl
@@ -123,10 +146,12 @@ module _ (s : Session) (version : Version) (p : ChangeData) where
   idle_phase Ended is idle expected waits = rw is refl
   idle_phase Running is idle expected waits = absurd (idle refl)
 
-  pub idle : s.server.phase ≢ Running → canonical_if s.server (Some p) (judge_incoming s version (did_change (Some p))).verdict ≡ None
+  pub idle : s.server.phase ≢ Running
+      → canonical_if s.server (Some p) (judge_incoming s version (did_change (Some p))).verdict ≡ None
   idle not = idle_phase s.server.phase refl not s.expected refl
 
-  early_phase : (phase : Phase) → s.server.phase ≡ phase → (expected : Option IdData) → s.expected ≡ expected → expected ≢ None
+  early_phase : (phase : Phase) → s.server.phase ≡ phase → (expected : Option IdData) → s.expected ≡ expected → expected
+      ≢ None
       → canonical_if s.server (Some p) (judge_incoming s version (did_change (Some p))).verdict ≡ None
   early_phase phase is None none some = absurd (some refl)
   early_phase New is (Some id) waits some = rw (is, waits) refl
@@ -134,12 +159,14 @@ module _ (s : Session) (version : Version) (p : ChangeData) where
   early_phase Ended is (Some id) waits some = rw is refl
   early_phase Running is (Some id) waits some = rw (is, waits) refl
 
-  pub early : s.expected ≢ None → canonical_if s.server (Some p) (judge_incoming s version (did_change (Some p))).verdict ≡ None
+  pub early : s.expected ≢ None
+      → canonical_if s.server (Some p) (judge_incoming s version (did_change (Some p))).verdict ≡ None
   early some = early_phase s.server.phase refl s.expected refl some
 
 -- ---- the batches that are open afterwards
 
-pub uri_at : (table : List DocumentItem) (uri : List ℕ) (entry : DocumentItem) → entry_at table uri ≡ Some entry → entry.uri ≡ uri
+pub uri_at : (table : List DocumentItem) (uri : List ℕ) (entry : DocumentItem) → entry_at table uri ≡ Some entry
+    → entry.uri ≡ uri
 uri_at [] uri entry found = absurd (let wrong : None ≡ Some entry = found in cc)
 uri_at (first ∷ table) uri entry found =
     ⊎_elim
@@ -150,38 +177,64 @@ uri_at (first ∷ table) uri entry found =
     (λ (not : bytes_eq uri first.uri ≡ false). uri_at table uri entry (rw not at found))
     (cases_Bool (bytes_eq uri first.uri))
 
-module _ (server : ServerData) (p : ChangeData) (entry : DocumentItem) (found : entry_at server.table p.uri ≡ Some entry) where
+module _ (server : ServerData) (p : ChangeData) (entry : DocumentItem)
+    (found : entry_at server.table p.uri ≡ Some entry) where
   -- the document that is open then
-  left : (squash next : SquashData) → squash.uri ≡ p.uri → squash.limits ≡ server.config.limits → squash.encoding ≡ session_encoding server
-      → IsSquashAfter squash p.version (map edit_from_data p.changes) next → HasReached next (changed_entry (units_in squash.encoding) entry p.version (map edit_from_data p.changes)) → IsOpenIn (server_after server p) next
+  left : (squash next : SquashData) → squash.uri ≡ p.uri → squash.limits ≡ server.config.limits → squash.encoding
+      ≡ session_encoding server
+      → IsSquashAfter squash p.version (map edit_from_data p.changes) next
+      → HasReached next (changed_entry (units_in squash.encoding) entry p.version (map edit_from_data p.changes))
+      → IsOpenIn (server_after server p) next
   left squash next uri limits encoding adds reached = record {
     entry = changed_entry (units_in (session_encoding server)) entry p.version (map edit_from_data p.changes);
     is_open =
         ap (λ (u : List ℕ). entry_at (server_after server p).table u) (ap (λ (k : SquashData). k.uri) adds.is ∙ uri)
-        ∙ found_changed (units_in (session_encoding server)) server.table p.uri p.version (map edit_from_data p.changes) entry found;
-    reached = subst (λ (e : Encoding). HasReached next (changed_entry (units_in e) entry p.version (map edit_from_data p.changes))) encoding reached;
+        ∙ found_changed (units_in (session_encoding server)) server.table p.uri p.version (map edit_from_data p.changes)
+        entry found;
+    reached = subst (λ (e : Encoding). HasReached next
+        (changed_entry (units_in e) entry p.version (map edit_from_data p.changes))) encoding reached;
     limits = ap (λ (k : SquashData). k.limits) adds.is ∙ limits;
     encoding = ap (λ (k : SquashData). k.encoding) adds.is ∙ encoding;
   }
 
-  pub longer_open : (squash next : SquashData) → IsOpenIn server squash → p.uri ≡ squash.uri → IsSquashAfter squash p.version (map edit_from_data p.changes) next
-      → HasReached next (changed_entry (units_in squash.encoding) entry p.version (map edit_from_data p.changes)) → IsOpenIn (server_after server p) next
+  pub longer_open : (squash next : SquashData) → IsOpenIn server squash → p.uri ≡ squash.uri
+      → IsSquashAfter squash p.version (map edit_from_data p.changes) next
+      → HasReached next (changed_entry (units_in squash.encoding) entry p.version (map edit_from_data p.changes))
+      → IsOpenIn (server_after server p) next
   longer_open squash next at same adds reached = left squash next (sym same) at.limits at.encoding adds reached
 
-  pub is_longer : (squash next : SquashData) → p.uri ≡ squash.uri → IsSquashAfter squash p.version (map edit_from_data p.changes) next → IsLonger (Some squash) p next
-  is_longer squash next same adds = record { before = squash; open_one = refl; same = (bytes_eq-Decides p.uri squash.uri).1 same; joined = after_is squash p.version (map edit_from_data p.changes) next adds }
+  pub is_longer : (squash next : SquashData) → p.uri ≡ squash.uri
+      → IsSquashAfter squash p.version (map edit_from_data p.changes) next → IsLonger (Some squash) p next
+  is_longer squash next same adds = record {
+    before = squash;
+    open_one = refl;
+    same = (bytes_eq-Decides p.uri squash.uri).1 same;
+    joined = after_is squash p.version (map edit_from_data p.changes) next adds;
+  }
 
-  pub begun_open : (next : SquashData) → IsSquashAfter (squash_of server.config.limits (session_encoding server) entry) p.version (map edit_from_data p.changes) next
-      → HasReached next (changed_entry (units_in (session_encoding server)) entry p.version (map edit_from_data p.changes)) → IsOpenIn (server_after server p) next
-  begun_open next adds reached = left (squash_of server.config.limits (session_encoding server) entry) next (uri_at server.table p.uri entry found) refl refl adds reached
+  pub begun_open : (next : SquashData) → IsSquashAfter (squash_of server.config.limits (session_encoding server) entry)
+      p.version (map edit_from_data p.changes) next
+      → HasReached next (changed_entry (units_in (session_encoding server)) entry p.version
+      (map edit_from_data p.changes)) → IsOpenIn (server_after server p) next
+  begun_open next adds reached = left (squash_of server.config.limits (session_encoding server) entry) next
+      (uri_at server.table p.uri entry found) refl refl adds reached
 
-  pub is_begun : (next : SquashData) → IsSquashAfter (squash_of server.config.limits (session_encoding server) entry) p.version (map edit_from_data p.changes) next → IsBegun server p next
-  is_begun next adds = record { entry = entry; is_open = found; joined = after_is (squash_of server.config.limits (session_encoding server) entry) p.version (map edit_from_data p.changes) next adds }
+  pub is_begun : (next : SquashData) → IsSquashAfter (squash_of server.config.limits (session_encoding server) entry)
+      p.version (map edit_from_data p.changes) next → IsBegun server p next
+  is_begun next adds = record {
+    entry = entry;
+    is_open = found;
+    joined = after_is (squash_of server.config.limits (session_encoding server) entry) p.version
+        (map edit_from_data p.changes) next adds;
+  }
 
-  pub accepts : refusal_of server p ≡ None → entry_refusal server.config.limits (units_in (session_encoding server)) entry p.version (map edit_from_data p.changes) ≡ None
+  pub accepts : refusal_of server p ≡ None → entry_refusal server.config.limits (units_in (session_encoding server))
+      entry p.version (map edit_from_data p.changes) ≡ None
   accepts may = rw found at may
 
 -- the open document of a run is the one that is found
-pub same_entry : (server : ServerData) (squash : SquashData) (uri : List ℕ) (entry : DocumentItem) → (at : IsOpenIn server squash) → uri ≡ squash.uri → entry_at server.table uri ≡ Some entry → at.entry ≡ entry
+pub same_entry : (server : ServerData) (squash : SquashData) (uri : List ℕ) (entry : DocumentItem)
+    → (at : IsOpenIn server squash) → uri ≡ squash.uri → entry_at server.table uri ≡ Some entry → at.entry ≡ entry
 same_entry server squash uri entry at same found =
-    let both : Some at.entry ≡ Some entry = sym at.is_open ∙ ap (λ (u : List ℕ). entry_at server.table u) (sym same) ∙ found in cc
+    let both : Some at.entry ≡ Some entry = sym at.is_open ∙ ap (λ (u : List ℕ). entry_at server.table u) (sym same)
+    ∙ found in cc

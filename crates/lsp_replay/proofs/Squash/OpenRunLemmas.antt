@@ -50,10 +50,13 @@ pub record IsOpenFrom (t : ServerData) (squash : SquashData) (now : ServerData) 
 
 -- ---- items
 
-plain_then : (units : ℕ → ℕ) (old : List ℕ) (batch : List Edit) (items : List Item) → meaning units old batch ≡ Ok items → then_items (plain old) items ≡ items
+plain_then : (units : ℕ → ℕ) (old : List ℕ) (batch : List Edit) (items : List Item) → meaning units old batch ≡ Ok items
+    → then_items (plain old) items ≡ items
 plain_then units old batch items means =
-    let on : meaning units (text_of old (plain old)) batch ≡ Ok items = ap (λ t. meaning units t batch) (plain_text old) ∙ means in
-    let both : Ok (then_items (plain old) items) ≡ Ok items = sym (then_means units old [] batch (plain old) items refl on) ∙ means in
+    let on : meaning units (text_of old (plain old)) batch ≡ Ok items = ap (λ t. meaning units t batch) (plain_text old)
+    ∙ means in
+    let both : Ok (then_items (plain old) items) ≡ Ok items =
+    sym (then_means units old [] batch (plain old) items refl on) ∙ means in
     cc
 
 texts_more : (batch more : List Edit) → AreTexts batch → AreTexts more → AreTexts (batch ++ more)
@@ -61,25 +64,32 @@ texts_more [] more texts also = also
 texts_more (change ∷ batch) more texts also = (texts.0, texts_more batch more texts.1 also)
 
 -- the characters of a text that a batch leaves
-left_chars : (units : ℕ → ℕ) (text : List ℕ) (batch : List Edit) (items : List Item) → IsUtf8 text → AreTexts batch → meaning units (chars text) batch ≡ Ok items
+left_chars : (units : ℕ → ℕ) (text : List ℕ) (batch : List Edit) (items : List Item) → IsUtf8 text → AreTexts batch
+    → meaning units (chars text) batch ≡ Ok items
     → chars (bytes_left text items) ≡ text_of (chars text) items
 left_chars units text batch items utf8 texts means =
-    chars-encodes (text_of (chars text) items) (scalar-text (chars text) items (scalars-chars text utf8) (scalar-meaning units (chars text) batch items texts means))
+    chars-encodes (text_of (chars text) items) (scalar-text (chars text) items (scalars-chars text utf8)
+    (scalar-meaning units (chars text) batch items texts means))
 
 -- ---- a change begins a run
 
-module _ (t : ServerData) (p : ChangeData) (entry : DocumentItem) (found : entry_at t.table p.uri ≡ Some entry) (received : IsWithin t.config.limits entry) (proper : IsProperAsked p) (may : refusal_of t p ≡ None) where
+module _ (t : ServerData) (p : ChangeData) (entry : DocumentItem) (found : entry_at t.table p.uri ≡ Some entry)
+    (received : IsWithin t.config.limits entry) (proper : IsProperAsked p) (may : refusal_of t p ≡ None) where
   begun_accepts : Accepts t.config.limits (units_in (session_encoding t)) entry p.version (map edit_from_data p.changes)
-  begun_accepts = accepted_parts t.config.limits (units_in (session_encoding t)) entry p.version (map edit_from_data p.changes) (rw found at may)
+  begun_accepts = accepted_parts t.config.limits (units_in (session_encoding t)) entry p.version
+      (map edit_from_data p.changes) (rw found at may)
 
   abbrev begun_squash : SquashData
   begun_squash = joined_by p (squash_of t.config.limits (session_encoding t) entry)
 
   begun_items : begun_squash.items ≡ begun_accepts.items
   begun_items =
-      ap (λ x. then_items (plain (chars entry.text)) (items_meant (meaning (units_in (session_encoding t)) x (map edit_from_data p.changes)))) (plain_text (chars entry.text))
+      ap (λ x. then_items (plain (chars entry.text))
+      (items_meant (meaning (units_in (session_encoding t)) x (map edit_from_data p.changes))))
+      (plain_text (chars entry.text))
       ∙ ap (λ m. then_items (plain (chars entry.text)) (items_meant m)) begun_accepts.means
-      ∙ plain_then (units_in (session_encoding t)) (chars entry.text) (map edit_from_data p.changes) begun_accepts.items begun_accepts.means
+      ∙ plain_then (units_in (session_encoding t)) (chars entry.text) (map edit_from_data p.changes) begun_accepts.items
+      begun_accepts.means
 
   same_uri : entry.uri ≡ p.uri
   same_uri = uri_at t.table p.uri entry found
@@ -94,7 +104,8 @@ module _ (t : ServerData) (p : ChangeData) (entry : DocumentItem) (found : entry
     means = begun_accepts.means ∙ ap Ok (sym begun_items);
     texts = proper.texts;
     newer = begun_accepts.newer;
-    short = subst (λ (items : List Item). length (bytes_left entry.text items) ≤ t.config.limits.max_text) (sym begun_items) begun_accepts.short;
+    short = subst (λ (items : List Item). length (bytes_left entry.text items) ≤ t.config.limits.max_text)
+        (sym begun_items) begun_accepts.short;
     uri = subst IsUtf8 (sym same_uri) proper.uri;
     version = proper.version;
     now_is =
@@ -114,13 +125,16 @@ newer_yet (pos a) b (negsuc c) over more = refl
 newer_yet (pos a) (negsuc b) (pos c) over more = absurd (let wrong : true ≡ false = more in cc)
 newer_yet (negsuc a) (pos b) c over more = absurd (let wrong : true ≡ false = over in cc)
 newer_yet (negsuc a) (negsuc b) (pos c) over more = absurd (let wrong : true ≡ false = more in cc)
-newer_yet (negsuc a) (negsuc b) (negsuc c) over more = lt-leb c a (omega (arith, leb-false b a over, leb-false c b more))
+newer_yet (negsuc a) (negsuc b) (negsuc c) over more =
+    lt-leb c a (omega (arith, leb-false b a over, leb-false c b more))
 
-newer_still : (lenient : Bool) (a b c : ℤ) → (not lenient && int_le a b) ≡ false → (not lenient && int_le b c) ≡ false → (not lenient && int_le a c) ≡ false
+newer_still : (lenient : Bool) (a b c : ℤ) → (not lenient && int_le a b) ≡ false → (not lenient && int_le b c) ≡ false
+    → (not lenient && int_le a c) ≡ false
 newer_still true a b c over more = refl
 newer_still false a b c over more = newer_yet a b c over more
 
-module _ (t : ServerData) (squash : SquashData) (now : ServerData) (from : IsOpenFrom t squash now) (p : ChangeData) (same : bytes_eq p.uri squash.uri ≡ true) (proper : IsProperAsked p) (may : refusal_of now p ≡ None) where
+module _ (t : ServerData) (squash : SquashData) (now : ServerData) (from : IsOpenFrom t squash now) (p : ChangeData)
+    (same : bytes_eq p.uri squash.uri ≡ true) (proper : IsProperAsked p) (may : refusal_of now p ≡ None) where
   abbrev reached_text : List ℕ
   reached_text = bytes_left from.entry.text squash.items
 
@@ -134,35 +148,49 @@ module _ (t : ServerData) (squash : SquashData) (now : ServerData) (from : IsOpe
   uri_is = (bytes_eq-Decides p.uri squash.uri).0 same
 
   found_now : entry_at next.table p.uri ≡ Some reached_now
-  found_now = ap (entry_at next.table) uri_is ∙ put_at t.table squash.uri squash.version reached_text from.entry from.found
+  found_now = ap (entry_at next.table) uri_is ∙ put_at t.table squash.uri squash.version reached_text from.entry
+      from.found
 
   may_now : refusal_of next p ≡ None
   may_now = subst (λ (s : ServerData). refusal_of s p ≡ None) from.now_is may
 
-  accepts_now : Accepts t.config.limits (units_in (session_encoding t)) reached_now p.version (map edit_from_data p.changes)
-  accepts_now = accepted_parts t.config.limits (units_in (session_encoding t)) reached_now p.version (map edit_from_data p.changes) (rw found_now at may_now)
+  accepts_now : Accepts t.config.limits (units_in (session_encoding t)) reached_now p.version
+      (map edit_from_data p.changes)
+  accepts_now = accepted_parts t.config.limits (units_in (session_encoding t)) reached_now p.version
+      (map edit_from_data p.changes) (rw found_now at may_now)
 
   chars_now : chars reached_text ≡ text_of (chars from.entry.text) squash.items
-  chars_now = left_chars (units_in (session_encoding t)) from.entry.text from.batch squash.items from.received.utf8 from.texts from.means
+  chars_now = left_chars (units_in (session_encoding t)) from.entry.text from.batch squash.items from.received.utf8
+      from.texts from.means
 
-  means_now : meaning (units_in (session_encoding t)) (text_of (chars from.entry.text) squash.items) (map edit_from_data p.changes) ≡ Ok accepts_now.items
-  means_now = ap (λ x. meaning (units_in (session_encoding t)) x (map edit_from_data p.changes)) (sym chars_now) ∙ accepts_now.means
+  means_now : meaning (units_in (session_encoding t)) (text_of (chars from.entry.text) squash.items)
+      (map edit_from_data p.changes) ≡ Ok accepts_now.items
+  means_now = ap (λ x. meaning (units_in (session_encoding t)) x (map edit_from_data p.changes)) (sym chars_now)
+      ∙ accepts_now.means
 
   abbrev longer_squash : SquashData
   longer_squash = joined_by p squash
 
-  items_in : (k : SquashData) → k ≡ squash → items_meant (meaning (units_in k.encoding) (text_of (chars k.text) squash.items) (map edit_from_data p.changes)) ≡ items_meant (meaning (units_in squash.encoding) (text_of (chars squash.text) squash.items) (map edit_from_data p.changes))
-  items_in k e = ap (λ (x : SquashData). items_meant (meaning (units_in x.encoding) (text_of (chars x.text) squash.items) (map edit_from_data p.changes))) e
+  items_in : (k : SquashData) → k ≡ squash
+      → items_meant (meaning (units_in k.encoding) (text_of (chars k.text) squash.items) (map edit_from_data p.changes))
+      ≡ items_meant (meaning (units_in squash.encoding) (text_of (chars squash.text) squash.items)
+      (map edit_from_data p.changes))
+  items_in k e =
+      ap (λ (x : SquashData). items_meant (meaning (units_in x.encoding) (text_of (chars x.text) squash.items)
+      (map edit_from_data p.changes))) e
 
   longer_items : longer_squash.items ≡ then_items squash.items accepts_now.items
   longer_items =
       ap (then_items squash.items)
-      (sym (items_in (with_items (squash_of t.config.limits (session_encoding t) from.entry) squash.items squash.version) (sym from.is)) ∙ ap items_meant means_now)
+      (sym (items_in (with_items (squash_of t.config.limits (session_encoding t) from.entry) squash.items
+      squash.version) (sym from.is)) ∙ ap items_meant means_now)
 
   left_now : bytes_left reached_text accepts_now.items ≡ bytes_left from.entry.text longer_squash.items
   left_now =
       ap encode_utf8_all
-      (ap (λ x. text_of x accepts_now.items) chars_now ∙ sym (text_of-then (chars from.entry.text) squash.items accepts_now.items) ∙ ap (text_of (chars from.entry.text)) (sym longer_items))
+      (ap (λ x. text_of x accepts_now.items) chars_now
+      ∙ sym (text_of-then (chars from.entry.text) squash.items accepts_now.items) ∙ ap (text_of (chars from.entry.text))
+      (sym longer_items))
 
   pub goes_on_from : IsOpenFrom t longer_squash (server_after now p)
   goes_on_from = record {
@@ -171,16 +199,19 @@ module _ (t : ServerData) (squash : SquashData) (now : ServerData) (from : IsOpe
     received = from.received;
     is = ap (λ (k : SquashData). with_items k longer_squash.items longer_squash.version) from.is;
     batch = from.batch ++ map edit_from_data p.changes;
-    means = then_means (units_in (session_encoding t)) (chars from.entry.text) from.batch (map edit_from_data p.changes) squash.items accepts_now.items from.means means_now ∙ ap Ok (sym longer_items);
+    means = then_means (units_in (session_encoding t)) (chars from.entry.text) from.batch (map edit_from_data p.changes)
+        squash.items accepts_now.items from.means means_now ∙ ap Ok (sym longer_items);
     texts = texts_more from.batch (map edit_from_data p.changes) from.texts proper.texts;
-    newer = newer_still t.config.limits.lenient p.version squash.version from.entry.version accepts_now.newer from.newer;
+    newer = newer_still t.config.limits.lenient p.version squash.version from.entry.version accepts_now.newer
+        from.newer;
     short = subst (λ (text : List ℕ). length text ≤ t.config.limits.max_text) left_now accepts_now.short;
     uri = from.uri;
     version = proper.version;
     now_is =
         ap (λ (s : ServerData). server_after s p) from.now_is
         ∙ ap (λ (table : List DocumentItem). record t { table = table })
-        (change_puts (units_in (session_encoding t)) next.table p.uri p.version (map edit_from_data p.changes) reached_now found_now
+        (change_puts (units_in (session_encoding t)) next.table p.uri p.version (map edit_from_data p.changes)
+        reached_now found_now
         ∙ ap (λ m. put next.table p.uri p.version (meant_text reached_text m)) accepts_now.means
         ∙ ap (λ u. put next.table u p.version (bytes_left reached_text accepts_now.items)) uri_is
         ∙ put_twice t.table squash.uri squash.version p.version reached_text (bytes_left reached_text accepts_now.items)
@@ -193,19 +224,25 @@ module _ (t : ServerData) (squash : SquashData) (now : ServerData) (from : IsOpe
   pub same_encoding : squash.encoding ≡ session_encoding now
   same_encoding = ap (λ (k : SquashData). k.encoding) from.is ∙ sym (ap session_encoding from.now_is)
 
-  pub same_text : (uri : List ℕ) (entry : DocumentItem) → uri ≡ squash.uri → entry_at now.table uri ≡ Some entry → text_of (chars squash.text) squash.items ≡ chars entry.text
+  pub same_text : (uri : List ℕ) (entry : DocumentItem) → uri ≡ squash.uri → entry_at now.table uri ≡ Some entry
+      → text_of (chars squash.text) squash.items ≡ chars entry.text
   same_text uri entry same found =
       let reached : List ℕ = bytes_left from.entry.text squash.items in
       let both : Some (record from.entry { version = squash.version; text = reached }) ≡ Some entry =
-      sym (put_at t.table squash.uri squash.version reached from.entry from.found) ∙ sym (ap (λ (s : ServerData). entry_at s.table squash.uri) from.now_is) ∙ ap (entry_at now.table) (sym same) ∙ found in
+      sym (put_at t.table squash.uri squash.version reached from.entry from.found)
+      ∙ sym (ap (λ (s : ServerData). entry_at s.table squash.uri) from.now_is) ∙ ap (entry_at now.table) (sym same)
+      ∙ found in
       let one : record from.entry { version = squash.version; text = reached } ≡ entry = cc in
       ap (λ (k : SquashData). text_of (chars k.text) squash.items) from.is
-      ∙ sym (left_chars (units_in (session_encoding t)) from.entry.text from.batch squash.items from.received.utf8 from.texts from.means)
+      ∙ sym (left_chars (units_in (session_encoding t)) from.entry.text from.batch squash.items from.received.utf8
+      from.texts from.means)
       ∙ ap (λ (e : DocumentItem). chars e.text) one
 
 -- ---- all batches of a run as one message
 
-module _ (t : ServerData) (squash : SquashData) (now : ServerData) (from : IsOpenFrom t squash now) (ranges : AreInRange t.config.limits) (few : nat_lt t.config.limits.max_changes (length (squash_batch squash)) ≡ false) where
+module _ (t : ServerData) (squash : SquashData) (now : ServerData) (from : IsOpenFrom t squash now)
+    (ranges : AreInRange t.config.limits) (few : nat_lt t.config.limits.max_changes (length (squash_batch squash))
+    ≡ false) where
   pub one_batch : squash_batch squash ≡ canonical (units_in (session_encoding t)) (chars from.entry.text) squash.items
   one_batch = ap squash_batch from.is
 
@@ -227,9 +264,11 @@ module _ (t : ServerData) (squash : SquashData) (now : ServerData) (from : IsOpe
   one_message = is_canonical_change t squash.uri squash.version from.entry from.batch squash.items ranges proper_at
 
   -- Read again, it begins a run that means the same.
-  pub one_joins : joined_by (canonical_change t squash.uri squash.version from.entry squash.items) (squash_of t.config.limits (session_encoding t) from.entry) ≡ squash
+  pub one_joins : joined_by (canonical_change t squash.uri squash.version from.entry squash.items)
+      (squash_of t.config.limits (session_encoding t) from.entry) ≡ squash
   one_joins =
-      one_message.joins (squash_of t.config.limits (session_encoding t) from.entry) refl (plain_text (chars from.entry.text))
+      one_message.joins (squash_of t.config.limits (session_encoding t) from.entry) refl
+      (plain_text (chars from.entry.text))
       ∙ ap (λ items. with_items (squash_of t.config.limits (session_encoding t) from.entry) items squash.version)
       (plain_then (units_in (session_encoding t)) (chars from.entry.text) from.batch squash.items from.means)
       ∙ sym from.is

@@ -1,4 +1,5 @@
--- What `normalise` writes of a log with squash: a log of which `replay` reports the same documents, and of which the same is written.
+-- What `normalise` writes of a log with squash: a log of which `replay` reports the same documents, and of which the
+-- same is written.
 use Rattle.std.proofs.Common.{◌≡◌, ◌≢◌, ℕ, ◌+◌, Bool, false, List, [], ◌∷◌, ◌++◌, length, Option, Some, None, refl, sym, ap, ◌∙◌, subst, arith, append_assoc, append-nil, bytes_eq}
 use Rattle.std.specs.Prelude.{⊤}
 use Rattle.std.proofs.lemmas.List.{length-append}
@@ -17,23 +18,33 @@ total c = c.out ++ c.last false
 
 -- ---- records one after another
 
-pub together_more : (version : Version) (rs more : List Record) (rest : List ℕ) → together version (rs ++ more) rest ≡ together version rs (together version more rest)
+pub together_more : (version : Version) (rs more : List Record) (rest : List ℕ) → together version (rs ++ more) rest
+    ≡ together version rs (together version more rest)
 together_more version [] more rest = refl
 together_more version (r ∷ rs) more rest = ap (λ z. record_bytes version r ++ z) (together_more version rs more rest)
 
-pub together_split : (version : Version) (rs : List Record) (rest : List ℕ) → together version rs rest ≡ together version rs [] ++ rest
+pub together_split : (version : Version) (rs : List Record) (rest : List ℕ) → together version rs rest
+    ≡ together version rs [] ++ rest
 together_split version [] rest = refl
 together_split version (r ∷ rs) rest =
-    ap (λ z. record_bytes version r ++ z) (together_split version rs rest) ∙ sym (append_assoc (record_bytes version r) (together version rs []) rest)
+    ap (λ z. record_bytes version r ++ z) (together_split version rs rest)
+    ∙ sym (append_assoc (record_bytes version r) (together version rs []) rest)
 
-pub are_more : (max_body : ℕ) (version : Version) (place : ℕ) (due : Bool) (rs more : List Record) → AreRecords max_body version place due rs
-    → AreRecords max_body version (place + length (together version rs [])) (due_after due rs) more → AreRecords max_body version place due (rs ++ more)
-are_more max_body version place due [] more each also = subst (λ n. AreRecords max_body version n due more) (omega arith) also
+pub are_more : (max_body : ℕ) (version : Version) (place : ℕ) (due : Bool) (rs more : List Record)
+    → AreRecords max_body version place due rs
+    → AreRecords max_body version (place + length (together version rs [])) (due_after due rs) more
+    → AreRecords max_body version place due (rs ++ more)
+are_more max_body version place due [] more each also =
+    subst (λ n. AreRecords max_body version n due more) (omega arith) also
 are_more max_body version place due (r ∷ rs) more each also = (
   each.0,
   are_more max_body version (place + length (record_bytes version r)) false rs more each.1
-      (subst (λ (b : Bool). AreRecords max_body version (place + length (record_bytes version r) + length (together version rs [])) b more) (sym (later rs))
-      (subst (λ n. AreRecords max_body version n false more) (omega (arith, length-append (record_bytes version r) (together version rs []))) also)),
+      (subst (λ (b : Bool). AreRecords max_body version (place + length (record_bytes version r)
+      + length (together version rs [])) b more) (sym (later rs))
+      (subst (λ n. AreRecords max_body version n false more) (omega (
+        arith,
+        length-append (record_bytes version r) (together version rs []),
+      )) also)),
 )
   where
     later : (rs : List Record) → due_after false rs ≡ false
@@ -56,15 +67,19 @@ no_line (r ∷ rs) = refl
 -- ---- a course, a step at a time
 
 -- A squashed log, by a step that is known and goes on.
-pub step_on : (s : Session) (run : Option Run) (r : Record) (rs : List Record) (out : List ℕ) (next : Option Run) → squash_step s run r (judge s r) ≡ record { out = out; end = None; run = next }
+pub step_on : (s : Session) (run : Option Run) (r : Record) (rs : List Record) (out : List ℕ) (next : Option Run)
+    → squash_step s run r (judge s r) ≡ record { out = out; end = None; run = next }
     → squashed_in s run (r ∷ rs) ≡ written_first out (squashed_in (judge s r).session next rs)
-step_on s run r rs out next is = ap (λ (step : Step). continue_with step.out step.end (squashed_in (judge s r).session step.run rs)) is
+step_on s run r rs out next is =
+    ap (λ (step : Step). continue_with step.out step.end (squashed_in (judge s r).session step.run rs)) is
 
 -- `replay` reports nothing for a record that isn't bad.
-pub report_on : (s : Session) (r : Record) (rs : List Record) → (judge s r).verdict ≢ bad → run_output_in replaying s (r ∷ rs) ≡ run_output_in replaying (judge s r).session rs
+pub report_on : (s : Session) (r : Record) (rs : List Record) → (judge s r).verdict ≢ bad
+    → run_output_in replaying s (r ∷ rs) ≡ run_output_in replaying (judge s r).session rs
 report_on s r rs not_bad = by (judge s r).verdict not_bad
   where
-    by : (v : Verdict) → v ≢ bad → continue_with (unless_bad r v (writes [])).out (unless_bad r v (writes [])).end (run_output_in replaying (judge s r).session rs) ≡ run_output_in replaying (judge s r).session rs
+    by : (v : Verdict) → v ≢ bad → continue_with (unless_bad r v (writes [])).out (unless_bad r v (writes [])).end
+        (run_output_in replaying (judge s r).session rs) ≡ run_output_in replaying (judge s r).session rs
     by bad other = absurd (other refl)
     by recorded other = refl
     by (answered answer) other = refl
@@ -91,7 +106,8 @@ some_behind [] more some = some
 some_behind (r ∷ rs) more some = tt
 
 -- The records that are written of the open run, once it has ended.
-pub record IsEnded (max_body at : ℕ) (version : Version) (due : Bool) (s : Session) (run : Option Run) (t : Session) (before : Option Run) : Type 0 where
+pub record IsEnded (max_body at : ℕ) (version : Version) (due : Bool) (s : Session) (run : Option Run) (t : Session)
+    (before : Option Run) : Type 0 where
   pub us : List Record
   pub last : Session
   pub last_run : Option Run
@@ -101,23 +117,27 @@ pub record IsEnded (max_body at : ℕ) (version : Version) (due : Bool) (s : Ses
   pub apart : (uri : List ℕ) → IsApart run uri → IsApart last_run uri
   pub are : AreRecords max_body version at due us
   pub bytes : end_bytes run ≡ first_line due us ++ together version us []
-  pub run_output : (more : List Record) → squashed_in t before (us ++ more) ≡ written_first (end_bytes before) (squashed_in last last_run more)
+  pub run_output : (more : List Record) → squashed_in t before (us ++ more) ≡ written_first (end_bytes before)
+      (squashed_in last last_run more)
   pub replay : (more : List Record) → run_output_in replaying t (us ++ more) ≡ run_output_in replaying last more
 
 -- The records that are written of some, with those of the open run.
-pub record IsSquashedAs (max_body at : ℕ) (version : Version) (due : Bool) (s : Session) (run : Option Run) (rs : List Record) (t : Session) (before : Option Run) : Type 0 where
+pub record IsSquashedAs (max_body at : ℕ) (version : Version) (due : Bool) (s : Session) (run : Option Run)
+    (rs : List Record) (t : Session) (before : Option Run) : Type 0 where
   pub qs : List Record
   pub some : IsAny run rs → NonEmpty qs
   pub are : AreRecords max_body version at due qs
   pub bytes : total (squashed_in s run rs) ≡ first_line due qs ++ together version qs []
   pub again : total (squashed_in t before qs) ≡ end_bytes before ++ total (squashed_in s run rs)
   pub continues : (squashed_in t before qs).stop ≡ None
-  pub documents : (line_due : Bool) → (run_output_in replaying t qs).last line_due ≡ (run_output_in replaying s rs).last line_due
+  pub documents : (line_due : Bool) → (run_output_in replaying t qs).last line_due ≡ (run_output_in replaying s rs).last
+      line_due
   pub to_end : (run_output_in replaying t qs).stop ≡ None
   pub status : (run_output_in replaying t qs).outcome.status ≡ (run_output_in replaying s rs).outcome.status
   pub refused : (run_output_in replaying t qs).outcome.refused ≡ (run_output_in replaying s rs).outcome.refused
 
-module _ (max_body at : ℕ) (version : Version) (due : Bool) (s : Session) (run : Option Run) (t : Session) (before : Option Run) (e : IsEnded max_body at version due s run t before) where
+module _ (max_body at : ℕ) (version : Version) (due : Bool) (s : Session) (run : Option Run) (t : Session)
+    (before : Option Run) (e : IsEnded max_body at version due s run t before) where
   -- At the end of the input.
   pub at_end : IsSquashedAs max_body at version due s run [] t before
   at_end =
@@ -130,17 +150,26 @@ module _ (max_body at : ℕ) (version : Version) (due : Bool) (s : Session) (run
         are = e.are;
         bytes = append-nil (end_bytes run) ∙ e.bytes;
         again =
-            ap total run_output ∙ ap (λ z. (end_bytes before ++ []) ++ (z ++ [])) e.same_bytes ∙ ap (λ z. z ++ (end_bytes run ++ [])) (append-nil (end_bytes before));
+            ap total run_output ∙ ap (λ z. (end_bytes before ++ []) ++ (z ++ [])) e.same_bytes
+            ∙ ap (λ z. z ++ (end_bytes run ++ [])) (append-nil (end_bytes before));
         continues = ap (λ (c : RunOutput). c.stop) run_output;
-        documents = λ line_due. ap (λ (c : RunOutput). c.last line_due) replay ∙ ap (λ (u : Session). (run_output_in replaying u []).last line_due) e.like.2;
+        documents = λ line_due. ap (λ (c : RunOutput). c.last line_due) replay
+            ∙ ap (λ (u : Session). (run_output_in replaying u []).last line_due) e.like.2;
         to_end = ap (λ (c : RunOutput). c.stop) replay;
-        status = ap (λ (c : RunOutput). c.outcome.status) replay ∙ ap (λ (u : Session). (run_output_in replaying u []).outcome.status) e.like.2;
-        refused = ap (λ (c : RunOutput). c.outcome.refused) replay ∙ ap (λ (u : Session). (run_output_in replaying u []).outcome.refused) e.like.2;
+        status = ap (λ (c : RunOutput). c.outcome.status) replay
+            ∙ ap (λ (u : Session). (run_output_in replaying u []).outcome.status) e.like.2;
+        refused = ap (λ (c : RunOutput). c.outcome.refused) replay
+            ∙ ap (λ (u : Session). (run_output_in replaying u []).outcome.refused) e.like.2;
       }
 
   -- The run ends, and others follow that begin with what ends it.
-  module _ (r : Record) (rs : List Record) (next : Option Run) (goes : squash_step s run r (judge s r) ≡ record { out = end_bytes run; end = None; run = next }) (not_bad : (judge s r).verdict ≢ bad)
-      (any : IsAny next rs) (more : IsSquashedAs max_body (at + length (together version e.us [])) version (due_after due e.us) (judge s r).session next rs e.last e.last_run) where
+  module _ (r : Record) (rs : List Record) (next : Option Run) (goes : squash_step s run r (judge s r) ≡ record {
+    out = end_bytes run;
+    end = None;
+    run = next;
+  }) (not_bad : (judge s r).verdict ≢ bad)
+      (any : IsAny next rs) (more : IsSquashedAs max_body (at + length (together version e.us [])) version
+      (due_after due e.us) (judge s r).session next rs e.last e.last_run) where
     first : squashed_in s run (r ∷ rs) ≡ written_first (end_bytes run) (squashed_in (judge s r).session next rs)
     first = step_on s run r rs (end_bytes run) next goes
 
@@ -153,43 +182,68 @@ module _ (max_body at : ℕ) (version : Version) (due : Bool) (s : Session) (run
           are = are_more max_body version at due e.us more.qs e.are more.are;
           bytes =
               ap total first ∙ append_assoc (end_bytes run) inner.out (inner.last false)
-              ∙ ap (λ z. z ++ total inner) e.bytes ∙ ap (λ z. (first_line due e.us ++ together version e.us []) ++ z) more.bytes
+              ∙ ap (λ z. z ++ total inner) e.bytes ∙ ap (λ z. (first_line due e.us ++ together version e.us []) ++ z)
+              more.bytes
               ∙ swap;
           again =
-              ap total (e.run_output more.qs) ∙ append_assoc (end_bytes before) (squashed_in e.last e.last_run more.qs).out ((squashed_in e.last e.last_run more.qs).last false)
-              ∙ ap (λ z. end_bytes before ++ z) (more.again ∙ ap (λ z. z ++ total inner) e.same_bytes ∙ sym (append_assoc (end_bytes run) inner.out (inner.last false)) ∙ sym (ap total first));
+              ap total (e.run_output more.qs) ∙ append_assoc (end_bytes before)
+              (squashed_in e.last e.last_run more.qs).out ((squashed_in e.last e.last_run more.qs).last false)
+              ∙ ap (λ z. end_bytes before ++ z) (more.again ∙ ap (λ z. z ++ total inner) e.same_bytes
+              ∙ sym (append_assoc (end_bytes run) inner.out (inner.last false)) ∙ sym (ap total first));
           continues = ap (λ (c : RunOutput). c.stop) (e.run_output more.qs) ∙ more.continues;
-          documents = λ line_due. ap (λ (c : RunOutput). c.last line_due) (e.replay more.qs) ∙ more.documents line_due ∙ sym (ap (λ (c : RunOutput). c.last line_due) (report_on s r rs not_bad));
+          documents = λ line_due. ap (λ (c : RunOutput). c.last line_due) (e.replay more.qs) ∙ more.documents line_due
+              ∙ sym (ap (λ (c : RunOutput). c.last line_due) (report_on s r rs not_bad));
           to_end = ap (λ (c : RunOutput). c.stop) (e.replay more.qs) ∙ more.to_end;
-          status = ap (λ (c : RunOutput). c.outcome.status) (e.replay more.qs) ∙ more.status ∙ sym (ap (λ (c : RunOutput). c.outcome.status) (report_on s r rs not_bad));
-          refused = ap (λ (c : RunOutput). c.outcome.refused) (e.replay more.qs) ∙ more.refused ∙ sym (ap (λ (c : RunOutput). c.outcome.refused) (report_on s r rs not_bad));
+          status = ap (λ (c : RunOutput). c.outcome.status) (e.replay more.qs) ∙ more.status
+              ∙ sym (ap (λ (c : RunOutput). c.outcome.status) (report_on s r rs not_bad));
+          refused = ap (λ (c : RunOutput). c.outcome.refused) (e.replay more.qs) ∙ more.refused
+              ∙ sym (ap (λ (c : RunOutput). c.outcome.refused) (report_on s r rs not_bad));
         }
       where
         -- the line is due once
-        swap : (first_line due e.us ++ together version e.us []) ++ (first_line (due_after due e.us) more.qs ++ together version more.qs [])
+        swap : (first_line due e.us ++ together version e.us [])
+            ++ (first_line (due_after due e.us) more.qs ++ together version more.qs [])
             ≡ first_line due (e.us ++ more.qs) ++ together version (e.us ++ more.qs) []
         swap = by e.us
           where
-            by : (us : List Record) → (first_line due us ++ together version us []) ++ (first_line (due_after due us) more.qs ++ together version more.qs []) ≡ first_line due (us ++ more.qs) ++ together version (us ++ more.qs) []
+            by : (us : List Record) → (first_line due us ++ together version us [])
+                ++ (first_line (due_after due us) more.qs ++ together version more.qs [])
+                ≡ first_line due (us ++ more.qs) ++ together version (us ++ more.qs) []
             by [] = refl
             by (u ∷ us) =
-                ap (λ z. (line_if due ++ together version (u ∷ us) []) ++ (z ++ together version more.qs [])) (no_line more.qs)
+                ap (λ z. (line_if due ++ together version (u ∷ us) []) ++ (z ++ together version more.qs []))
+                (no_line more.qs)
                 ∙ append_assoc (line_if due) (together version (u ∷ us) []) (together version more.qs [])
-                ∙ ap (λ z. line_if due ++ z) (sym (together_split version (u ∷ us) (together version more.qs [])) ∙ sym (together_more version (u ∷ us) more.qs []))
+                ∙ ap (λ z. line_if due ++ z) (sym (together_split version (u ∷ us) (together version more.qs []))
+                ∙ sym (together_more version (u ∷ us) more.qs []))
 
   -- A record that is written as it is ends the run.
-  module _ (r q : Record) (rs : List Record) (front : List ℕ) (is : IsRecord max_body version (at + length (together version e.us [])) (due_after due e.us) q)
-      (goes : squash_step s run r (judge s r) ≡ record { out = end_bytes run ++ (front ++ q.raw); end = None; run = None }) (not_bad : (judge s r).verdict ≢ bad)
+  module _ (r q : Record) (rs : List Record) (front : List ℕ)
+      (is : IsRecord max_body version (at + length (together version e.us [])) (due_after due e.us) q)
+      (goes : squash_step s run r (judge s r) ≡ record {
+        out = end_bytes run ++ (front ++ q.raw);
+        end = None;
+        run = None;
+      }) (not_bad : (judge s r).verdict ≢ bad)
       (front_is : front ≡ line_if (due_after due e.us) ++ mark_of version q.head.side)
-      (again_goes : squash_step e.last e.last_run q (judge e.last q) ≡ record { out = end_bytes e.last_run ++ (front ++ q.raw); end = None; run = None }) (again_not_bad : (judge e.last q).verdict ≢ bad)
-      (more : IsSquashedAs max_body (at + length (together version e.us []) + length (record_bytes version q)) version false (judge s r).session None rs (judge e.last q).session None) where
-    one : squashed_in s run (r ∷ rs) ≡ written_first (end_bytes run ++ (front ++ q.raw)) (squashed_in (judge s r).session None rs)
+      (again_goes : squash_step e.last e.last_run q (judge e.last q) ≡ record {
+        out = end_bytes e.last_run ++ (front ++ q.raw);
+        end = None;
+        run = None;
+      }) (again_not_bad : (judge e.last q).verdict ≢ bad)
+      (more : IsSquashedAs max_body (at + length (together version e.us []) + length (record_bytes version q)) version
+      false (judge s r).session None rs (judge e.last q).session None) where
+    one : squashed_in s run (r ∷ rs) ≡ written_first (end_bytes run ++ (front ++ q.raw))
+        (squashed_in (judge s r).session None rs)
     one = step_on s run r rs (end_bytes run ++ (front ++ q.raw)) None goes
 
-    again_one : squashed_in t before (e.us ++ q ∷ more.qs) ≡ written_first (end_bytes before) (written_first (end_bytes e.last_run ++ (front ++ q.raw)) (squashed_in (judge e.last q).session None more.qs))
-    again_one = e.run_output (q ∷ more.qs) ∙ ap (written_first (end_bytes before)) (step_on e.last e.last_run q more.qs (end_bytes e.last_run ++ (front ++ q.raw)) None again_goes)
+    again_one : squashed_in t before (e.us ++ q ∷ more.qs) ≡ written_first (end_bytes before)
+        (written_first (end_bytes e.last_run ++ (front ++ q.raw)) (squashed_in (judge e.last q).session None more.qs))
+    again_one = e.run_output (q ∷ more.qs) ∙ ap (written_first (end_bytes before))
+        (step_on e.last e.last_run q more.qs (end_bytes e.last_run ++ (front ++ q.raw)) None again_goes)
 
-    replay_one : run_output_in replaying t (e.us ++ q ∷ more.qs) ≡ run_output_in replaying (judge e.last q).session more.qs
+    replay_one : run_output_in replaying t (e.us ++ q ∷ more.qs) ≡ run_output_in replaying (judge e.last q).session
+        more.qs
     replay_one = e.replay (q ∷ more.qs) ∙ report_on e.last q more.qs again_not_bad
 
     abbrev written : List ℕ
@@ -199,29 +253,35 @@ module _ (max_body at : ℕ) (version : Version) (due : Bool) (s : Session) (run
     inner = squashed_in (judge s r).session None rs
 
     -- its bytes, behind those of the run
-    placed_bytes : (us : List Record) (line : List ℕ) → line ≡ line_if (due_after due us) → (first_line due us ++ together version us []) ++ ((line ++ mark_of version q.head.side) ++ q.raw)
+    placed_bytes : (us : List Record) (line : List ℕ) → line ≡ line_if (due_after due us)
+        → (first_line due us ++ together version us []) ++ ((line ++ mark_of version q.head.side) ++ q.raw)
         ≡ first_line due (us ++ q ∷ more.qs) ++ together version us (record_bytes version q)
-    placed_bytes [] line e = ap (λ l. (l ++ mark_of version q.head.side) ++ q.raw) e ∙ append_assoc (line_if due) (mark_of version q.head.side) q.raw
+    placed_bytes [] line e = ap (λ l. (l ++ mark_of version q.head.side) ++ q.raw) e ∙ append_assoc (line_if due)
+        (mark_of version q.head.side) q.raw
     placed_bytes (u ∷ us) line e =
         ap (λ l. (line_if due ++ together version (u ∷ us) []) ++ ((l ++ mark_of version q.head.side) ++ q.raw)) e
         ∙ append_assoc (line_if due) (together version (u ∷ us) []) (record_bytes version q)
         ∙ ap (λ z. line_if due ++ z) (sym (together_split version (u ∷ us) (record_bytes version q)))
 
-    one_bytes : total (squashed_in s run (r ∷ rs)) ≡ first_line due (e.us ++ q ∷ more.qs) ++ together version (e.us ++ q ∷ more.qs) []
+    one_bytes : total (squashed_in s run (r ∷ rs)) ≡ first_line due (e.us ++ q ∷ more.qs) ++ together version
+        (e.us ++ q ∷ more.qs) []
     one_bytes =
         ap total one ∙ append_assoc written inner.out (inner.last false)
         ∙ ap (λ z. (z ++ (front ++ q.raw)) ++ total inner) e.bytes
         ∙ ap (λ z. ((first_line due e.us ++ together version e.us []) ++ (z ++ q.raw)) ++ total inner) front_is
         ∙ ap (λ z. z ++ total inner) (placed_bytes e.us (line_if (due_after due e.us)) refl)
-        ∙ ap (λ z. (first_line due (e.us ++ q ∷ more.qs) ++ together version e.us (record_bytes version q)) ++ z) (more.bytes ∙ ap (λ z. z ++ together version more.qs []) (no_line more.qs))
-        ∙ append_assoc (first_line due (e.us ++ q ∷ more.qs)) (together version e.us (record_bytes version q)) (together version more.qs [])
+        ∙ ap (λ z. (first_line due (e.us ++ q ∷ more.qs) ++ together version e.us (record_bytes version q)) ++ z)
+        (more.bytes ∙ ap (λ z. z ++ together version more.qs []) (no_line more.qs))
+        ∙ append_assoc (first_line due (e.us ++ q ∷ more.qs)) (together version e.us (record_bytes version q))
+        (together version more.qs [])
         ∙ ap (λ z. first_line due (e.us ++ q ∷ more.qs) ++ z)
         (ap (λ z. z ++ together version more.qs []) (together_split version e.us (record_bytes version q))
         ∙ append_assoc (together version e.us []) (record_bytes version q) (together version more.qs [])
         ∙ sym (together_split version e.us (record_bytes version q ++ together version more.qs []))
         ∙ sym (together_more version e.us (q ∷ more.qs) []))
 
-    one_again : total (squashed_in t before (e.us ++ q ∷ more.qs)) ≡ end_bytes before ++ total (squashed_in s run (r ∷ rs))
+    one_again : total (squashed_in t before (e.us ++ q ∷ more.qs)) ≡ end_bytes before
+        ++ total (squashed_in s run (r ∷ rs))
     one_again =
         let again_inner = squashed_in (judge e.last q).session None more.qs in
         let again_written = end_bytes e.last_run ++ (front ++ q.raw) in
@@ -239,16 +299,22 @@ module _ (max_body at : ℕ) (version : Version) (due : Bool) (s : Session) (run
       bytes = one_bytes;
       again = one_again;
       continues = ap (λ (c : RunOutput). c.stop) again_one ∙ more.continues;
-      documents = λ line_due. ap (λ (c : RunOutput). c.last line_due) replay_one ∙ more.documents line_due ∙ sym (ap (λ (c : RunOutput). c.last line_due) (report_on s r rs not_bad));
+      documents = λ line_due. ap (λ (c : RunOutput). c.last line_due) replay_one ∙ more.documents line_due
+          ∙ sym (ap (λ (c : RunOutput). c.last line_due) (report_on s r rs not_bad));
       to_end = ap (λ (c : RunOutput). c.stop) replay_one ∙ more.to_end;
-      status = ap (λ (c : RunOutput). c.outcome.status) replay_one ∙ more.status ∙ sym (ap (λ (c : RunOutput). c.outcome.status) (report_on s r rs not_bad));
-      refused = ap (λ (c : RunOutput). c.outcome.refused) replay_one ∙ more.refused ∙ sym (ap (λ (c : RunOutput). c.outcome.refused) (report_on s r rs not_bad));
+      status = ap (λ (c : RunOutput). c.outcome.status) replay_one ∙ more.status
+          ∙ sym (ap (λ (c : RunOutput). c.outcome.status) (report_on s r rs not_bad));
+      refused = ap (λ (c : RunOutput). c.outcome.refused) replay_one ∙ more.refused
+          ∙ sym (ap (λ (c : RunOutput). c.outcome.refused) (report_on s r rs not_bad));
     }
 
 -- A record that goes on with the run.
-pub goes_on_next : (max_body at : ℕ) (version : Version) (due : Bool) (s : Session) (run : Option Run) (t : Session) (before next : Option Run) (r : Record) (rs : List Record)
-    → squash_step s run r (judge s r) ≡ record { out = []; end = None; run = next } → (judge s r).verdict ≢ bad → IsAny next rs
-    → IsSquashedAs max_body at version due (judge s r).session next rs t before → IsSquashedAs max_body at version due s run (r ∷ rs) t before
+pub goes_on_next : (max_body at : ℕ) (version : Version) (due : Bool) (s : Session) (run : Option Run) (t : Session)
+    (before next : Option Run) (r : Record) (rs : List Record)
+    → squash_step s run r (judge s r) ≡ record { out = []; end = None; run = next } → (judge s r).verdict ≢ bad
+    → IsAny next rs
+    → IsSquashedAs max_body at version due (judge s r).session next rs t before → IsSquashedAs max_body at version due s
+    run (r ∷ rs) t before
 goes_on_next max_body at version due s run t before next r rs writes not_bad any more =
     let first = step_on s run r rs [] next writes in
     let error = report_on s r rs not_bad in

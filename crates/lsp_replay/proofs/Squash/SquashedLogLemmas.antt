@@ -1,4 +1,5 @@
--- What `normalise` writes of a log with squash is a log, of which `replay` reports the same, and of which the same is written.
+-- What `normalise` writes of a log with squash is a log, of which `replay` reports the same, and of which the same is
+-- written.
 use Rattle.std.proofs.Common.{◌≡◌, ◌≢◌, ℕ, ◌+◌, Bool, true, false, List, [], ◌∷◌, ◌++◌, length, Option, Some, None, refl, sym, ap, ◌∙◌, subst, append-nil, bytes_eq, ⊎_elim}
 use Rattle.std.specs.Prelude.{Result}
 use Rattle.std.proofs.lemmas.Bool.{cases_Bool}
@@ -32,17 +33,25 @@ use Rattle.lsp_replay.proofs.Records.StateLemmas.{IsHeldState}
 -- How far a log and what was written of it have come, between two records.
 abbrev IsAfter : ℕ → ℕ → Version → Bool → Bool → Session → Option Run → Session → Option Run → Type 0
 IsAfter max_body at version due due_in s None t before = (before ≡ None) × IsAlike s t × (due ≡ due_in)
-IsAfter max_body at version due due_in s (Some run) t before = IsPending max_body at version due s run t before × (due_in ≡ false)
+IsAfter max_body at version due due_in s (Some run) t before = IsPending max_body at version due s run t before
+    × (due_in ≡ false)
 
-record AllEnded (max_body at : ℕ) (version : Version) (due due_in : Bool) (s : Session) (run : Option Run) (t : Session) (before : Option Run) : Type 0 where
+record AllEnded (max_body at : ℕ) (version : Version) (due due_in : Bool) (s : Session) (run : Option Run) (t : Session)
+    (before : Option Run) : Type 0 where
   ended : IsEnded max_body at version due s run t before
   same_due : due_in ≡ due_after due ended.us
 
 module _ (limits : LimitsData) (ranges : AreInRange limits) where
-  all_ended : (at : ℕ) (version : Version) (due due_in : Bool) (s : Session) (run : Option Run) (t : Session) (before : Option Run) → IsHeldState limits t.server
-      → IsAfter limits.max_body at version due due_in s run t before → AllEnded limits.max_body at version due due_in s run t before
+  all_ended : (at : ℕ) (version : Version) (due due_in : Bool) (s : Session) (run : Option Run) (t : Session)
+      (before : Option Run) → IsHeldState limits t.server
+      → IsAfter limits.max_body at version due due_in s run t before → AllEnded limits.max_body at version due due_in s
+      run t before
   all_ended at version due due_in s None t before received is =
-      subst (λ (b : Option Run). AllEnded limits.max_body at version due due_in s None t b) (sym is.0) (record { ended = none_ended limits.max_body at version due s t is.1; same_due = sym is.2 ∙ sym (none_after limits.max_body at version due s t is.1) })
+      subst (λ (b : Option Run). AllEnded limits.max_body at version due due_in s None t b) (sym is.0)
+      (record {
+        ended = none_ended limits.max_body at version due s t is.1;
+        same_due = sym is.2 ∙ sym (none_after limits.max_body at version due s t is.1);
+      })
   all_ended at version due due_in s (Some run) t before received is =
       let e = some_ended limits ranges at version due s run t before received.limit is.0 in
       record { ended = e; same_due = is.1 ∙ sym (behind_some due e.us (e.some tt)) }
@@ -56,11 +65,16 @@ module _ (limits : LimitsData) (ranges : AreInRange limits) where
 
   -- ---- one record, and those behind it
 
-  module _ (at place : ℕ) (version : Version) (due due_in : Bool) (s : Session) (run : Option Run) (t : Session) (before : Option Run) (r : Record) (rs : List Record)
-      (received : IsHeldState limits s.server) (held_out : IsHeldState limits t.server) (is_after : IsAfter limits.max_body at version due due_in s run t before)
-      (is : IsRecord limits.max_body version place due_in r) (goes : (squashed_in (judge s r).session (squash_step s run r (judge s r)).run rs).stop ≡ None)
-      (rest : (at place : ℕ) (due : Bool) (run : Option Run) (t : Session) (before : Option Run) → IsHeldState limits t.server → IsAfter limits.max_body at version due false (judge s r).session run t before
-      → (squashed_in (judge s r).session run rs).stop ≡ None → IsSquashedAs limits.max_body at version due (judge s r).session run rs t before) where
+  module _ (at place : ℕ) (version : Version) (due due_in : Bool) (s : Session) (run : Option Run) (t : Session)
+      (before : Option Run) (r : Record) (rs : List Record)
+      (received : IsHeldState limits s.server) (held_out : IsHeldState limits t.server)
+      (is_after : IsAfter limits.max_body at version due due_in s run t before)
+      (is : IsRecord limits.max_body version place due_in r)
+      (goes : (squashed_in (judge s r).session (squash_step s run r (judge s r)).run rs).stop ≡ None)
+      (rest : (at place : ℕ) (due : Bool) (run : Option Run) (t : Session) (before : Option Run)
+      → IsHeldState limits t.server → IsAfter limits.max_body at version due false (judge s r).session run t before
+      → (squashed_in (judge s r).session run rs).stop ≡ None → IsSquashedAs limits.max_body at version due
+      (judge s r).session run rs t before) where
     a : AllEnded limits.max_body at version due due_in s run t before
     a = all_ended at version due due_in s run t before held_out is_after
 
@@ -89,14 +103,21 @@ module _ (limits : LimitsData) (ranges : AreInRange limits) where
 
       none_last : canonical_if e.last.server (change_in (incoming_of (reading r.body))) (judge e.last r).verdict ≡ None
       none_last =
-          ap (λ (server : ServerData). canonical_if server (change_in (incoming_of (reading r.body))) (judge e.last r).verdict) (same_server s e.last e.like)
+          ap (λ (server : ServerData). canonical_if server (change_in (incoming_of (reading r.body)))
+          (judge e.last r).verdict) (same_server s e.last e.like)
           ∙ ap (canonical_if s.server (change_in (incoming_of (reading r.body)))) alike.0 ∙ kind.1
 
       gives_other : squash_step s run r (judge s r) ≡ other_step r (front_of r.head) run
-      gives_other = step_other s.server r (front_of r.head) run (change_in (incoming_of (reading r.body))) (judge s r).verdict kind.0 kind.1
+      gives_other = step_other s.server r (front_of r.head) run (change_in (incoming_of (reading r.body)))
+          (judge s r).verdict kind.0 kind.1
 
-      gives_last : squash_step e.last e.last_run q (judge e.last q) ≡ record { out = end_bytes e.last_run ++ (front_of r.head ++ q.raw); end = None; run = None }
-      gives_last = step_other e.last.server q (front_of q.head) e.last_run (change_in (incoming_of (reading q.body))) (judge e.last q).verdict not_bad_last none_last
+      gives_last : squash_step e.last e.last_run q (judge e.last q) ≡ record {
+        out = end_bytes e.last_run ++ (front_of r.head ++ q.raw);
+        end = None;
+        run = None;
+      }
+      gives_last = step_other e.last.server q (front_of q.head) e.last_run (change_in (incoming_of (reading q.body)))
+          (judge e.last q).verdict not_bad_last none_last
 
       front_at : front_of r.head ≡ line_if (due_after due e.us) ++ mark_of version q.head.side
       front_at =
@@ -106,9 +127,19 @@ module _ (limits : LimitsData) (ranges : AreInRange limits) where
       others : IsSquashedAs limits.max_body at version due s run (r ∷ rs) t before
       others =
           others_next limits.max_body at version due s run t before e r q rs (front_of r.head)
-          (record { is_frame_of = is.is_frame_of; side = is.side; of_version = is.of_version; placed = refl; due = due_r }) gives_other kind.0 front_at gives_last not_bad_last
-          (rest (next_at + length (record_bytes version q)) place false None (judge e.last q).session None (held_alike (judge s r).session (judge e.last q).session alike.1 (judged_held limits s r received))
-          (refl, alike.1, refl) (subst (λ (step : Step). (squashed_in (judge s r).session step.run rs).stop ≡ None) gives_other goes))
+          (record {
+            is_frame_of = is.is_frame_of;
+            side = is.side;
+            of_version = is.of_version;
+            placed = refl;
+            due = due_r;
+          }) gives_other kind.0 front_at gives_last not_bad_last
+          (rest (next_at + length (record_bytes version q)) place false None (judge e.last q).session None
+          (held_alike (judge s r).session (judge e.last q).session alike.1 (judged_held limits s r received)) (
+            refl,
+            alike.1,
+            refl,
+          ) (subst (λ (step : Step). (squashed_in (judge s r).session step.run rs).stop ≡ None) gives_other goes))
 
     -- an accepted change
     module _ (kind : IsChangeKind s.server (change_in (incoming_of (reading r.body))) (judge s r).verdict) where
@@ -124,66 +155,92 @@ module _ (limits : LimitsData) (ranges : AreInRange limits) where
       begins : IsApart run p.uri → IsSquashedAs limits.max_body at version due s run (r ∷ rs) t before
       begins apart =
           let b : IsBegunRun limits.max_body next_at version (due_after due e.us) s run r e.last e.last_run =
-          begun_run limits ranges next_at version (due_after due e.us) s run e.last e.last_run r p e.like is.of_version apart (e.apart p.uri apart) received accepted kind.3 due_r in
-          begins_next limits.max_body at version due s run t before e r rs (Some b.next) b.writes not_bad (any_some b.next rs)
+          begun_run limits ranges next_at version (due_after due e.us) s run e.last e.last_run r p e.like is.of_version
+          apart (e.apart p.uri apart) received accepted kind.3 due_r in
+          begins_next limits.max_body at version due s run t before e r rs (Some b.next) b.writes not_bad
+          (any_some b.next rs)
           (rest next_at place (due_after due e.us) (Some b.next) e.last e.last_run held_last (b.pending, refl)
           (subst (λ (step : Step). (squashed_in (judge s r).session step.run rs).stop ≡ None) b.writes goes))
 
-      continues : (before_run : Run) → run ≡ Some before_run → bytes_eq p.uri before_run.squash.uri ≡ true → IsPending limits.max_body at version due s before_run t before → due_in ≡ false
+      continues : (before_run : Run) → run ≡ Some before_run → bytes_eq p.uri before_run.squash.uri ≡ true
+          → IsPending limits.max_body at version due s before_run t before → due_in ≡ false
           → IsSquashedAs limits.max_body at version due s run (r ∷ rs) t before
       continues before_run is_run same pending not_due =
           let l : IsLongerRun limits.max_body at version due s before_run r t before =
-          longer_run limits ranges at version due s before_run t before r p pending is.of_version same received accepted kind.3 (is.due ∙ not_due) in
+          longer_run limits ranges at version due s before_run t before r p pending is.of_version same received accepted
+          kind.3 (is.due ∙ not_due) in
           let writes = ap (λ o. squash_step s o r (judge s r)) is_run ∙ l.writes in
-          goes_on_next limits.max_body at version due s run t before (Some l.next) r rs writes not_bad (any_some l.next rs)
-          (rest at place due (Some l.next) t before held_out (l.pending, refl) (subst (λ (step : Step). (squashed_in (judge s r).session step.run rs).stop ≡ None) writes goes))
+          goes_on_next limits.max_body at version due s run t before (Some l.next) r rs writes not_bad
+          (any_some l.next rs)
+          (rest at place due (Some l.next) t before held_out (
+            l.pending,
+            refl,
+          ) (subst (λ (step : Step). (squashed_in (judge s r).session step.run rs).stop ≡ None) writes goes))
 
-    changes : (kind : IsChangeKind s.server (change_in (incoming_of (reading r.body))) (judge s r).verdict) (o : Option Run) → run ≡ o → IsSquashedAs limits.max_body at version due s run (r ∷ rs) t before
+    changes : (kind : IsChangeKind s.server (change_in (incoming_of (reading r.body))) (judge s r).verdict)
+        (o : Option Run) → run ≡ o → IsSquashedAs limits.max_body at version due s run (r ∷ rs) t before
     changes kind None is = begins kind (subst (λ (x : Option Run). IsApart x kind.0.uri) (sym is) tt)
     changes kind (Some open_run) is =
         ⊎_elim
         (λ (same : bytes_eq kind.0.uri open_run.squash.uri ≡ true).
-        let here : IsAfter limits.max_body at version due due_in s (Some open_run) t before = subst (λ (x : Option Run). IsAfter limits.max_body at version due due_in s x t before) is is_after in
+        let here : IsAfter limits.max_body at version due due_in s (Some open_run) t before =
+        subst (λ (x : Option Run). IsAfter limits.max_body at version due due_in s x t before) is is_after in
         continues kind open_run is same here.0 here.1)
-        (λ (not : bytes_eq kind.0.uri open_run.squash.uri ≡ false). begins kind (subst (λ (x : Option Run). IsApart x kind.0.uri) (sym is) not))
+        (λ (not : bytes_eq kind.0.uri open_run.squash.uri ≡ false). begins kind
+        (subst (λ (x : Option Run). IsApart x kind.0.uri) (sym is) not))
         (cases_Bool (bytes_eq kind.0.uri open_run.squash.uri))
 
-    one_record : (squash_step s run r (judge s r)).end ≡ None → IsSquashedAs limits.max_body at version due s run (r ∷ rs) t before
+    one_record : (squash_step s run r (judge s r)).end ≡ None → IsSquashedAs limits.max_body at version due s run
+        (r ∷ rs) t before
     one_record none =
-        ⊎_elim (λ (kind : IsOtherKind s.server (change_in (incoming_of (reading r.body))) (judge s r).verdict). others kind)
-        (λ (kind : IsChangeKind s.server (change_in (incoming_of (reading r.body))) (judge s r).verdict). changes kind run refl)
+        ⊎_elim (λ (kind : IsOtherKind s.server (change_in (incoming_of (reading r.body))) (judge s r).verdict). others
+        kind)
+        (λ (kind : IsChangeKind s.server (change_in (incoming_of (reading r.body))) (judge s r).verdict). changes kind
+        run refl)
         (kind_of s.server r (front_of r.head) run (change_in (incoming_of (reading r.body))) (judge s r).verdict none)
 
-  squashed_log : (rs : List Record) (at place : ℕ) (version : Version) (due due_in : Bool) (s : Session) (run : Option Run) (t : Session) (before : Option Run) → IsHeldState limits s.server → IsHeldState limits t.server
-      → IsAfter limits.max_body at version due due_in s run t before → AreRecords limits.max_body version place due_in rs → (squashed_in s run rs).stop ≡ None
+  squashed_log : (rs : List Record) (at place : ℕ) (version : Version) (due due_in : Bool) (s : Session)
+      (run : Option Run) (t : Session) (before : Option Run) → IsHeldState limits s.server → IsHeldState limits t.server
+      → IsAfter limits.max_body at version due due_in s run t before → AreRecords limits.max_body version place due_in
+      rs → (squashed_in s run rs).stop ≡ None
       → IsSquashedAs limits.max_body at version due s run rs t before
   squashed_log [] at place version due due_in s run t before received held_out is_after each goes =
-      at_end limits.max_body at version due s run t before (all_ended at version due due_in s run t before held_out is_after).ended
+      at_end limits.max_body at version due s run t before (all_ended at version due due_in s run t before held_out
+      is_after).ended
   squashed_log (r ∷ rs) at place version due due_in s run t before received held_out is_after each goes =
-      let on = went_on (squash_step s run r (judge s r)).out (squash_step s run r (judge s r)).end (squashed_in (judge s r).session (squash_step s run r (judge s r)).run rs) goes in
+      let on = went_on (squash_step s run r (judge s r)).out (squash_step s run r (judge s r)).end
+      (squashed_in (judge s r).session (squash_step s run r (judge s r)).run rs) goes in
       one_record at place version due due_in s run t before r rs received held_out is_after each.0 on.1
       (λ next_at next_place next_due next_run next_t next_before next_held next_stands next_goes.
-      squashed_log rs next_at (place + length (record_bytes version r)) version next_due false (judge s r).session next_run next_t next_before (judged_held limits s r received) next_held next_stands each.1 next_goes)
+      squashed_log rs next_at (place + length (record_bytes version r)) version next_due false (judge s r).session
+      next_run next_t next_before (judged_held limits s r received) next_held next_stands each.1 next_goes)
       on.0
 
 -- ---- the bytes
 
 -- Its status and counts are those of `replay`.
-same_outcome : (settings : Settings) (rs : List Record) → (squashed settings rs).stop ≡ None → (squashed settings rs).outcome ≡ (report settings rs).outcome
+same_outcome : (settings : Settings) (rs : List Record) → (squashed settings rs).stop ≡ None
+    → (squashed settings rs).outcome ≡ (report settings rs).outcome
 same_outcome settings rs goes = outcome_on (opened (log_config settings)) None rs goes
   where
-    outcome_on : (s : Session) (run : Option Run) (rs : List Record) → (squashed_in s run rs).stop ≡ None → (squashed_in s run rs).outcome ≡ (run_output_in replaying s rs).outcome
+    outcome_on : (s : Session) (run : Option Run) (rs : List Record) → (squashed_in s run rs).stop ≡ None
+        → (squashed_in s run rs).outcome ≡ (run_output_in replaying s rs).outcome
     outcome_on s run [] goes = refl
     outcome_on s run (r ∷ rs) goes =
         let step = squash_step s run r (judge s r) in
         let on = went_on step.out step.end (squashed_in (judge s r).session step.run rs) goes in
-        ap (λ (o : Option (Result Outcome EngineFault)). (continue_with step.out o (squashed_in (judge s r).session step.run rs)).outcome) on.0
+        ap (λ (o : Option (Result Outcome EngineFault)).
+        (continue_with step.out o (squashed_in (judge s r).session step.run rs)).outcome) on.0
         ∙ outcome_on (judge s r).session step.run rs on.1
-        ∙ sym (ap (λ (c : RunOutput). c.outcome) (report_on s r rs (not_bad_of s.server r (front_of r.head) run (change_in (incoming_of (reading r.body))) (judge s r).verdict on.0)))
+        ∙ sym (ap (λ (c : RunOutput). c.outcome)
+        (report_on s r rs (not_bad_of s.server r (front_of r.head) run (change_in (incoming_of (reading r.body)))
+        (judge s r).verdict on.0)))
 
 -- A log with records: what is written begins with its line.
-module _ (settings : Settings) (ranges : AreInRange settings.limits) (log : Log) (r : Record) (rs : List Record) (is : log.records ≡ r ∷ rs)
-    (each : AreRecords settings.limits.max_body log.version (length (line_of log.version)) (is_line_due log.version []) (r ∷ rs)) (goes : (squashed settings (r ∷ rs)).stop ≡ None) where
+module _ (settings : Settings) (ranges : AreInRange settings.limits) (log : Log) (r : Record) (rs : List Record)
+    (is : log.records ≡ r ∷ rs)
+    (each : AreRecords settings.limits.max_body log.version (length (line_of log.version)) (is_line_due log.version [])
+    (r ∷ rs)) (goes : (squashed settings (r ∷ rs)).stop ≡ None) where
   abbrev s : Session
   s = opened (log_config settings)
 
@@ -195,7 +252,8 @@ module _ (settings : Settings) (ranges : AreInRange settings.limits) (log : Log)
 
   w : IsSquashedAs settings.limits.max_body start log.version due s None (r ∷ rs) s None
   w =
-      squashed_log settings.limits ranges (r ∷ rs) start start log.version due due s None s None (record { limit = refl; table = tt }) (record { limit = refl; table = tt })
+      squashed_log settings.limits ranges (r ∷ rs) start start log.version due due s None s None
+      (record { limit = refl; table = tt }) (record { limit = refl; table = tt })
       (refl, alike_self s, refl) each goes
 
   not_due : (version : Version) (qs : List Record) → NonEmpty qs → is_line_due version qs ≡ false
@@ -203,7 +261,8 @@ module _ (settings : Settings) (ranges : AreInRange settings.limits) (log : Log)
   not_due Two [] some = absurd some
   not_due Two (q ∷ qs) some = refl
 
-  line_is : (version : Version) (qs : List Record) → NonEmpty qs → first_line (is_line_due version []) qs ≡ line_of version
+  line_is : (version : Version) (qs : List Record) → NonEmpty qs → first_line (is_line_due version []) qs
+      ≡ line_of version
   line_is version [] some = absurd some
   line_is One (q ∷ qs) some = refl
   line_is Two (q ∷ qs) some = refl
@@ -211,22 +270,30 @@ module _ (settings : Settings) (ranges : AreInRange settings.limits) (log : Log)
   abbrev next : Log
   next = record { version = log.version; records = w.qs; rest = [] }
 
-  all_is : (xs : List Record) (bytes : List ℕ) → is_line_due log.version xs ≡ false → total (squashed settings xs) ≡ bytes → (squashed settings xs).out ++ (squashed settings xs).last (is_line_due log.version xs) ≡ bytes
+  all_is : (xs : List Record) (bytes : List ℕ) → is_line_due log.version xs ≡ false → total (squashed settings xs)
+      ≡ bytes → (squashed settings xs).out ++ (squashed settings xs).last (is_line_due log.version xs) ≡ bytes
   all_is xs bytes not e = ap (λ b. (squashed settings xs).out ++ (squashed settings xs).last b) not ∙ e
 
   abbrev bytes : List ℕ
   bytes = (squashed settings (r ∷ rs)).out ++ (squashed settings (r ∷ rs)).last (is_line_due log.version (r ∷ rs))
 
   bytes_are : bytes ≡ line_of log.version ++ together log.version w.qs []
-  bytes_are = all_is (r ∷ rs) (line_of log.version ++ together log.version w.qs []) (not_due log.version (r ∷ rs) tt) (w.bytes ∙ ap (λ l. l ++ together log.version w.qs []) (line_is log.version w.qs (w.some tt)))
+  bytes_are = all_is (r ∷ rs) (line_of log.version ++ together log.version w.qs []) (not_due log.version (r ∷ rs) tt)
+      (w.bytes ∙ ap (λ l. l ++ together log.version w.qs []) (line_is log.version w.qs (w.some tt)))
 
   again : (squashed settings w.qs).out ++ (squashed settings w.qs).last (is_line_due log.version w.qs) ≡ bytes
-  again = all_is w.qs bytes (not_due log.version w.qs (w.some tt)) (w.again ∙ sym (all_is (r ∷ rs) (total (squashed settings (r ∷ rs))) (not_due log.version (r ∷ rs) tt) refl))
+  again = all_is w.qs bytes (not_due log.version w.qs (w.some tt))
+      (w.again ∙ sym (all_is (r ∷ rs) (total (squashed settings (r ∷ rs))) (not_due log.version (r ∷ rs) tt) refl))
 
   leaves : LeavesAlike settings (r ∷ rs) bytes
   leaves = record {
     log = next;
-    reads = record { version = version_is settings.limits.max_body log.version w.qs bytes w.are bytes_are; accepted = λ e. absurd (let wrong : false ≡ true = e in cc); is = bytes_are; each = w.are };
+    reads = record {
+      version = version_is settings.limits.max_body log.version w.qs bytes w.are bytes_are;
+      accepted = λ e. absurd (let wrong : false ≡ true = e in cc);
+      is = bytes_are;
+      each = w.are;
+    };
     whole = refl;
     to_end = w.to_end;
     documents = w.documents;
@@ -236,16 +303,23 @@ module _ (settings : Settings) (ranges : AreInRange settings.limits) (log : Log)
 
   some_law : IsSquashed settings (r ∷ rs) bytes
   unfolding leaves w
-  some_law = record { outcome = same_outcome settings (r ∷ rs) goes; leaves = leaves; continues = w.continues; again = again }
+  some_law = record {
+    outcome = same_outcome settings (r ∷ rs) goes;
+    leaves = leaves;
+    continues = w.continues;
+    again = again;
+  }
 
 -- A log without records is its line.
-none_law : (settings : Settings) (version : Version) (max_body : ℕ) → IsSquashed settings [] ((squashed settings []).out ++ (squashed settings []).last (is_line_due version []))
+none_law : (settings : Settings) (version : Version) (max_body : ℕ)
+    → IsSquashed settings [] ((squashed settings []).out ++ (squashed settings []).last (is_line_due version []))
 none_law settings version max_body = record {
   outcome = refl;
   leaves = record {
     log = record { version = version; records = []; rest = [] };
     reads = record {
-      version = version_is settings.limits.max_body version [] (line_if (is_line_due version [])) tt (line_alone version);
+      version = version_is settings.limits.max_body version [] (line_if (is_line_due version [])) tt
+          (line_alone version);
       accepted = λ e. absurd (let wrong : false ≡ true = e in cc);
       is = line_alone version;
       each = tt;
@@ -264,13 +338,19 @@ none_law settings version max_body = record {
     line_alone One = refl
     line_alone Two = sym (append-nil version_line)
 
--- What `normalise` writes of a log with squash is a log, of which `replay` reports the same, and of which the same is written.
+-- What `normalise` writes of a log with squash is a log, of which `replay` reports the same, and of which the same is
+-- written.
 pub squashed_law : SquashedLaw
 squashed_law settings ranges input log reads whole goes = by log.records refl
   where
     by : (xs : List Record) → log.records ≡ xs → IsSquashed settings log.records (all_of (squashed settings) log)
-    by [] is = subst (λ (xs : List Record). IsSquashed settings xs ((squashed settings xs).out ++ (squashed settings xs).last (is_line_due log.version xs))) (sym is) (none_law settings log.version settings.limits.max_body)
+    by [] is = subst (λ (xs : List Record). IsSquashed settings xs
+        ((squashed settings xs).out ++ (squashed settings xs).last (is_line_due log.version xs))) (sym is)
+        (none_law settings log.version settings.limits.max_body)
     by (r ∷ rs) is =
-        subst (λ (xs : List Record). IsSquashed settings xs ((squashed settings xs).out ++ (squashed settings xs).last (is_line_due log.version xs))) (sym is)
-        (some_law settings ranges log r rs is (subst (AreRecords settings.limits.max_body log.version (length (line_of log.version)) (is_line_due log.version [])) is reads.each)
+        subst (λ (xs : List Record). IsSquashed settings xs ((squashed settings xs).out ++ (squashed settings xs).last
+        (is_line_due log.version xs))) (sym is)
+        (some_law settings ranges log r rs is
+        (subst (AreRecords settings.limits.max_body log.version (length (line_of log.version))
+        (is_line_due log.version [])) is reads.each)
         (subst (λ (xs : List Record). (squashed settings xs).stop ≡ None) is goes))

@@ -30,18 +30,21 @@ use Rattle.lsp_replay.proofs.Runs.WroteLemmas.{IsNotOk, normal_not_ok, stops_not
 
 -- ---- where the run ends
 
-stop_if : (settings : Settings) (b : Bool) (rs : List Record) → (normalised_if b settings rs).stop ≡ (canonical_log settings rs).stop
+stop_if : (settings : Settings) (b : Bool) (rs : List Record) → (normalised_if b settings rs).stop
+    ≡ (canonical_log settings rs).stop
 stop_if settings true rs = stops_in (opened (log_config settings)) None rs
 stop_if settings false rs = refl
 
 pub documents_stop : DocumentsStopAlike
 documents_stop settings records =
     stop_if settings settings.squash (kept settings records).records
-    ∙ kept_stop (opened (log_config settings)) (opened (log_config settings)) nothing_selected records (alike_self (opened (log_config settings)))
+    ∙ kept_stop (opened (log_config settings)) (opened (log_config settings)) nothing_selected records
+    (alike_self (opened (log_config settings)))
 
 -- ---- the records that stay, as a log
 
-module _ (settings : Settings) (ranges : AreInRange settings.limits) (input : List ℕ) (log : Log) (reads : IsReadAs (as_log settings) input log) where
+module _ (settings : Settings) (ranges : AreInRange settings.limits) (input : List ℕ) (log : Log)
+    (reads : IsReadAs (as_log settings) input log) where
   abbrev s : Session
   s = opened (log_config settings)
 
@@ -61,10 +64,16 @@ module _ (settings : Settings) (ranges : AreInRange settings.limits) (input : Li
   kept_log = record { version = log.version; records = ks; rest = [] }
 
   are : AreRecords settings.limits.max_body log.version start (is_line_due log.version []) ks
-  are = are_kept settings.limits.max_body log.version log.records s nothing_selected start start (is_line_due log.version []) reads.each
+  are = are_kept settings.limits.max_body log.version log.records s nothing_selected start start
+      (is_line_due log.version []) reads.each
 
   kept_reads : IsReadAs (as_log settings) bytes kept_log
-  kept_reads = record { version = version_is settings.limits.max_body log.version ks bytes are refl; accepted = λ e. absurd (let wrong : false ≡ true = e in cc); is = refl; each = are }
+  kept_reads = record {
+    version = version_is settings.limits.max_body log.version ks bytes are refl;
+    accepted = λ e. absurd (let wrong : false ≡ true = e in cc);
+    is = refl;
+    each = are;
+  }
 
   abbrev due_at_end : Bool
   due_at_end = k.due || is_line_due log.version log.records
@@ -83,14 +92,17 @@ module _ (settings : Settings) (ranges : AreInRange settings.limits) (input : Li
       by : (rs : List Record) → log.records ≡ rs → due_at_end ≡ is_line_due log.version ks
       by [] e =
           ap (λ (xs : List Record). (kept settings xs).due || is_line_due log.version xs) e
-          ∙ sym (ap (λ (xs : List Record). is_line_due log.version (located_all start log.version (kept settings xs).records)) e)
+          ∙ sym (ap (λ (xs : List Record). is_line_due log.version
+          (located_all start log.version (kept settings xs).records)) e)
       by (r ∷ rs) e =
           ap (λ (xs : List Record). k.due || is_line_due log.version xs) e
           ∙ ap (λ b. k.due || b) (later log.version r rs) ∙ or_none k.due
-          ∙ kept_due settings.limits.max_body log.version log.records s nothing_selected start (is_line_due log.version []) reads.each (λ none. absurd (let wrong : r ∷ rs ≡ [] = sym e ∙ none in cc))
+          ∙ kept_due settings.limits.max_body log.version log.records s nothing_selected start
+          (is_line_due log.version []) reads.each (λ none. absurd (let wrong : r ∷ rs ≡ [] = sym e ∙ none in cc))
           ∙ sym (located_due log.version start k.records)
 
-  all_same : (g : List Record → RunOutput) → g ks ≡ g k.records → all_of g kept_log ≡ (g k.records).out ++ (g k.records).last due_at_end
+  all_same : (g : List Record → RunOutput) → g ks ≡ g k.records → all_of g kept_log ≡ (g k.records).out
+      ++ (g k.records).last due_at_end
   all_same g same =
       ap (λ (c : RunOutput). c.out ++ c.last (is_line_due log.version ks)) same
       ∙ ap (λ b. (g k.records).out ++ (g k.records).last b) (sym same_due)
@@ -100,7 +112,8 @@ module _ (settings : Settings) (ranges : AreInRange settings.limits) (input : Li
     told = reported log.version log.records s s nothing_selected start (alike_self s) goes
 
     -- what an output of the records that stay is, by a law of that output
-    leaves_by : (g : List Record → RunOutput) → g ks ≡ g k.records → (g ks).outcome ≡ (report settings ks).outcome → LeavesAlike settings ks (all_of g kept_log)
+    leaves_by : (g : List Record → RunOutput) → g ks ≡ g k.records → (g ks).outcome ≡ (report settings ks).outcome
+        → LeavesAlike settings ks (all_of g kept_log)
         → KeepsDocuments settings log.records (g k.records).outcome ((g k.records).out ++ (g k.records).last due_at_end)
     leaves_by g same outcome leaves =
         let reports = sym (ap (λ (c : RunOutput). c.outcome) same) ∙ outcome in
@@ -130,14 +143,17 @@ module _ (settings : Settings) (ranges : AreInRange settings.limits) (input : Li
     }
 
     keeps_if : (b : Bool) → (normalised_if b settings k.records).stop ≡ None
-        → KeepsDocuments settings log.records (normalised_if b settings k.records).outcome ((normalised_if b settings k.records).out ++ (normalised_if b settings k.records).last due_at_end)
+        → KeepsDocuments settings log.records (normalised_if b settings k.records).outcome
+        ((normalised_if b settings k.records).out ++ (normalised_if b settings k.records).last due_at_end)
     keeps_if false on =
         let same = each_located s k.records start log.version on in
-        let law : IsCanonicalLog settings ks (all_of (canonical_log settings) kept_log) = canonical_log_law settings ranges bytes kept_log kept_reads refl (ap (λ (c : RunOutput). c.stop) same ∙ on) in
+        let law : IsCanonicalLog settings ks (all_of (canonical_log settings) kept_log) =
+        canonical_log_law settings ranges bytes kept_log kept_reads refl (ap (λ (c : RunOutput). c.stop) same ∙ on) in
         leaves_by (canonical_log settings) same law.outcome (canonical_leaves _ law)
     keeps_if true on =
         let same = squash_located s None k.records start log.version on in
-        let law : IsSquashed settings ks (all_of (squashed settings) kept_log) = squashed_law settings ranges bytes kept_log kept_reads refl (ap (λ (c : RunOutput). c.stop) same ∙ on) in
+        let law : IsSquashed settings ks (all_of (squashed settings) kept_log) =
+        squashed_law settings ranges bytes kept_log kept_reads refl (ap (λ (c : RunOutput). c.stop) same ∙ on) in
         leaves_by (squashed settings) same law.outcome law.leaves
 
 pub documents_law : DocumentsLaw
@@ -147,10 +163,13 @@ documents_law settings ranges input log reads whole goes =
 -- ---- what the engine wrote
 
 documents_not_ok : (settings : Settings) (rs : List Record) → IsNotOk (documents settings rs).stop
-documents_not_ok settings rs = subst IsNotOk (sym (documents_stop settings rs)) (normal_not_ok (opened (log_config settings)) rs)
+documents_not_ok settings rs =
+    subst IsNotOk (sym (documents_stop settings rs)) (normal_not_ok (opened (log_config settings)) rs)
 
-module _ (settings : Settings) (ranges : AreInRange settings.limits) (left_old left_new received_old received_new : Option (List ℕ)) where
-  documents_at_end : (input : List ℕ) (outcome : Outcome) → AtEnd (as_log settings) (documents settings) input received_old received_new outcome → Consumes left_old left_new input
+module _ (settings : Settings) (ranges : AreInRange settings.limits)
+    (left_old left_new received_old received_new : Option (List ℕ)) where
+  documents_at_end : (input : List ℕ) (outcome : Outcome) → AtEnd (as_log settings) (documents settings) input
+      received_old received_new outcome → Consumes left_old left_new input
       → WroteDocuments settings left_old left_new received_old received_new outcome
   documents_at_end input outcome end read = record {
     input = input;
@@ -160,49 +179,68 @@ module _ (settings : Settings) (ranges : AreInRange settings.limits) (left_old l
     whole = end.whole;
     bytes = all_of (documents settings) end.log;
     wrote = end.wrote;
-    keeps = subst (λ (o : Outcome). KeepsDocuments settings end.log.records o (all_of (documents settings) end.log)) (sym end.reports)
+    keeps = subst (λ (o : Outcome). KeepsDocuments settings end.log.records o (all_of (documents settings) end.log))
+        (sym end.reports)
         (documents_law settings ranges input end.log end.reads end.whole end.continues);
   }
 
-  pub wrote_documents : (state : PortState) (result : Result Outcome EngineFault) → Ran (as_log settings) (documents settings) state left_old left_new received_old received_new result
+  pub wrote_documents : (state : PortState) (result : Result Outcome EngineFault)
+      → Ran (as_log settings) (documents settings) state left_old left_new received_old received_new result
       → IfOk result (WroteDocuments settings left_old left_new received_old received_new)
   wrote_documents state (Err fault) ran = tt
   wrote_documents state (Ok outcome) ran =
       ⊎_elim
       (λ (stopped : Stopped (as_log settings) (documents settings) ran.input received_old received_new (Ok outcome)).
-      absurd (stops_not_ok (documents settings stopped.log.records).stop outcome (documents_not_ok settings stopped.log.records) stopped.stops))
-      (λ (end : (state.ended ≡ true) × AtEnd (as_log settings) (documents settings) ran.input received_old received_new outcome). documents_at_end ran.input outcome end.1 ran.read)
+      absurd (stops_not_ok (documents settings stopped.log.records).stop outcome
+      (documents_not_ok settings stopped.log.records) stopped.stops))
+      (λ (end : (state.ended ≡ true) × AtEnd (as_log settings) (documents settings) ran.input received_old received_new
+      outcome). documents_at_end ran.input outcome end.1 ran.read)
       ran.came
 
 -- ---- the engine, without squash and with it
 
-as_each : (settings : Settings) → settings.squash ≡ false → (P : (List Record → RunOutput) → Type 0) → P (each_of_kept (opened (log_config settings)) nothing_selected) → P (documents settings)
-as_each settings e P p = subst (λ (b : Bool). P (λ rs. output_of_kept (normalised_if b settings) (kept settings rs))) (sym e) p
+as_each : (settings : Settings) → settings.squash ≡ false → (P : (List Record → RunOutput) → Type 0)
+    → P (each_of_kept (opened (log_config settings)) nothing_selected) → P (documents settings)
+as_each settings e P p = subst (λ (b : Bool). P (λ rs. output_of_kept (normalised_if b settings) (kept settings rs)))
+    (sym e) p
 
 as_squashed : (settings : Settings) → settings.squash ≡ true → (P : (List Record → RunOutput) → Type 0)
-    → P (squashed_of_kept (record { session = opened (log_config settings); run = None }) nothing_selected) → P (documents settings)
-as_squashed settings e P p = subst (λ (b : Bool). P (λ rs. output_of_kept (normalised_if b settings) (kept settings rs))) (sym e) p
+    → P (squashed_of_kept (record { session = opened (log_config settings); run = None }) nothing_selected)
+    → P (documents settings)
+as_squashed settings e P p =
+    subst (λ (b : Bool). P (λ rs. output_of_kept (normalised_if b settings) (kept settings rs))) (sym e) p
 
 -- What the engines wrote, and that each is the engine of these settings.
-module _ (settings : Settings) (ranges : AreInRange settings.limits) (left_old left_new received_old received_new : Option (List ℕ)) (state : PortState) (result : Result Outcome EngineFault) where
-  pub wrote_each : settings.squash ≡ false → Ran (as_log settings) (each_of_kept (opened (log_config settings)) nothing_selected) state left_old left_new received_old received_new result
+module _ (settings : Settings) (ranges : AreInRange settings.limits)
+    (left_old left_new received_old received_new : Option (List ℕ)) (state : PortState)
+    (result : Result Outcome EngineFault) where
+  pub wrote_each : settings.squash ≡ false
+      → Ran (as_log settings) (each_of_kept (opened (log_config settings)) nothing_selected) state left_old left_new
+      received_old received_new result
       → IfOk result (WroteDocuments settings left_old left_new received_old received_new)
   wrote_each squash ran =
       wrote_documents settings ranges left_old left_new received_old received_new state result
-      (as_each settings squash (λ (f : List Record → RunOutput). Ran (as_log settings) f state left_old left_new received_old received_new result) ran)
+      (as_each settings squash (λ (f : List Record → RunOutput). Ran (as_log settings) f state left_old left_new
+      received_old received_new result) ran)
 
-  pub wrote_squashed_documents : settings.squash ≡ true → Ran (as_log settings) (squashed_of_kept (record { session = opened (log_config settings); run = None }) nothing_selected) state left_old left_new received_old received_new result
+  pub wrote_squashed_documents : settings.squash ≡ true
+      → Ran (as_log settings) (squashed_of_kept (record { session = opened (log_config settings); run = None })
+      nothing_selected) state left_old left_new received_old received_new result
       → IfOk result (WroteDocuments settings left_old left_new received_old received_new)
   wrote_squashed_documents squash ran =
       wrote_documents settings ranges left_old left_new received_old received_new state result
-      (as_squashed settings squash (λ (f : List Record → RunOutput). Ran (as_log settings) f state left_old left_new received_old received_new result) ran)
+      (as_squashed settings squash (λ (f : List Record → RunOutput). Ran (as_log settings) f state left_old left_new
+      received_old received_new result) ran)
 
 module _ (settings : Settings) (max_turns : ℕ) (before after : Ports) (result : Result Outcome EngineFault) where
   abbrev RunsAs : (List Record → RunOutput) → Type 0
-  RunsAs f = IsEngineRun (record { log_rules = as_log settings; run_output = f; flushes = false; in_parts = false }) max_turns before after result
+  RunsAs f = IsEngineRun (record { log_rules = as_log settings; run_output = f; flushes = false; in_parts = false })
+      max_turns before after result
 
-  pub each_run : settings.squash ≡ false → IsEngineRun (each_documents_engine settings) max_turns before after result → IsEngineRun (documents_engine settings) max_turns before after result
+  pub each_run : settings.squash ≡ false → IsEngineRun (each_documents_engine settings) max_turns before after result
+      → IsEngineRun (documents_engine settings) max_turns before after result
   each_run squash run = as_each settings squash RunsAs run
 
-  pub squashed_run : settings.squash ≡ true → IsEngineRun (squashed_documents_engine settings) max_turns before after result → IsEngineRun (documents_engine settings) max_turns before after result
+  pub squashed_run : settings.squash ≡ true → IsEngineRun (squashed_documents_engine settings) max_turns before after
+      result → IsEngineRun (documents_engine settings) max_turns before after result
   squashed_run squash run = as_squashed settings squash RunsAs run

@@ -41,19 +41,23 @@ record IsIdle (phase : Phase) (server : ServerData) (m : IncomingData) : Type 0 
   expects : (version : Version) (expected : Option IdData) → expected_of version m expected ≡ expected
 
 module _ (server : ServerData) where
-  expects_response : (id : Option IdData) (version : Version) (expected : Option IdData) → expected_of version (response id) expected ≡ expected
+  expects_response : (id : Option IdData) (version : Version) (expected : Option IdData)
+      → expected_of version (response id) expected ≡ expected
   expects_response id One expected = refl
   expects_response id Two expected = refl
 
-  expects_request : (id : IdData) (method : List ℕ) (version : Version) (expected : Option IdData) → expected_of version (other_request id method) expected ≡ expected
+  expects_request : (id : IdData) (method : List ℕ) (version : Version) (expected : Option IdData)
+      → expected_of version (other_request id method) expected ≡ expected
   expects_request id method One expected = refl
   expects_request id method Two expected = refl
 
-  expects_notification : (method : List ℕ) (version : Version) (expected : Option IdData) → expected_of version (other_notification method) expected ≡ expected
+  expects_notification : (method : List ℕ) (version : Version) (expected : Option IdData)
+      → expected_of version (other_notification method) expected ≡ expected
   expects_notification method One expected = refl
   expects_notification method Two expected = refl
 
-  idle_response : (phase : Phase) (id : Option IdData) → is_ended phase ≡ false → step_in phase server (response id) ≡ stays server ignored → IsIdle phase server (response id)
+  idle_response : (phase : Phase) (id : Option IdData) → is_ended phase ≡ false → step_in phase server (response id)
+      ≡ stays server ignored → IsIdle phase server (response id)
   idle_response phase id goes step = record {
     goes_on = goes;
     answer = ignored;
@@ -64,7 +68,8 @@ module _ (server : ServerData) where
     expects = expects_response id;
   }
 
-  idle_notification : (phase : Phase) (method : List ℕ) (answer : AnswerData OutgoingData) → is_ended phase ≡ false → step_in phase server (other_notification method) ≡ stays server answer → is_refused (as_sent answer) ≡ false
+  idle_notification : (phase : Phase) (method : List ℕ) (answer : AnswerData OutgoingData) → is_ended phase ≡ false
+      → step_in phase server (other_notification method) ≡ stays server answer → is_refused (as_sent answer) ≡ false
       → IsIdle phase server (other_notification method)
   idle_notification phase method answer goes step accepted = record {
     goes_on = goes;
@@ -133,15 +138,24 @@ module _ (s : Session) (version : Version) (m : IncomingData) (left_out : messag
   abbrev quiet : Judged
   quiet = judged (answered (as_sent here.answer)) (record s { messages = one_more s.messages })
 
-  is_handled : judge_incoming s version m ≡ handled s version m (step_on s.server m).state (as_sent (step_on s.server m).answer)
+  is_handled : judge_incoming s version m ≡ handled s version m (step_on s.server m).state
+      (as_sent (step_on s.server m).answer)
   is_handled = rw (here.goes_on, not_early) refl
 
   is_quiet : judge_incoming s version m ≡ quiet
   is_quiet =
       is_handled ∙ ap (λ (step : Step). handled s version m step.state (as_sent step.answer)) here.step
-      ∙ ap (λ (e : Option IdData). judged (answered (as_sent here.answer)) (record s { expected = e; messages = one_more s.messages; refusals = count_if (is_refused (as_sent here.answer)) s.refusals }))
-      (expects_on (is_new s.server.phase) (expected_of version m s.expected) s.expected (here.expects version s.expected))
-      ∙ ap (λ (b : Bool). judged (answered (as_sent here.answer)) (record s { messages = one_more s.messages; refusals = count_if b s.refusals })) here.accepted
+      ∙ ap (λ (e : Option IdData). judged (answered (as_sent here.answer)) (record s {
+        expected = e;
+        messages = one_more s.messages;
+        refusals = count_if (is_refused (as_sent here.answer)) s.refusals;
+      }))
+      (expects_on (is_new s.server.phase) (expected_of version m s.expected) s.expected
+      (here.expects version s.expected))
+      ∙ ap (λ (b : Bool). judged (answered (as_sent here.answer)) (record s {
+        messages = one_more s.messages;
+        refusals = count_if b s.refusals;
+      })) here.accepted
 
   not_bad : answered (as_sent here.answer) ≢ bad
   not_bad e = cc
@@ -149,7 +163,11 @@ module _ (s : Session) (version : Version) (m : IncomingData) (left_out : messag
   client_harmless : IsHarmless s (change_in m) (judge_incoming s version m)
   client_harmless =
       subst (IsHarmless s (change_in m)) (sym is_quiet)
-      (record { alike = (s.records, one_more s.messages, refl); not_bad = not_bad; none = ap (λ (c : Option ChangeData). canonical_if s.server c (answered (as_sent here.answer))) here.nothing })
+      (record {
+        alike = (s.records, one_more s.messages, refl);
+        not_bad = not_bad;
+        none = ap (λ (c : Option ChangeData). canonical_if s.server c (answered (as_sent here.answer))) here.nothing;
+      })
 
 -- ---- a server's record
 
@@ -163,7 +181,8 @@ no_result id (read.message (read.response None (read.given result))) e = refl
 no_result id (read.message (read.response (Some other) read.failed)) e = refl
 no_result id (read.message (read.response (Some other) (read.given result))) e = rw e refl
 
-no_answer : (s : Session) (expected : Option IdData) (body : List ℕ) → is_answer_to expected (reading body) ≡ false → hear_for s expected body ≡ judged recorded s
+no_answer : (s : Session) (expected : Option IdData) (body : List ℕ) → is_answer_to expected (reading body) ≡ false
+    → hear_for s expected body ≡ judged recorded s
 no_answer s None body e = refl
 no_answer s (Some id) body e = ap (heard s) (no_result id (reading body) e)
 
@@ -178,32 +197,51 @@ none_recorded : (server : ServerData) (change : Option ChangeData) → canonical
 none_recorded server None = refl
 none_recorded server (Some p) = refl
 
-server_harmless : (s : Session) (waiting : Option IdData) (change : Option ChangeData) (body : List ℕ) → record_stays s waiting Server body ≡ false → IsHarmless s change (hear_for s s.expected body)
+server_harmless : (s : Session) (waiting : Option IdData) (change : Option ChangeData) (body : List ℕ)
+    → record_stays s waiting Server body ≡ false → IsHarmless s change (hear_for s s.expected body)
 server_harmless s waiting change body e =
     subst (IsHarmless s change) (sym (no_answer s s.expected body (neither _ _ e)))
     (record { alike = (s.records, s.messages, refl); not_bad = not_recorded; none = none_recorded s.server change })
 
 -- ---- any record
 
-from_harmless : (s : Session) (waiting : Option IdData) (version : Version) (side : Side) (body : List ℕ) → record_stays s waiting side body ≡ false → IsHarmless s (change_in (incoming_of (reading body))) (judge_from s version side body)
+from_harmless : (s : Session) (waiting : Option IdData) (version : Version) (side : Side) (body : List ℕ)
+    → record_stays s waiting side body ≡ false → IsHarmless s (change_in (incoming_of (reading body)))
+    (judge_from s version side body)
 from_harmless s waiting version Client body e = client_harmless s version (incoming_of (reading body)) e
-from_harmless s waiting version Server body e = server_harmless s waiting (change_in (incoming_of (reading body))) body e
+from_harmless s waiting version Server body e = server_harmless s waiting (change_in (incoming_of (reading body))) body
+    e
 
-counted_harmless : (s : Session) (change : Option ChangeData) (j : Judged) → IsHarmless s change j → IsHarmless s change (counted j)
+counted_harmless : (s : Session) (change : Option ChangeData) (j : Judged) → IsHarmless s change j
+    → IsHarmless s change (counted j)
 counted_harmless s change j h = record {
-  alike = (one_more j.session.records, h.alike.1, ap (λ (t : Session). record t { records = one_more j.session.records }) h.alike.2);
+  alike = (
+    one_more j.session.records,
+    h.alike.1,
+    ap (λ (t : Session). record t { records = one_more j.session.records }) h.alike.2,
+  );
   not_bad = h.not_bad;
   none = h.none;
 }
 
-pub harmless : (s : Session) (waiting : Option IdData) (r : Record) → record_stays s waiting r.head.side r.body ≡ false → IsHarmless s (change_in (incoming_of (reading r.body))) (judge s r)
-harmless s waiting r e = counted_harmless s _ (judge_from s r.head.version r.head.side r.body) (from_harmless s waiting r.head.version r.head.side r.body e)
+pub harmless : (s : Session) (waiting : Option IdData) (r : Record) → record_stays s waiting r.head.side r.body ≡ false
+    → IsHarmless s (change_in (incoming_of (reading r.body))) (judge s r)
+harmless s waiting r e = counted_harmless s _ (judge_from s r.head.version r.head.side r.body)
+    (from_harmless s waiting r.head.version r.head.side r.body e)
 
 -- Whether a record stays doesn't depend on the counts.
 stays_numbered : (n m : ℕ) (s : Session) (waiting : Option IdData) (side : Side) (body : List ℕ)
-    → record_stays (record { server = s.server; expected = s.expected; records = n; messages = m; refusals = s.refusals }) waiting side body ≡ record_stays s waiting side body
+    → record_stays (record {
+      server = s.server;
+      expected = s.expected;
+      records = n;
+      messages = m;
+      refusals = s.refusals;
+    }) waiting side body ≡ record_stays s waiting side body
 stays_numbered n m s waiting Client body = refl
 stays_numbered n m s waiting Server body = refl
 
-pub stays_alike : (s t : Session) (waiting : Option IdData) (side : Side) (body : List ℕ) → IsAlike s t → record_stays t waiting side body ≡ record_stays s waiting side body
-stays_alike s t waiting side body like = ap (λ (u : Session). record_stays u waiting side body) like.2 ∙ stays_numbered like.0 like.1 s waiting side body
+pub stays_alike : (s t : Session) (waiting : Option IdData) (side : Side) (body : List ℕ) → IsAlike s t
+    → record_stays t waiting side body ≡ record_stays s waiting side body
+stays_alike s t waiting side body like = ap (λ (u : Session). record_stays u waiting side body) like.2
+    ∙ stays_numbered like.0 like.1 s waiting side body

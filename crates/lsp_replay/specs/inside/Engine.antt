@@ -1,4 +1,5 @@
--- What only proofs and private contracts use of `Engine`: what an engine wrote and answered, by some
+-- What only proofs and private contracts use of `Engine`: what an engine wrote and answered, by
+-- some
 -- first records of what it read.
 use Rattle.std.specs.Prelude.{ℕ, ◌≡◌, ◌≢◌, ◌⊎◌, ◌<◌, ◌&&◌, not, Bool, true, false, List, [], ◌++◌, length, Option, Some, None, Result, Ok, Err, MatchResult}
 use Rattle.std.specs.Io.KnownBytes.{Consumes, Appends}
@@ -48,7 +49,8 @@ pub record AtEnd (log_rules : LogRules) (run_output : List Record → RunOutput)
   pub wrote : Appends old new ((run_output log.records).out ++ last_of run_output log)
 
 -- The same, with only a first part of the output at the end written.
-pub record BrokenAtEnd (log_rules : LogRules) (run_output : List Record → RunOutput) (input : List ℕ)
+pub record BrokenAtEnd (log_rules : LogRules) (run_output : List Record → RunOutput)
+    (input : List ℕ)
     (old new : Option (List ℕ)) : Type 0 where
   pub log : Log
   pub reads : IsReadAs log_rules input log
@@ -95,7 +97,8 @@ abbrev pub IsRunFault : LogRules → (List Record → RunOutput) → PortState �
     Option (List ℕ) → Option (List ℕ) → EngineFault → Type 0
 IsRunFault log_rules run_output state input old new Read
     = Reached log_rules run_output input old new (IsUnfinished log_rules input)
-IsRunFault log_rules run_output state input old new Write = Broken log_rules run_output input old new
+IsRunFault log_rules run_output state input old new Write =
+    Broken log_rules run_output input old new
     ⊎ BreaksAtEnd log_rules run_output state.ended input old new
 IsRunFault log_rules run_output state input old new (Frame fault)
     = Reached log_rules run_output input old new (IsMalformed log_rules.max_body input fault)

@@ -84,10 +84,12 @@ IsOther (Some squash) p = bytes_eq p.uri squash.uri ≡ false
 pub record IsBegun (server : ServerData) (p : ChangeData) (batches : SquashData) : Type 0 where
   pub entry : DocumentItem
   pub is_open : entry_at server.table p.uri ≡ Some entry
-  pub joined : batches ≡ joined_by p (squash_of server.config.limits (session_encoding server) entry)
+  pub joined : batches ≡ joined_by p (squash_of server.config.limits (session_encoding server)
+      entry)
 
 -- How a record is written: as it is, as part of the open run, or as the first of a new one.
-abbrev pub IsWriting : ServerData → Option SquashData → Option ChangeData → Verdict → Writing → Type 0
+abbrev pub IsWriting : ServerData → Option SquashData → Option ChangeData → Verdict → Writing
+    → Type 0
 IsWriting server run change verdict (AsItIs ended) = (canonical_if server change verdict ≡ None)
     × (ended ≡ run)
 IsWriting server run change verdict TooLong =

@@ -27,7 +27,8 @@ abbrev pub is_change_read : BodyData → Bool
 is_change_read (from_client version m) = is_change m
 is_change_read (from_server body) = false
 
-pub record IsAbout (s : ServerData) (ranged : Bool) (body : Reading) (read : BodyData) (about : About) :
+pub record IsAbout (s : ServerData) (ranged : Bool) (body : Reading) (read : BodyData)
+    (about : About) :
     Type 0 where
   pub uri : option_map string_bytes about.uri ≡ uri_read read
   pub is_change : about.is_change ≡ is_change_read read

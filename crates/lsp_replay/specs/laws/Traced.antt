@@ -51,7 +51,8 @@ pub record AreTextsOf (report : RunOutput) (lines : List Line) : Type 0 where
   pub texts : (uri : List ℕ)
       → written_text uri None lines ≡ option_map (λ entry. entry.text) (entry_at table uri)
 
--- An output of `trace` ends where one of `check` does, and as it does, and they have the same numbers
+-- An output of `trace` ends where one of `check` does, and as it does, and they have the same
+-- numbers
 -- and words. With texts the last ones are those of `replay`, if the log has no bad record.
 pub record IsTraceOf (details : Details) (trace check report : RunOutput) : Type 0 where
   pub stop : trace.stop ≡ check.stop

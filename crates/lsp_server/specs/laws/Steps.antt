@@ -76,7 +76,8 @@ IsRefusal (exits status) = ⊥
 
 -- What is refused, dropped or ignored changes nothing.
 abbrev pub RefusalLaw : Type 0
-RefusalLaw = (s : ServerData) (body : Reading) → IsRefusal (step s body).answer → (step s body).state ≡ s
+RefusalLaw = (s : ServerData) (body : Reading) → IsRefusal (step s body).answer
+    → (step s body).state ≡ s
 
 -- An encoding that is negotiated was offered (PositionEncodingKind).
 abbrev pub OfferedLaw : Type 0

@@ -43,28 +43,38 @@ use Rattle.lsp_store.proofs.Messages.ScalarLemmas.{canonical_texts}
 -- changes as they are held are written as their edits are
 written_same : (changes : List Change) → map edit_view changes ≡ map written_edit (map edit_of changes)
 written_same [] = refl
-written_same (c ∷ changes) = rw (encodes-chars (string_bytes c.text) (IsUtf8-string_bytes c.text), written_same changes) refl
+written_same (c ∷ changes) = rw (encodes-chars (string_bytes c.text) (IsUtf8-string_bytes c.text), written_same changes)
+    refl
 
 pub body_written : (uri given : List ℕ) (version error : ℤ) (changes : List Change) → uri ≡ given → error ≡ version
-    → body_of (did_change (record { uri = uri; version = error; changes = map edit_view changes })) ≡ change_body given version (map edit_of changes)
+    → body_of (did_change (record { uri = uri; version = error; changes = map edit_view changes }))
+    ≡ change_body given version (map edit_of changes)
 unfolding change_body
 body_written uri given version error changes same is = rw (same, is, written_same changes) refl
 
 -- what is appended, and what is written into an empty buffer
-pub body_pushed : (old new uri : List ℕ) (version error : ℤ) (changes : List Change) → new ≡ old ++ body_of (seen.change_message uri error changes) → error ≡ version
+pub body_pushed : (old new uri : List ℕ) (version error : ℤ) (changes : List Change)
+    → new ≡ old ++ body_of (seen.change_message uri error changes) → error ≡ version
     → new ≡ old ++ change_body uri version (map edit_of changes)
-body_pushed old new uri version error changes is same = is ∙ ap (λ body. old ++ body) (body_written uri uri version error changes refl same)
+body_pushed old new uri version error changes is same =
+    is ∙ ap (λ body. old ++ body) (body_written uri uri version error changes refl same)
 
-pub body_begun : (old new uri : List ℕ) (version error : ℤ) (changes : List Change) → old ≡ [] → new ≡ old ++ body_of (seen.change_message uri error changes) → error ≡ version
+pub body_begun : (old new uri : List ℕ) (version error : ℤ) (changes : List Change) → old ≡ []
+    → new ≡ old ++ body_of (seen.change_message uri error changes) → error ≡ version
     → new ≡ change_body uri version (map edit_of changes)
 body_begun old new uri version error changes none is same =
-    body_pushed old new uri version error changes is same ∙ ap (λ front. front ++ change_body uri version (map edit_of changes)) none
+    body_pushed old new uri version error changes is same
+    ∙ ap (λ front. front ++ change_body uri version (map edit_of changes)) none
 
-pub encode_refused : (limits : LimitsData) (body : List ℕ) (fault : EncodeFault) → IsEncodeFault limits.max_body (length body) fault → IsRefusal (body_refusal limits body) (store_fault_of_encode fault)
-encode_refused limits body (encode.BodyTooLong error) is = inr (rw (lt-ltb limits.max_body (length body) is.0, is.1) refl)
+pub encode_refused : (limits : LimitsData) (body : List ℕ) (fault : EncodeFault)
+    → IsEncodeFault limits.max_body (length body) fault → IsRefusal (body_refusal limits body)
+    (store_fault_of_encode fault)
+encode_refused limits body (encode.BodyTooLong error) is =
+    inr (rw (lt-ltb limits.max_body (length body) is.0, is.1) refl)
 encode_refused limits body encode.NoMemory is = inl refl
 
-pub body_within : (limits : LimitsData) (body : List ℕ) → length body ≤ limits.max_body → body_refusal limits body ≡ None
+pub body_within : (limits : LimitsData) (body : List ℕ) → length body ≤ limits.max_body → body_refusal limits body
+    ≡ None
 body_within limits body within = rw (le-ltb limits.max_body (length body) within) refl
 
 -- the texts of changes hold scalar values
@@ -104,12 +114,15 @@ units_few Utf32 c = (utf32_bounds c).1
 
 -- ---- refusals
 
-pub first_told : (first later : Option Refusal) (fault : StoreFault) → IsRefusal first fault → IsRefusal (else_refused first later) fault
+pub first_told : (first later : Option Refusal) (fault : StoreFault) → IsRefusal first fault
+    → IsRefusal (else_refused first later) fault
 first_told (Some refusal) later fault error = error
-first_told None later fault error = ⊎_elim (λ (e : fault ≡ NoMemory). inl e) (λ (e : None ≡ Some fault). absurd (cc)) error
+first_told None later fault error = ⊎_elim (λ (e : fault ≡ NoMemory). inl e) (λ (e : None ≡ Some fault). absurd (cc))
+    error
 
 -- What an accepted batch means on a document.
-pub record Accepts (limits : LimitsData) (units : ℕ → ℕ) (entry : DocumentItem) (version : ℤ) (batch : List Edit) : Type 0 where
+pub record Accepts (limits : LimitsData) (units : ℕ → ℕ) (entry : DocumentItem) (version : ℤ) (batch : List Edit) : Type
+    0 where
   pub newer : is_stale limits version entry.version ≡ false
   pub few : length batch ≤ limits.max_changes
   pub fits : batch_bytes batch ≤ greatest_batch
@@ -117,23 +130,34 @@ pub record Accepts (limits : LimitsData) (units : ℕ → ℕ) (entry : Document
   pub means : meaning units (chars entry.text) batch ≡ Ok items
   pub short : length (bytes_left entry.text items) ≤ limits.max_text
 
-meaning_parts : (limits : LimitsData) (text : List ℕ) (meant : Result (List Item) (ℕ × Fault)) → meaning_refusal limits text meant ≡ None → (items : List Item) × (meant ≡ Ok items) × (length (bytes_left text items) ≤ limits.max_text)
+meaning_parts : (limits : LimitsData) (text : List ℕ) (meant : Result (List Item) (ℕ × Fault))
+    → meaning_refusal limits text meant ≡ None → (items : List Item) × (meant ≡ Ok items)
+    × (length (bytes_left text items) ≤ limits.max_text)
 meaning_parts limits text (Err fault) e = let bad : Some (edit fault.0 fault.1) ≡ None = e in absurd (cc)
 meaning_parts limits text (Ok items) e =
-    ⊎_elim (λ (above : nat_lt limits.max_text (length (bytes_left text items)) ≡ true). let bad : Some text_too_long ≡ None = rw above at e in absurd (cc))
-    (λ (within : nat_lt limits.max_text (length (bytes_left text items)) ≡ false). (items, refl, ltb-false limits.max_text (length (bytes_left text items)) within))
+    ⊎_elim (λ (above : nat_lt limits.max_text (length (bytes_left text items)) ≡ true). let bad : Some text_too_long
+    ≡ None = rw above at e in absurd (cc))
+    (λ (within : nat_lt limits.max_text (length (bytes_left text items)) ≡ false). (
+      items,
+      refl,
+      ltb-false limits.max_text (length (bytes_left text items)) within,
+    ))
     (cases_Bool (nat_lt limits.max_text (length (bytes_left text items))))
 
-pub accepted_parts : (limits : LimitsData) (units : ℕ → ℕ) (entry : DocumentItem) (version : ℤ) (batch : List Edit) → entry_refusal limits units entry version batch ≡ None → Accepts limits units entry version batch
+pub accepted_parts : (limits : LimitsData) (units : ℕ → ℕ) (entry : DocumentItem) (version : ℤ) (batch : List Edit)
+    → entry_refusal limits units entry version batch ≡ None → Accepts limits units entry version batch
 accepted_parts limits units entry version batch e =
-    ⊎_elim (λ (stale : is_stale limits version entry.version ≡ true). let bad : Some (stale_version entry.version) ≡ None = rw stale at e in absurd (cc)) by (cases_Bool (is_stale limits version entry.version))
+    ⊎_elim (λ (stale : is_stale limits version entry.version ≡ true). let bad : Some (stale_version entry.version)
+    ≡ None = rw stale at e in absurd (cc)) by (cases_Bool (is_stale limits version entry.version))
   where
     by : is_stale limits version entry.version ≡ false → Accepts limits units entry version batch
     by newer =
         ⊎_elim
-        (λ (many : (nat_lt limits.max_changes (length batch) || nat_lt greatest_batch (batch_bytes batch)) ≡ true). let bad : Some too_many_changes ≡ None = rw (newer, many) at e in absurd (cc))
+        (λ (many : (nat_lt limits.max_changes (length batch) || nat_lt greatest_batch (batch_bytes batch)) ≡ true).
+        let bad : Some too_many_changes ≡ None = rw (newer, many) at e in absurd (cc))
         (λ (few : (nat_lt limits.max_changes (length batch) || nat_lt greatest_batch (batch_bytes batch)) ≡ false).
-        let parts = or_parts (nat_lt limits.max_changes (length batch)) (nat_lt greatest_batch (batch_bytes batch)) few in
+        let parts = or_parts (nat_lt limits.max_changes (length batch)) (nat_lt greatest_batch (batch_bytes batch))
+        few in
         let meant = meaning_parts limits entry.text (meaning units (chars entry.text) batch) (rw (newer, few) at e) in
         record {
           newer = newer;
@@ -146,18 +170,24 @@ accepted_parts limits units entry version batch e =
         (cases_Bool (nat_lt limits.max_changes (length batch) || nat_lt greatest_batch (batch_bytes batch)))
 
 -- Of an accepted batch only its meaning could be refused.
-pub accepted_left : (limits : LimitsData) (units : ℕ → ℕ) (entry : DocumentItem) (version : ℤ) (batch : List Edit) → entry_refusal limits units entry version batch ≡ None → IsLeftToMeaning limits entry version batch
+pub accepted_left : (limits : LimitsData) (units : ℕ → ℕ) (entry : DocumentItem) (version : ℤ) (batch : List Edit)
+    → entry_refusal limits units entry version batch ≡ None → IsLeftToMeaning limits entry version batch
 accepted_left limits units entry version batch is = λ u.
     let a = accepted_parts limits units entry version batch is in
-    refused_meaning limits u entry version batch a.newer (or_from _ _ (le-ltb limits.max_changes (length batch) a.few) (le-ltb greatest_batch (batch_bytes batch) a.fits))
+    refused_meaning limits u entry version batch a.newer (or_from _ _ (le-ltb limits.max_changes (length batch) a.few)
+    (le-ltb greatest_batch (batch_bytes batch) a.fits))
 
-pub accepted_from : (limits : LimitsData) (units : ℕ → ℕ) (entry : DocumentItem) (version : ℤ) (batch : List Edit) → Accepts limits units entry version batch → entry_refusal limits units entry version batch ≡ None
+pub accepted_from : (limits : LimitsData) (units : ℕ → ℕ) (entry : DocumentItem) (version : ℤ) (batch : List Edit)
+    → Accepts limits units entry version batch → entry_refusal limits units entry version batch ≡ None
 accepted_from limits units entry version batch a =
-    let few : (nat_lt limits.max_changes (length batch) || nat_lt greatest_batch (batch_bytes batch)) ≡ false = or_from _ _ (le-ltb limits.max_changes (length batch) a.few) (le-ltb greatest_batch (batch_bytes batch) a.fits) in
+    let few : (nat_lt limits.max_changes (length batch) || nat_lt greatest_batch (batch_bytes batch)) ≡ false =
+    or_from _ _ (le-ltb limits.max_changes (length batch) a.few) (le-ltb greatest_batch (batch_bytes batch) a.fits) in
     rw (a.newer, few, a.means, le-ltb limits.max_text (length (bytes_left entry.text a.items)) a.short) refl
 
 -- what a batch leaves is told by what it makes of the document
-pub leaves_same : (units : ℕ → ℕ) (table : List DocumentItem) (uri : List ℕ) (version : ℤ) (batch other : List Edit) (entry : DocumentItem) → entry_at table uri ≡ Some entry → changed units entry version batch ≡ changed units entry version other
+pub leaves_same : (units : ℕ → ℕ) (table : List DocumentItem) (uri : List ℕ) (version : ℤ) (batch other : List Edit)
+    (entry : DocumentItem) → entry_at table uri ≡ Some entry → changed units entry version batch
+    ≡ changed units entry version other
     → after_change units table uri version batch ≡ after_change units table uri version other
 leaves_same units [] uri version batch other entry found same = refl
 leaves_same units (first ∷ table) uri version batch other entry found same =
@@ -165,17 +195,24 @@ leaves_same units (first ∷ table) uri version batch other entry found same =
     (λ (is : bytes_eq uri first.uri ≡ true).
     let at : first ≡ entry = (let f : Some first ≡ Some entry = rw is at found in cc) in
     rw (is, at, same) refl)
-    (λ (not : bytes_eq uri first.uri ≡ false). rw not (ap (λ (t : List DocumentItem). first ∷ t) (leaves_same units table uri version batch other entry (rw not at found) same)))
+    (λ (not : bytes_eq uri first.uri ≡ false). rw not
+    (ap (λ (t : List DocumentItem). first ∷ t) (leaves_same units table uri version batch other entry (rw not at found)
+    same)))
     (cases_Bool (bytes_eq uri first.uri))
 
 -- ---- the canonical message
 
-module _ (limits : LimitsData) (encoding : Encoding) (table : List DocumentItem) (uri : List ℕ) (version : ℤ) (entry : DocumentItem) (is_open : entry_at table uri ≡ Some entry)
-    (laws : (batch : List Edit) (items : List Item) → meaning (units_in encoding) (chars entry.text) batch ≡ Ok items → IsCanonical (units_in encoding) (chars entry.text) batch items) where
-  pub batch_at : (batch : List Edit) (items : List Item) → meaning (units_in encoding) (chars entry.text) batch ≡ Ok items → canonical_batch (units_in encoding) table uri batch ≡ canonical (units_in encoding) (chars entry.text) items
+module _ (limits : LimitsData) (encoding : Encoding) (table : List DocumentItem) (uri : List ℕ) (version : ℤ)
+    (entry : DocumentItem) (is_open : entry_at table uri ≡ Some entry)
+    (laws : (batch : List Edit) (items : List Item) → meaning (units_in encoding) (chars entry.text) batch ≡ Ok items
+    → IsCanonical (units_in encoding) (chars entry.text) batch items) where
+  pub batch_at : (batch : List Edit) (items : List Item) → meaning (units_in encoding) (chars entry.text) batch
+      ≡ Ok items → canonical_batch (units_in encoding) table uri batch ≡ canonical (units_in encoding)
+      (chars entry.text) items
   batch_at batch items means = rw (is_open, means) refl
 
-  refusal_at : (batch : List Edit) → change_refusal limits (units_in encoding) table uri version batch ≡ entry_refusal limits (units_in encoding) entry version batch
+  refusal_at : (batch : List Edit) → change_refusal limits (units_in encoding) table uri version batch
+      ≡ entry_refusal limits (units_in encoding) entry version batch
   refusal_at batch = rw is_open refl
 
   module _ (batch : List Edit) (may : entry_refusal limits (units_in encoding) entry version batch ≡ None) where
@@ -185,27 +222,54 @@ module _ (limits : LimitsData) (encoding : Encoding) (table : List DocumentItem)
     law : IsCanonical (units_in encoding) (chars entry.text) batch accepts.items
     law = laws batch accepts.items accepts.means
 
-    pub message_accepted : body_refusal limits (canonical_body (units_in encoding) table uri version batch) ≡ None → message_refusal limits (units_in encoding) table uri version batch ≡ None
+    pub message_accepted : body_refusal limits (canonical_body (units_in encoding) table uri version batch) ≡ None
+        → message_refusal limits (units_in encoding) table uri version batch ≡ None
     message_accepted within = rw (refusal_at batch, may) within
 
-    pub message_refused : (fault : StoreFault) → IsRefusal (body_refusal limits (canonical_body (units_in encoding) table uri version batch)) fault → IsRefusal (message_refusal limits (units_in encoding) table uri version batch) fault
+    pub message_refused : (fault : StoreFault)
+        → IsRefusal (body_refusal limits (canonical_body (units_in encoding) table uri version batch)) fault
+        → IsRefusal (message_refusal limits (units_in encoding) table uri version batch) fault
     message_refused fault error = rw (refusal_at batch, may) error
 
-    pub canonical_is : (answered : List Edit) (items : List Item) → meaning (units_in encoding) (chars entry.text) batch ≡ Ok items → answered ≡ canonical (units_in encoding) (chars entry.text) items → canonical_batch (units_in encoding) table uri batch ≡ answered
+    pub canonical_is : (answered : List Edit) (items : List Item) → meaning (units_in encoding) (chars entry.text) batch
+        ≡ Ok items → answered ≡ canonical (units_in encoding) (chars entry.text) items
+        → canonical_batch (units_in encoding) table uri batch ≡ answered
     canonical_is answered items means is = batch_at batch items means ∙ sym is
 
     pub canonical_on : IsCanonicalOn (units_in encoding) table uri batch
-    canonical_on = record { entry = entry; is_open = is_open; items = accepts.items; means = accepts.means; is = batch_at batch accepts.items accepts.means }
+    canonical_on = record {
+      entry = entry;
+      is_open = is_open;
+      items = accepts.items;
+      means = accepts.means;
+      is = batch_at batch accepts.items accepts.means;
+    }
 
-    settled_fits : limits.max_text ≤ 1073741824 → batch_bytes (canonical (units_in encoding) (chars entry.text) accepts.items) ≤ greatest_batch
+    settled_fits : limits.max_text ≤ 1073741824
+        → batch_bytes (canonical (units_in encoding) (chars entry.text) accepts.items) ≤ greatest_batch
     settled_fits small =
-        let weigh : batch_bytes (canonical (units_in encoding) (chars entry.text) accepts.items) ≤ sum_by (λ change. sum_by len_utf8 change.text) (canonical (units_in encoding) (chars entry.text) accepts.items)
-        = sum_by-le-sum_by (λ (e : Edit). length (encode_utf8_all e.text)) (λ (e : Edit). sum_by len_utf8 e.text) (canonical (units_in encoding) (chars entry.text) accepts.items) (λ (e : Edit). omega (arith, bytes_sum e.text)) in
-        omega (arith, weigh, law.short len_utf8, bytes_sum (text_of (chars entry.text) accepts.items), accepts.short, small)
+        let weigh : batch_bytes (canonical (units_in encoding) (chars entry.text) accepts.items)
+        ≤ sum_by (λ change. sum_by len_utf8 change.text) (canonical (units_in encoding) (chars entry.text)
+        accepts.items)
+        = sum_by-le-sum_by (λ (e : Edit). length (encode_utf8_all e.text)) (λ (e : Edit). sum_by len_utf8 e.text)
+        (canonical (units_in encoding) (chars entry.text) accepts.items) (λ (e : Edit). omega (
+          arith,
+          bytes_sum e.text,
+        )) in
+        omega (
+          arith,
+          weigh,
+          law.short len_utf8,
+          bytes_sum (text_of (chars entry.text) accepts.items),
+          accepts.short,
+          small,
+        )
 
-    pub settled_accepted : limits.max_text ≤ 1073741824 → entry_refusal limits (units_in encoding) entry version (canonical (units_in encoding) (chars entry.text) accepts.items) ≡ None
+    pub settled_accepted : limits.max_text ≤ 1073741824 → entry_refusal limits (units_in encoding) entry version
+        (canonical (units_in encoding) (chars entry.text) accepts.items) ≡ None
     settled_accepted small =
-        accepted_from limits (units_in encoding) entry version (canonical (units_in encoding) (chars entry.text) accepts.items) (record {
+        accepted_from limits (units_in encoding) entry version (canonical (units_in encoding) (chars entry.text)
+        accepts.items) (record {
           newer = accepts.newer;
           few = omega (arith, law.few, accepts.few);
           fits = settled_fits small;
@@ -214,14 +278,22 @@ module _ (limits : LimitsData) (encoding : Encoding) (table : List DocumentItem)
           short = accepts.short;
         })
 
-    settled_batch : canonical_batch (units_in encoding) table uri (canonical (units_in encoding) (chars entry.text) accepts.items) ≡ canonical_batch (units_in encoding) table uri batch
-    settled_batch = batch_at (canonical (units_in encoding) (chars entry.text) accepts.items) accepts.items law.means ∙ sym (batch_at batch accepts.items accepts.means)
+    settled_batch : canonical_batch (units_in encoding) table uri (canonical (units_in encoding) (chars entry.text)
+        accepts.items) ≡ canonical_batch (units_in encoding) table uri batch
+    settled_batch = batch_at (canonical (units_in encoding) (chars entry.text) accepts.items) accepts.items law.means
+        ∙ sym (batch_at batch accepts.items accepts.means)
 
-    pub settled_leaves : after_change (units_in encoding) table uri version (canonical (units_in encoding) (chars entry.text) accepts.items) ≡ after_change (units_in encoding) table uri version batch
-    settled_leaves = leaves_same (units_in encoding) table uri version (canonical (units_in encoding) (chars entry.text) accepts.items) batch entry is_open (rw (law.means, accepts.means) refl)
+    pub settled_leaves : after_change (units_in encoding) table uri version
+        (canonical (units_in encoding) (chars entry.text) accepts.items) ≡ after_change (units_in encoding) table uri
+        version batch
+    settled_leaves =
+        leaves_same (units_in encoding) table uri version (canonical (units_in encoding) (chars entry.text)
+        accepts.items) batch entry is_open (rw (law.means, accepts.means) refl)
 
-    settled_of : limits.max_text ≤ 1073741824 → body_refusal limits (canonical_body (units_in encoding) table uri version batch) ≡ None
-        → IsCanonicalOf limits (units_in encoding) table uri version batch (canonical (units_in encoding) (chars entry.text) accepts.items)
+    settled_of : limits.max_text ≤ 1073741824
+        → body_refusal limits (canonical_body (units_in encoding) table uri version batch) ≡ None
+        → IsCanonicalOf limits (units_in encoding) table uri version batch
+        (canonical (units_in encoding) (chars entry.text) accepts.items)
     settled_of small within = record {
       accepted =
           rw (refusal_at (canonical (units_in encoding) (chars entry.text) accepts.items), settled_accepted small)
@@ -230,34 +302,49 @@ module _ (limits : LimitsData) (encoding : Encoding) (table : List DocumentItem)
       same_frame = ap (λ (b : List Edit). frame (change_body uri version b)) settled_batch;
     }
 
-    pub is_settled : limits.max_text ≤ 1073741824 → body_refusal limits (canonical_body (units_in encoding) table uri version batch) ≡ None
-        → IsCanonicalOf limits (units_in encoding) table uri version batch (canonical_batch (units_in encoding) table uri batch)
+    pub is_settled : limits.max_text ≤ 1073741824
+        → body_refusal limits (canonical_body (units_in encoding) table uri version batch) ≡ None
+        → IsCanonicalOf limits (units_in encoding) table uri version batch
+        (canonical_batch (units_in encoding) table uri batch)
     is_settled small within =
-        subst (λ (b : List Edit). IsCanonicalOf limits (units_in encoding) table uri version batch b) (sym (batch_at batch accepts.items accepts.means)) (settled_of small within)
+        subst (λ (b : List Edit). IsCanonicalOf limits (units_in encoding) table uri version batch b)
+        (sym (batch_at batch accepts.items accepts.means)) (settled_of small within)
 
   -- ---- of messages that the types hold
 
-  module _ (uri_utf8 : IsUtf8 uri) (version_fits : FitsSigned w32 version) (text_utf8 : IsUtf8 entry.text) (text_short : length entry.text ≤ 1073741824)
+  module _ (uri_utf8 : IsUtf8 uri) (version_fits : FitsSigned w32 version) (text_utf8 : IsUtf8 entry.text)
+      (text_short : length entry.text ≤ 1073741824)
       (unique : (m n : OutgoingData) → IsProper m → IsProper n → body_of m ≡ body_of n → m ≡ n) where
     old_small : sum_by len_utf8 (chars entry.text) < 2 ^ 32
     old_small = omega (arith, bytes_sum (chars entry.text), ap length (encodes-chars entry.text text_utf8), text_short)
 
-    pub proper : (batch : List Edit) (items : List Item) → AreTexts batch → meaning (units_in encoding) (chars entry.text) batch ≡ Ok items → IsProper (change_message uri version (canonical (units_in encoding) (chars entry.text) items))
+    pub proper : (batch : List Edit) (items : List Item) → AreTexts batch
+        → meaning (units_in encoding) (chars entry.text) batch ≡ Ok items
+        → IsProper (change_message uri version (canonical (units_in encoding) (chars entry.text) items))
     proper batch items texts means = record {
       uri = uri_utf8;
       version = version_fits;
       changes =
-          canonical_proper (units_in encoding) (units_few encoding) (chars entry.text) old_small items (laws batch items means).ends
-          (canonical_texts (units_in encoding) (chars entry.text) batch items (laws batch items means) (scalars-chars entry.text text_utf8) texts means);
+          canonical_proper (units_in encoding) (units_few encoding) (chars entry.text) old_small items
+          (laws batch items means).ends
+          (canonical_texts (units_in encoding) (chars entry.text) batch items (laws batch items means)
+          (scalars-chars entry.text text_utf8) texts means);
     }
 
-    one_batch : (batch other : List Edit) → IsProper (change_message uri version batch) → IsProper (change_message uri version other) → change_body uri version batch ≡ change_body uri version other → batch ≡ other
+    one_batch : (batch other : List Edit) → IsProper (change_message uri version batch)
+        → IsProper (change_message uri version other) → change_body uri version batch ≡ change_body uri version other
+        → batch ≡ other
     unfolding change_body
-    one_batch batch other p q e = written_one batch other (ap changes_in (unique (change_message uri version batch) (change_message uri version other) p q e))
+    one_batch batch other p q e =
+        written_one batch other
+        (ap changes_in (unique (change_message uri version batch) (change_message uri version other) p q e))
 
-    pub exactly_alike : (batch other : List Edit) → AreTexts batch → AreTexts other → entry_refusal limits (units_in encoding) entry version batch ≡ None → entry_refusal limits (units_in encoding) entry version other ≡ None
+    pub exactly_alike : (batch other : List Edit) → AreTexts batch → AreTexts other
+        → entry_refusal limits (units_in encoding) entry version batch ≡ None → entry_refusal limits (units_in encoding)
+        entry version other ≡ None
         → length (canonical_frame (units_in encoding) table uri version batch) < 2 ^ 64
-        → (canonical_frame (units_in encoding) table uri version batch ≡ canonical_frame (units_in encoding) table uri version other) ↔ DoAlike (units_in encoding) table uri batch other
+        → (canonical_frame (units_in encoding) table uri version batch ≡ canonical_frame (units_in encoding) table uri
+        version other) ↔ DoAlike (units_in encoding) table uri batch other
     exactly_alike batch other texts others may also small = (forth, back)
       where
         a : Accepts limits (units_in encoding) entry version batch
@@ -266,11 +353,15 @@ module _ (limits : LimitsData) (encoding : Encoding) (table : List DocumentItem)
         b : Accepts limits (units_in encoding) entry version other
         b = accepted_parts limits (units_in encoding) entry version other also
 
-        forth : canonical_frame (units_in encoding) table uri version batch ≡ canonical_frame (units_in encoding) table uri version other → DoAlike (units_in encoding) table uri batch other
+        forth : canonical_frame (units_in encoding) table uri version batch ≡ canonical_frame (units_in encoding) table
+            uri version other → DoAlike (units_in encoding) table uri batch other
         forth e =
-            let bodies : canonical_body (units_in encoding) table uri version batch ≡ canonical_body (units_in encoding) table uri version other = frame_one _ _ small e in
-            let same : canonical (units_in encoding) (chars entry.text) a.items ≡ canonical (units_in encoding) (chars entry.text) b.items
-            = one_batch _ _ (proper batch a.items texts a.means) (proper other b.items others b.means) (rw (batch_at batch a.items a.means, batch_at other b.items b.means) at bodies) in
+            let bodies : canonical_body (units_in encoding) table uri version batch ≡ canonical_body (units_in encoding)
+            table uri version other = frame_one _ _ small e in
+            let same : canonical (units_in encoding) (chars entry.text) a.items ≡ canonical (units_in encoding)
+            (chars entry.text) b.items
+            = one_batch _ _ (proper batch a.items texts a.means) (proper other b.items others b.means)
+            (rw (batch_at batch a.items a.means, batch_at other b.items b.means) at bodies) in
             record {
               entry = entry;
               is_open = is_open;
@@ -284,26 +375,39 @@ module _ (limits : LimitsData) (encoding : Encoding) (table : List DocumentItem)
         ok_one : (x y : List Item) → ◌≡◌ {A = Result (List Item) (ℕ × Fault)} (Ok x) (Ok y) → x ≡ y
         ok_one x y e = cc
 
-        back : DoAlike (units_in encoding) table uri batch other → canonical_frame (units_in encoding) table uri version batch ≡ canonical_frame (units_in encoding) table uri version other
+        back : DoAlike (units_in encoding) table uri batch other → canonical_frame (units_in encoding) table uri version
+            batch ≡ canonical_frame (units_in encoding) table uri version other
         back alike =
-            let at : alike.entry ≡ entry = (let f : Some alike.entry ≡ Some entry = sym alike.is_open ∙ is_open in cc) in
+            let at : alike.entry ≡ entry = (let f : Some alike.entry ≡ Some entry = sym alike.is_open ∙ is_open in
+            cc) in
             let means : meaning (units_in encoding) (chars entry.text) batch ≡ Ok alike.items = rw at at alike.means in
-            let other_means : meaning (units_in encoding) (chars entry.text) other ≡ Ok alike.others = rw at at alike.other_means in
-            let same : canonical (units_in encoding) (chars entry.text) alike.items ≡ canonical (units_in encoding) (chars entry.text) alike.others
+            let other_means : meaning (units_in encoding) (chars entry.text) other ≡ Ok alike.others =
+            rw at at alike.other_means in
+            let same : canonical (units_in encoding) (chars entry.text) alike.items ≡ canonical (units_in encoding)
+            (chars entry.text) alike.others
             = ((laws batch alike.items means).exactly other alike.others other_means).1 alike.same in
-            ap (λ (x : List Edit). frame (change_body uri version x)) (batch_at batch alike.items means ∙ (same ∙ sym (batch_at other alike.others other_means)))
+            ap (λ (x : List Edit). frame (change_body uri version x)) (batch_at batch alike.items means
+            ∙ (same ∙ sym (batch_at other alike.others other_means)))
 
-    pub is_read : (batch : List Edit) → AreTexts batch → entry_refusal limits (units_in encoding) entry version batch ≡ None
-        → ((m : OutgoingData) → IsProper m → IsReadAsSent m) → ((m : OutgoingData) → IsProper m → IsReadBack m) → IsReadAgain uri version (canonical_batch (units_in encoding) table uri batch)
+    pub is_read : (batch : List Edit) → AreTexts batch → entry_refusal limits (units_in encoding) entry version batch
+        ≡ None
+        → ((m : OutgoingData) → IsProper m → IsReadAsSent m) → ((m : OutgoingData) → IsProper m → IsReadBack m)
+        → IsReadAgain uri version (canonical_batch (units_in encoding) table uri batch)
     unfolding change_body
     is_read batch texts may read_as read_back =
-        let a : Accepts limits (units_in encoding) entry version batch = accepted_parts limits (units_in encoding) entry version batch may in
-        let p : IsProper (change_message uri version (canonical (units_in encoding) (chars entry.text) a.items)) = proper batch a.items texts a.means in
+        let a : Accepts limits (units_in encoding) entry version batch =
+        accepted_parts limits (units_in encoding) entry version batch may in
+        let p : IsProper (change_message uri version (canonical (units_in encoding) (chars entry.text) a.items)) =
+        proper batch a.items texts a.means in
         let m : OutgoingData = change_message uri version (canonical (units_in encoding) (chars entry.text) a.items) in
         let read : IsReadAgain uri version (canonical (units_in encoding) (chars entry.text) a.items) =
         record {
           params =
-              change_params (record { uri = uri; version = version; changes = map written_edit (canonical (units_in encoding) (chars entry.text) a.items) });
+              change_params (record {
+                uri = uri;
+                version = version;
+                changes = map written_edit (canonical (units_in encoding) (chars entry.text) a.items);
+              });
           as_sent = read_as m p;
           back = read_back m p;
         } in

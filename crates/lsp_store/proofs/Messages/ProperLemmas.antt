@@ -22,7 +22,8 @@ pub bytes_sum : (text : List ℕ) → length (encode_utf8_all text) ≡ sum_by l
 bytes_sum [] = refl
 bytes_sum (c ∷ text) = omega (arith, length_bytes c text, bytes_sum text, sum_by-cons len_utf8 c text)
   where
-    length_bytes : (c : ℕ) (text : List ℕ) → length (encode_utf8_all (c ∷ text)) ≡ len_utf8 c + length (encode_utf8_all text)
+    length_bytes : (c : ℕ) (text : List ℕ) → length (encode_utf8_all (c ∷ text))
+        ≡ len_utf8 c + length (encode_utf8_all text)
     length_bytes c text = simp length-append (omega (arith, length-encode c))
 
 chars_few : (text : List ℕ) → length text ≤ sum_by len_utf8 text
@@ -32,13 +33,22 @@ chars_few (c ∷ text) = omega (arith, chars_few text, sum_by-cons len_utf8 c te
 line_few : (text : List ℕ) (k : ℕ) → line_at text k ≤ k
 line_few text zero = omega arith
 line_few text (suc k) =
-    ⊎_elim (λ (is : ends_line text (suc k) ≡ true). rw is (omega (arith, line_few text k))) (λ (not : ends_line text (suc k) ≡ false). rw not (omega (arith, line_few text k))) (cases_Bool (ends_line text (suc k)))
+    ⊎_elim (λ (is : ends_line text (suc k) ≡ true). rw is (omega (arith, line_few text k)))
+    (λ (not : ends_line text (suc k) ≡ false). rw not (omega (arith, line_few text k)))
+    (cases_Bool (ends_line text (suc k)))
 
-units_few : (units : ℕ → ℕ) → ((c : ℕ) → units c ≤ len_utf8 c) → (text : List ℕ) (from to : ℕ) → units_between units text from to ≤ sum_by len_utf8 text
+units_few : (units : ℕ → ℕ) → ((c : ℕ) → units c ≤ len_utf8 c) → (text : List ℕ) (from to : ℕ)
+    → units_between units text from to ≤ sum_by len_utf8 text
 units_few units few text from to =
-    omega (arith, sum_by-take-le units (drop from text) (to - from), sum_by-take-drop units text from, sum_by-le-sum_by units len_utf8 text few)
+    omega (
+      arith,
+      sum_by-take-le units (drop from text) (to - from),
+      sum_by-take-drop units text from,
+      sum_by-le-sum_by units len_utf8 text few,
+    )
 
-module _ (units : ℕ → ℕ) (few : (c : ℕ) → units c ≤ len_utf8 c) (old : List ℕ) (small : sum_by len_utf8 old < 2 ^ 32) where
+module _ (units : ℕ → ℕ) (few : (c : ℕ) → units c ≤ len_utf8 c) (old : List ℕ)
+    (small : sum_by len_utf8 old < 2 ^ 32) where
   position_fits : (k : ℕ) → k ≤ length old → IsProperPosition (exact_position units old k)
   position_fits k within = record {
     line = omega (arith, line_few old k, within, chars_few old, small);
@@ -56,7 +66,8 @@ module _ (units : ℕ → ℕ) (few : (c : ℕ) → units c ≤ len_utf8 c) (old
 
   fit-reverse : (xs : List Edit) → RangesFit xs → RangesFit (reverse xs)
   fit-reverse [] p = tt
-  fit-reverse (x ∷ xs) p = rw (reverse-append (x ∷ []) xs) (fit-append (reverse xs) (x ∷ []) (fit-reverse xs p.1) (p.0, tt))
+  fit-reverse (x ∷ xs) p =
+      rw (reverse-append (x ∷ []) xs) (fit-append (reverse xs) (x ∷ []) (fit-reverse xs p.1) (p.0, tt))
 
   fit-gaps : (gs : List Gap) → AllHaveExactEnds old gs → RangesFit (map (change_of units old) (filter is_changed gs))
   fit-gaps [] ends = tt
@@ -64,14 +75,27 @@ module _ (units : ℕ → ℕ) (few : (c : ℕ) → units c ≤ len_utf8 c) (old
       ⊎_elim
       (λ (is : is_changed g ≡ true).
       let at : HasExactEnds old g = ends.0 is in
-      rw is (record { start = position_fits g.low (omega (arith, at.order, at.within)); stop = position_fits g.high at.within }, fit-gaps gs ends.1))
+      rw is (
+        record {
+          start = position_fits g.low (omega (arith, at.order, at.within));
+          stop = position_fits g.high at.within;
+        },
+        fit-gaps gs ends.1,
+      ))
       (λ (not : is_changed g ≡ false). rw not (fit-gaps gs ends.1))
       (cases_Bool (is_changed g))
 
   all_proper : (batch : List Edit) → RangesFit batch → AreTexts batch → All IsProperEdit (map written_edit batch)
   all_proper [] fit texts = All-nil IsProperEdit
   all_proper (change ∷ batch) fit texts =
-      All-cons IsProperEdit (written_edit change) (map written_edit batch) (record { range = fit.0; text = (change.text, (texts.0, refl)) }) (all_proper batch fit.1 texts.1)
+      All-cons IsProperEdit (written_edit change) (map written_edit batch) (record {
+        range = fit.0;
+        text = (change.text, (texts.0, refl));
+      }) (all_proper batch fit.1 texts.1)
 
-  pub canonical_proper : (items : List Item) → AllHaveExactEnds old (gaps old items) → AreTexts (canonical units old items) → All IsProperEdit (map written_edit (canonical units old items))
-  canonical_proper items ends texts = all_proper (canonical units old items) (fit-reverse (map (change_of units old) (filter is_changed (gaps old items))) (fit-gaps (gaps old items) ends)) texts
+  pub canonical_proper : (items : List Item) → AllHaveExactEnds old (gaps old items)
+      → AreTexts (canonical units old items) → All IsProperEdit (map written_edit (canonical units old items))
+  canonical_proper items ends texts =
+      all_proper (canonical units old items)
+      (fit-reverse (map (change_of units old) (filter is_changed (gaps old items))) (fit-gaps (gaps old items) ends))
+      texts

@@ -39,57 +39,78 @@ scalar-drop (suc n) (New character ∷ items) p = scalar-drop n items p.1
 
 scalar-new : (characters : List ℕ) → all_scalars characters ≡ true → NewAreScalar (map New characters)
 scalar-new [] all = tt
-scalar-new (c ∷ characters) all = let parts = and_parts (scalar c) (all_scalars characters) all in (parts.0, scalar-new characters parts.1)
+scalar-new (c ∷ characters) all = let parts = and_parts (scalar c) (all_scalars characters) all in
+    (parts.0, scalar-new characters parts.1)
 
 scalar-old : (indexes : List ℕ) → NewAreScalar (map Old indexes)
 scalar-old [] = tt
 scalar-old (index ∷ indexes) = scalar-old indexes
 
-scalar-replaced : (items : List Item) (characters : List ℕ) (start stop : Option ℕ) (next : List Item) → NewAreScalar items → all_scalars characters ≡ true → replaced items characters start stop ≡ Ok next → NewAreScalar next
-scalar-replaced items characters None stop next p all e = let bad : ◌≡◌ {A = Result (List Item) Fault} (Err InsideStart) (Ok next) = e in absurd (cc)
-scalar-replaced items characters (Some start) None next p all e = let bad : ◌≡◌ {A = Result (List Item) Fault} (Err InsideStop) (Ok next) = e in absurd (cc)
+scalar-replaced : (items : List Item) (characters : List ℕ) (start stop : Option ℕ) (next : List Item)
+    → NewAreScalar items → all_scalars characters ≡ true → replaced items characters start stop ≡ Ok next
+    → NewAreScalar next
+scalar-replaced items characters None stop next p all e =
+    let bad : ◌≡◌ {A = Result (List Item) Fault} (Err InsideStart) (Ok next) = e in absurd (cc)
+scalar-replaced items characters (Some start) None next p all e =
+    let bad : ◌≡◌ {A = Result (List Item) Fault} (Err InsideStop) (Ok next) = e in absurd (cc)
 scalar-replaced items characters (Some start) (Some stop) next p all e =
     ⊎_elim
     (λ (o : nat_le start stop ≡ true).
-    let same : ◌≡◌ {A = Result (List Item) Fault} (Ok (take start items ++ (map New characters ++ drop stop items))) (Ok next) = rw o at e in
+    let same : ◌≡◌ {A = Result (List Item) Fault} (Ok (take start items ++ (map New characters ++ drop stop items)))
+    (Ok next) = rw o at e in
     let is : take start items ++ (map New characters ++ drop stop items) ≡ next = cc in
-    rw (← is) (scalar-append (take start items) (map New characters ++ drop stop items) (scalar-take start items p) (scalar-append (map New characters) (drop stop items) (scalar-new characters all) (scalar-drop stop items p))))
-    (λ (o : nat_le start stop ≡ false). let bad : ◌≡◌ {A = Result (List Item) Fault} (Err Reversed) (Ok next) = rw o at e in absurd (cc))
+    rw (← is) (scalar-append (take start items) (map New characters ++ drop stop items) (scalar-take start items p)
+    (scalar-append (map New characters) (drop stop items) (scalar-new characters all) (scalar-drop stop items p))))
+    (λ (o : nat_le start stop ≡ false). let bad : ◌≡◌ {A = Result (List Item) Fault} (Err Reversed) (Ok next) = rw o at
+    e in absurd (cc))
     (cases_Bool (nat_le start stop))
 
-scalar-changed : (units : ℕ → ℕ) (old : List ℕ) (items : List Item) (characters : List ℕ) (range : Option Range) (next : List Item) → NewAreScalar items → all_scalars characters ≡ true → changed_in units old items characters range ≡ Ok next → NewAreScalar next
+scalar-changed : (units : ℕ → ℕ) (old : List ℕ) (items : List Item) (characters : List ℕ) (range : Option Range)
+    (next : List Item) → NewAreScalar items → all_scalars characters ≡ true → changed_in units old items characters
+    range ≡ Ok next → NewAreScalar next
 scalar-changed units old items characters None next p all e =
     let same : ◌≡◌ {A = Result (List Item) Fault} (Ok (map New characters)) (Ok next) = e in
     let is : map New characters ≡ next = cc in
     rw (← is) (scalar-new characters all)
 scalar-changed units old items characters (Some range) next p all e =
-    scalar-replaced items characters (denoted units (text_of old items) range.start) (denoted units (text_of old items) range.stop) next p all e
+    scalar-replaced items characters (denoted units (text_of old items) range.start)
+    (denoted units (text_of old items) range.stop) next p all e
 
-scalar-changes : (units : ℕ → ℕ) (old : List ℕ) (number : ℕ) (items : List Item) (batch : List Edit) (next : List Item) → NewAreScalar items → AreTexts batch → after_changes units old number items batch ≡ Ok next → NewAreScalar next
+scalar-changes : (units : ℕ → ℕ) (old : List ℕ) (number : ℕ) (items : List Item) (batch : List Edit) (next : List Item)
+    → NewAreScalar items → AreTexts batch → after_changes units old number items batch ≡ Ok next → NewAreScalar next
 scalar-changes units old number items [] next p texts e =
     let same : ◌≡◌ {A = Result (List Item) (ℕ × Fault)} (Ok items) (Ok next) = e in
     let is : items ≡ next = cc in
     rw (← is) p
 scalar-changes units old number items (change ∷ batch) next p texts e =
-    by (λ (made : List Item) (q : NewAreScalar made) (f : after_changes units old (suc number) made batch ≡ Ok next). scalar-changes units old (suc number) made batch next q texts.1 f) (after_change units old items change) refl e
+    by (λ (made : List Item) (q : NewAreScalar made) (f : after_changes units old (suc number) made batch ≡ Ok next).
+    scalar-changes units old (suc number) made batch next q texts.1 f) (after_change units old items change) refl e
   where
-    by : ((made : List Item) → NewAreScalar made → after_changes units old (suc number) made batch ≡ Ok next → NewAreScalar next)
-        → (r : Result (List Item) Fault) → after_change units old items change ≡ r → continue_with (λ made. after_changes units old (suc number) made batch) number r ≡ Ok next → NewAreScalar next
+    by : ((made : List Item) → NewAreScalar made → after_changes units old (suc number) made batch ≡ Ok next
+        → NewAreScalar next)
+        → (r : Result (List Item) Fault) → after_change units old items change ≡ r
+        → continue_with (λ made. after_changes units old (suc number) made batch) number r ≡ Ok next → NewAreScalar next
     by rest (Ok made) is e = rest made (scalar-changed units old items change.text change.range made p texts.0 is) e
-    by rest (Err fault) is e = let bad : ◌≡◌ {A = Result (List Item) (ℕ × Fault)} (Err (number, fault)) (Ok next) = e in absurd (cc)
+    by rest (Err fault) is e = let bad : ◌≡◌ {A = Result (List Item) (ℕ × Fault)} (Err (number, fault)) (Ok next) = e in
+        absurd (cc)
 
-pub scalar-meaning : (units : ℕ → ℕ) (old : List ℕ) (batch : List Edit) (items : List Item) → AreTexts batch → meaning units old batch ≡ Ok items → NewAreScalar items
-scalar-meaning units old batch items texts e = scalar-changes units old 0 (plain old) batch items (scalar-old (numbers_from 0 (length old))) texts e
+pub scalar-meaning : (units : ℕ → ℕ) (old : List ℕ) (batch : List Edit) (items : List Item) → AreTexts batch
+    → meaning units old batch ≡ Ok items → NewAreScalar items
+scalar-meaning units old batch items texts e =
+    scalar-changes units old 0 (plain old) batch items (scalar-old (numbers_from 0 (length old))) texts e
 
 scalar-at : (old : List ℕ) (index : ℕ) → all_scalars old ≡ true → scalar (slice_index old index) ≡ true
 scalar-at [] index all = refl
 scalar-at (c ∷ old) zero all = (and_parts (scalar c) (all_scalars old) all).0
 scalar-at (c ∷ old) (suc index) all = scalar-at old index (and_parts (scalar c) (all_scalars old) all).1
 
-pub scalar-text : (old : List ℕ) (items : List Item) → all_scalars old ≡ true → NewAreScalar items → all_scalars (text_of old items) ≡ true
+pub scalar-text : (old : List ℕ) (items : List Item) → all_scalars old ≡ true → NewAreScalar items
+    → all_scalars (text_of old items) ≡ true
 scalar-text old [] all p = refl
-scalar-text old (Old index ∷ items) all p = and_from (scalar (slice_index old index)) (all_scalars (text_of old items)) (scalar-at old index all) (scalar-text old items all p)
-scalar-text old (New character ∷ items) all p = and_from (scalar character) (all_scalars (text_of old items)) p.0 (scalar-text old items all p.1)
+scalar-text old (Old index ∷ items) all p = and_from (scalar (slice_index old index)) (all_scalars (text_of old items))
+    (scalar-at old index all) (scalar-text old items all p)
+scalar-text old (New character ∷ items) all p =
+    and_from (scalar character) (all_scalars (text_of old items)) p.0 (scalar-text old items all p.1)
 
 -- what is no scalar value weighs one
 abbrev stray : ℕ → ℕ
@@ -105,8 +126,10 @@ none_stray (c ∷ text) all =
 all_from_none : (text : List ℕ) → sum_by stray text ≤ 0 → all_scalars text ≡ true
 all_from_none [] none = refl
 all_from_none (c ∷ text) none =
-    ⊎_elim (λ (is : scalar c ≡ true). and_from (scalar c) (all_scalars text) is (all_from_none text (omega (arith, none, sum_by-cons stray c text))))
-    (λ (not : scalar c ≡ false). let one : stray c ≡ 1 = rw not refl in absurd (omega (arith, none, sum_by-cons stray c text, one)))
+    ⊎_elim (λ (is : scalar c ≡ true). and_from (scalar c) (all_scalars text) is
+    (all_from_none text (omega (arith, none, sum_by-cons stray c text))))
+    (λ (not : scalar c ≡ false). let one : stray c ≡ 1 = rw not refl in
+    absurd (omega (arith, none, sum_by-cons stray c text, one)))
     (cases_Bool (scalar c))
 
 texts_from_none : (batch : List Edit) → sum_by (λ change. sum_by stray change.text) batch ≤ 0 → AreTexts batch
@@ -115,6 +138,12 @@ texts_from_none (change ∷ batch) none =
     let sum = sum_by-cons (λ (e : Edit). sum_by stray e.text) change batch in
     (all_from_none change.text (omega (arith, none, sum)), texts_from_none batch (omega (arith, none, sum)))
 
-pub canonical_texts : (units : ℕ → ℕ) (old : List ℕ) (batch : List Edit) (items : List Item) → IsCanonical units old batch items → all_scalars old ≡ true → AreTexts batch → meaning units old batch ≡ Ok items → AreTexts (canonical units old items)
+pub canonical_texts : (units : ℕ → ℕ) (old : List ℕ) (batch : List Edit) (items : List Item)
+    → IsCanonical units old batch items → all_scalars old ≡ true → AreTexts batch → meaning units old batch ≡ Ok items
+    → AreTexts (canonical units old items)
 canonical_texts units old batch items law all texts means =
-    texts_from_none (canonical units old items) (omega (arith, law.short stray, none_stray (text_of old items) (scalar-text old items all (scalar-meaning units old batch items texts means))))
+    texts_from_none (canonical units old items) (omega (
+      arith,
+      law.short stray,
+      none_stray (text_of old items) (scalar-text old items all (scalar-meaning units old batch items texts means)),
+    ))

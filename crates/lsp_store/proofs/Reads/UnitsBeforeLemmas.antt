@@ -24,11 +24,13 @@ some_units Utf8 c = (utf8_bounds c).0
 some_units Utf16 c = (utf16_bounds c).0
 some_units Utf32 c = (utf32_bounds c).0
 
-pub units_from_start : (units : ℕ → ℕ) (text : List ℕ) (k : ℕ) → units_between units text 0 k ≡ sum_by units (take k text)
+pub units_from_start : (units : ℕ → ℕ) (text : List ℕ) (k : ℕ) → units_between units text 0 k
+    ≡ sum_by units (take k text)
 units_from_start units text k = let all : k - 0 ≡ k = omega arith in rw all refl
 
 -- No text has more units than bytes.
-pub units_few : (encoding : Encoding) (bytes : List ℕ) → IsUtf8 bytes → sum_by (units_in encoding) (chars bytes) ≤ length bytes
+pub units_few : (encoding : Encoding) (bytes : List ℕ) → IsUtf8 bytes → sum_by (units_in encoding) (chars bytes)
+    ≤ length bytes
 units_few encoding bytes utf8 =
     let cs = chars bytes in
     omega (
@@ -40,8 +42,10 @@ units_few encoding bytes utf8 =
     )
 
 -- The units of a text are those of its first character, and those of the rest.
-pub units_next : (units : ℕ → ℕ) (bytes rest : List ℕ) (c : ℕ) → IsUtf8 bytes → bytes ≡ encode_utf8 c ++ rest → sum_by units (chars bytes) ≡ units c + sum_by units (chars rest)
-units_next units bytes rest c utf8 is = ap (sum_by units) (chars_past_char bytes rest c utf8 is) ∙ sum_by-cons units c (chars rest)
+pub units_next : (units : ℕ → ℕ) (bytes rest : List ℕ) (c : ℕ) → IsUtf8 bytes → bytes ≡ encode_utf8 c ++ rest
+    → sum_by units (chars bytes) ≡ units c + sum_by units (chars rest)
+units_next units bytes rest c utf8 is = ap (sum_by units) (chars_past_char bytes rest c utf8 is)
+    ∙ sum_by-cons units c (chars rest)
 
 -- No bytes, no characters.
 pub chars_none : (bytes : List ℕ) → length bytes ≡ 0 → chars bytes ≡ []
@@ -51,27 +55,36 @@ chars_none (b ∷ bytes) none = absurd (omega (arith, none))
 -- ---- offsets and counts belong to one another
 
 -- A byte offset has one count of units before it.
-pub one_count : (units : ℕ → ℕ) (text : List ℕ) (offset a b : ℕ) → HasUnitsBefore units text offset a → HasUnitsBefore units text offset b → a ≡ b
+pub one_count : (units : ℕ → ℕ) (text : List ℕ) (offset a b : ℕ) → HasUnitsBefore units text offset a
+    → HasUnitsBefore units text offset b → a ≡ b
 one_count units text offset a b p q =
     let same : p.index ≡ q.index = place_one text p.index q.index p.within q.within (p.offset_is ∙ sym q.offset_is) in
     sym p.count_is ∙ (ap (units_between units text 0) same ∙ q.count_is)
 
 -- A count of units is before one byte offset, if each character has a unit.
-pub one_offset : (units : ℕ → ℕ) → ((c : ℕ) → 1 ≤ units c) → (text : List ℕ) (a b count : ℕ) → HasUnitsBefore units text a count → HasUnitsBefore units text b count → a ≡ b
+pub one_offset : (units : ℕ → ℕ) → ((c : ℕ) → 1 ≤ units c) → (text : List ℕ) (a b count : ℕ)
+    → HasUnitsBefore units text a count → HasUnitsBefore units text b count → a ≡ b
 one_offset units some text a b count p q =
-    let same : p.index ≡ q.index = units_same units some text 0 p.index q.index (omega arith) (omega arith) p.within q.within (p.count_is ∙ sym q.count_is) in
+    let same : p.index ≡ q.index = units_same units some text 0 p.index q.index (omega arith) (omega arith) p.within
+    q.within (p.count_is ∙ sym q.count_is) in
     sym p.offset_is ∙ (ap (place_of text) same ∙ q.offset_is)
 
 -- So what is found is all there is.
 pub only_count : (units : ℕ → ℕ) (text : List ℕ) (offset found : ℕ) → HasUnitsBefore units text offset found
     → (count : ℕ) → (Some found ≡ Some count) ↔ HasUnitsBefore units text offset count
-only_count units text offset found is count =
-    (λ (e : Some found ≡ Some count). let same : found ≡ count = cc in subst (HasUnitsBefore units text offset) same is, λ other. ap Some (one_count units text offset found count is other))
+only_count units text offset found is count = (
+  λ (e : Some found ≡ Some count). let same : found ≡ count = cc in subst (HasUnitsBefore units text offset) same is,
+  λ other. ap Some (one_count units text offset found count is other),
+)
 
-pub only_offset : (units : ℕ → ℕ) → ((c : ℕ) → 1 ≤ units c) → (text : List ℕ) (found count : ℕ) → HasUnitsBefore units text found count
+pub only_offset : (units : ℕ → ℕ) → ((c : ℕ) → 1 ≤ units c) → (text : List ℕ) (found count : ℕ)
+    → HasUnitsBefore units text found count
     → (offset : ℕ) → (Some found ≡ Some offset) ↔ HasUnitsBefore units text offset count
-only_offset units some text found count is offset =
-    (λ (e : Some found ≡ Some offset). let same : found ≡ offset = cc in subst (λ (o : ℕ). HasUnitsBefore units text o count) same is, λ other. ap Some (one_offset units some text found offset count is other))
+only_offset units some text found count is offset = (
+  λ (e : Some found ≡ Some offset). let same : found ≡ offset = cc in
+      subst (λ (o : ℕ). HasUnitsBefore units text o count) same is,
+  λ other. ap Some (one_offset units some text found offset count is other),
+)
 
 -- And what isn't there isn't found.
 pub none_is : (P : ℕ → Type 0) → ((n : ℕ) → P n → ⊥) → (n : ℕ) → (None ≡ Some n) ↔ P n
@@ -80,22 +93,26 @@ none_is P none n = (λ (e : None ≡ Some n). absurd (cc), λ p. absurd (none n 
 -- ---- from an offset to its count
 
 -- The units of the bytes before a boundary of characters are those before its index.
-pub before_has : (units : ℕ → ℕ) (text before : List ℕ) (offset : ℕ) → IsUtf8 text → IsCharBoundary text offset → before ≡ take offset text
+pub before_has : (units : ℕ → ℕ) (text before : List ℕ) (offset : ℕ) → IsUtf8 text → IsCharBoundary text offset
+    → before ≡ take offset text
     → HasUnitsBefore units (chars text) offset (sum_by units (chars before))
 before_has units text before offset utf8 boundary is =
     let utf8_before : IsUtf8 before = subst IsUtf8 (sym is) (IsUtf8-take text offset utf8 boundary) in
     let at = index_at text offset utf8 boundary in
     let front : encode_utf8_all (take at.index (chars text)) ≡ before =
-    sym (take_place (chars text) at.index) ∙ (ap (λ n. take n (encode_utf8_all (chars text))) at.place_is ∙ (ap (take offset) (encodes-chars text utf8) ∙ sym is)) in
+    sym (take_place (chars text) at.index) ∙ (ap (λ n. take n (encode_utf8_all (chars text))) at.place_is
+    ∙ (ap (take offset) (encodes-chars text utf8) ∙ sym is)) in
     record {
       index = at.index;
       within = at.within;
       offset_is = at.place_is;
-      count_is = units_from_start units (chars text) at.index ∙ ap (sum_by units) (chars_from_encodes (take at.index (chars text)) before utf8_before front);
+      count_is = units_from_start units (chars text) at.index
+          ∙ ap (sum_by units) (chars_from_encodes (take at.index (chars text)) before utf8_before front);
     }
 
 -- No other offset has a count.
-pub none_before : (units : ℕ → ℕ) (text : List ℕ) (offset : ℕ) → IsUtf8 text → (IsCharBoundary text offset → ⊥) → (count : ℕ) → HasUnitsBefore units (chars text) offset count → ⊥
+pub none_before : (units : ℕ → ℕ) (text : List ℕ) (offset : ℕ) → IsUtf8 text → (IsCharBoundary text offset → ⊥)
+    → (count : ℕ) → HasUnitsBefore units (chars text) offset count → ⊥
 none_before units text offset utf8 outside count has =
     outside (subst (IsCharBoundary text) has.offset_is (place_boundary text has.index utf8 has.within))
 
@@ -105,35 +122,55 @@ pub passed_none : (units : ℕ → ℕ) (text : List ℕ) (count : ℕ) → HasP
 passed_none units text count = record { passed = []; text_is = refl; offset_is = refl; count_is = omega arith }
 
 -- The next character is the first of the rest.
-pub passed_next : (units : ℕ → ℕ) (text bytes rest : List ℕ) (c offset left count : ℕ) → IsUtf8 bytes → bytes ≡ encode_utf8 c ++ rest → HasPassed units text (chars bytes) offset left count
+pub passed_next : (units : ℕ → ℕ) (text bytes rest : List ℕ) (c offset left count : ℕ) → IsUtf8 bytes
+    → bytes ≡ encode_utf8 c ++ rest → HasPassed units text (chars bytes) offset left count
     → HasPassed units text (c ∷ chars rest) offset left count
-passed_next units text bytes rest c offset left count utf8 is = subst (λ (cs : List ℕ). HasPassed units text cs offset left count) (chars_past_char bytes rest c utf8 is)
+passed_next units text bytes rest c offset left count utf8 is =
+    subst (λ (cs : List ℕ). HasPassed units text cs offset left count) (chars_past_char bytes rest c utf8 is)
 
 -- One character more.
-pub passed_more : (units : ℕ → ℕ) (text rest : List ℕ) (c size here offset left count : ℕ) → size ≡ len_utf8 c → here ≡ units c → here ≤ left → HasPassed units text (c ∷ rest) offset left count
+pub passed_more : (units : ℕ → ℕ) (text rest : List ℕ) (c size here offset left count : ℕ) → size ≡ len_utf8 c
+    → here ≡ units c → here ≤ left → HasPassed units text (c ∷ rest) offset left count
     → HasPassed units text rest (offset + size) (left - here) count
 passed_more units text rest c size here offset left count bytes is fits h = record {
   passed = h.passed ++ c ∷ [];
   text_is = h.text_is ∙ sym (append_assoc h.passed (c ∷ []) rest);
   offset_is =
       ap length (encodes-append h.passed (c ∷ []))
-      ∙ omega (arith, length-append (encode_utf8_all h.passed) (encode_utf8 c ++ []), ap length (append-nil (encode_utf8 c)), length-encode c, h.offset_is, bytes);
+      ∙ omega (
+        arith,
+        length-append (encode_utf8_all h.passed) (encode_utf8 c ++ []),
+        ap length (append-nil (encode_utf8 c)),
+        length-encode c,
+        h.offset_is,
+        bytes,
+      );
   count_is = omega (arith, sum_by_push units h.passed c, h.count_is, is, fits);
 }
 
 -- the text up to what was passed
-front_is : (units : ℕ → ℕ) (text rest : List ℕ) (offset left count : ℕ) (h : HasPassed units text rest offset left count) → take (length h.passed) text ≡ h.passed
-front_is units text rest offset left count h = ap (take (length h.passed)) h.text_is ∙ take_at h.passed rest (length h.passed) refl
+front_is : (units : ℕ → ℕ) (text rest : List ℕ) (offset left count : ℕ)
+    (h : HasPassed units text rest offset left count) → take (length h.passed) text ≡ h.passed
+front_is units text rest offset left count h =
+    ap (take (length h.passed)) h.text_is ∙ take_at h.passed rest (length h.passed) refl
 
-passed_units : (units : ℕ → ℕ) (text rest : List ℕ) (offset left count : ℕ) (h : HasPassed units text rest offset left count) → units_between units text 0 (length h.passed) + left ≡ count
+passed_units : (units : ℕ → ℕ) (text rest : List ℕ) (offset left count : ℕ)
+    (h : HasPassed units text rest offset left count) → units_between units text 0 (length h.passed) + left ≡ count
 passed_units units text rest offset left count h =
-    omega (arith, units_from_start units text (length h.passed), ap (sum_by units) (front_is units text rest offset left count h), h.count_is)
+    omega (
+      arith,
+      units_from_start units text (length h.passed),
+      ap (sum_by units) (front_is units text rest offset left count h),
+      h.count_is,
+    )
 
-passed_within : (units : ℕ → ℕ) (text rest : List ℕ) (offset left count : ℕ) (h : HasPassed units text rest offset left count) → length h.passed + length rest ≡ length text
+passed_within : (units : ℕ → ℕ) (text rest : List ℕ) (offset left count : ℕ)
+    (h : HasPassed units text rest offset left count) → length h.passed + length rest ≡ length text
 passed_within units text rest offset left count h = sym (ap length h.text_is ∙ length-append h.passed rest)
 
 -- The offset is within the text.
-pub passed_few : (units : ℕ → ℕ) (bytes rest : List ℕ) (offset left count : ℕ) → IsUtf8 bytes → HasPassed units (chars bytes) rest offset left count → offset ≤ length bytes
+pub passed_few : (units : ℕ → ℕ) (bytes rest : List ℕ) (offset left count : ℕ) → IsUtf8 bytes
+    → HasPassed units (chars bytes) rest offset left count → offset ≤ length bytes
 passed_few units bytes rest offset left count utf8 h =
     omega (
       arith,
@@ -143,7 +180,8 @@ passed_few units bytes rest offset left count utf8 h =
     )
 
 -- Where no units are left, the offset is found.
-pub passed_all : (units : ℕ → ℕ) (text rest : List ℕ) (offset count : ℕ) → HasPassed units text rest offset 0 count → HasUnitsBefore units text offset count
+pub passed_all : (units : ℕ → ℕ) (text rest : List ℕ) (offset count : ℕ) → HasPassed units text rest offset 0 count
+    → HasUnitsBefore units text offset count
 passed_all units text rest offset count h = record {
   index = length h.passed;
   within = omega (arith, passed_within units text rest offset 0 count h);
@@ -156,18 +194,21 @@ module _ (units : ℕ → ℕ) (some : (c : ℕ) → 1 ≤ units c) (text : List
   rises j k order within =
       ⊎_elim
       (λ (e : j ≡ k). omega (arith, ap (units_between units text 0) e))
-      (λ (e : j ≡ k → ⊥). let less : j < k = omega arith in omega (arith, units_rise units some text 0 j k (omega arith) less within))
+      (λ (e : j ≡ k → ⊥). let less : j < k = omega arith in
+      omega (arith, units_rise units some text 0 j k (omega arith) less within))
       (cases_eq j k)
 
   -- At the end of the text there are fewer units.
-  pub none_fewer : (offset left count : ℕ) → 1 ≤ left → HasPassed units text [] offset left count → (other : ℕ) → HasUnitsBefore units text other count → ⊥
+  pub none_fewer : (offset left count : ℕ) → 1 ≤ left → HasPassed units text [] offset left count → (other : ℕ)
+      → HasUnitsBefore units text other count → ⊥
   none_fewer offset left count more h other has =
       let all : length h.passed ≡ length text = omega (arith, passed_within units text [] offset left count h) in
       let most = rises has.index (length h.passed) (omega (arith, all, has.within)) (omega (arith, all)) in
       absurd (omega (arith, most, has.count_is, passed_units units text [] offset left count h, more))
 
   -- Within a character there is no offset.
-  pub none_inside : (rest : List ℕ) (c offset left count : ℕ) → 1 ≤ left → left < units c → HasPassed units text (c ∷ rest) offset left count → (other : ℕ) → HasUnitsBefore units text other count → ⊥
+  pub none_inside : (rest : List ℕ) (c offset left count : ℕ) → 1 ≤ left → left < units c
+      → HasPassed units text (c ∷ rest) offset left count → (other : ℕ) → HasUnitsBefore units text other count → ⊥
   none_inside rest c offset left count more less h other has =
       let before = passed_units units text (c ∷ rest) offset left count h in
       let size = passed_within units text (c ∷ rest) offset left count h in
@@ -175,8 +216,10 @@ module _ (units : ℕ → ℕ) (some : (c : ℕ) → 1 ≤ units c) (text : List
       ap (λ cs. get_or cs (length h.passed) 0) h.text_is ∙ get_at h.passed in
       let next = units_more units text 0 (length h.passed) (omega arith) (omega (arith, size)) in
       ⊎_elim
-      (λ (low : has.index < suc (length h.passed)). let most = rises has.index (length h.passed) (omega arith) (omega (arith, size)) in absurd (omega (arith, most, has.count_is, before, more)))
-      (λ (high : suc (length h.passed) ≤ has.index). let least = rises (suc (length h.passed)) has.index high has.within in absurd (omega (arith, least, has.count_is, before, next, ap units one, less)))
+      (λ (low : has.index < suc (length h.passed)). let most = rises has.index (length h.passed) (omega arith)
+      (omega (arith, size)) in absurd (omega (arith, most, has.count_is, before, more)))
+      (λ (high : suc (length h.passed) ≤ has.index). let least = rises (suc (length h.passed)) has.index high
+      has.within in absurd (omega (arith, least, has.count_is, before, next, ap units one, less)))
       (cases_lt has.index (suc (length h.passed)))
     where
       get_at : (xs : List ℕ) → get_or (xs ++ c ∷ rest) (length xs) 0 ≡ c
@@ -184,20 +227,27 @@ module _ (units : ℕ → ℕ) (some : (c : ℕ) → 1 ≤ units c) (text : List
       get_at (x ∷ xs) = get_at xs
 
   -- Where the loop stops, the offset is found if no units are left, and else there is none.
-  pub stopped : (rest : List ℕ) (offset left count : ℕ) → HasPassed units text rest offset left count → (1 ≤ left → (other : ℕ) → HasUnitsBefore units text other count → ⊥)
+  pub stopped : (rest : List ℕ) (offset left count : ℕ) → HasPassed units text rest offset left count
+      → (1 ≤ left → (other : ℕ) → HasUnitsBefore units text other count → ⊥)
       → (found : ℕ) → (then_some (left == 0) offset ≡ Some found) ↔ HasUnitsBefore units text found count
   stopped rest offset left count h none found =
       ⊎_elim
       (λ (e : left ≡ 0).
-      let all = passed_all units text rest offset count (subst (λ (n : ℕ). HasPassed units text rest offset n count) e h) in
+      let all = passed_all units text rest offset count (subst (λ (n : ℕ). HasPassed units text rest offset n count) e
+      h) in
       rw (eq-eqb left 0 e) (only_offset units some text offset count all found))
-      (λ (e : left ≡ 0 → ⊥). rw (ne_eqb left 0 e) (none_is (λ (o : ℕ). HasUnitsBefore units text o count) (none (omega (arith, e))) found))
+      (λ (e : left ≡ 0 → ⊥). rw (ne_eqb left 0 e) (none_is (λ (o : ℕ). HasUnitsBefore units text o count)
+      (none (omega (arith, e))) found))
       (cases_eq left 0)
 
-  too_few_none : (rest : List ℕ) (offset left count : ℕ) → HasPassed units text rest offset left count → IsTooFew units rest left → 1 ≤ left → (other : ℕ) → HasUnitsBefore units text other count → ⊥
+  too_few_none : (rest : List ℕ) (offset left count : ℕ) → HasPassed units text rest offset left count
+      → IsTooFew units rest left → 1 ≤ left → (other : ℕ) → HasUnitsBefore units text other count → ⊥
   too_few_none [] offset left count h few more other has = none_fewer offset left count more h other has
-  too_few_none (c ∷ rest) offset left count h few more other has = none_inside rest c offset left count more few h other has
+  too_few_none (c ∷ rest) offset left count h few more other has =
+      none_inside rest c offset left count more few h other has
 
   -- Where as many characters are passed as can be, the offset is found if no units are left.
-  pub passed_found : (offset left count : ℕ) → IsPassed units text count offset left → (found : ℕ) → (then_some (left == 0) offset ≡ Some found) ↔ HasUnitsBefore units text found count
-  passed_found offset left count is = stopped is.rest offset left count is.passed (too_few_none is.rest offset left count is.passed is.few)
+  pub passed_found : (offset left count : ℕ) → IsPassed units text count offset left → (found : ℕ)
+      → (then_some (left == 0) offset ≡ Some found) ↔ HasUnitsBefore units text found count
+  passed_found offset left count is =
+      stopped is.rest offset left count is.passed (too_few_none is.rest offset left count is.passed is.few)

@@ -10,42 +10,59 @@ use Rattle.lsp_store.specs.inside.UnitsPassed.{HasPassed, IsPassed, IsTooFew}
 use Rattle.lsp_store.proofs.Reads.UnitsBeforeLemmas.{passed_few}
 
 -- The units before the end of a chunk are those before it and its own.
-pub chunk_counted : (units : ℕ → ℕ) (text chunk : List ℕ) (offset : ℕ) → IsUtf8 text → IsCharBoundary text offset → chunk ≡ take (length chunk) (drop offset text)
-    → sum_by units (chars (take (offset + length chunk) text)) ≡ sum_by units (chars (take offset text)) + sum_by units (chars chunk)
+pub chunk_counted : (units : ℕ → ℕ) (text chunk : List ℕ) (offset : ℕ) → IsUtf8 text → IsCharBoundary text offset
+    → chunk ≡ take (length chunk) (drop offset text)
+    → sum_by units (chars (take (offset + length chunk) text)) ≡ sum_by units (chars (take offset text)) + sum_by units
+    (chars chunk)
 chunk_counted units text chunk offset utf8 at is =
-    let bytes : take (offset + length chunk) text ≡ take offset text ++ chunk = take-add offset (length chunk) text ∙ ap (λ (bs : List ℕ). take offset text ++ bs) (sym is) in
+    let bytes : take (offset + length chunk) text ≡ take offset text ++ chunk =
+    take-add offset (length chunk) text ∙ ap (λ (bs : List ℕ). take offset text ++ bs) (sym is) in
     ap (λ (bs : List ℕ). sum_by units (chars bs)) bytes
-    ∙ (ap (sum_by units) (chars-append (take offset text) chunk (IsUtf8-take text offset utf8 at)) ∙ sum_by-append units (chars (take offset text)) (chars chunk))
+    ∙ (ap (sum_by units) (chars-append (take offset text) chunk (IsUtf8-take text offset utf8 at))
+    ∙ sum_by-append units (chars (take offset text)) (chars chunk))
 
 -- Where a text ends, or its next character has too many units.
-pub passed_whole : (units : ℕ → ℕ) (text : List ℕ) (offset left count : ℕ) → HasPassed units text [] offset left count → IsPassed units text count offset left
+pub passed_whole : (units : ℕ → ℕ) (text : List ℕ) (offset left count : ℕ) → HasPassed units text [] offset left count
+    → IsPassed units text count offset left
 passed_whole units text offset left count h = record { rest = []; passed = h; few = tt }
 
-pub passed_before : (units : ℕ → ℕ) (text rest : List ℕ) (c offset left count : ℕ) → HasPassed units text (c ∷ rest) offset left count → left < units c → IsPassed units text count offset left
+pub passed_before : (units : ℕ → ℕ) (text rest : List ℕ) (c offset left count : ℕ)
+    → HasPassed units text (c ∷ rest) offset left count → left < units c → IsPassed units text count offset left
 passed_before units text rest c offset left count h few = record { rest = c ∷ rest; passed = h; few = few }
 
-pub passed_end : (units : ℕ → ℕ) (text : List ℕ) (offset left count : ℕ) → length text ≤ offset → HasPassed units (chars text) (chars (drop offset text)) offset left count → IsPassed units (chars text) count offset left
+pub passed_end : (units : ℕ → ℕ) (text : List ℕ) (offset left count : ℕ) → length text ≤ offset
+    → HasPassed units (chars text) (chars (drop offset text)) offset left count
+    → IsPassed units (chars text) count offset left
 passed_end units text offset left count end h =
     let none : chars (drop offset text) ≡ [] = ap chars (drop_all offset text end) ∙ chars-nil in
-    passed_whole units (chars text) offset left count (subst (λ (rest : List ℕ). HasPassed units (chars text) rest offset left count) none h)
+    passed_whole units (chars text) offset left count
+    (subst (λ (rest : List ℕ). HasPassed units (chars text) rest offset left count) none h)
 
 -- What is passed in a part is passed in the whole.
-passed_then : (units : ℕ → ℕ) (text part back rest : List ℕ) (offset left x y count : ℕ) → HasPassed units text (part ++ back) offset left count → HasPassed units part rest x y left
+passed_then : (units : ℕ → ℕ) (text part back rest : List ℕ) (offset left x y count : ℕ)
+    → HasPassed units text (part ++ back) offset left count → HasPassed units part rest x y left
     → HasPassed units text (rest ++ back) (offset + x) y count
 passed_then units text part back rest offset left x y count h more = record {
   passed = h.passed ++ more.passed;
   text_is =
       h.text_is
       ∙ (ap (λ (xs : List ℕ). h.passed ++ (xs ++ back)) more.text_is
-      ∙ (ap (λ (xs : List ℕ). h.passed ++ xs) (append_assoc more.passed rest back) ∙ sym (append_assoc h.passed more.passed (rest ++ back))));
+      ∙ (ap (λ (xs : List ℕ). h.passed ++ xs) (append_assoc more.passed rest back)
+      ∙ sym (append_assoc h.passed more.passed (rest ++ back))));
   offset_is =
       ap length (encodes-append h.passed more.passed)
-      ∙ omega (arith, length-append (encode_utf8_all h.passed) (encode_utf8_all more.passed), h.offset_is, more.offset_is);
+      ∙ omega (
+        arith,
+        length-append (encode_utf8_all h.passed) (encode_utf8_all more.passed),
+        h.offset_is,
+        more.offset_is,
+      );
   count_is = omega (arith, sum_by-append units h.passed more.passed, h.count_is, more.count_is);
 }
 
 -- If all bytes of a text are passed, no character is left.
-rest_none : (units : ℕ → ℕ) (bytes rest : List ℕ) (x y left : ℕ) → IsUtf8 bytes → HasPassed units (chars bytes) rest x y left → length bytes ≤ x → rest ≡ []
+rest_none : (units : ℕ → ℕ) (bytes rest : List ℕ) (x y left : ℕ) → IsUtf8 bytes → HasPassed units (chars bytes) rest x y
+    left → length bytes ≤ x → rest ≡ []
 rest_none units bytes [] x y left utf8 h all = refl
 rest_none units bytes (c ∷ rest) x y left utf8 h all =
     let whole : length bytes ≡ length (encode_utf8_all h.passed ++ (encode_utf8 c ++ encode_utf8_all rest)) =
@@ -62,21 +79,28 @@ rest_none units bytes (c ∷ rest) x y left utf8 h all =
       all,
     ))
 
-all_bytes : (units : ℕ → ℕ) (bytes rest : List ℕ) (x y left : ℕ) → IsUtf8 bytes → HasPassed units (chars bytes) rest x y left → rest ≡ [] → length bytes ≡ x
+all_bytes : (units : ℕ → ℕ) (bytes rest : List ℕ) (x y left : ℕ) → IsUtf8 bytes → HasPassed units (chars bytes) rest x y
+    left → rest ≡ [] → length bytes ≡ x
 all_bytes units bytes rest x y left utf8 h none =
-    ap length (sym (encodes-chars bytes utf8) ∙ ap encode_utf8_all (h.text_is ∙ (ap (λ (r : List ℕ). h.passed ++ r) none ∙ append-nil h.passed))) ∙ h.offset_is
+    ap length (sym (encodes-chars bytes utf8)
+    ∙ ap encode_utf8_all (h.text_is ∙ (ap (λ (r : List ℕ). h.passed ++ r) none ∙ append-nil h.passed))) ∙ h.offset_is
 
-too_few_more : (units : ℕ → ℕ) (rest back : List ℕ) (left : ℕ) → (rest ≡ [] → ⊥) → IsTooFew units rest left → IsTooFew units (rest ++ back) left
+too_few_more : (units : ℕ → ℕ) (rest back : List ℕ) (left : ℕ) → (rest ≡ [] → ⊥) → IsTooFew units rest left
+    → IsTooFew units (rest ++ back) left
 too_few_more units [] back left some few = absurd (some refl)
 too_few_more units (c ∷ rest) back left some few = few
 
 -- A chunk of a text, in which characters are passed.
-module _ (units : ℕ → ℕ) (text chunk : List ℕ) (offset left x y count : ℕ) (utf8 : IsUtf8 text) (at : IsCharBoundary text offset) (next : IsCharBoundary text (offset + length chunk))
-    (is : chunk ≡ take (length chunk) (drop offset text)) (h : HasPassed units (chars text) (chars (drop offset text)) offset left count) (p : IsPassed units (chars chunk) left x y) where
+module _ (units : ℕ → ℕ) (text chunk : List ℕ) (offset left x y count : ℕ) (utf8 : IsUtf8 text)
+    (at : IsCharBoundary text offset) (next : IsCharBoundary text (offset + length chunk))
+    (is : chunk ≡ take (length chunk) (drop offset text))
+    (h : HasPassed units (chars text) (chars (drop offset text)) offset left count)
+    (p : IsPassed units (chars chunk) left x y) where
   chunk_utf8 : IsUtf8 chunk
   chunk_utf8 =
       let size : offset + length chunk - offset ≡ length chunk = omega arith in
-      subst IsUtf8 (ap (λ (n : ℕ). take n (drop offset text)) size ∙ sym is) (IsUtf8-between text offset (offset + length chunk) utf8 (omega arith) at next)
+      subst IsUtf8 (ap (λ (n : ℕ). take n (drop offset text)) size ∙ sym is)
+      (IsUtf8-between text offset (offset + length chunk) utf8 (omega arith) at next)
 
   abbrev back : List ℕ
   back = chars (drop (offset + length chunk) text)
@@ -85,7 +109,8 @@ module _ (units : ℕ → ℕ) (text chunk : List ℕ) (offset left x y count : 
   parts =
       let bytes : drop offset text ≡ chunk ++ drop (offset + length chunk) text =
       sym (take-append-drop (length chunk) (drop offset text))
-      ∙ (ap (λ (bs : List ℕ). bs ++ drop (length chunk) (drop offset text)) (sym is) ∙ ap (λ (bs : List ℕ). chunk ++ bs) (drop-drop (length chunk) offset text)) in
+      ∙ (ap (λ (bs : List ℕ). bs ++ drop (length chunk) (drop offset text)) (sym is) ∙ ap (λ (bs : List ℕ). chunk ++ bs)
+      (drop-drop (length chunk) offset text)) in
       ap chars bytes ∙ chars-append chunk (drop (offset + length chunk) text) chunk_utf8
 
   done : HasPassed units (chars text) (p.rest ++ back) (offset + x) y count
@@ -101,17 +126,21 @@ module _ (units : ℕ → ℕ) (text chunk : List ℕ) (offset left x y count : 
   chunk_stops less = record {
     rest = p.rest ++ back;
     passed = done;
-    few = too_few_more units p.rest back y (λ none. absurd (omega (arith, all_bytes units chunk p.rest x y left chunk_utf8 p.passed none, less))) p.few;
+    few = too_few_more units p.rest back y
+        (λ none. absurd (omega (arith, all_bytes units chunk p.rest x y left chunk_utf8 p.passed none, less))) p.few;
   }
 
   -- Else the next chunk follows.
   pub chunk_whole : length chunk ≤ x → x ≡ length chunk
   chunk_whole all = omega (arith, all, chunk_few)
 
-  pub chunk_passed : length chunk ≤ x → HasPassed units (chars text) (chars (drop (offset + x) text)) (offset + x) y count
+  pub chunk_passed : length chunk ≤ x → HasPassed units (chars text) (chars (drop (offset + x) text)) (offset + x) y
+      count
   chunk_passed all =
-      subst (λ (n : ℕ). HasPassed units (chars text) (chars (drop (offset + n) text)) (offset + x) y count) (sym (chunk_whole all))
-      (subst (λ (rest : List ℕ). HasPassed units (chars text) (rest ++ back) (offset + x) y count) (rest_none units chunk p.rest x y left chunk_utf8 p.passed all) done)
+      subst (λ (n : ℕ). HasPassed units (chars text) (chars (drop (offset + n) text)) (offset + x) y count)
+      (sym (chunk_whole all))
+      (subst (λ (rest : List ℕ). HasPassed units (chars text) (rest ++ back) (offset + x) y count)
+      (rest_none units chunk p.rest x y left chunk_utf8 p.passed all) done)
 
   pub chunk_next : length chunk ≤ x → IsCharBoundary text (offset + x)
   chunk_next all = subst (λ (n : ℕ). IsCharBoundary text (offset + n)) (sym (chunk_whole all)) next

@@ -48,7 +48,8 @@ pub if_ok : {A E : Type 0} {P Q : A → Type 0} (r : Result A E) → ((a : A) �
 if_ok (Ok a) then p = then a p
 if_ok (Err e) then p = tt
 
-pub if_ok_on : {A E O : Type 0} {P Q : A → Type 0} (r : Result A E) → ((a : A) → P a → O → Q a) → IfOk r P → OnOk r O → IfOk r Q
+pub if_ok_on : {A E O : Type 0} {P Q : A → Type 0} (r : Result A E) → ((a : A) → P a → O → Q a) → IfOk r P → OnOk r O
+    → IfOk r Q
 if_ok_on (Ok a) then p o = then a p o
 if_ok_on (Err e) then p o = tt
 
@@ -66,78 +67,110 @@ pub record IsThere (es : List (String Global × Stored)) (index : ℕ) : Type 0 
   pub found : String Global × Stored
   pub at : slice_get es index ≡ Some found
 
-there_from : (es : List (String Global × Stored)) (index : ℕ) (entry : DocumentItem) → option_map entry_of (slice_get es index) ≡ Some entry → IsThere es index
+there_from : (es : List (String Global × Stored)) (index : ℕ) (entry : DocumentItem)
+    → option_map entry_of (slice_get es index) ≡ Some entry → IsThere es index
 there_from [] index entry at = absurd (cc)
 there_from (e ∷ es) zero entry at = record { found = e; at = refl }
-there_from (e ∷ es) (suc index) entry at = let rest = there_from es index entry at in record { found = rest.found; at = rest.at }
+there_from (e ∷ es) (suc index) entry at = let rest = there_from es index entry at in
+    record { found = rest.found; at = rest.at }
 
-pub entry_there : (es : List (String Global × Stored)) (index : ℕ) (stored : Stored) → Some stored ≡ slice_get (map (λ e. e.1) es) index → HasEntry es index stored
+pub entry_there : (es : List (String Global × Stored)) (index : ℕ) (stored : Stored) → Some stored
+    ≡ slice_get (map (λ e. e.1) es) index → HasEntry es index stored
 entry_there [] index stored found = absurd (cc)
 entry_there (e ∷ es) zero stored found = let same : stored ≡ e.1 = cc in record { key = e.0; at = rw same refl }
-entry_there (e ∷ es) (suc index) stored found = let rest = entry_there es index stored found in record { key = rest.key; at = rest.at }
+entry_there (e ∷ es) (suc index) stored found = let rest = entry_there es index stored found in
+    record { key = rest.key; at = rest.at }
 
-pub nothing_there : (es : List (String Global × Stored)) (index : ℕ) → None ≡ slice_get (map (λ e. e.1) es) index → {e : String Global × Stored} → slice_get es index ≡ Some e → ⊥
+pub nothing_there : (es : List (String Global × Stored)) (index : ℕ) → None ≡ slice_get (map (λ e. e.1) es) index
+    → {e : String Global × Stored} → slice_get es index ≡ Some e → ⊥
 nothing_there [] index none at = absurd (cc)
 nothing_there (e ∷ es) zero none at = absurd (cc)
 nothing_there (e ∷ es) (suc index) none at = nothing_there es index none at
 
-pub put_planned : (es : List (String Global × Stored)) (index : ℕ) (key : String Global) (stored new : Stored) (version : ℤ) (delta : Delta) → slice_get es index ≡ Some (key, stored)
-    → ((uri : List ℕ) → entry_under uri new ≡ planned (entry_under uri stored) version delta) → map entry_of (set_value_at es index new) ≡ planned_table (map entry_of es) index version delta
+pub put_planned : (es : List (String Global × Stored)) (index : ℕ) (key : String Global) (stored new : Stored)
+    (version : ℤ) (delta : Delta) → slice_get es index ≡ Some (key, stored)
+    → ((uri : List ℕ) → entry_under uri new ≡ planned (entry_under uri stored) version delta)
+    → map entry_of (set_value_at es index new) ≡ planned_table (map entry_of es) index version delta
 put_planned [] index key stored new version delta at is = absurd (cc)
 put_planned (e ∷ es) zero key stored new version delta at is =
-    let same : e.1 ≡ stored = ap (λ (o : Option (String Global × Stored)). elim o [ None ↦ stored | Some p ↦ p.1 ]) at in
-    ap (λ (entry : DocumentItem). entry ∷ map entry_of es) (is (string_bytes e.0) ∙ ap (λ (s : Stored). planned (entry_under (string_bytes e.0) s) version delta) (sym same))
-put_planned (e ∷ es) (suc index) key stored new version delta at is = ap (λ (table : List DocumentItem). entry_of e ∷ table) (put_planned es index key stored new version delta at is)
+    let same : e.1 ≡ stored =
+    ap (λ (o : Option (String Global × Stored)). elim o [ None ↦ stored | Some p ↦ p.1 ]) at in
+    ap (λ (entry : DocumentItem). entry ∷ map entry_of es) (is (string_bytes e.0)
+    ∙ ap (λ (s : Stored). planned (entry_under (string_bytes e.0) s) version delta) (sym same))
+put_planned (e ∷ es) (suc index) key stored new version delta at is =
+    ap (λ (table : List DocumentItem). entry_of e ∷ table) (put_planned es index key stored new version delta at is)
 
-pub put_same : (es : List (String Global × Stored)) (index : ℕ) (key : String Global) (stored : Stored) → slice_get es index ≡ Some (key, stored) → set_value_at es index stored ≡ es
+pub put_same : (es : List (String Global × Stored)) (index : ℕ) (key : String Global) (stored : Stored)
+    → slice_get es index ≡ Some (key, stored) → set_value_at es index stored ≡ es
 put_same [] index key stored at = absurd (cc)
 put_same (e ∷ es) zero key stored at =
-    let same : e.1 ≡ stored = ap (λ (o : Option (String Global × Stored)). elim o [ None ↦ stored | Some p ↦ p.1 ]) at in
+    let same : e.1 ≡ stored =
+    ap (λ (o : Option (String Global × Stored)). elim o [ None ↦ stored | Some p ↦ p.1 ]) at in
     ap (λ (s : Stored). (e.0, s) ∷ es) (sym same)
 put_same (e ∷ es) (suc index) key stored at = ap (λ rest. e ∷ rest) (put_same es index key stored at)
 
-pub put_length : (es : List (String Global × Stored)) (index : ℕ) (stored : Stored) → length (set_value_at es index stored) ≡ length es
+pub put_length : (es : List (String Global × Stored)) (index : ℕ) (stored : Stored)
+    → length (set_value_at es index stored) ≡ length es
 put_length [] index stored = refl
 put_length (e ∷ es) zero stored = refl
 put_length (e ∷ es) (suc index) stored = ap suc (put_length es index stored)
 
 -- ---- the index of a URI
 
-pub index_found : {X : Type 0} (test : X → Bool) (xs : List X) (index : ℕ) → Some index ≡ position test xs → position_or_len test xs ≡ index
+pub index_found : {X : Type 0} (test : X → Bool) (xs : List X) (index : ℕ) → Some index ≡ position test xs
+    → position_or_len test xs ≡ index
 index_found test xs index is =
     ⊎_elim
-    (λ (within : nat_lt (position_or_len test xs) (length xs) ≡ true). let same : Some index ≡ Some (position_or_len test xs) = rw within at is in cc)
-    (λ (out : nat_lt (position_or_len test xs) (length xs) ≡ false). let bad : Some index ≡ None = rw out at is in absurd (cc))
+    (λ (within : nat_lt (position_or_len test xs) (length xs) ≡ true). let same : Some index
+    ≡ Some (position_or_len test xs) = rw within at is in cc)
+    (λ (out : nat_lt (position_or_len test xs) (length xs) ≡ false). let bad : Some index ≡ None = rw out at is in
+    absurd (cc))
     (cases_Bool (nat_lt (position_or_len test xs) (length xs)))
 
-module _ (units : ℕ → ℕ) (uri : List ℕ) (version : ℤ) (batch : List Edit) (key : String Global) (stored : Stored) (delta : Delta) where
-  pub after_planned : (is : (u : List ℕ) → changed units (entry_under u stored) version batch ≡ planned (entry_under u stored) version delta) (es : List (String Global × Stored)) (index : ℕ) → position_or_len (at_uri uri) (map (λ e. e.0) es) ≡ index
-      → slice_get es index ≡ Some (key, stored) → after_change units (map entry_of es) uri version batch ≡ planned_table (map entry_of es) index version delta
+module _ (units : ℕ → ℕ) (uri : List ℕ) (version : ℤ) (batch : List Edit) (key : String Global) (stored : Stored)
+    (delta : Delta) where
+  pub after_planned : (is : (u : List ℕ) → changed units (entry_under u stored) version batch
+      ≡ planned (entry_under u stored) version delta) (es : List (String Global × Stored)) (index : ℕ)
+      → position_or_len (at_uri uri) (map (λ e. e.0) es) ≡ index
+      → slice_get es index ≡ Some (key, stored) → after_change units (map entry_of es) uri version batch
+      ≡ planned_table (map entry_of es) index version delta
   after_planned is [] index first at = refl
   after_planned is (e ∷ es) zero first at =
       ⊎_elim
       (λ (here : bytes_eq uri (string_bytes e.0) ≡ true).
-      let same : e.1 ≡ stored = ap (λ (o : Option (String Global × Stored)). elim o [ None ↦ stored | Some p ↦ p.1 ]) at in
+      let same : e.1 ≡ stored =
+      ap (λ (o : Option (String Global × Stored)). elim o [ None ↦ stored | Some p ↦ p.1 ]) at in
       rw (here, same) (ap (λ (entry : DocumentItem). entry ∷ map entry_of es) (is (string_bytes e.0))))
-      (λ (later : bytes_eq uri (string_bytes e.0) ≡ false). let bad : 1 + position_or_len (at_uri uri) (map (λ e. e.0) es) ≡ 0 = rw later at first in absurd (omega (arith, bad)))
+      (λ (later : bytes_eq uri (string_bytes e.0) ≡ false). let bad : 1 + position_or_len (at_uri uri)
+      (map (λ e. e.0) es) ≡ 0 = rw later at first in absurd (omega (arith, bad)))
       (cases_Bool (bytes_eq uri (string_bytes e.0)))
   after_planned is (e ∷ es) (suc index) first at =
       ⊎_elim
-      (λ (here : bytes_eq uri (string_bytes e.0) ≡ true). let bad : 0 ≡ suc index = rw here at first in absurd (omega (arith, bad)))
+      (λ (here : bytes_eq uri (string_bytes e.0) ≡ true). let bad : 0 ≡ suc index = rw here at first in
+      absurd (omega (arith, bad)))
       (λ (later : bytes_eq uri (string_bytes e.0) ≡ false).
       let next : 1 + position_or_len (at_uri uri) (map (λ e. e.0) es) ≡ suc index = rw later at first in
-      rw later (ap (λ (table : List DocumentItem). entry_of e ∷ table) (after_planned is es index (omega (arith, next)) at)))
+      rw later (ap (λ (table : List DocumentItem). entry_of e ∷ table)
+      (after_planned is es index (omega (arith, next)) at)))
       (cases_Bool (bytes_eq uri (string_bytes e.0)))
 
 -- ---- a plan
 
-module _ (limits : LimitsData) (es : List (String Global × Stored)) (kept : StoreData) (view : seen limits es ≡ kept) where
-  module _ (uri : List ℕ) (version given : ℤ) (given_is : given ≡ version) (encoding : Encoding) (batch : List Edit) (index : ℕ) (key : String Global) (stored : Stored) (delta : Delta) where
-    pub plan_is : Some index ≡ position (at_uri uri) (map (λ e. e.0) es) → Some key ≡ lookup_key (at_uri uri) es → Some stored ≡ lookup (at_uri uri) es → slice_get es index ≡ Some (key, stored)
-        → ((u : List ℕ) → entry_refusal limits (units_in encoding) (entry_under u stored) version batch ≡ None) → IsDeltaOf (units_in encoding) limits.max_text stored.text batch delta → limits.max_text ≤ 1073741824
+module _ (limits : LimitsData) (es : List (String Global × Stored)) (kept : StoreData)
+    (view : seen limits es ≡ kept) where
+  module _ (uri : List ℕ) (version given : ℤ) (given_is : given ≡ version) (encoding : Encoding) (batch : List Edit)
+      (index : ℕ) (key : String Global) (stored : Stored) (delta : Delta) where
+    pub plan_is : Some index ≡ position (at_uri uri) (map (λ e. e.0) es) → Some key ≡ lookup_key (at_uri uri) es
+        → Some stored ≡ lookup (at_uri uri) es → slice_get es index ≡ Some (key, stored)
+        → ((u : List ℕ) → entry_refusal limits (units_in encoding) (entry_under u stored) version batch ≡ None)
+        → IsDeltaOf (units_in encoding) limits.max_text stored.text batch delta → limits.max_text ≤ 1073741824
         → IsPlanOf kept uri version encoding batch (record { index = index; version = given; delta = delta })
     plan_is at_index at_key found at accepted made short =
-        subst (λ (d : StoreData). IsPlanOf d uri version encoding batch (record { index = index; version = given; delta = delta })) view (record {
+        subst (λ (d : StoreData). IsPlanOf d uri version encoding batch (record {
+          index = index;
+          version = given;
+          delta = delta;
+        })) view (record {
           on = record {
             entry = entry_under (string_bytes key) stored;
             at = slice_get-map entry_of es index ∙ ap (option_map entry_of) at;
@@ -151,9 +184,12 @@ module _ (limits : LimitsData) (es : List (String Global × Stored)) (kept : Sto
           after =
               rw given_is
               (after_planned (units_in encoding) uri version batch key stored delta
-              (λ u. ap (λ (text : List ℕ). record (entry_under u stored) { version = version; text = text }) (meaning_accepted limits stored.text _ _ made.is).1)
+              (λ u. ap (λ (text : List ℕ). record (entry_under u stored) { version = version; text = text })
+              (meaning_accepted limits stored.text _ _ made.is).1)
               es index (index_found (at_uri uri) (map (λ e. e.0) es) index at_index) at);
-          left = may_take (seen limits es) uri version batch (entry_under (string_bytes key) stored) there (accepted_left limits (units_in encoding) (entry_under (string_bytes key) stored) version batch (accepted (string_bytes key)));
+          left = may_take (seen limits es) uri version batch (entry_under (string_bytes key) stored) there
+              (accepted_left limits (units_in encoding) (entry_under (string_bytes key) stored) version batch
+              (accepted (string_bytes key)));
         })
       where
         there : entry_at (map entry_of es) uri ≡ Some (entry_under (string_bytes key) stored)
@@ -161,12 +197,16 @@ module _ (limits : LimitsData) (es : List (String Global × Stored)) (kept : Sto
 
   -- the entry that a plan is of
   pub plan_entry : (plan : Plan) → IsPlanOn kept plan → IsThere es plan.index
-  plan_entry plan p = there_from es plan.index p.entry (sym (slice_get-map entry_of es plan.index) ∙ (ap (λ (d : StoreData). slice_get d.table plan.index) view ∙ p.at))
+  plan_entry plan p =
+      there_from es plan.index p.entry (sym (slice_get-map entry_of es plan.index)
+      ∙ (ap (λ (d : StoreData). slice_get d.table plan.index) view ∙ p.at))
 
   -- the document that a plan is of
   module _ (plan : Plan) (p : IsPlanOn kept plan) (stored : Stored) (h : HasEntry es plan.index stored) where
     entry_is : Some (entry_under (string_bytes h.key) stored) ≡ Some p.entry
-    entry_is = ap (option_map entry_of) (sym h.at) ∙ (sym (slice_get-map entry_of es plan.index) ∙ (ap (λ (d : StoreData). slice_get d.table plan.index) view ∙ p.at))
+    entry_is = ap (option_map entry_of) (sym h.at)
+        ∙ (sym (slice_get-map entry_of es plan.index) ∙ (ap (λ (d : StoreData). slice_get d.table plan.index) view
+        ∙ p.at))
 
     pub same_entry : p.entry ≡ entry_under (string_bytes h.key) stored
     same_entry = ap (λ (o : Option DocumentItem). elim o [ None ↦ p.entry | Some e ↦ e ]) (sym entry_is)
@@ -183,17 +223,24 @@ module _ (limits : LimitsData) (es : List (String Global × Stored)) (kept : Sto
     pub plan_short : length (bytes_after stored.text plan.delta) ≤ 1073741824
     plan_short = subst (λ (e : DocumentItem). length (bytes_after e.text plan.delta) ≤ 1073741824) same_entry p.short
 
-    pub plan_applied : (new : Stored) → ((uri : List ℕ) → entry_under uri new ≡ planned (entry_under uri stored) plan.version plan.delta) → (next : List (String Global × Stored)) → next ≡ set_value_at es plan.index new → seen limits next ≡ after_plan kept plan
+    pub plan_applied : (new : Stored)
+        → ((uri : List ℕ) → entry_under uri new ≡ planned (entry_under uri stored) plan.version plan.delta)
+        → (next : List (String Global × Stored)) → next ≡ set_value_at es plan.index new → seen limits next
+        ≡ after_plan kept plan
     plan_applied new is next set =
         ap (seen limits) set
-        ∙ (ap (λ (table : List DocumentItem). record { limits = limits; table = table }) (put_planned es plan.index h.key stored new plan.version plan.delta h.at is) ∙ ap (λ (d : StoreData). after_plan d plan) view)
+        ∙ (ap (λ (table : List DocumentItem). record { limits = limits; table = table })
+        (put_planned es plan.index h.key stored new plan.version plan.delta h.at is)
+        ∙ ap (λ (d : StoreData). after_plan d plan) view)
 
-    pub plan_unchanged : (next : List (String Global × Stored)) → next ≡ set_value_at es plan.index stored → seen limits next ≡ kept
+    pub plan_unchanged : (next : List (String Global × Stored)) → next ≡ set_value_at es plan.index stored
+        → seen limits next ≡ kept
     plan_unchanged next set = ap (seen limits) (set ∙ put_same es plan.index h.key stored h.at) ∙ view
 
 -- ---- the message of a plan
 
-entry_uri : (table : List DocumentItem) (uri : List ℕ) (entry : DocumentItem) → entry_at table uri ≡ Some entry → entry.uri ≡ uri
+entry_uri : (table : List DocumentItem) (uri : List ℕ) (entry : DocumentItem) → entry_at table uri ≡ Some entry
+    → entry.uri ≡ uri
 entry_uri [] uri entry found = absurd (cc)
 entry_uri (first ∷ table) uri entry found =
     ⊎_elim
@@ -204,44 +251,61 @@ entry_uri (first ∷ table) uri entry found =
     (λ (not : bytes_eq uri first.uri ≡ false). entry_uri table uri entry (rw not at found))
     (cases_Bool (bytes_eq uri first.uri))
 
-module _ (kept : StoreData) (uri : List ℕ) (version : ℤ) (encoding : Encoding) (batch : List Edit) (plan : Plan) (q : IsPlanOf kept uri version encoding batch plan) where
-  within : IsWithin q.on.entry.text (meaning (units_in encoding) (chars q.on.entry.text) batch) (bytes_after q.on.entry.text plan.delta)
+module _ (kept : StoreData) (uri : List ℕ) (version : ℤ) (encoding : Encoding) (batch : List Edit) (plan : Plan)
+    (q : IsPlanOf kept uri version encoding batch plan) where
+  within : IsWithin q.on.entry.text (meaning (units_in encoding) (chars q.on.entry.text) batch)
+      (bytes_after q.on.entry.text plan.delta)
   within = within_told kept.limits.max_text q.on.entry.text _ _ q.delta.is
 
   module _ (text : List ℕ) (same : q.on.entry.text ≡ text) (answered : List Edit)
-      (is : (items : List Item) → meant_by text plan.delta ≡ Ok items → answered ≡ canonical (units_in (encoding_of plan.delta)) (chars text) items) where
+      (is : (items : List Item) → meant_by text plan.delta ≡ Ok items → answered
+      ≡ canonical (units_in (encoding_of plan.delta)) (chars text) items) where
     meant : meant_by text plan.delta ≡ Ok within.items
     meant = subst (λ (t : List ℕ). meant_by t plan.delta ≡ Ok within.items) same (sym q.delta.means ∙ within.means)
 
-    batch_there : canonical_batch (units_in encoding) kept.table uri batch ≡ canonical (units_in encoding) (chars q.on.entry.text) within.items
+    batch_there : canonical_batch (units_in encoding) kept.table uri batch ≡ canonical (units_in encoding)
+        (chars q.on.entry.text) within.items
     batch_there = rw (q.is_open, within.means) refl
 
     planned_is : answered ≡ canonical (units_in encoding) (chars q.on.entry.text) within.items
     planned_is =
         is within.items meant
-        ∙ (ap (λ (units : ℕ → ℕ). canonical units (chars text) within.items) q.delta.units_are ∙ ap (λ (t : List ℕ). canonical (units_in encoding) (chars t) within.items) (sym same))
+        ∙ (ap (λ (units : ℕ → ℕ). canonical units (chars text) within.items) q.delta.units_are
+        ∙ ap (λ (t : List ℕ). canonical (units_in encoding) (chars t) within.items) (sym same))
 
-    pub planned_body : (key : List ℕ) → q.on.entry.uri ≡ key → (given : ℤ) → given ≡ plan.version → change_body key given answered ≡ canonical_body (units_in encoding) kept.table uri version batch
+    pub planned_body : (key : List ℕ) → q.on.entry.uri ≡ key → (given : ℤ) → given ≡ plan.version
+        → change_body key given answered ≡ canonical_body (units_in encoding) kept.table uri version batch
     planned_body key key_is given given_is =
         ap (λ (u : List ℕ). change_body u given answered) (sym key_is ∙ entry_uri kept.table uri q.on.entry q.is_open)
-        ∙ (ap (λ (v : ℤ). change_body uri v answered) (given_is ∙ q.version_is) ∙ ap (λ (b : List Edit). change_body uri version b) (planned_is ∙ sym batch_there))
+        ∙ (ap (λ (v : ℤ). change_body uri v answered) (given_is ∙ q.version_is)
+        ∙ ap (λ (b : List Edit). change_body uri version b) (planned_is ∙ sym batch_there))
 
-  module _ (limits : LimitsData) (limits_is : limits ≡ kept.limits) (body : List ℕ) (body_is : body ≡ canonical_body (units_in encoding) kept.table uri version batch) where
-    body_refused : body_refusal limits body ≡ body_refusal kept.limits (canonical_body (units_in encoding) kept.table uri version batch)
+  module _ (limits : LimitsData) (limits_is : limits ≡ kept.limits) (body : List ℕ)
+      (body_is : body ≡ canonical_body (units_in encoding) kept.table uri version batch) where
+    body_refused : body_refusal limits body
+        ≡ body_refusal kept.limits (canonical_body (units_in encoding) kept.table uri version batch)
     body_refused = ap (λ (l : LimitsData). body_refusal l body) limits_is ∙ ap (body_refusal kept.limits) body_is
 
     message_is : message_refusal kept.limits (units_in encoding) kept.table uri version batch ≡ body_refusal limits body
     message_is =
-        ap (λ (r : Option Refusal). else_refused r (body_refusal kept.limits (canonical_body (units_in encoding) kept.table uri version batch))) q.accepted
+        ap (λ (r : Option Refusal). else_refused r
+        (body_refusal kept.limits (canonical_body (units_in encoding) kept.table uri version batch))) q.accepted
         ∙ sym body_refused
 
-    pub planned_accepted : body_refusal limits body ≡ None → message_refusal kept.limits (units_in encoding) kept.table uri version batch ≡ None
+    pub planned_accepted : body_refusal limits body ≡ None → message_refusal kept.limits (units_in encoding) kept.table
+        uri version batch ≡ None
     planned_accepted short = message_is ∙ short
 
-    pub planned_refused : (fault : StoreFault) → IsRefusal (body_refusal limits body) fault → IsRefusal (message_refusal kept.limits (units_in encoding) kept.table uri version batch) fault
+    pub planned_refused : (fault : StoreFault) → IsRefusal (body_refusal limits body) fault
+        → IsRefusal (message_refusal kept.limits (units_in encoding) kept.table uri version batch) fault
     planned_refused fault why = subst (λ (r : Option Refusal). IsRefusal r fault) (sym message_is) why
 
 -- A plan that was applied is its command.
-pub plan_takes : (kept new : StoreData) (uri : List ℕ) (version : ℤ) (encoding : Encoding) (batch : List Edit) (plan : Plan) → IsPlanOf kept uri version encoding batch plan → new ≡ after_plan kept plan → Takes kept (changes uri version encoding batch) new
+pub plan_takes : (kept new : StoreData) (uri : List ℕ) (version : ℤ) (encoding : Encoding) (batch : List Edit)
+    (plan : Plan) → IsPlanOf kept uri version encoding batch plan → new ≡ after_plan kept plan
+    → Takes kept (changes uri version encoding batch) new
 plan_takes kept new uri version encoding batch plan p is =
-    subst (λ (d : StoreData). Takes kept (changes uri version encoding batch) d) (sym is) (record { table = rw (p.accepted, p.after) refl; limits = refl })
+    subst (λ (d : StoreData). Takes kept (changes uri version encoding batch) d) (sym is) (record {
+      table = rw (p.accepted, p.after) refl;
+      limits = refl;
+    })

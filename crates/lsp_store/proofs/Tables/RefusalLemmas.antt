@@ -20,21 +20,29 @@ use Rattle.lsp_message.specs.Params.{DocumentItem}
 use Rattle.lsp_store.specs.Table.{too_many_changes, batch_bytes, greatest_batch, is_stale, entry_refusal, meaning_refusal, meant_text}
 
 -- the changes of a batch have together so many bytes
-pub batch_bytes-changes : (changes : List Change) → batch_bytes (map edit_of changes) ≡ sum_by (λ change. string_len change.text) changes
+pub batch_bytes-changes : (changes : List Change) → batch_bytes (map edit_of changes)
+    ≡ sum_by (λ change. string_len change.text) changes
 batch_bytes-changes [] = refl
 batch_bytes-changes (c ∷ cs) =
     sum_by-cons (λ (e : Edit). length (encode_utf8_all e.text)) (edit_of c) (map edit_of cs)
-    ∙ (ap (λ n. n + batch_bytes (map edit_of cs)) (ap length (encodes-chars (string_bytes c.text) (IsUtf8-string_bytes c.text)) ∙ sym c.text.bytes.ok.0)
-    ∙ (ap (λ n. string_len c.text + n) (batch_bytes-changes cs) ∙ sym (sum_by-cons (λ (c : Change). string_len c.text) c cs)))
+    ∙ (ap (λ n. n + batch_bytes (map edit_of cs))
+    (ap length (encodes-chars (string_bytes c.text) (IsUtf8-string_bytes c.text)) ∙ sym c.text.bytes.ok.0)
+    ∙ (ap (λ n. string_len c.text + n) (batch_bytes-changes cs)
+    ∙ sym (sum_by-cons (λ (c : Change). string_len c.text) c cs)))
 
-module _ (limits : LimitsData) (units : ℕ → ℕ) (entry : DocumentItem) (version : ℤ) (batch : List Edit) (newer : is_stale limits version entry.version ≡ false) where
-  pub refused_many : (nat_lt limits.max_changes (length batch) || nat_lt greatest_batch (batch_bytes batch)) ≡ true → entry_refusal limits units entry version batch ≡ Some too_many_changes
+module _ (limits : LimitsData) (units : ℕ → ℕ) (entry : DocumentItem) (version : ℤ) (batch : List Edit)
+    (newer : is_stale limits version entry.version ≡ false) where
+  pub refused_many : (nat_lt limits.max_changes (length batch) || nat_lt greatest_batch (batch_bytes batch)) ≡ true
+      → entry_refusal limits units entry version batch ≡ Some too_many_changes
   refused_many many = rw (newer, many) refl
 
-  pub refused_meaning : (nat_lt limits.max_changes (length batch) || nat_lt greatest_batch (batch_bytes batch)) ≡ false → entry_refusal limits units entry version batch ≡ meaning_refusal limits entry.text (meaning units (chars entry.text) batch)
+  pub refused_meaning : (nat_lt limits.max_changes (length batch) || nat_lt greatest_batch (batch_bytes batch)) ≡ false
+      → entry_refusal limits units entry version batch ≡ meaning_refusal limits entry.text
+      (meaning units (chars entry.text) batch)
   refused_meaning few = rw (newer, few) refl
 
-pub stale_refused : (limits : LimitsData) (units : ℕ → ℕ) (entry : DocumentItem) (version given held : ℤ) (batch : List Edit) → given ≡ version → held ≡ entry.version → is_stale limits given entry.version ≡ true
+pub stale_refused : (limits : LimitsData) (units : ℕ → ℕ) (entry : DocumentItem) (version given held : ℤ)
+    (batch : List Edit) → given ≡ version → held ≡ entry.version → is_stale limits given entry.version ≡ true
     → option_map fault_of (entry_refusal limits units entry version batch) ≡ Some (StaleVersion held)
 stale_refused limits units entry version given held batch same current stale = rw (rw same at stale, current) refl
 
@@ -45,38 +53,61 @@ too_much limits batch = nat_lt limits.max_changes (length batch) || nat_lt great
 
 module _ (limits : LimitsData) (changes : List Change) where
   many_told : limits.max_changes < length changes → too_much limits (map edit_of changes) ≡ true
-  many_told many = or_left _ _ (lt-ltb limits.max_changes (length (map edit_of changes)) (omega (arith, many, length-map changes edit_of)))
+  many_told many =
+      or_left _ _ (lt-ltb limits.max_changes (length (map edit_of changes))
+      (omega (arith, many, length-map changes edit_of)))
 
-  long_told : 1073741824 < sum_by (λ change. string_len change.text) changes → too_much limits (map edit_of changes) ≡ true
-  long_told long = or_right (nat_lt limits.max_changes (length (map edit_of changes))) _ (lt-ltb greatest_batch (batch_bytes (map edit_of changes)) (omega (arith, long, batch_bytes-changes changes)))
+  long_told : 1073741824 < sum_by (λ change. string_len change.text) changes → too_much limits (map edit_of changes)
+      ≡ true
+  long_told long = or_right (nat_lt limits.max_changes (length (map edit_of changes))) _
+      (lt-ltb greatest_batch (batch_bytes (map edit_of changes)) (omega (arith, long, batch_bytes-changes changes)))
 
-  fit_told : length changes ≤ limits.max_changes → sum_by (λ change. string_len change.text) changes ≤ 1073741824 → too_much limits (map edit_of changes) ≡ false
+  fit_told : length changes ≤ limits.max_changes → sum_by (λ change. string_len change.text) changes ≤ 1073741824
+      → too_much limits (map edit_of changes) ≡ false
   fit_told few fits =
-      or_from _ _ (le-ltb limits.max_changes (length (map edit_of changes)) (omega (arith, few, length-map changes edit_of)))
+      or_from _ _ (le-ltb limits.max_changes (length (map edit_of changes))
+      (omega (arith, few, length-map changes edit_of)))
       (le-ltb greatest_batch (batch_bytes (map edit_of changes)) (omega (arith, fits, batch_bytes-changes changes)))
 
-  module _ (units : ℕ → ℕ) (entry : DocumentItem) (version given stored : ℤ) (given_is : given ≡ version) (held_is : stored ≡ entry.version) (newer : is_stale limits given stored ≡ false) where
-    pub many_refused : limits.max_changes < length changes → option_map fault_of (entry_refusal limits units entry version (map edit_of changes)) ≡ Some TooManyChanges
-    many_refused many = ap (option_map fault_of) (refused_many limits units entry version (map edit_of changes) (rw (given_is, held_is) at newer) (many_told many))
+  module _ (units : ℕ → ℕ) (entry : DocumentItem) (version given stored : ℤ) (given_is : given ≡ version)
+      (held_is : stored ≡ entry.version) (newer : is_stale limits given stored ≡ false) where
+    pub many_refused : limits.max_changes < length changes
+        → option_map fault_of (entry_refusal limits units entry version (map edit_of changes)) ≡ Some TooManyChanges
+    many_refused many =
+        ap (option_map fault_of) (refused_many limits units entry version (map edit_of changes)
+        (rw (given_is, held_is) at newer) (many_told many))
 
-    over : (fits : Bool) → (IsTrue fits ↔ (sum_by (λ change. string_len change.text) changes ≤ 1073741824)) → fits ≡ false → 1073741824 < sum_by (λ change. string_len change.text) changes
+    over : (fits : Bool) → (IsTrue fits ↔ (sum_by (λ change. string_len change.text) changes ≤ 1073741824))
+        → fits ≡ false → 1073741824 < sum_by (λ change. string_len change.text) changes
     over fits is not =
         ⊎_elim (λ (above : 1073741824 < sum_by (λ change. string_len change.text) changes). above)
-        (λ (within : sum_by (λ change. string_len change.text) changes ≤ 1073741824). absurd (true≢false (sym (is.1 within) ∙ not)))
+        (λ (within : sum_by (λ change. string_len change.text) changes ≤ 1073741824). absurd
+        (true≢false (sym (is.1 within) ∙ not)))
         (cases_lt 1073741824 (sum_by (λ change. string_len change.text) changes))
 
-    pub long_refused : (fits : Bool) → (IsTrue fits ↔ (sum_by (λ change. string_len change.text) changes ≤ 1073741824)) → fits ≡ false → option_map fault_of (entry_refusal limits units entry version (map edit_of changes)) ≡ Some TooManyChanges
-    long_refused fits is not = ap (option_map fault_of) (refused_many limits units entry version (map edit_of changes) (rw (given_is, held_is) at newer) (long_told (over fits is not)))
+    pub long_refused : (fits : Bool) → (IsTrue fits ↔ (sum_by (λ change. string_len change.text) changes ≤ 1073741824))
+        → fits ≡ false → option_map fault_of (entry_refusal limits units entry version (map edit_of changes))
+        ≡ Some TooManyChanges
+    long_refused fits is not =
+        ap (option_map fault_of) (refused_many limits units entry version (map edit_of changes)
+        (rw (given_is, held_is) at newer) (long_told (over fits is not)))
 
-    pub fit_accepted : length changes ≤ limits.max_changes → sum_by (λ change. string_len change.text) changes ≤ 1073741824
-        → entry_refusal limits units entry version (map edit_of changes) ≡ meaning_refusal limits entry.text (meaning units (chars entry.text) (map edit_of changes))
-    fit_accepted few fits = refused_meaning limits units entry version (map edit_of changes) (rw (given_is, held_is) at newer) (fit_told few fits)
+    pub fit_accepted : length changes ≤ limits.max_changes → sum_by (λ change. string_len change.text) changes
+        ≤ 1073741824
+        → entry_refusal limits units entry version (map edit_of changes) ≡ meaning_refusal limits entry.text
+        (meaning units (chars entry.text) (map edit_of changes))
+    fit_accepted few fits = refused_meaning limits units entry version (map edit_of changes)
+        (rw (given_is, held_is) at newer) (fit_told few fits)
 
 -- ---- what a batch means on a text, within the limit
 
 module _ (limits : LimitsData) (before : List ℕ) where
-  pub meaning_accepted : (meant : Result (List Item) (ℕ × Fault)) (bytes : List ℕ) → text_within limits.max_text before meant ≡ Ok bytes → (meaning_refusal limits before meant ≡ None) × (meant_text before meant ≡ bytes)
-  meaning_accepted (Err fault) bytes is = let bad : ◌≡◌ {A = Result (List ℕ) TextFault} (Err (text.Edit (fault_at fault.0 fault.1))) (Ok bytes) = is in absurd (cc)
+  pub meaning_accepted : (meant : Result (List Item) (ℕ × Fault)) (bytes : List ℕ)
+      → text_within limits.max_text before meant ≡ Ok bytes → (meaning_refusal limits before meant ≡ None)
+      × (meant_text before meant ≡ bytes)
+  meaning_accepted (Err fault) bytes is =
+      let bad : ◌≡◌ {A = Result (List ℕ) TextFault} (Err (text.Edit (fault_at fault.0 fault.1))) (Ok bytes) = is in
+      absurd (cc)
   meaning_accepted (Ok items) bytes is =
       ⊎_elim
       (λ (above : nat_lt limits.max_text (length (bytes_left before items)) ≡ true).
@@ -86,8 +117,11 @@ module _ (limits : LimitsData) (before : List ℕ) where
       (rw within refl, cc))
       (cases_Bool (nat_lt limits.max_text (length (bytes_left before items))))
 
-  pub meaning_short : (meant : Result (List Item) (ℕ × Fault)) (bytes : List ℕ) → text_within limits.max_text before meant ≡ Ok bytes → length bytes ≤ limits.max_text
-  meaning_short (Err fault) bytes is = let bad : ◌≡◌ {A = Result (List ℕ) TextFault} (Err (text.Edit (fault_at fault.0 fault.1))) (Ok bytes) = is in absurd (cc)
+  pub meaning_short : (meant : Result (List Item) (ℕ × Fault)) (bytes : List ℕ)
+      → text_within limits.max_text before meant ≡ Ok bytes → length bytes ≤ limits.max_text
+  meaning_short (Err fault) bytes is =
+      let bad : ◌≡◌ {A = Result (List ℕ) TextFault} (Err (text.Edit (fault_at fault.0 fault.1))) (Ok bytes) = is in
+      absurd (cc)
   meaning_short (Ok items) bytes is =
       ⊎_elim
       (λ (above : nat_lt limits.max_text (length (bytes_left before items)) ≡ true).
@@ -98,7 +132,9 @@ module _ (limits : LimitsData) (before : List ℕ) where
       omega (arith, ltb-false limits.max_text (length (bytes_left before items)) within, ap length bytes_are))
       (cases_Bool (nat_lt limits.max_text (length (bytes_left before items))))
 
-  pub meaning_told : (meant : Result (List Item) (ℕ × Fault)) (fault : TextFault) → text_within limits.max_text before meant ≡ Err fault → option_map fault_of (meaning_refusal limits before meant) ≡ Some (store_fault_of fault)
+  pub meaning_told : (meant : Result (List Item) (ℕ × Fault)) (fault : TextFault)
+      → text_within limits.max_text before meant ≡ Err fault → option_map fault_of (meaning_refusal limits before meant)
+      ≡ Some (store_fault_of fault)
   meaning_told (Err cause) fault is =
       let same : ◌≡◌ {A = Result (List ℕ) TextFault} (Err (text.Edit (fault_at cause.0 cause.1))) (Err fault) = is in
       let error : text.Edit (fault_at cause.0 cause.1) ≡ fault = cc in
@@ -110,21 +146,28 @@ module _ (limits : LimitsData) (before : List ℕ) where
       let error : text.TooLong ≡ fault = cc in
       rw above (ap (λ (f : TextFault). Some (store_fault_of f)) error))
       (λ (within : nat_lt limits.max_text (length (bytes_left before items)) ≡ false).
-      let bad : ◌≡◌ {A = Result (List ℕ) TextFault} (Ok (bytes_left before items)) (Err fault) = rw within at is in absurd (cc))
+      let bad : ◌≡◌ {A = Result (List ℕ) TextFault} (Ok (bytes_left before items)) (Err fault) = rw within at is in
+      absurd (cc))
       (cases_Bool (nat_lt limits.max_text (length (bytes_left before items))))
 
-  pub text_told : (meant : Result (List Item) (ℕ × Fault)) (fault : TextFault) → (fault ≡ text.NoMemory) ⊎ (text_within limits.max_text before meant ≡ Err fault) → IsRefusal (meaning_refusal limits before meant) (store_fault_of fault)
+  pub text_told : (meant : Result (List Item) (ℕ × Fault)) (fault : TextFault) → (fault ≡ text.NoMemory)
+      ⊎ (text_within limits.max_text before meant ≡ Err fault) → IsRefusal (meaning_refusal limits before meant)
+      (store_fault_of fault)
   text_told meant fault error =
-      ⊎_elim (λ (e : fault ≡ text.NoMemory). inl (ap store_fault_of e)) (λ (e : text_within limits.max_text before meant ≡ Err fault). inr (meaning_told meant fault e)) error
+      ⊎_elim (λ (e : fault ≡ text.NoMemory). inl (ap store_fault_of e))
+      (λ (e : text_within limits.max_text before meant ≡ Err fault). inr (meaning_told meant fault e)) error
 
   -- A batch that is accepted is refused only where memory runs out.
-  pub only_memory : (meant : Result (List Item) (ℕ × Fault)) (items : List Item) → meant ≡ Ok items → length (bytes_left before items) ≤ limits.max_text → (fault : TextFault)
+  pub only_memory : (meant : Result (List Item) (ℕ × Fault)) (items : List Item) → meant ≡ Ok items
+      → length (bytes_left before items) ≤ limits.max_text → (fault : TextFault)
       → (fault ≡ text.NoMemory) ⊎ (text_within limits.max_text before meant ≡ Err fault) → fault ≡ text.NoMemory
   only_memory meant items is within fault error =
       ⊎_elim (λ (e : fault ≡ text.NoMemory). e)
       (λ (e : text_within limits.max_text before meant ≡ Err fault).
-      let bad : ◌≡◌ {A = Result (List ℕ) TextFault} (Ok (bytes_left before items)) (Err fault) = rw (is, le-ltb limits.max_text (length (bytes_left before items)) within) at e in absurd (cc))
+      let bad : ◌≡◌ {A = Result (List ℕ) TextFault} (Ok (bytes_left before items)) (Err fault) =
+      rw (is, le-ltb limits.max_text (length (bytes_left before items)) within) at e in absurd (cc))
       error
 
-  pub meant_within : (meant : Result (List Item) (ℕ × Fault)) (items : List Item) → meant ≡ Ok items → length (bytes_left before items) ≤ limits.max_text → meaning_refusal limits before meant ≡ None
+  pub meant_within : (meant : Result (List Item) (ℕ × Fault)) (items : List Item) → meant ≡ Ok items
+      → length (bytes_left before items) ≤ limits.max_text → meaning_refusal limits before meant ≡ None
   meant_within meant items is within = rw (is, le-ltb limits.max_text (length (bytes_left before items)) within) refl

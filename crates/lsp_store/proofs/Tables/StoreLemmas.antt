@@ -25,54 +25,84 @@ seen limits es = record { limits = limits; table = map entry_of es }
 -- ---- whether a document may be opened
 
 module _ (limits : LimitsData) (table : List DocumentItem) (entry : DocumentItem) where
-  pub taken_refused : is_taken limits table entry.uri ≡ true → option_map fault_of (open_refusal limits table entry) ≡ Some AlreadyOpen
+  pub taken_refused : is_taken limits table entry.uri ≡ true → option_map fault_of (open_refusal limits table entry)
+      ≡ Some AlreadyOpen
   taken_refused taken = rw taken refl
 
   module _ (free : is_taken limits table entry.uri ≡ false) where
-    pub many_refused : limits.max_docs ≤ length (after_close table entry.uri) → option_map fault_of (open_refusal limits table entry) ≡ Some TooManyDocuments
+    pub many_refused : limits.max_docs ≤ length (after_close table entry.uri)
+        → option_map fault_of (open_refusal limits table entry) ≡ Some TooManyDocuments
     many_refused many = rw (free, le-leb limits.max_docs (length (after_close table entry.uri)) many) refl
 
     module _ (few : length (after_close table entry.uri) < limits.max_docs) where
-      pub long_refused : limits.max_text < length entry.text → option_map fault_of (open_refusal limits table entry) ≡ Some TextTooLong
-      long_refused long = rw (free, lt-leb limits.max_docs (length (after_close table entry.uri)) few, lt-ltb limits.max_text (length entry.text) long) refl
+      pub long_refused : limits.max_text < length entry.text → option_map fault_of (open_refusal limits table entry)
+          ≡ Some TextTooLong
+      long_refused long = rw (
+        free,
+        lt-leb limits.max_docs (length (after_close table entry.uri)) few,
+        lt-ltb limits.max_text (length entry.text) long,
+      ) refl
 
       pub open_accepted : length entry.text ≤ limits.max_text → open_refusal limits table entry ≡ None
-      open_accepted short = rw (free, lt-leb limits.max_docs (length (after_close table entry.uri)) few, le-ltb limits.max_text (length entry.text) short) refl
+      open_accepted short = rw (
+        free,
+        lt-leb limits.max_docs (length (after_close table entry.uri)) few,
+        le-ltb limits.max_text (length entry.text) short,
+      ) refl
 
-module _ (limits : LimitsData) (es : List (String Global × Stored)) (kept : StoreData) (view : seen limits es ≡ kept) where
+module _ (limits : LimitsData) (es : List (String Global × Stored)) (kept : StoreData)
+    (view : seen limits es ≡ kept) where
   -- ---- looking a document up
 
-  pub get_found : (uri : List ℕ) (key : String Global) (stored : Stored) → Some key ≡ lookup_key (at_uri uri) es → Some stored ≡ lookup (at_uri uri) es → Some (entry_under (string_bytes key) stored) ≡ entry_at kept.table uri
-  get_found uri key stored at found = entry_found uri es key stored at found ∙ ap (λ (d : StoreData). entry_at d.table uri) view
+  pub get_found : (uri : List ℕ) (key : String Global) (stored : Stored) → Some key ≡ lookup_key (at_uri uri) es
+      → Some stored ≡ lookup (at_uri uri) es → Some (entry_under (string_bytes key) stored) ≡ entry_at kept.table uri
+  get_found uri key stored at found = entry_found uri es key stored at found
+      ∙ ap (λ (d : StoreData). entry_at d.table uri) view
 
   pub get_none : (uri : List ℕ) → None ≡ lookup (at_uri uri) es → None ≡ entry_at kept.table uri
-  get_none uri absent = ap (option_map (entry_under uri)) absent ∙ (sym (entry_at-lookup uri es) ∙ ap (λ (d : StoreData). entry_at d.table uri) view)
+  get_none uri absent = ap (option_map (entry_under uri)) absent
+      ∙ (sym (entry_at-lookup uri es) ∙ ap (λ (d : StoreData). entry_at d.table uri) view)
 
-  pub at_found : (index : ℕ) (found : Option (String Global × Stored)) → found ≡ slice_get es index → option_map entry_of found ≡ slice_get kept.table index
-  at_found index found is = ap (option_map entry_of) is ∙ (sym (slice_get-map entry_of es index) ∙ ap (λ (d : StoreData). slice_get d.table index) view)
+  pub at_found : (index : ℕ) (found : Option (String Global × Stored)) → found ≡ slice_get es index
+      → option_map entry_of found ≡ slice_get kept.table index
+  at_found index found is =
+      ap (option_map entry_of) is
+      ∙ (sym (slice_get-map entry_of es index) ∙ ap (λ (d : StoreData). slice_get d.table index) view)
 
   -- ---- opening
 
-  taken_is : (uri : List ℕ) → (not limits.lenient && is_some (lookup (at_uri uri) es)) ≡ is_taken kept.limits kept.table uri
-  taken_is uri = ap (λ (found : Bool). not limits.lenient && found) (sym (is_some-entry_at uri es)) ∙ ap (λ (d : StoreData). is_taken d.limits d.table uri) view
+  taken_is : (uri : List ℕ) → (not limits.lenient && is_some (lookup (at_uri uri) es)) ≡ is_taken kept.limits kept.table
+      uri
+  taken_is uri = ap (λ (found : Bool). not limits.lenient && found) (sym (is_some-entry_at uri es))
+      ∙ ap (λ (d : StoreData). is_taken d.limits d.table uri) view
 
-  pub taken_strict : (uri : List ℕ) → limits.lenient ≡ false → is_some (lookup (at_uri uri) es) ≡ is_taken kept.limits kept.table uri
-  taken_strict uri strict = ap (λ (lenient : Bool). not lenient && is_some (lookup (at_uri uri) es)) (sym strict) ∙ taken_is uri
+  pub taken_strict : (uri : List ℕ) → limits.lenient ≡ false → is_some (lookup (at_uri uri) es)
+      ≡ is_taken kept.limits kept.table uri
+  taken_strict uri strict = ap (λ (lenient : Bool). not lenient && is_some (lookup (at_uri uri) es)) (sym strict)
+      ∙ taken_is uri
 
   pub taken_never : (uri : List ℕ) → limits.lenient ≡ true → false ≡ is_taken kept.limits kept.table uri
-  taken_never uri lenient = ap (λ (lenient : Bool). not lenient && is_some (lookup (at_uri uri) es)) (sym lenient) ∙ taken_is uri
+  taken_never uri lenient = ap (λ (lenient : Bool). not lenient && is_some (lookup (at_uri uri) es)) (sym lenient)
+      ∙ taken_is uri
 
-  others_seen : (uri : List ℕ) (count : ℕ) → length (after_close (map entry_of es) uri) ≡ count → length (after_close kept.table uri) ≡ count
+  others_seen : (uri : List ℕ) (count : ℕ) → length (after_close (map entry_of es) uri) ≡ count
+      → length (after_close kept.table uri) ≡ count
   others_seen uri count is = sym (ap (λ (d : StoreData). length (after_close d.table uri)) view) ∙ is
 
-  pub others_new : (uri : List ℕ) → is_some (lookup (at_uri uri) es) ≡ false → length (after_close kept.table uri) ≡ length es
-  others_new uri new = others_seen uri (length es) (ap length (others_all (map entry_of es) uri (is_some-entry_at uri es ∙ new)) ∙ length-map es entry_of)
+  pub others_new : (uri : List ℕ) → is_some (lookup (at_uri uri) es) ≡ false → length (after_close kept.table uri)
+      ≡ length es
+  others_new uri new =
+      others_seen uri (length es) (ap length (others_all (map entry_of es) uri (is_some-entry_at uri es ∙ new))
+      ∙ length-map es entry_of)
 
-  pub others_open : (uri : List ℕ) → is_some (lookup (at_uri uri) es) ≡ true → length (after_close kept.table uri) + 1 ≡ length es
+  pub others_open : (uri : List ℕ) → is_some (lookup (at_uri uri) es) ≡ true → length (after_close kept.table uri) + 1
+      ≡ length es
   others_open uri is =
-      ap (λ n. n + 1) (others_seen uri (length (after_close (map entry_of es) uri)) refl) ∙ (others_but_one (map entry_of es) uri (is_some-entry_at uri es ∙ is) ∙ length-map es entry_of)
+      ap (λ n. n + 1) (others_seen uri (length (after_close (map entry_of es) uri)) refl)
+      ∙ (others_but_one (map entry_of es) uri (is_some-entry_at uri es ∙ is) ∙ length-map es entry_of)
 
-  module _ (uri : String Global) (stored : Stored) (entry : DocumentItem) (is : entry_under (string_bytes uri) stored ≡ entry) (next : List (String Global × Stored))
+  module _ (uri : String Global) (stored : Stored) (entry : DocumentItem) (is : entry_under (string_bytes uri) stored
+      ≡ entry) (next : List (String Global × Stored))
       (next_is : next ≡ remove_entry (at_uri (string_bytes uri)) es ++ (uri, stored) ∷ []) where
     opened_table : map entry_of next ≡ after_open (map entry_of es) entry
     opened_table = ap (map entry_of) next_is ∙ (table-opened es uri stored ∙ ap (after_open (map entry_of es)) is)
@@ -81,7 +111,8 @@ module _ (limits : LimitsData) (es : List (String Global × Stored)) (kept : Sto
     opened may =
         subst (λ (d : StoreData). Takes d (opens entry) (seen limits next)) view (record {
           table =
-              ap (λ (r : Option Refusal). unless_refused r (after_open (map entry_of es) entry)) (ap (λ (d : StoreData). open_refusal d.limits d.table entry) view ∙ may)
+              ap (λ (r : Option Refusal). unless_refused r (after_open (map entry_of es) entry))
+              (ap (λ (d : StoreData). open_refusal d.limits d.table entry) view ∙ may)
               ∙ ap Ok (sym opened_table);
           limits = refl;
         })
@@ -90,7 +121,13 @@ module _ (limits : LimitsData) (es : List (String Global × Stored)) (kept : Sto
     opened_few few =
         let here : length (after_close (map entry_of es) entry.uri) < limits.max_docs
         = subst (λ (d : StoreData). length (after_close d.table entry.uri) < d.limits.max_docs) (sym view) few in
-        omega (arith, here, sym (length-map next entry_of), ap length opened_table, length-append (after_close (map entry_of es) entry.uri) (entry ∷ []))
+        omega (
+          arith,
+          here,
+          sym (length-map next entry_of),
+          ap length opened_table,
+          length-append (after_close (map entry_of es) entry.uri) (entry ∷ []),
+        )
 
   -- ---- changing
 
@@ -102,27 +139,41 @@ module _ (limits : LimitsData) (es : List (String Global × Stored)) (kept : Sto
       found_at : entry_at (map entry_of es) uri ≡ Some (entry_under uri stored)
       found_at = entry_at-lookup uri es ∙ ap (option_map (entry_under uri)) (sym found)
 
-      refusal_is : change_refusal limits (units_in encoding) (map entry_of es) uri version batch ≡ entry_refusal limits (units_in encoding) (entry_under uri stored) version batch
+      refusal_is : change_refusal limits (units_in encoding) (map entry_of es) uri version batch
+          ≡ entry_refusal limits (units_in encoding) (entry_under uri stored) version batch
       refusal_is = rw found_at refl
 
-      pub change_refused : (fault : StoreFault) → IsRefusal (entry_refusal limits (units_in encoding) (entry_under uri stored) version batch) fault → IsRefused kept (changes uri version encoding batch) fault
-      change_refused fault error = subst (λ (d : StoreData). IsRefused d (changes uri version encoding batch) fault) view (rw refusal_is error)
+      pub change_refused : (fault : StoreFault)
+          → IsRefusal (entry_refusal limits (units_in encoding) (entry_under uri stored) version batch) fault
+          → IsRefused kept (changes uri version encoding batch) fault
+      change_refused fault error = subst (λ (d : StoreData). IsRefused d (changes uri version encoding batch) fault)
+          view (rw refusal_is error)
 
-      pub change_same : (next : List (String Global × Stored)) → next ≡ set_value (at_uri uri) es stored → seen limits next ≡ kept
+      pub change_same : (next : List (String Global × Stored)) → next ≡ set_value (at_uri uri) es stored
+          → seen limits next ≡ kept
       change_same next is = ap (seen limits) (is ∙ set_value-found (at_uri uri) es stored found) ∙ view
 
-      pub change_taken : (new : Stored) → entry_refusal limits (units_in encoding) (entry_under uri stored) version batch ≡ None → entry_under uri new ≡ changed (units_in encoding) (entry_under uri stored) version batch
-          → (next : List (String Global × Stored)) → next ≡ set_value (at_uri uri) es new → Takes kept (changes uri version encoding batch) (seen limits next)
+      pub change_taken : (new : Stored) → entry_refusal limits (units_in encoding) (entry_under uri stored) version
+          batch ≡ None → entry_under uri new ≡ changed (units_in encoding) (entry_under uri stored) version batch
+          → (next : List (String Global × Stored)) → next ≡ set_value (at_uri uri) es new
+          → Takes kept (changes uri version encoding batch) (seen limits next)
       change_taken new may is next set =
           subst (λ (d : StoreData). Takes d (changes uri version encoding batch) (seen limits next)) view (record {
-            table = rw (refusal_is, may, set, table-set_value (units_in encoding) uri version batch es stored new found is) refl;
+            table = rw (
+              refusal_is,
+              may,
+              set,
+              table-set_value (units_in encoding) uri version batch es stored new found is,
+            ) refl;
             limits = refl;
           })
 
   -- ---- the document that was found
 
-  pub held_at : (uri : List ℕ) (stored : Stored) → Some stored ≡ lookup (at_uri uri) es → entry_at kept.table uri ≡ Some (entry_under uri stored)
-  held_at uri stored found = sym (ap (λ (d : StoreData). entry_at d.table uri) view) ∙ (entry_at-lookup uri es ∙ ap (option_map (entry_under uri)) (sym found))
+  pub held_at : (uri : List ℕ) (stored : Stored) → Some stored ≡ lookup (at_uri uri) es → entry_at kept.table uri
+      ≡ Some (entry_under uri stored)
+  held_at uri stored found = sym (ap (λ (d : StoreData). entry_at d.table uri) view)
+      ∙ (entry_at-lookup uri es ∙ ap (option_map (entry_under uri)) (sym found))
 
   pub limits_are : limits ≡ kept.limits
   limits_are = ap (λ (d : StoreData). d.limits) view
@@ -132,7 +183,9 @@ module _ (limits : LimitsData) (es : List (String Global × Stored)) (kept : Sto
   pub close_absent : (uri : List ℕ) → None ≡ lookup (at_uri uri) es → IsRefused kept (closes uri) NotOpen
   close_absent uri absent = inr (rw (← get_none uri absent) refl)
 
-  pub closed : (uri : List ℕ) (stored : Stored) → Some stored ≡ lookup (at_uri uri) es → (next : List (String Global × Stored)) → next ≡ remove_entry (at_uri uri) es → Takes kept (closes uri) (seen limits next)
+  pub closed : (uri : List ℕ) (stored : Stored) → Some stored ≡ lookup (at_uri uri) es
+      → (next : List (String Global × Stored)) → next ≡ remove_entry (at_uri uri) es
+      → Takes kept (closes uri) (seen limits next)
   closed uri stored found next is =
       subst (λ (d : StoreData). Takes d (closes uri) (seen limits next)) view (record {
         table = rw (entry_at-lookup uri es, ← found, is, table-remove_entry uri es) refl;
@@ -140,6 +193,7 @@ module _ (limits : LimitsData) (es : List (String Global × Stored)) (kept : Sto
       })
 
 -- An open document, on which nothing but its meaning refuses a batch.
-pub may_take : (kept : StoreData) (uri : List ℕ) (version : ℤ) (batch : List Edit) (entry : DocumentItem) → entry_at kept.table uri ≡ Some entry
+pub may_take : (kept : StoreData) (uri : List ℕ) (version : ℤ) (batch : List Edit) (entry : DocumentItem)
+    → entry_at kept.table uri ≡ Some entry
     → IsLeftToMeaning kept.limits entry version batch → MayTakeMemory kept uri version batch
 may_take kept uri version batch entry is_open left = rw is_open left

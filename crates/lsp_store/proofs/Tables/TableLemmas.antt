@@ -16,13 +16,17 @@ abbrev pub at_uri : List ℕ → String Global → Bool
 at_uri uri key = bytes_eq uri (string_bytes key)
 
 -- a document is open where the map has its URI
-pub entry_at-lookup : (uri : List ℕ) (es : List (String Global × Stored)) → entry_at (map entry_of es) uri ≡ option_map (entry_under uri) (lookup (at_uri uri) es)
+pub entry_at-lookup : (uri : List ℕ) (es : List (String Global × Stored)) → entry_at (map entry_of es) uri
+    ≡ option_map (entry_under uri) (lookup (at_uri uri) es)
 entry_at-lookup uri [] = refl
 entry_at-lookup uri (e ∷ es) =
-    ⊎_elim (λ (is : bytes_eq uri (string_bytes e.0) ≡ true). rw is (ap (λ bytes. Some (entry_under bytes e.1)) (sym ((bytes_eq-Decides uri (string_bytes e.0)).0 is))))
-    (λ (not : bytes_eq uri (string_bytes e.0) ≡ false). rw not (entry_at-lookup uri es)) (cases_Bool (bytes_eq uri (string_bytes e.0)))
+    ⊎_elim (λ (is : bytes_eq uri (string_bytes e.0) ≡ true). rw is
+    (ap (λ bytes. Some (entry_under bytes e.1)) (sym ((bytes_eq-Decides uri (string_bytes e.0)).0 is))))
+    (λ (not : bytes_eq uri (string_bytes e.0) ≡ false). rw not (entry_at-lookup uri es))
+    (cases_Bool (bytes_eq uri (string_bytes e.0)))
 
-pub is_some-entry_at : (uri : List ℕ) (es : List (String Global × Stored)) → is_some (entry_at (map entry_of es) uri) ≡ is_some (lookup (at_uri uri) es)
+pub is_some-entry_at : (uri : List ℕ) (es : List (String Global × Stored)) → is_some (entry_at (map entry_of es) uri)
+    ≡ is_some (lookup (at_uri uri) es)
 is_some-entry_at uri es = ap is_some (entry_at-lookup uri es) ∙ by (lookup (at_uri uri) es)
   where
     by : (found : Option Stored) → is_some (option_map (entry_under uri) found) ≡ is_some found
@@ -30,7 +34,8 @@ is_some-entry_at uri es = ap is_some (entry_at-lookup uri es) ∙ by (lookup (at
     by (Some e) = refl
 
 -- the document of the key that was found, and of what was found there
-pub entry_found : (uri : List ℕ) (es : List (String Global × Stored)) (key : String Global) (stored : Stored) → Some key ≡ lookup_key (at_uri uri) es → Some stored ≡ lookup (at_uri uri) es
+pub entry_found : (uri : List ℕ) (es : List (String Global × Stored)) (key : String Global) (stored : Stored) → Some key
+    ≡ lookup_key (at_uri uri) es → Some stored ≡ lookup (at_uri uri) es
     → Some (entry_under (string_bytes key) stored) ≡ entry_at (map entry_of es) uri
 entry_found uri [] key stored at found = absurd (cc)
 entry_found uri (e ∷ es) key stored at found =
@@ -39,11 +44,14 @@ entry_found uri (e ∷ es) key stored at found =
     let same_key : key ≡ e.0 = (let f : Some key ≡ Some e.0 = rw is at at in cc) in
     let same : stored ≡ e.1 = (let f : Some stored ≡ Some e.1 = rw is at found in cc) in
     rw (is, same_key, same) refl)
-    (λ (not : bytes_eq uri (string_bytes e.0) ≡ false). rw not (entry_found uri es key stored (rw not at at) (rw not at found))) (cases_Bool (bytes_eq uri (string_bytes e.0)))
+    (λ (not : bytes_eq uri (string_bytes e.0) ≡ false). rw not
+    (entry_found uri es key stored (rw not at at) (rw not at found))) (cases_Bool (bytes_eq uri (string_bytes e.0)))
 
 -- what is put at a URI is the changed document, which keeps its place
-pub table-set_value : (units : ℕ → ℕ) (uri : List ℕ) (version : ℤ) (batch : List Edit) (es : List (String Global × Stored)) (stored next : Stored) → Some stored ≡ lookup (at_uri uri) es
-    → entry_under uri next ≡ changed units (entry_under uri stored) version batch → map entry_of (set_value (at_uri uri) es next) ≡ after_change units (map entry_of es) uri version batch
+pub table-set_value : (units : ℕ → ℕ) (uri : List ℕ) (version : ℤ) (batch : List Edit)
+    (es : List (String Global × Stored)) (stored next : Stored) → Some stored ≡ lookup (at_uri uri) es
+    → entry_under uri next ≡ changed units (entry_under uri stored) version batch
+    → map entry_of (set_value (at_uri uri) es next) ≡ after_change units (map entry_of es) uri version batch
 table-set_value units uri version batch [] stored next found is = refl
 table-set_value units uri version batch (first ∷ es) stored next found is =
     ⊎_elim
@@ -51,47 +59,62 @@ table-set_value units uri version batch (first ∷ es) stored next found is =
     let same : stored ≡ first.1 = (let f : Some stored ≡ Some first.1 = rw at at found in cc) in
     let key : uri ≡ string_bytes first.0 = (bytes_eq-Decides uri (string_bytes first.0)).0 at in
     rw (at, ← key, ← same, is) refl)
-    (λ (not : bytes_eq uri (string_bytes first.0) ≡ false). rw not (ap (λ (table : List DocumentItem). entry_of first ∷ table) (table-set_value units uri version batch es stored next (rw not at found) is)))
+    (λ (not : bytes_eq uri (string_bytes first.0) ≡ false). rw not
+    (ap (λ (table : List DocumentItem). entry_of first ∷ table) (table-set_value units uri version batch es stored next
+    (rw not at found) is)))
     (cases_Bool (bytes_eq uri (string_bytes first.0)))
 
 -- putting back what is there changes nothing
-pub set_value-found : {K X : Type 0} (test : K → Bool) (es : List (K × X)) (x : X) → Some x ≡ lookup test es → set_value test es x ≡ es
+pub set_value-found : {K X : Type 0} (test : K → Bool) (es : List (K × X)) (x : X) → Some x ≡ lookup test es
+    → set_value test es x ≡ es
 set_value-found test [] x h = refl
 set_value-found test (e ∷ es) x h =
-    ⊎_elim (λ (is : test e.0 ≡ true). let same : x ≡ e.1 = (let f : Some x ≡ Some e.1 = rw is at h in cc) in rw (is, same) refl)
-    (λ (not : test e.0 ≡ false). rw not (ap (λ rest. e ∷ rest) (set_value-found test es x (rw not at h)))) (cases_Bool (test e.0))
+    ⊎_elim (λ (is : test e.0 ≡ true). let same : x ≡ e.1 = (let f : Some x ≡ Some e.1 = rw is at h in cc) in
+    rw (is, same) refl)
+    (λ (not : test e.0 ≡ false). rw not (ap (λ rest. e ∷ rest) (set_value-found test es x (rw not at h))))
+    (cases_Bool (test e.0))
 
 -- a URI that is taken out is closed
-pub table-remove_entry : (uri : List ℕ) (es : List (String Global × Stored)) → map entry_of (remove_entry (at_uri uri) es) ≡ after_close (map entry_of es) uri
+pub table-remove_entry : (uri : List ℕ) (es : List (String Global × Stored))
+    → map entry_of (remove_entry (at_uri uri) es) ≡ after_close (map entry_of es) uri
 table-remove_entry uri [] = refl
 table-remove_entry uri (first ∷ es) =
     ⊎_elim (λ (at : bytes_eq uri (string_bytes first.0) ≡ true). rw at refl)
-    (λ (not : bytes_eq uri (string_bytes first.0) ≡ false). rw not (ap (λ (table : List DocumentItem). entry_of first ∷ table) (table-remove_entry uri es))) (cases_Bool (bytes_eq uri (string_bytes first.0)))
+    (λ (not : bytes_eq uri (string_bytes first.0) ≡ false). rw not
+    (ap (λ (table : List DocumentItem). entry_of first ∷ table) (table-remove_entry uri es)))
+    (cases_Bool (bytes_eq uri (string_bytes first.0)))
 
 pub remove_entry-few : {K X : Type 0} (test : K → Bool) (es : List (K × X)) → length (remove_entry test es) ≤ length es
 remove_entry-few test [] = omega arith
 remove_entry-few test (first ∷ es) =
-    ⊎_elim (λ (is : test first.0 ≡ true). rw is (omega arith)) (λ (not : test first.0 ≡ false). rw not (omega (arith, remove_entry-few test es))) (cases_Bool (test first.0))
+    ⊎_elim (λ (is : test first.0 ≡ true). rw is (omega arith))
+    (λ (not : test first.0 ≡ false). rw not (omega (arith, remove_entry-few test es))) (cases_Bool (test first.0))
 
 -- ---- a document that is opened
 
 -- what is put in goes last, whether or not its URI was there
 pub table-opened : (es : List (String Global × Stored)) (key : String Global) (stored : Stored)
-    → map entry_of (remove_entry (at_uri (string_bytes key)) es ++ (key, stored) ∷ []) ≡ after_open (map entry_of es) (entry_of (key, stored))
+    → map entry_of (remove_entry (at_uri (string_bytes key)) es ++ (key, stored) ∷ []) ≡ after_open (map entry_of es)
+    (entry_of (key, stored))
 table-opened es key stored =
     map-append entry_of (remove_entry (at_uri (string_bytes key)) es) ((key, stored) ∷ [])
-    ∙ ap (λ (table : List DocumentItem). table ++ entry_of (key, stored) ∷ []) (table-remove_entry (string_bytes key) es)
+    ∙ ap (λ (table : List DocumentItem). table ++ entry_of (key, stored) ∷ [])
+    (table-remove_entry (string_bytes key) es)
 
 -- ---- how many others there are
 
-pub others_all : (table : List DocumentItem) (uri : List ℕ) → is_some (entry_at table uri) ≡ false → after_close table uri ≡ table
+pub others_all : (table : List DocumentItem) (uri : List ℕ) → is_some (entry_at table uri) ≡ false
+    → after_close table uri ≡ table
 others_all [] uri absent = refl
 others_all (first ∷ table) uri absent =
     ⊎_elim (λ (is : bytes_eq uri first.uri ≡ true). let bad : true ≡ false = rw is at absent in absurd (cc))
-    (λ (not : bytes_eq uri first.uri ≡ false). rw not (ap (λ (more : List DocumentItem). first ∷ more) (others_all table uri (rw not at absent)))) (cases_Bool (bytes_eq uri first.uri))
+    (λ (not : bytes_eq uri first.uri ≡ false). rw not (ap (λ (more : List DocumentItem). first ∷ more)
+    (others_all table uri (rw not at absent)))) (cases_Bool (bytes_eq uri first.uri))
 
-pub others_but_one : (table : List DocumentItem) (uri : List ℕ) → is_some (entry_at table uri) ≡ true → length (after_close table uri) + 1 ≡ length table
+pub others_but_one : (table : List DocumentItem) (uri : List ℕ) → is_some (entry_at table uri) ≡ true
+    → length (after_close table uri) + 1 ≡ length table
 others_but_one [] uri found = absurd (let bad : false ≡ true = found in cc)
 others_but_one (first ∷ table) uri found =
     ⊎_elim (λ (is : bytes_eq uri first.uri ≡ true). rw is (omega arith))
-    (λ (not : bytes_eq uri first.uri ≡ false). rw not (omega (arith, others_but_one table uri (rw not at found)))) (cases_Bool (bytes_eq uri first.uri))
+    (λ (not : bytes_eq uri first.uri ≡ false). rw not (omega (arith, others_but_one table uri (rw not at found))))
+    (cases_Bool (bytes_eq uri first.uri))

@@ -12,13 +12,15 @@ use Rattle.lsp_store.specs.Limits.{AreWithin}
 -- Greater limits refuse no command that smaller ones accept.
 abbrev pub GreaterLimitsLaw : Type 0
 GreaterLimitsLaw =
-    (small great : LimitsData) (table : List DocumentItem) (command : Command) → AreWithin small great
+    (small great : LimitsData) (table : List DocumentItem) (command : Command)
+    → AreWithin small great
     → command_refusal small table command ≡ None → command_refusal great table command ≡ None
 
 -- ---- what may be sent instead of a batch
 
 -- Another batch is accepted within these limits, and has the result of the batch.
-pub record IsReplacedBy (limits : LimitsData) (units : ℕ → ℕ) (table : List DocumentItem) (uri : List ℕ)
+pub record IsReplacedBy (limits : LimitsData) (units : ℕ → ℕ) (table : List DocumentItem)
+    (uri : List ℕ)
     (version : ℤ) (batch other : List Edit) : Type 0 where
   pub accepted : change_refusal limits units table uri version other ≡ None
   pub leaves : after_change units table uri version other

@@ -46,10 +46,16 @@ units_utf16_two c h = grind (arith, nat_tests)
 pub utf16_first : (c : ℕ) → FirstHas lead_units_utf16 (encode c) (units_in Utf16 c)
 unfolding encode
 utf16_first c =
-    cond_both (ltb c 128) _ _ P (λ e. let h : c < 128 = ltb-true c 128 e in (utf16_ascii c h ∙ sym (units_utf16_one c (omega arith)), tt))
-    (λ _. cond_both (ltb c 2048) _ _ P (λ e. let h : c < 2048 = ltb-true c 2048 e in (utf16_one (192 + c / 64) (omega arith) (omega arith) ∙ sym (units_utf16_one c (omega arith)), (none c, tt)))
-    (λ _. cond_both (ltb c 65536) _ _ P (λ e. let h : c < 65536 = ltb-true c 65536 e in (utf16_one (224 + c / 4096) (omega arith) (omega arith) ∙ sym (units_utf16_one c h), (none (c / 64), (none c, tt))))
-    (λ e. let h : 65536 ≤ c = ltb-false c 65536 e in (utf16_two (240 + c / 262144) (omega arith) ∙ sym (units_utf16_two c h), (none (c / 4096), (none (c / 64), (none c, tt)))))))
+    cond_both (ltb c 128) _ _ P (λ e. let h : c < 128 = ltb-true c 128 e in
+    (utf16_ascii c h ∙ sym (units_utf16_one c (omega arith)), tt))
+    (λ _. cond_both (ltb c 2048) _ _ P (λ e. let h : c < 2048 = ltb-true c 2048 e in
+    (utf16_one (192 + c / 64) (omega arith) (omega arith) ∙ sym (units_utf16_one c (omega arith)), (none c, tt)))
+    (λ _. cond_both (ltb c 65536) _ _ P (λ e. let h : c < 65536 = ltb-true c 65536 e in
+    (utf16_one (224 + c / 4096) (omega arith) (omega arith) ∙ sym (units_utf16_one c h), (none (c / 64), (none c, tt))))
+    (λ e. let h : 65536 ≤ c = ltb-false c 65536 e in (
+      utf16_two (240 + c / 262144) (omega arith) ∙ sym (units_utf16_two c h),
+      (none (c / 4096), (none (c / 64), (none c, tt))),
+    ))))
   where
     P : List ℕ → Type 0
     P bytes = FirstHas lead_units_utf16 bytes (units_in Utf16 c)
@@ -62,7 +68,10 @@ unfolding encode
 utf32_first c =
     cond_both (ltb c 128) _ _ P (λ e. (utf32_ascii c (ltb-true c 128 e), tt))
     (λ _. cond_both (ltb c 2048) _ _ P (λ _. (utf32_lead (192 + c / 64) (omega arith), (none c, tt)))
-    (λ _. cond_both (ltb c 65536) _ _ P (λ _. (utf32_lead (224 + c / 4096) (omega arith), (none (c / 64), (none c, tt))))
+    (λ _. cond_both (ltb c 65536) _ _ P (λ _. (
+      utf32_lead (224 + c / 4096) (omega arith),
+      (none (c / 64), (none c, tt)),
+    ))
     (λ _. (utf32_lead (240 + c / 262144) (omega arith), (none (c / 4096), (none (c / 64), (none c, tt)))))))
   where
     P : List ℕ → Type 0
@@ -71,7 +80,8 @@ utf32_first c =
     none : (bits : ℕ) → lead_units_utf32 (128 + bits % 64) ≡ 0
     none bits = utf32_none (128 + bits % 64) (omega arith) (omega arith)
 
-pub map_twice : (a b : ℕ) (o : Option ℕ) → option_map (λ n. a + n) (option_map (λ n. b + n) o) ≡ option_map (λ n. (a + b) + n) o
+pub map_twice : (a b : ℕ) (o : Option ℕ) → option_map (λ n. a + n) (option_map (λ n. b + n) o)
+    ≡ option_map (λ n. (a + b) + n) o
 map_twice a b None = refl
 map_twice a b (Some n) = ap Some (omega arith)
 
@@ -89,20 +99,36 @@ module _ (lead units : ℕ → ℕ) where
   sum_first (b ∷ bytes) n first = omega (arith, sum_by-cons lead b bytes, first.0, sum_none bytes first.1)
 
   -- The bytes of characters have the units of the characters.
-  pub sum_of_bytes : ((c : ℕ) → FirstHas lead (encode c) (units c)) → (cs : List ℕ) → sum_by lead (encode_utf8_all cs) ≡ sum_by units cs
+  pub sum_of_bytes : ((c : ℕ) → FirstHas lead (encode c) (units c)) → (cs : List ℕ) → sum_by lead (encode_utf8_all cs)
+      ≡ sum_by units cs
   sum_of_bytes first [] = refl
   sum_of_bytes first (c ∷ cs) =
-      omega (arith, sum_by-append lead (encode c) (encode_utf8_all cs), sum_first (encode c) (units c) (first c), sum_of_bytes first cs, sum_by-cons units c cs)
+      omega (
+        arith,
+        sum_by-append lead (encode c) (encode_utf8_all cs),
+        sum_first (encode c) (units c) (first c),
+        sum_of_bytes first cs,
+        sum_by-cons units c cs,
+      )
 
-  skip_none : (bytes rest : List ℕ) (c : ℕ) → HaveNone lead bytes → byte_place lead (bytes ++ rest) c ≡ option_map (λ n. length bytes + n) (byte_place lead rest c)
+  skip_none : (bytes rest : List ℕ) (c : ℕ) → HaveNone lead bytes → byte_place lead (bytes ++ rest) c
+      ≡ option_map (λ n. length bytes + n) (byte_place lead rest c)
   skip_none [] rest c all = sym (map_none (byte_place lead rest c))
   skip_none (b ∷ bytes) rest c all =
       let no : nat_lt c 0 ≡ false = grind (arith, nat_tests) in
       let same : c - 0 ≡ c = omega arith in
-      rw (all.0, no, same, skip_none bytes rest c all.1) (map_twice 1 (length bytes) (byte_place lead rest c) ∙ ap (λ n. option_map (λ m. n + m) (byte_place lead rest c)) (omega arith))
+      rw (
+        all.0,
+        no,
+        same,
+        skip_none bytes rest c all.1,
+      ) (map_twice 1 (length bytes) (byte_place lead rest c)
+      ∙ ap (λ n. option_map (λ m. n + m) (byte_place lead rest c)) (omega arith))
 
   first_place : (bytes rest : List ℕ) (n c : ℕ) → FirstHas lead bytes n → 1 ≤ n →
-      byte_place lead (bytes ++ rest) c ≡ cond (c == 0) (Some 0) (cond (nat_lt c n) None (option_map (λ m. length bytes + m) (byte_place lead rest (c - n))))
+      byte_place lead (bytes ++ rest) c
+      ≡ cond (c == 0) (Some 0)
+      (cond (nat_lt c n) None (option_map (λ m. length bytes + m) (byte_place lead rest (c - n))))
   first_place [] rest n c first some = absurd first
   first_place (b ∷ bytes) rest n c first some =
       ⊎_elim
@@ -112,16 +138,26 @@ module _ (lead units : ℕ → ℕ) where
       (λ (h : n ≤ c).
       let less : nat_lt c n ≡ false = grind (arith, nat_tests) in
       let above : (c == 0) ≡ false = grind (arith, nat_tests) in
-      rw (first.0, less, above, skip_none bytes rest (c - n) first.1) (map_twice 1 (length bytes) (byte_place lead rest (c - n)) ∙ ap (λ l. option_map (λ m. l + m) (byte_place lead rest (c - n))) (omega arith)))
+      rw (
+        first.0,
+        less,
+        above,
+        skip_none bytes rest (c - n) first.1,
+      ) (map_twice 1 (length bytes) (byte_place lead rest (c - n))
+      ∙ ap (λ l. option_map (λ m. l + m) (byte_place lead rest (c - n))) (omega arith)))
       (cases_lt c n)
 
   -- A place found byte by byte is the one found character by character.
-  pub place_of_bytes : ((c : ℕ) → FirstHas lead (encode c) (units c)) → ((c : ℕ) → 1 ≤ units c) → (cs : List ℕ) (c : ℕ) → byte_place lead (encode_utf8_all cs) c ≡ line_place units cs c
+  pub place_of_bytes : ((c : ℕ) → FirstHas lead (encode c) (units c)) → ((c : ℕ) → 1 ≤ units c) → (cs : List ℕ) (c : ℕ)
+      → byte_place lead (encode_utf8_all cs) c ≡ line_place units cs c
   place_of_bytes first some [] c = refl
   place_of_bytes first some (x ∷ cs) c =
       first_place (encode x) (encode_utf8_all cs) (units x) c (first x) (some x) ∙
-      (ap (λ l. cond (c == 0) (Some 0) (cond (nat_lt c (units x)) None (option_map (λ m. l + m) (byte_place lead (encode_utf8_all cs) (c - units x))))) (length-encode x) ∙
-      ap (λ o. cond (c == 0) (Some 0) (cond (nat_lt c (units x)) None (option_map (λ m. len_utf8 x + m) o))) (place_of_bytes first some cs (c - units x)))
+      (ap (λ l. cond (c == 0) (Some 0)
+      (cond (nat_lt c (units x)) None (option_map (λ m. l + m) (byte_place lead (encode_utf8_all cs) (c - units x)))))
+      (length-encode x) ∙
+      ap (λ o. cond (c == 0) (Some 0) (cond (nat_lt c (units x)) None (option_map (λ m. len_utf8 x + m) o)))
+      (place_of_bytes first some cs (c - units x)))
 
 -- a byte that no character's UTF-8 begins with
 abbrev pub is_inside : ℕ → Bool
@@ -149,13 +185,20 @@ unfolding encode
 encode_outside c =
     cond_both (ltb c 128) _ _ FirstOutside (λ e. (inside_ascii c (ltb-true c 128 e), tt))
     (λ _. cond_both (ltb c 2048) _ _ FirstOutside (λ _. (inside_lead (192 + c / 64) (omega arith), (next_inside c, tt)))
-    (λ _. cond_both (ltb c 65536) _ _ FirstOutside (λ _. (inside_lead (224 + c / 4096) (omega arith), (next_inside (c / 64), (next_inside c, tt))))
-    (λ _. (inside_lead (240 + c / 262144) (omega arith), (next_inside (c / 4096), (next_inside (c / 64), (next_inside c, tt)))))))
+    (λ _. cond_both (ltb c 65536) _ _ FirstOutside (λ _. (
+      inside_lead (224 + c / 4096) (omega arith),
+      (next_inside (c / 64), (next_inside c, tt)),
+    ))
+    (λ _. (
+      inside_lead (240 + c / 262144) (omega arith),
+      (next_inside (c / 4096), (next_inside (c / 64), (next_inside c, tt))),
+    ))))
   where
     next_inside : (bits : ℕ) → is_inside (128 + bits % 64) ≡ true
     next_inside bits = inside_yes (128 + bits % 64) (omega arith) (omega arith)
 
-at_inside : (bytes rest : List ℕ) (k : ℕ) → AllInside bytes → k < length bytes → is_inside (get_or (bytes ++ rest) k 0) ≡ true
+at_inside : (bytes rest : List ℕ) (k : ℕ) → AllInside bytes → k < length bytes → is_inside (get_or (bytes ++ rest) k 0)
+    ≡ true
 at_inside [] rest k all h = absurd (omega arith)
 at_inside (b ∷ bytes) rest zero all h = all.0
 at_inside (b ∷ bytes) rest (suc k) all h = at_inside bytes rest k all.1 (omega arith)
@@ -164,7 +207,8 @@ at_first : (bytes rest : List ℕ) → FirstOutside bytes → is_inside (get_or 
 at_first [] rest first = absurd first
 at_first (b ∷ bytes) rest first = first.0
 
-behind_first : (bytes rest : List ℕ) (k : ℕ) → FirstOutside bytes → 0 < k → k < length bytes → is_inside (get_or (bytes ++ rest) k 0) ≡ true
+behind_first : (bytes rest : List ℕ) (k : ℕ) → FirstOutside bytes → 0 < k → k < length bytes
+    → is_inside (get_or (bytes ++ rest) k 0) ≡ true
 behind_first [] rest k first some h = absurd first
 behind_first (b ∷ bytes) rest zero first some h = absurd (omega arith)
 behind_first (b ∷ bytes) rest (suc k) first some h = at_inside bytes rest k first.1 (omega arith)
@@ -173,32 +217,43 @@ not_zero : (c : ℕ) → 0 < c → (c == 0) ≡ false
 not_zero c h = grind (arith, nat_tests)
 
 -- In UTF-8 a place in a line is its units: the line's end past it, and none inside a character.
-pub utf8_past : (cs : List ℕ) (c : ℕ) → length (encode_utf8_all cs) ≤ c → line_place len_utf8 cs c ≡ Some (length (encode_utf8_all cs))
+pub utf8_past : (cs : List ℕ) (c : ℕ) → length (encode_utf8_all cs) ≤ c → line_place len_utf8 cs c
+    ≡ Some (length (encode_utf8_all cs))
 utf8_past [] c h = refl
 utf8_past (x ∷ cs) c h =
-    let sum : length (encode x ++ encode_utf8_all cs) ≡ len_utf8 x + length (encode_utf8_all cs) = length-append (encode x) (encode_utf8_all cs) ∙ ap (λ n. n + length (encode_utf8_all cs)) (length-encode x) in
+    let sum : length (encode x ++ encode_utf8_all cs) ≡ len_utf8 x + length (encode_utf8_all cs) =
+    length-append (encode x) (encode_utf8_all cs) ∙ ap (λ n. n + length (encode_utf8_all cs)) (length-encode x) in
     let some = (len_utf8_bounds x).0 in
     let above : (c == 0) ≡ false = not_zero c (omega (arith, some, sum)) in
     let less : nat_lt c (len_utf8 x) ≡ false = le-ltb c (len_utf8 x) (omega (arith, sum)) in
     rw (above, less, utf8_past cs (c - len_utf8 x) (omega (arith, sum))) (ap Some (sym sum))
 
-pub utf8_at : (cs : List ℕ) (c : ℕ) → c < length (encode_utf8_all cs) → line_place len_utf8 cs c ≡ cond (is_inside (get_or (encode_utf8_all cs) c 0)) None (Some c)
+pub utf8_at : (cs : List ℕ) (c : ℕ) → c < length (encode_utf8_all cs) → line_place len_utf8 cs c
+    ≡ cond (is_inside (get_or (encode_utf8_all cs) c 0)) None (Some c)
 utf8_at [] c h = absurd (omega arith)
 utf8_at (x ∷ cs) zero h = rw (at_first (encode x) (encode_utf8_all cs) (encode_outside x)) refl
 utf8_at (x ∷ cs) (suc k) h =
     let rest = encode_utf8_all cs in
     let above : (suc k == 0) ≡ false = not_zero (suc k) (omega arith) in
     let size : length (encode x) ≡ len_utf8 x = length-encode x in
-    let sum : length (encode x ++ rest) ≡ len_utf8 x + length rest = length-append (encode x) rest ∙ ap (λ n. n + length rest) size in
+    let sum : length (encode x ++ rest) ≡ len_utf8 x + length rest =
+    length-append (encode x) rest ∙ ap (λ n. n + length rest) size in
     ⊎_elim
     (λ (l : suc k < len_utf8 x).
     let less : nat_lt (suc k) (len_utf8 x) ≡ true = lt-ltb (suc k) (len_utf8 x) l in
-    let inside : is_inside (get_or (encode x ++ rest) (suc k) 0) ≡ true = behind_first (encode x) rest (suc k) (encode_outside x) (omega arith) (omega (arith, size)) in
+    let inside : is_inside (get_or (encode x ++ rest) (suc k) 0) ≡ true =
+    behind_first (encode x) rest (suc k) (encode_outside x) (omega arith) (omega (arith, size)) in
     rw (above, less, inside) refl)
     (λ (l : len_utf8 x ≤ suc k).
     let less : nat_lt (suc k) (len_utf8 x) ≡ false = le-ltb (suc k) (len_utf8 x) l in
-    let at : get_or (encode x ++ rest) (suc k) 0 ≡ get_or rest (suc k - len_utf8 x) 0 = get_or-append_right (encode x) rest (len_utf8 x) (suc k) 0 size l in
-    rw (above, less, at, utf8_at cs (suc k - len_utf8 x) (omega (arith, sum))) (shifted (is_inside (get_or rest (suc k - len_utf8 x) 0)) (len_utf8 x) (suc k) l))
+    let at : get_or (encode x ++ rest) (suc k) 0 ≡ get_or rest (suc k - len_utf8 x) 0 =
+    get_or-append_right (encode x) rest (len_utf8 x) (suc k) 0 size l in
+    rw (
+      above,
+      less,
+      at,
+      utf8_at cs (suc k - len_utf8 x) (omega (arith, sum)),
+    ) (shifted (is_inside (get_or rest (suc k - len_utf8 x) 0)) (len_utf8 x) (suc k) l))
     (cases_lt (suc k) (len_utf8 x))
   where
     shifted : (b : Bool) (n c : ℕ) → n ≤ c → option_map (λ m. n + m) (cond b None (Some (c - n))) ≡ cond b None (Some c)
@@ -206,36 +261,55 @@ utf8_at (x ∷ cs) (suc k) h =
     shifted false n c h = ap Some (omega arith)
 
 -- The same over the bytes of a text.
-pub units_of_text : (lead units : ℕ → ℕ) → ((c : ℕ) → FirstHas lead (encode c) (units c)) → (bytes : List ℕ) → IsUtf8 bytes → sum_by lead bytes ≡ sum_by units (chars bytes)
-units_of_text lead units first bytes utf8 = ap (sum_by lead) (sym (encodes-chars bytes utf8)) ∙ sum_of_bytes lead units first (chars bytes)
+pub units_of_text : (lead units : ℕ → ℕ) → ((c : ℕ) → FirstHas lead (encode c) (units c)) → (bytes : List ℕ)
+    → IsUtf8 bytes → sum_by lead bytes ≡ sum_by units (chars bytes)
+units_of_text lead units first bytes utf8 = ap (sum_by lead) (sym (encodes-chars bytes utf8))
+    ∙ sum_of_bytes lead units first (chars bytes)
 
-pub place_of_text : (lead units : ℕ → ℕ) → ((c : ℕ) → FirstHas lead (encode c) (units c)) → ((c : ℕ) → 1 ≤ units c) → (bytes : List ℕ) → IsUtf8 bytes → (c : ℕ) → byte_place lead bytes c ≡ line_place units (chars bytes) c
+pub place_of_text : (lead units : ℕ → ℕ) → ((c : ℕ) → FirstHas lead (encode c) (units c)) → ((c : ℕ) → 1 ≤ units c)
+    → (bytes : List ℕ) → IsUtf8 bytes → (c : ℕ) → byte_place lead bytes c ≡ line_place units (chars bytes) c
 place_of_text lead units first some bytes utf8 c =
-    ap (λ bs. byte_place lead bs c) (sym (encodes-chars bytes utf8)) ∙ place_of_bytes lead units first some (chars bytes) c
+    ap (λ bs. byte_place lead bs c) (sym (encodes-chars bytes utf8)) ∙ place_of_bytes lead units first some
+    (chars bytes) c
 
 -- In UTF-8 the units are the bytes.
 pub utf8_units : (cs : List ℕ) → sum_by len_utf8 cs ≡ length (encode_utf8_all cs)
 utf8_units [] = refl
-utf8_units (c ∷ cs) = omega (arith, sum_by-cons len_utf8 c cs, utf8_units cs, length-append (encode c) (encode_utf8_all cs), length-encode c)
+utf8_units (c ∷ cs) = omega (
+  arith,
+  sum_by-cons len_utf8 c cs,
+  utf8_units cs,
+  length-append (encode c) (encode_utf8_all cs),
+  length-encode c,
+)
 
 pub utf8_units_of_text : (bytes : List ℕ) → IsUtf8 bytes → length bytes ≡ sum_by len_utf8 (chars bytes)
 utf8_units_of_text bytes utf8 = ap length (sym (encodes-chars bytes utf8)) ∙ sym (utf8_units (chars bytes))
 
-pub utf8_past_text : (bytes : List ℕ) → IsUtf8 bytes → (c : ℕ) → length bytes ≤ c → Some (length bytes) ≡ line_place len_utf8 (chars bytes) c
+pub utf8_past_text : (bytes : List ℕ) → IsUtf8 bytes → (c : ℕ) → length bytes ≤ c → Some (length bytes)
+    ≡ line_place len_utf8 (chars bytes) c
 utf8_past_text bytes utf8 c past =
     let same : encode_utf8_all (chars bytes) ≡ bytes = encodes-chars bytes utf8 in
     ap (λ bs. Some (length bs)) (sym same) ∙ sym (utf8_past (chars bytes) c (omega (arith, ap length same)))
 
-utf8_at_text : (bytes : List ℕ) → IsUtf8 bytes → (c : ℕ) → c < length bytes → line_place len_utf8 (chars bytes) c ≡ cond (is_inside (get_or bytes c 0)) None (Some c)
+utf8_at_text : (bytes : List ℕ) → IsUtf8 bytes → (c : ℕ) → c < length bytes → line_place len_utf8 (chars bytes) c
+    ≡ cond (is_inside (get_or bytes c 0)) None (Some c)
 utf8_at_text bytes utf8 c within =
     let same : encode_utf8_all (chars bytes) ≡ bytes = encodes-chars bytes utf8 in
-    utf8_at (chars bytes) c (omega (arith, ap length same)) ∙ ap (λ bs. cond (is_inside (get_or bs c 0)) None (Some c)) same
+    utf8_at (chars bytes) c (omega (arith, ap length same)) ∙ ap (λ bs. cond (is_inside (get_or bs c 0)) None (Some c))
+    same
 
-pub utf8_inside_text : (bytes : List ℕ) → IsUtf8 bytes → (c : ℕ) → c < length bytes → 128 ≤ get_or bytes c 0 → get_or bytes c 0 < 192 → None ≡ line_place len_utf8 (chars bytes) c
-utf8_inside_text bytes utf8 c within low high = sym (utf8_at_text bytes utf8 c within ∙ ap (λ b. cond b None (Some c)) (inside_yes (get_or bytes c 0) low high))
+pub utf8_inside_text : (bytes : List ℕ) → IsUtf8 bytes → (c : ℕ) → c < length bytes → 128 ≤ get_or bytes c 0
+    → get_or bytes c 0 < 192 → None ≡ line_place len_utf8 (chars bytes) c
+utf8_inside_text bytes utf8 c within low high =
+    sym (utf8_at_text bytes utf8 c within ∙ ap (λ b. cond b None (Some c)) (inside_yes (get_or bytes c 0) low high))
 
-pub utf8_ascii_text : (bytes : List ℕ) → IsUtf8 bytes → (c : ℕ) → c < length bytes → get_or bytes c 0 < 128 → Some c ≡ line_place len_utf8 (chars bytes) c
-utf8_ascii_text bytes utf8 c within low = sym (utf8_at_text bytes utf8 c within ∙ ap (λ b. cond b None (Some c)) (inside_ascii (get_or bytes c 0) low))
+pub utf8_ascii_text : (bytes : List ℕ) → IsUtf8 bytes → (c : ℕ) → c < length bytes → get_or bytes c 0 < 128
+    → Some c ≡ line_place len_utf8 (chars bytes) c
+utf8_ascii_text bytes utf8 c within low =
+    sym (utf8_at_text bytes utf8 c within ∙ ap (λ b. cond b None (Some c)) (inside_ascii (get_or bytes c 0) low))
 
-pub utf8_lead_text : (bytes : List ℕ) → IsUtf8 bytes → (c : ℕ) → c < length bytes → 192 ≤ get_or bytes c 0 → Some c ≡ line_place len_utf8 (chars bytes) c
-utf8_lead_text bytes utf8 c within high = sym (utf8_at_text bytes utf8 c within ∙ ap (λ b. cond b None (Some c)) (inside_lead (get_or bytes c 0) high))
+pub utf8_lead_text : (bytes : List ℕ) → IsUtf8 bytes → (c : ℕ) → c < length bytes → 192 ≤ get_or bytes c 0
+    → Some c ≡ line_place len_utf8 (chars bytes) c
+utf8_lead_text bytes utf8 c within high =
+    sym (utf8_at_text bytes utf8 c within ∙ ap (λ b. cond b None (Some c)) (inside_lead (get_or bytes c 0) high))

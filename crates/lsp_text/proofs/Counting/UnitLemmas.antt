@@ -6,7 +6,8 @@ use Rattle.std.proofs.lemmas.List.Sums.{sum_by_more}
 use Rattle.lsp_text.specs.Units.{units_between}
 
 -- One character more has its units more.
-pub units_more : (units : ℕ → ℕ) (text : List ℕ) (i k : ℕ) → i ≤ k → k < length text → units_between units text i (suc k) ≡ units_between units text i k + units (get_or text k 0)
+pub units_more : (units : ℕ → ℕ) (text : List ℕ) (i k : ℕ) → i ≤ k → k < length text
+    → units_between units text i (suc k) ≡ units_between units text i k + units (get_or text k 0)
 units_more units text i k order within =
     let len : length (drop i text) ≡ length text - i = length-drop i text in
     let inside : k - i < length (drop i text) = omega arith in
@@ -17,7 +18,8 @@ units_more units text i k order within =
 
 -- Each character has a unit, so a longer part of a text has more of them.
 module _ (units : ℕ → ℕ) (some : (c : ℕ) → 1 ≤ units c) (text : List ℕ) where
-  pub units_rise : (i j k : ℕ) → i ≤ j → j < k → k ≤ length text → units_between units text i j < units_between units text i k
+  pub units_rise : (i j k : ℕ) → i ≤ j → j < k → k ≤ length text → units_between units text i j < units_between units
+      text i k
   units_rise i j zero from order within = absurd (omega arith)
   units_rise i j (suc k) from order within =
       ⊎_elim
@@ -27,18 +29,24 @@ module _ (units : ℕ → ℕ) (some : (c : ℕ) → 1 ≤ units c) (text : List
     where
       here : i ≤ k → units_between units text i k < units_between units text i (suc k)
       here o =
-          let more : units_between units text i (suc k) ≡ units_between units text i k + units (get_or text k 0) = units_more units text i k o (omega arith) in
+          let more : units_between units text i (suc k) ≡ units_between units text i k + units (get_or text k 0) =
+          units_more units text i k o (omega arith) in
           omega (arith, some (get_or text k 0))
 
-      further : units_between units text i j < units_between units text i k → units_between units text i j < units_between units text i (suc k)
-      further ih = let step : units_between units text i k < units_between units text i (suc k) = here (omega arith) in omega arith
+      further : units_between units text i j < units_between units text i k → units_between units text i j
+          < units_between units text i (suc k)
+      further ih = let step : units_between units text i k < units_between units text i (suc k) = here (omega arith) in
+          omega arith
 
   -- Equal units from one index on reach equal indexes.
-  pub units_same : (i j k : ℕ) → i ≤ j → i ≤ k → j ≤ length text → k ≤ length text → units_between units text i j ≡ units_between units text i k → j ≡ k
+  pub units_same : (i j k : ℕ) → i ≤ j → i ≤ k → j ≤ length text → k ≤ length text → units_between units text i j
+      ≡ units_between units text i k → j ≡ k
   units_same i j k from_j from_k to_j to_k same =
       ⊎_elim
       (λ (e : j ≡ k). e)
       (⊎_elim
-      (λ (o : j < k). let r : units_between units text i j < units_between units text i k = units_rise i j k from_j o to_k in absurd (omega arith))
-      (λ (o : k < j). let r : units_between units text i k < units_between units text i j = units_rise i k j from_k o to_j in absurd (omega arith)))
+      (λ (o : j < k). let r : units_between units text i j < units_between units text i k = units_rise i j k from_j o
+      to_k in absurd (omega arith))
+      (λ (o : k < j). let r : units_between units text i k < units_between units text i j = units_rise i k j from_k o
+      to_j in absurd (omega arith)))
       (cases_order j k)

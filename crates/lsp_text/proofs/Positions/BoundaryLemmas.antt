@@ -30,14 +30,19 @@ last_return x rest =
     (λ (h : x < 128).
     let one : len_utf8 x - 1 ≡ 0 = omega (arith, length-encode x, ap length (encode_ascii x h)) in
     rw (one, encode_ascii x h) refl)
-    (λ (h : 128 ≤ x). not_return (get_or (encode x ++ rest) (len_utf8 x - 1) 0) x (high_at (encode x) rest (len_utf8 x - 1) (encode_high x h) (omega (arith, length-encode x, (len_utf8_bounds x).0))) h)
+    (λ (h : 128 ≤ x). not_return (get_or (encode x ++ rest) (len_utf8 x - 1) 0) x
+    (high_at (encode x) rest (len_utf8 x - 1) (encode_high x h) (omega (arith, length-encode x, (len_utf8_bounds x).0)))
+    h)
     (cases_lt x 128)
 
 -- the byte at a place
-byte_at : (text : List ℕ) (k i : ℕ) → get_or (encode_utf8_all text) (place_of text k + i) 0 ≡ get_or (encode_utf8_all (drop k text)) i 0
-byte_at text k i = sym (get_or-drop (place_of text k) (encode_utf8_all text) i 0) ∙ ap (λ bs. get_or bs i 0) (drop_place text k)
+byte_at : (text : List ℕ) (k i : ℕ) → get_or (encode_utf8_all text) (place_of text k + i) 0
+    ≡ get_or (encode_utf8_all (drop k text)) i 0
+byte_at text k i = sym (get_or-drop (place_of text k) (encode_utf8_all text) i 0)
+    ∙ ap (λ bs. get_or bs i 0) (drop_place text k)
 
-pub same_split : (text : List ℕ) (k : ℕ) → k ≤ length text → splits_crlf (encode_utf8_all text) (place_of text k) ≡ splits_crlf text k
+pub same_split : (text : List ℕ) (k : ℕ) → k ≤ length text → splits_crlf (encode_utf8_all text) (place_of text k)
+    ≡ splits_crlf text k
 same_split text zero within = refl
 same_split text (suc j) within = by_place (place_of text (suc j)) refl
   where
@@ -51,39 +56,58 @@ same_split text (suc j) within = by_place (place_of text (suc j)) refl
     more = place_more text j within
 
     last : (get_or bytes (place_of text j + (len_utf8 x - 1)) 0 == 13) ≡ (x == 13)
-    last = ap (λ b. b == 13) (byte_at text j (len_utf8 x - 1) ∙ ap (λ cs. get_or (encode_utf8_all cs) (len_utf8 x - 1) 0) (drop-cons text j 0 within)) ∙ last_return x (encode_utf8_all (drop (suc j) text))
+    last = ap (λ b. b == 13) (byte_at text j (len_utf8 x - 1)
+        ∙ ap (λ cs. get_or (encode_utf8_all cs) (len_utf8 x - 1) 0) (drop-cons text j 0 within))
+        ∙ last_return x (encode_utf8_all (drop (suc j) text))
 
     next : (get_or bytes (place_of text (suc j)) 0 == 10) ≡ (get_or text (suc j) 0 == 10)
     next =
         let at : place_of text (suc j) ≡ place_of text (suc j) + 0 = omega arith in
-        let here : get_or (drop (suc j) text) 0 0 ≡ get_or text (suc j) 0 = get_or-drop (suc j) text 0 0 ∙ ap (λ i. get_or text i 0) (omega arith) in
-        ap (λ p. get_or bytes p 0 == 10) at ∙ (ap (λ b. b == 10) (byte_at text (suc j) 0) ∙ (first_line_feed (drop (suc j) text) ∙ ap (λ b. b == 10) here))
+        let here : get_or (drop (suc j) text) 0 0 ≡ get_or text (suc j) 0 =
+        get_or-drop (suc j) text 0 0 ∙ ap (λ i. get_or text i 0) (omega arith) in
+        ap (λ p. get_or bytes p 0 == 10) at ∙ (ap (λ b. b == 10) (byte_at text (suc j) 0)
+        ∙ (first_line_feed (drop (suc j) text) ∙ ap (λ b. b == 10) here))
 
-    by_place : (place : ℕ) → place_of text (suc j) ≡ place → splits_crlf bytes (place_of text (suc j)) ≡ splits_crlf text (suc j)
+    by_place : (place : ℕ) → place_of text (suc j) ≡ place → splits_crlf bytes (place_of text (suc j))
+        ≡ splits_crlf text (suc j)
     by_place zero e = absurd (omega (arith, more, (len_utf8_bounds x).0))
     by_place (suc p) e =
         let before : p ≡ place_of text j + (len_utf8 x - 1) = omega (arith, more, (len_utf8_bounds x).0) in
-        rw e (ap (λ b. b && (slice_index bytes (suc p) == 10)) (ap (λ i. get_or bytes i 0 == 13) before ∙ last) ∙ ap (λ b. (x == 13) && b) (ap (λ i. get_or bytes i 0 == 10) (sym e) ∙ next))
+        rw e (ap (λ b. b && (slice_index bytes (suc p) == 10)) (ap (λ i. get_or bytes i 0 == 13) before ∙ last)
+        ∙ ap (λ b. (x == 13) && b) (ap (λ i. get_or bytes i 0 == 10) (sym e) ∙ next))
 
-pub same_split_text : (bytes : List ℕ) (k : ℕ) → IsUtf8 bytes → k ≤ length (chars bytes) → splits_crlf bytes (place_of (chars bytes) k) ≡ splits_crlf (chars bytes) k
-same_split_text bytes k utf8 within = ap (λ bs. splits_crlf bs (place_of (chars bytes) k)) (sym (encodes-chars bytes utf8)) ∙ same_split (chars bytes) k within
+pub same_split_text : (bytes : List ℕ) (k : ℕ) → IsUtf8 bytes → k ≤ length (chars bytes)
+    → splits_crlf bytes (place_of (chars bytes) k) ≡ splits_crlf (chars bytes) k
+same_split_text bytes k utf8 within =
+    ap (λ bs. splits_crlf bs (place_of (chars bytes) k)) (sym (encodes-chars bytes utf8)) ∙ same_split (chars bytes) k
+    within
 
 -- A boundary of characters that splits no CRLF is a place at which a position may stand, and the other way round.
-pub place_from : (bytes : List ℕ) (place : ℕ) → IsUtf8 bytes → IsCharBoundary bytes place → splits_crlf bytes place ≡ false → IsPlace (chars bytes) place
+pub place_from : (bytes : List ℕ) (place : ℕ) → IsUtf8 bytes → IsCharBoundary bytes place → splits_crlf bytes place
+    ≡ false → IsPlace (chars bytes) place
 place_from bytes place utf8 boundary whole =
-    let at = index_at bytes place utf8 boundary in
-    (at.index, at.within, sym (same_split_text bytes at.index utf8 at.within) ∙ (ap (splits_crlf bytes) at.place_is ∙ whole), at.place_is)
+    let at = index_at bytes place utf8 boundary in (
+      at.index,
+      at.within,
+      sym (same_split_text bytes at.index utf8 at.within) ∙ (ap (splits_crlf bytes) at.place_is ∙ whole),
+      at.place_is,
+    )
 
-pub boundary_from : (bytes : List ℕ) (place : ℕ) → IsUtf8 bytes → IsPlace (chars bytes) place → IsCharBoundary bytes place × (splits_crlf bytes place ≡ false)
+pub boundary_from : (bytes : List ℕ) (place : ℕ) → IsUtf8 bytes → IsPlace (chars bytes) place
+    → IsCharBoundary bytes place × (splits_crlf bytes place ≡ false)
 boundary_from bytes place utf8 at =
     rw (← at.3) (place_boundary bytes at.0 utf8 at.1, same_split_text bytes at.0 utf8 at.1 ∙ at.2)
 
 -- The answer of a test of both.
-pub tested_both : (bytes read : List ℕ) (place : ℕ) (inside : Bool) → IsUtf8 bytes → read ≡ bytes → IsCharBoundary bytes place → inside ≡ splits_crlf read place → IsTrue (not inside) ↔ IsPlace (chars bytes) place
+pub tested_both : (bytes read : List ℕ) (place : ℕ) (inside : Bool) → IsUtf8 bytes → read ≡ bytes
+    → IsCharBoundary bytes place → inside ≡ splits_crlf read place → IsTrue (not inside) ↔ IsPlace (chars bytes) place
 tested_both bytes read place inside utf8 same boundary is =
-    let here : inside ≡ splits_crlf bytes place = is ∙ ap (λ bs. splits_crlf bs place) same in
-    (λ h. place_from bytes place utf8 boundary (sym here ∙ not-true inside h), λ at. not_from_false inside (here ∙ (boundary_from bytes place utf8 at).1))
+    let here : inside ≡ splits_crlf bytes place = is ∙ ap (λ bs. splits_crlf bs place) same in (
+      λ h. place_from bytes place utf8 boundary (sym here ∙ not-true inside h),
+      λ at. not_from_false inside (here ∙ (boundary_from bytes place utf8 at).1),
+    )
 
-pub tested_none : (bytes : List ℕ) (place : ℕ) (boundary : Bool) → IsUtf8 bytes → boundary ≡ false → (IsTrue boundary ↔ IsCharBoundary bytes place) → IsTrue boundary ↔ IsPlace (chars bytes) place
+pub tested_none : (bytes : List ℕ) (place : ℕ) (boundary : Bool) → IsUtf8 bytes → boundary ≡ false
+    → (IsTrue boundary ↔ IsCharBoundary bytes place) → IsTrue boundary ↔ IsPlace (chars bytes) place
 tested_none bytes place boundary utf8 outside is =
     (λ (h : boundary ≡ true). absurd (false≢true (sym outside ∙ h)), λ at. is.1 (boundary_from bytes place utf8 at).0)

@@ -32,32 +32,51 @@ line_low text (suc k) = omega (arith, (line_step text k).1, line_low text k)
 pub indexes_few : (bytes lines : List ℕ) → IsUtf8 bytes → Indexes lines bytes → length lines ≤ 2147483649
 indexes_few bytes lines utf8 indexes =
     let text = chars bytes in
-    omega (arith, indexes_count bytes lines indexes, line_low text (length text), length-le-encodes text, ap length (encodes-chars bytes utf8), indexes.size)
+    omega (
+      arith,
+      indexes_count bytes lines indexes,
+      line_low text (length text),
+      length-le-encodes text,
+      ap length (encodes-chars bytes utf8),
+      indexes.size,
+    )
 
 -- A line starts at or before each of its indexes.
 pub start_before : (text : List ℕ) (k : ℕ) → k ≤ length text → line_start text (line_at text k) ≤ k
 start_before text k within =
     let line = line_at text k in
     let there = reached text line k (omega arith) in
-    omega (arith, there.order, (line_has_start text line (line_rises text k (length text) within)).least there.index (omega arith) there.content)
+    omega (
+      arith,
+      there.order,
+      (line_has_start text line (line_rises text k (length text) within)).least there.index (omega arith) there.content,
+    )
 
 -- The line whose start is the last at or before the place of an index is the index's line.
-pub line_found : (bytes lines : List ℕ) (place line k : ℕ) → Indexes lines bytes → IsLineOf lines place line → k ≤ length (chars bytes) → place_of (chars bytes) k ≡ place → line ≡ line_at (chars bytes) k
+pub line_found : (bytes lines : List ℕ) (place line k : ℕ) → Indexes lines bytes → IsLineOf lines place line
+    → k ≤ length (chars bytes) → place_of (chars bytes) k ≡ place → line ≡ line_at (chars bytes) k
 line_found bytes lines place line k indexes found within at =
     let text = chars bytes in
     let there : line ≤ line_ends text = indexes_line bytes lines line indexes found.within in
     let start = line_has_start text line there in
     let low : line_start text line ≤ k =
-    place_order text (line_start text line) k (omega (arith, start.in_row)) (omega (arith, at, indexes_start bytes lines line indexes there, found.at_most)) in
+    place_order text (line_start text line) k (omega (arith, start.in_row))
+    (omega (arith, at, indexes_start bytes lines line indexes there, found.at_most)) in
     let rises : line_at text (line_start text line) ≤ line_at text k = line_rises text (line_start text line) k low in
-    let here : line_at text (line_start text line) ≡ line = in_content_line text line (line_start text line) start.passes in
+    let here : line_at text (line_start text line) ≡ line =
+    in_content_line text line (line_start text line) start.passes in
     ⊎_elim
     (λ (h : line < line_at text k).
     let m = line_at text k in
     let up : m ≤ line_ends text = line_rises text k (length text) within in
     let before : line_start text m ≤ k = start_before text k within in
     let above : place < slice_index lines m = found.greatest m h (omega (arith, indexes_count bytes lines indexes)) in
-    absurd (omega (arith, at, indexes_start bytes lines m indexes up, place_rises text (line_start text m) k before within)))
+    absurd (omega (
+      arith,
+      at,
+      indexes_start bytes lines m indexes up,
+      place_rises text (line_start text m) k before within,
+    )))
     (λ (h : line_at text k ≤ line). omega arith)
     (cases_lt line (line_at text k))
 
@@ -67,46 +86,78 @@ pub record IsFront (bytes : List ℕ) (start place k : ℕ) : Type 0 where
   pub place_is : place_of (chars bytes) k ≡ place
   pub start_is : start ≡ place_of (chars bytes) (line_start (chars bytes) (line_at (chars bytes) k))
 
-pub front_from : (bytes lines : List ℕ) (place line k : ℕ) → Indexes lines bytes → IsLineOf lines place line → k ≤ length (chars bytes) → place_of (chars bytes) k ≡ place → IsFront bytes (slice_index lines line) place k
+pub front_from : (bytes lines : List ℕ) (place line k : ℕ) → Indexes lines bytes → IsLineOf lines place line
+    → k ≤ length (chars bytes) → place_of (chars bytes) k ≡ place → IsFront bytes (slice_index lines line) place k
 front_from bytes lines place line k indexes found within at =
     record {
       within = within;
       place_is = at;
-      start_is = indexes_start bytes lines line indexes (indexes_line bytes lines line indexes found.within) ∙ ap (λ l. place_of (chars bytes) (line_start (chars bytes) l)) (line_found bytes lines place line k indexes found within at);
+      start_is = indexes_start bytes lines line indexes (indexes_line bytes lines line indexes found.within)
+          ∙ ap (λ l. place_of (chars bytes) (line_start (chars bytes) l)) (line_found bytes lines place line k indexes
+          found within at);
     }
 
 pub front_order : (bytes : List ℕ) (start place k : ℕ) → IsFront bytes start place k → start ≤ place
 front_order bytes start place k front =
     let text = chars bytes in
-    omega (arith, front.start_is, front.place_is, place_rises text (line_start text (line_at text k)) k (start_before text k front.within) front.within)
+    omega (
+      arith,
+      front.start_is,
+      front.place_is,
+      place_rises text (line_start text (line_at text k)) k (start_before text k front.within) front.within,
+    )
 
-pub front_within : (bytes : List ℕ) (start place k : ℕ) → IsUtf8 bytes → IsFront bytes start place k → place ≤ length bytes
+pub front_within : (bytes : List ℕ) (start place k : ℕ) → IsUtf8 bytes → IsFront bytes start place k
+    → place ≤ length bytes
 front_within bytes start place k utf8 front =
     omega (arith, front.place_is, place_within (chars bytes) k front.within, ap length (encodes-chars bytes utf8))
 
-pub front_utf8 : (bytes : List ℕ) (start place k : ℕ) → IsUtf8 bytes → IsFront bytes start place k → IsUtf8 (part bytes start place)
+pub front_utf8 : (bytes : List ℕ) (start place k : ℕ) → IsUtf8 bytes → IsFront bytes start place k
+    → IsUtf8 (part bytes start place)
 front_utf8 bytes start place k utf8 front =
-    rw (front.start_is, ← front.place_is) (part_utf8 bytes (line_start (chars bytes) (line_at (chars bytes) k)) k utf8 (start_before (chars bytes) k front.within) front.within)
+    rw (
+      front.start_is,
+      ← front.place_is,
+    ) (part_utf8 bytes (line_start (chars bytes) (line_at (chars bytes) k)) k utf8
+    (start_before (chars bytes) k front.within) front.within)
 
 pub front_units : (units : ℕ → ℕ) (bytes : List ℕ) (start place k : ℕ) → IsUtf8 bytes → IsFront bytes start place k →
-    sum_by units (chars (part bytes start place)) ≡ units_between units (chars bytes) (line_start (chars bytes) (line_at (chars bytes) k)) k
+    sum_by units (chars (part bytes start place)) ≡ units_between units (chars bytes)
+    (line_start (chars bytes) (line_at (chars bytes) k)) k
 front_units units bytes start place k utf8 front =
     let s = line_start (chars bytes) (line_at (chars bytes) k) in
-    rw (front.start_is, ← front.place_is) (ap (sum_by units) (chars_part bytes s k utf8 (start_before (chars bytes) k front.within) front.within))
+    rw (
+      front.start_is,
+      ← front.place_is,
+    ) (ap (sum_by units) (chars_part bytes s k utf8 (start_before (chars bytes) k front.within) front.within))
 
 -- A part has no more units than bytes.
 units_few : (units : ℕ → ℕ) → ((c : ℕ) → units c ≤ len_utf8 c) → (cs : List ℕ) → sum_by units cs ≤ sum_by len_utf8 cs
 units_few units few [] = omega arith
-units_few units few (c ∷ cs) = omega (arith, sum_by-cons units c cs, sum_by-cons len_utf8 c cs, few c, units_few units few cs)
+units_few units few (c ∷ cs) = omega (
+  arith,
+  sum_by-cons units c cs,
+  sum_by-cons len_utf8 c cs,
+  few c,
+  units_few units few cs,
+)
 
-pub front_few : (units : ℕ → ℕ) → ((c : ℕ) → units c ≤ len_utf8 c) → (bytes : List ℕ) → IsUtf8 bytes → sum_by units (chars bytes) ≤ length bytes
+pub front_few : (units : ℕ → ℕ) → ((c : ℕ) → units c ≤ len_utf8 c) → (bytes : List ℕ) → IsUtf8 bytes
+    → sum_by units (chars bytes) ≤ length bytes
 front_few units few bytes utf8 = omega (arith, units_few units few (chars bytes), utf8_units_of_text bytes utf8)
 
-pub part_short : (bytes : List ℕ) (start place : ℕ) → place ≤ length bytes → length (part bytes start place) ≤ length bytes
-part_short bytes start place within = omega (arith, length-take (place - start) (drop start bytes), length-drop start bytes)
+pub part_short : (bytes : List ℕ) (start place : ℕ) → place ≤ length bytes → length (part bytes start place)
+    ≤ length bytes
+part_short bytes start place within = omega (
+  arith,
+  length-take (place - start) (drop start bytes),
+  length-drop start bytes,
+)
 
 -- The same, where the search went over a copy of the starts.
-pub front_found : (bytes lines shown : List ℕ) (place line k : ℕ) → Indexes lines bytes → shown ≡ lines → IsLineOf shown place line → k ≤ length (chars bytes) → place_of (chars bytes) k ≡ place → IsFront bytes (slice_index lines line) place k
+pub front_found : (bytes lines shown : List ℕ) (place line k : ℕ) → Indexes lines bytes → shown ≡ lines
+    → IsLineOf shown place line → k ≤ length (chars bytes) → place_of (chars bytes) k ≡ place
+    → IsFront bytes (slice_index lines line) place k
 front_found bytes lines shown place line k indexes same found within at =
     front_from bytes lines place line k indexes (subst (λ xs. IsLineOf xs place line) same found) within at
 
@@ -117,18 +168,23 @@ pub record IsAt (bytes : List ℕ) (place : ℕ) : Type 0 where
   pub at : place_of (chars bytes) index ≡ place
 
 -- The pair of an index's line and its units from the line's start is its exact position.
-pub exact_is : (units : ℕ → ℕ) (bytes lines shown : List ℕ) (place line count k : ℕ) → IsUtf8 bytes → Indexes lines bytes → shown ≡ lines → IsLineOf shown place line →
-    count ≡ sum_by units (chars (part bytes (slice_index lines line) place)) → k ≤ length (chars bytes) → place_of (chars bytes) k ≡ place →
+pub exact_is : (units : ℕ → ℕ) (bytes lines shown : List ℕ) (place line count k : ℕ) → IsUtf8 bytes
+    → Indexes lines bytes → shown ≡ lines → IsLineOf shown place line →
+    count ≡ sum_by units (chars (part bytes (slice_index lines line) place)) → k ≤ length (chars bytes)
+    → place_of (chars bytes) k ≡ place →
     ◌≡◌ {A = Position} (record { line = line; character = count }) (exact_position units (chars bytes) k)
 exact_is units bytes lines shown place line count k utf8 indexes same found counted within at =
     let front = front_found bytes lines shown place line k indexes same found within at in
-    let line_is : line ≡ line_at (chars bytes) k = line_found bytes lines place line k indexes (subst (λ xs. IsLineOf xs place line) same found) within at in
+    let line_is : line ≡ line_at (chars bytes) k =
+    line_found bytes lines place line k indexes (subst (λ xs. IsLineOf xs place line) same found) within at in
     let count_is = counted ∙ front_units units bytes (slice_index lines line) place k utf8 front in
     rw (line_is, count_is) refl
 
 -- The exact position of a place denotes it.
-pub exact_resolves : (units : ℕ → ℕ) → ((c : ℕ) → 1 ≤ units c) → (text : List ℕ) (place : ℕ) (p : Position) → IsPlace text place →
-    ((k : ℕ) → k ≤ length text → place_of text k ≡ place → p ≡ exact_position units text k) → option_map (place_of text) (denoted units text p) ≡ Some place
+pub exact_resolves : (units : ℕ → ℕ) → ((c : ℕ) → 1 ≤ units c) → (text : List ℕ) (place : ℕ) (p : Position)
+    → IsPlace text place →
+    ((k : ℕ) → k ≤ length text → place_of text k ≡ place → p ≡ exact_position units text k)
+    → option_map (place_of text) (denoted units text p) ≡ Some place
 exact_resolves units some text place p at exact =
     ap (λ q. option_map (place_of text) (denoted units text q)) (exact at.0 at.1 at.3) ∙
     (ap (option_map (place_of text)) (exact_denotes units some text at.0 at.1 at.2) ∙ ap Some at.3)

@@ -1,4 +1,5 @@
--- Inside a line: its content is all indexes from its start to its stop, and a position goes by the characters between them alone.
+-- Inside a line: its content is all indexes from its start to its stop, and a position goes by the characters between
+-- them alone.
 use Rattle.std.proofs.Common.{ℕ, zero, suc, ◌≡◌, ◌+◌, ◌-◌, ◌<◌, ◌≤◌, ◌⊎◌, Bool, true, false, not, ◌&&◌, cond, if◌then◌else◌, List, [], ◌∷◌, length, take, drop, sum_by, slice_index, ◌==◌, nat_lt, nat_le, Option, Some, None, option_map, find, ⊎_elim, inl, inr, refl, sym, ap, ◌∙◌, arith, eqb-true, ltb-true, ltb-false, le-ltb, le-leb, length-drop, length-take}
 use Rattle.std.proofs.lemmas.Bool.{cases_Bool, cases_eq, and_parts, and_from, or_right, not-true, not_from_false, lt-leb, eqb-false, false_from_ne_true}
 use Rattle.std.proofs.lemmas.List.{take-take, get_or-drop}
@@ -12,32 +13,40 @@ use Rattle.lsp_text.proofs.TextLines.RowLemmas.{find_none}
 use Rattle.lsp_text.proofs.TextLines.LineLemmas.{line_rises, in_content, in_content_line, in_content_whole, line_has_start, line_has_stop, IsStart, IsStop}
 use Rattle.lsp_text.proofs.Positions.PositionLemmas.{content_index}
 
--- The index in a line of the characters `line` that has c units before it: the line's end if it has no more, none inside a character.
+-- The index in a line of the characters `line` that has c units before it: the line's end if it has no more, none
+-- inside a character.
 abbrev pub index_in_line : (ℕ → ℕ) → List ℕ → ℕ → Option ℕ
 index_in_line units [] c = Some 0
-index_in_line units (x ∷ line) c = if c == 0 then Some 0 else if nat_lt c (units x) then None else option_map suc (index_in_line units line (c - units x))
+index_in_line units (x ∷ line) c = if c == 0 then Some 0 else if nat_lt c (units x) then None
+    else option_map suc (index_in_line units line (c - units x))
 
 -- A line feed before an index makes it the next line.
-behind_line_feed : (text : List ℕ) (k : ℕ) → (slice_index text k == line_feed) ≡ true → line_at text (suc k) ≡ suc (line_at text k)
+behind_line_feed : (text : List ℕ) (k : ℕ) → (slice_index text k == line_feed) ≡ true → line_at text (suc k)
+    ≡ suc (line_at text k)
 behind_line_feed text k e = rw e refl
 
 -- Behind an index that splits a CRLF the next line begins.
-split_in_line : (text : List ℕ) (j stop : ℕ) → splits_crlf text j ≡ true → splits_crlf text stop ≡ false → j ≤ stop → line_at text j < line_at text stop
+split_in_line : (text : List ℕ) (j stop : ℕ) → splits_crlf text j ≡ true → splits_crlf text stop ≡ false → j ≤ stop
+    → line_at text j < line_at text stop
 split_in_line text zero stop split whole order = absurd (cc)
 split_in_line text (suc j) stop split whole order =
     ⊎_elim
     (λ (e : suc j ≡ stop). absurd (let w : splits_crlf text (suc j) ≡ false = ap (splits_crlf text) e ∙ whole in cc))
     (λ (e : suc j ≡ stop → ⊥).
-    let feed : (slice_index text (suc j) == line_feed) ≡ true = (and_parts (slice_index text j == carriage_return) (slice_index text (suc j) == line_feed) split).1 in
+    let feed : (slice_index text (suc j) == line_feed) ≡ true =
+    (and_parts (slice_index text j == carriage_return) (slice_index text (suc j) == line_feed) split).1 in
     let next : line_at text (suc (suc j)) ≡ suc (line_at text (suc j)) = behind_line_feed text (suc j) feed in
     let rises : line_at text (suc (suc j)) ≤ line_at text stop = line_rises text (suc (suc j)) stop (omega arith) in
     omega arith)
     (cases_eq (suc j) stop)
 
 -- All indexes from a line's start to its stop are in its content.
-pub between_in_content : (text : List ℕ) (line start stop k : ℕ) → IsStart text line start → IsStop text line stop → start ≤ k → k ≤ stop → is_in_content text line k ≡ true
+pub between_in_content : (text : List ℕ) (line start stop k : ℕ) → IsStart text line start → IsStop text line stop
+    → start ≤ k → k ≤ stop → is_in_content text line k ≡ true
 between_in_content text line start stop k is_start is_stop from to =
-    in_content text line k here (false_from_ne_true (splits_crlf text k) (λ s. let more : line_at text k < line_at text stop = split_in_line text k stop s (in_content_whole text line stop is_stop.passes) to in omega (arith, here, stop_line)))
+    in_content text line k here
+    (false_from_ne_true (splits_crlf text k) (λ s. let more : line_at text k < line_at text stop = split_in_line text k
+    stop s (in_content_whole text line stop is_stop.passes) to in omega (arith, here, stop_line)))
   where
     start_line : line_at text start ≡ line
     start_line = in_content_line text line start is_start.passes
@@ -49,13 +58,15 @@ between_in_content text line start stop k is_start is_stop from to =
     here = omega (arith, start_line, stop_line, line_rises text start k from, line_rises text k stop to)
 
 -- The units of the first n characters of a part of a text.
-units_of_front : (units : ℕ → ℕ) (text : List ℕ) (start count n : ℕ) → n ≤ count → units_between units text start (start + n) ≡ sum_by units (take n (take count (drop start text)))
+units_of_front : (units : ℕ → ℕ) (text : List ℕ) (start count n : ℕ) → n ≤ count
+    → units_between units text start (start + n) ≡ sum_by units (take n (take count (drop start text)))
 units_of_front units text start count n order =
     let e : (start + n) - start ≡ n = omega arith in
     rw (e, take-take n count (drop start text) order) refl
 
 -- Where there is an index in the line, it has exactly c units before it, or is the end of a line that has no more.
-index_found : (units : ℕ → ℕ) (line : List ℕ) (c n : ℕ) → index_in_line units line c ≡ Some n → (n ≤ length line) × ((sum_by units (take n line) ≡ c) ⊎ ((n ≡ length line) × (sum_by units line ≤ c)))
+index_found : (units : ℕ → ℕ) (line : List ℕ) (c n : ℕ) → index_in_line units line c ≡ Some n → (n ≤ length line)
+    × ((sum_by units (take n line) ≡ c) ⊎ ((n ≡ length line) × (sum_by units line ≤ c)))
 index_found units [] c n found = let e : 0 ≡ n = cc in (omega arith, inr (omega arith, omega arith))
 index_found units (x ∷ line) c n found =
     ⊎_elim
@@ -63,32 +74,44 @@ index_found units (x ∷ line) c n found =
     (λ (e : (c == 0) ≡ false).
     ⊎_elim
     (λ (l : nat_lt c (units x) ≡ true). absurd (let f : ◌≡◌ {A = Option ℕ} None (Some n) = rw (e, l) at found in cc))
-    (λ (l : nat_lt c (units x) ≡ false). rest_after (index_in_line units line (c - units x)) refl (λ m f. index_found units line (c - units x) m f) (ltb-false c (units x) l) (rw (e, l) at found))
+    (λ (l : nat_lt c (units x) ≡ false). rest_after (index_in_line units line (c - units x)) refl
+    (λ m f. index_found units line (c - units x) m f) (ltb-false c (units x) l) (rw (e, l) at found))
     (cases_Bool (nat_lt c (units x))))
     (cases_Bool (c == 0))
   where
-    at_start : c ≡ 0 → 0 ≡ n → (n ≤ suc (length line)) × ((sum_by units (take n (x ∷ line)) ≡ c) ⊎ ((n ≡ suc (length line)) × (sum_by units (x ∷ line) ≤ c)))
+    at_start : c ≡ 0 → 0 ≡ n → (n ≤ suc (length line))
+        × ((sum_by units (take n (x ∷ line)) ≡ c) ⊎ ((n ≡ suc (length line)) × (sum_by units (x ∷ line) ≤ c)))
     at_start e f = (omega arith, inl (rw (← f, e) refl))
 
-    further : (m : ℕ) → suc m ≡ n → units x ≤ c → (m ≤ length line) × ((sum_by units (take m line) ≡ c - units x) ⊎ ((m ≡ length line) × (sum_by units line ≤ c - units x))) → (n ≤ suc (length line)) × ((sum_by units (take n (x ∷ line)) ≡ c) ⊎ ((n ≡ suc (length line)) × (sum_by units (x ∷ line) ≤ c)))
+    further : (m : ℕ) → suc m ≡ n → units x ≤ c → (m ≤ length line)
+        × ((sum_by units (take m line) ≡ c - units x) ⊎ ((m ≡ length line) × (sum_by units line ≤ c - units x)))
+        → (n ≤ suc (length line))
+        × ((sum_by units (take n (x ∷ line)) ≡ c) ⊎ ((n ≡ suc (length line)) × (sum_by units (x ∷ line) ≤ c)))
     further m e room r = (
       omega (arith, r.0),
       ⊎_elim
-          (λ (s : sum_by units (take m line) ≡ c - units x). inl (rw (← e) (rw (sum_by-cons units x (take m line)) (omega arith))))
-          (λ (s : (m ≡ length line) × (sum_by units line ≤ c - units x)). inr (omega (arith, s.0), rw (sum_by-cons units x line) (omega (arith, s.1))))
+          (λ (s : sum_by units (take m line) ≡ c - units x). inl
+          (rw (← e) (rw (sum_by-cons units x (take m line)) (omega arith))))
+          (λ (s : (m ≡ length line) × (sum_by units line ≤ c - units x)). inr (
+            omega (arith, s.0),
+            rw (sum_by-cons units x line) (omega (arith, s.1)),
+          ))
           r.1,
     )
 
     rest_after : (o : Option ℕ) → index_in_line units line (c - units x) ≡ o
-        → ((m : ℕ) → index_in_line units line (c - units x) ≡ Some m → (m ≤ length line) × ((sum_by units (take m line) ≡ c - units x) ⊎ ((m ≡ length line) × (sum_by units line ≤ c - units x))))
+        → ((m : ℕ) → index_in_line units line (c - units x) ≡ Some m → (m ≤ length line)
+        × ((sum_by units (take m line) ≡ c - units x) ⊎ ((m ≡ length line) × (sum_by units line ≤ c - units x))))
         → units x ≤ c
         → option_map suc (index_in_line units line (c - units x)) ≡ Some n
-        → (n ≤ suc (length line)) × ((sum_by units (take n (x ∷ line)) ≡ c) ⊎ ((n ≡ suc (length line)) × (sum_by units (x ∷ line) ≤ c)))
+        → (n ≤ suc (length line))
+        × ((sum_by units (take n (x ∷ line)) ≡ c) ⊎ ((n ≡ suc (length line)) × (sum_by units (x ∷ line) ≤ c)))
     rest_after None is ih room g = absurd (let f : ◌≡◌ {A = Option ℕ} None (Some n) = rw is at g in cc)
     rest_after (Some m) is ih room g = further m (let f : Some (suc m) ≡ Some n = rw is at g in cc) room (ih m is)
 
 -- Where there is none, the line has more units than c, and no index of it has exactly c before it.
-index_missed : (units : ℕ → ℕ) (line : List ℕ) (c : ℕ) → index_in_line units line c ≡ None → (c < sum_by units line) × ((n : ℕ) → n ≤ length line → sum_by units (take n line) ≡ c → ⊥)
+index_missed : (units : ℕ → ℕ) (line : List ℕ) (c : ℕ) → index_in_line units line c ≡ None → (c < sum_by units line)
+    × ((n : ℕ) → n ≤ length line → sum_by units (take n line) ≡ c → ⊥)
 index_missed units [] c missed = absurd (cc)
 index_missed units (x ∷ line) c missed =
     ⊎_elim
@@ -97,7 +120,8 @@ index_missed units (x ∷ line) c missed =
     let above : c ≡ 0 → ⊥ = eqb-false c 0 e in
     ⊎_elim
     (λ (l : nat_lt c (units x) ≡ true). inside above (ltb-true c (units x) l))
-    (λ (l : nat_lt c (units x) ≡ false). rest_after above (index_in_line units line (c - units x)) refl (index_missed units line (c - units x)) (ltb-false c (units x) l) (rw (e, l) at missed))
+    (λ (l : nat_lt c (units x) ≡ false). rest_after above (index_in_line units line (c - units x)) refl
+    (index_missed units line (c - units x)) (ltb-false c (units x) l) (rw (e, l) at missed))
     (cases_Bool (nat_lt c (units x))))
     (cases_Bool (c == 0))
   where
@@ -105,7 +129,8 @@ index_missed units (x ∷ line) c missed =
     front zero = inl refl
     front (suc n) = let e : suc n - 1 ≡ n = omega arith in inr (rw (sum_by-cons units x (take n line), e) refl)
 
-    inside : (c ≡ 0 → ⊥) → c < units x → (c < sum_by units (x ∷ line)) × ((n : ℕ) → n ≤ suc (length line) → sum_by units (take n (x ∷ line)) ≡ c → ⊥)
+    inside : (c ≡ 0 → ⊥) → c < units x → (c < sum_by units (x ∷ line))
+        × ((n : ℕ) → n ≤ suc (length line) → sum_by units (take n (x ∷ line)) ≡ c → ⊥)
     inside above less = (
       rw (sum_by-cons units x line) (omega arith),
       λ n order same.
@@ -116,7 +141,8 @@ index_missed units (x ∷ line) c missed =
     )
 
     rest_after : (c ≡ 0 → ⊥) → (o : Option ℕ) → index_in_line units line (c - units x) ≡ o
-        → (index_in_line units line (c - units x) ≡ None → (c - units x < sum_by units line) × ((n : ℕ) → n ≤ length line → sum_by units (take n line) ≡ c - units x → ⊥))
+        → (index_in_line units line (c - units x) ≡ None → (c - units x < sum_by units line)
+        × ((n : ℕ) → n ≤ length line → sum_by units (take n line) ≡ c - units x → ⊥))
         → units x ≤ c
         → option_map suc (index_in_line units line (c - units x)) ≡ None
         → (c < sum_by units (x ∷ line)) × ((n : ℕ) → n ≤ suc (length line) → sum_by units (take n (x ∷ line)) ≡ c → ⊥)
@@ -135,10 +161,13 @@ index_missed units (x ∷ line) c missed =
     )
 
 -- Inside a line that has these bounds, a position's character denotes the index that the line's characters alone give.
-in_bounds : (units : ℕ → ℕ) → ((c : ℕ) → 1 ≤ units c) → (text : List ℕ) (line start stop c : ℕ) → IsStart text line start → IsStop text line stop
-    → cond (nat_le (units_between units text start stop) c) (Some stop) (find (λ k. units_between units text start k == c) (line_content text line))
+in_bounds : (units : ℕ → ℕ) → ((c : ℕ) → 1 ≤ units c) → (text : List ℕ) (line start stop c : ℕ)
+    → IsStart text line start → IsStop text line stop
+    → cond (nat_le (units_between units text start stop) c) (Some stop)
+    (find (λ k. units_between units text start k == c) (line_content text line))
     ≡ option_map (λ n. start + n) (index_in_line units (take (stop - start) (drop start text)) c)
-in_bounds units some text line start stop c is_start is_stop = by_index (index_in_line units (take (stop - start) (drop start text)) c) refl
+in_bounds units some text line start stop c is_start is_stop =
+    by_index (index_in_line units (take (stop - start) (drop start text)) c) refl
   where
     order : start ≤ stop
     order = is_start.least stop (omega arith) is_stop.passes
@@ -150,11 +179,14 @@ in_bounds units some text line start stop c is_start is_stop = by_index (index_i
     part_length = simp (length-take, length-drop) (omega (arith, within))
 
     denoted_here : Option ℕ
-    denoted_here = cond (nat_le (units_between units text start stop) c) (Some stop) (find (λ k. units_between units text start k == c) (line_content text line))
+    denoted_here = cond (nat_le (units_between units text start stop) c) (Some stop)
+        (find (λ k. units_between units text start k == c) (line_content text line))
 
-    at_index : (n : ℕ) → n ≤ stop - start → sum_by units (take n (take (stop - start) (drop start text))) ≡ c → denoted_here ≡ Some (start + n)
+    at_index : (n : ℕ) → n ≤ stop - start → sum_by units (take n (take (stop - start) (drop start text))) ≡ c
+        → denoted_here ≡ Some (start + n)
     at_index n less same =
-        let front : units_between units text start (start + n) ≡ c = units_of_front units text start (stop - start) n less ∙ same in
+        let front : units_between units text start (start + n) ≡ c =
+        units_of_front units text start (stop - start) n less ∙ same in
         rw (← front)
         (content_index units some text line start stop (start + n) is_start is_stop
         (omega (arith, within, order))
@@ -165,7 +197,8 @@ in_bounds units some text line start stop c is_start is_stop = by_index (index_i
         let s : start + n ≡ stop = omega (arith, order) in
         rw (le-leb (units_between units text start stop) c less, s) refl
 
-    nowhere : c < units_between units text start stop → ((n : ℕ) → n ≤ length (take (stop - start) (drop start text)) → sum_by units (take n (take (stop - start) (drop start text))) ≡ c → ⊥) → denoted_here ≡ None
+    nowhere : c < units_between units text start stop → ((n : ℕ) → n ≤ length (take (stop - start) (drop start text))
+        → sum_by units (take n (take (stop - start) (drop start text))) ≡ c → ⊥) → denoted_here ≡ None
     nowhere less none =
         rw (lt-leb (units_between units text start stop) c less)
         (find_none (is_in_content text line) (λ k. units_between units text start k == c) 0 (suc (length text))
@@ -174,56 +207,81 @@ in_bounds units some text line start stop c is_start is_stop = by_index (index_i
         let to : k ≤ stop = is_stop.greatest k in_row h in
         let e : start + (k - start) ≡ k = omega arith in
         let inside : k - start ≤ stop - start = omega arith in
-        let front : units_between units text start (start + (k - start)) ≡ sum_by units (take (k - start) (take (stop - start) (drop start text))) = units_of_front units text start (stop - start) (k - start) inside in
+        let front : units_between units text start (start + (k - start))
+        ≡ sum_by units (take (k - start) (take (stop - start) (drop start text))) =
+        units_of_front units text start (stop - start) (k - start) inside in
         let here : units_between units text start k ≡ c = eqb-true (units_between units text start k) c w in
-        let front_k : units_between units text start k ≡ sum_by units (take (k - start) (take (stop - start) (drop start text))) = rw e at front in
+        let front_k : units_between units text start k
+        ≡ sum_by units (take (k - start) (take (stop - start) (drop start text))) = rw e at front in
         none (k - start) (omega (arith, part_length)) (cc)))
 
-    by_index : (o : Option ℕ) → index_in_line units (take (stop - start) (drop start text)) c ≡ o → denoted_here ≡ option_map (λ n. start + n) (index_in_line units (take (stop - start) (drop start text)) c)
-    by_index None is = rw is (nowhere (index_missed units (take (stop - start) (drop start text)) c is).0 (index_missed units (take (stop - start) (drop start text)) c is).1)
+    by_index : (o : Option ℕ) → index_in_line units (take (stop - start) (drop start text)) c ≡ o → denoted_here
+        ≡ option_map (λ n. start + n) (index_in_line units (take (stop - start) (drop start text)) c)
+    by_index None is =
+        rw is (nowhere (index_missed units (take (stop - start) (drop start text)) c is).0
+        (index_missed units (take (stop - start) (drop start text)) c is).1)
     by_index (Some n) is =
         rw is
         (⊎_elim
-        (λ (s : sum_by units (take n (take (stop - start) (drop start text))) ≡ c). at_index n (omega (arith, part_length, (index_found units (take (stop - start) (drop start text)) c n is).0)) s)
-        (λ (s : (n ≡ length (take (stop - start) (drop start text))) × (sum_by units (take (stop - start) (drop start text)) ≤ c)). at_stop n (omega (arith, part_length, s.0)) s.1)
+        (λ (s : sum_by units (take n (take (stop - start) (drop start text))) ≡ c). at_index n
+        (omega (arith, part_length, (index_found units (take (stop - start) (drop start text)) c n is).0)) s)
+        (λ (s : (n ≡ length (take (stop - start) (drop start text)))
+        × (sum_by units (take (stop - start) (drop start text)) ≤ c)). at_stop n (omega (arith, part_length, s.0)) s.1)
         (index_found units (take (stop - start) (drop start text)) c n is).1)
 
 -- A position in a line of the text denotes the index that the characters of that line alone give.
-pub denoted_in_line : (units : ℕ → ℕ) → ((c : ℕ) → 1 ≤ units c) → (text : List ℕ) (p : Position) → p.line ≤ line_ends text
-    → denoted units text p ≡ option_map (λ n. line_start text p.line + n) (index_in_line units (take (line_stop text p.line - line_start text p.line) (drop (line_start text p.line) text)) p.character)
+pub denoted_in_line : (units : ℕ → ℕ) → ((c : ℕ) → 1 ≤ units c) → (text : List ℕ) (p : Position)
+    → p.line ≤ line_ends text
+    → denoted units text p ≡ option_map (λ n. line_start text p.line + n)
+    (index_in_line units (take (line_stop text p.line - line_start text p.line) (drop (line_start text p.line) text))
+    p.character)
 denoted_in_line units some text p there =
     rw (le-ltb (line_ends text) p.line there)
-    (in_bounds units some text p.line (line_start text p.line) (line_stop text p.line) p.character (line_has_start text p.line there) (line_has_stop text p.line there))
+    (in_bounds units some text p.line (line_start text p.line) (line_stop text p.line) p.character
+    (line_has_start text p.line there) (line_has_stop text p.line there))
 
 -- The characters that end no line and begin no line end.
 abbrev pub is_inside_line : ℕ → Bool
 is_inside_line c = not (c == line_feed) && not (c == carriage_return)
 
 -- Behind a character that is inside a line comes an index of the same line, which splits no CRLF.
-inside_next : (text : List ℕ) (k : ℕ) → is_inside_line (slice_index text k) ≡ true → (line_at text (suc k) ≡ line_at text k) × (splits_crlf text (suc k) ≡ false)
+inside_next : (text : List ℕ) (k : ℕ) → is_inside_line (slice_index text k) ≡ true
+    → (line_at text (suc k) ≡ line_at text k) × (splits_crlf text (suc k) ≡ false)
 inside_next text k inside =
-    let no_feed : (slice_index text k == line_feed) ≡ false = not-true (slice_index text k == line_feed) (and_parts (not (slice_index text k == line_feed)) (not (slice_index text k == carriage_return)) inside).0 in
-    let no_return : (slice_index text k == carriage_return) ≡ false = not-true (slice_index text k == carriage_return) (and_parts (not (slice_index text k == line_feed)) (not (slice_index text k == carriage_return)) inside).1 in
+    let no_feed : (slice_index text k == line_feed) ≡ false =
+    not-true (slice_index text k == line_feed) (and_parts (not (slice_index text k == line_feed))
+    (not (slice_index text k == carriage_return)) inside).0 in
+    let no_return : (slice_index text k == carriage_return) ≡ false =
+    not-true (slice_index text k == carriage_return) (and_parts (not (slice_index text k == line_feed))
+    (not (slice_index text k == carriage_return)) inside).1 in
     (rw (no_feed, no_return) refl, rw no_return refl)
 
 -- An index of the same line as the one before it, which splits no CRLF, has a character inside the line before it.
-next_inside : (text : List ℕ) (k : ℕ) → line_at text (suc k) ≡ line_at text k → splits_crlf text (suc k) ≡ false → is_inside_line (slice_index text k) ≡ true
+next_inside : (text : List ℕ) (k : ℕ) → line_at text (suc k) ≡ line_at text k → splits_crlf text (suc k) ≡ false
+    → is_inside_line (slice_index text k) ≡ true
 next_inside text k same whole =
     and_from (not (slice_index text k == line_feed)) (not (slice_index text k == carriage_return))
-    (not_from_false (slice_index text k == line_feed) (false_from_ne_true (slice_index text k == line_feed) (λ e. let next : line_at text (suc k) ≡ suc (line_at text k) = behind_line_feed text k e in omega arith)))
+    (not_from_false (slice_index text k == line_feed) (false_from_ne_true (slice_index text k == line_feed)
+    (λ e. let next : line_at text (suc k) ≡ suc (line_at text k) = behind_line_feed text k e in omega arith)))
     (not_from_false (slice_index text k == carriage_return)
     (false_from_ne_true (slice_index text k == carriage_return)
     (λ e.
     let no_feed : (slice_index text (suc k) == line_feed) ≡ false = rw e at whole in
-    let ends : ends_line text (suc k) ≡ true = or_right (slice_index text k == line_feed) ((slice_index text k == carriage_return) && not (slice_index text (suc k) == line_feed)) (and_from (slice_index text k == carriage_return) (not (slice_index text (suc k) == line_feed)) e (not_from_false (slice_index text (suc k) == line_feed) no_feed)) in
+    let ends : ends_line text (suc k) ≡ true =
+    or_right (slice_index text k == line_feed) ((slice_index text k == carriage_return)
+    && not (slice_index text (suc k) == line_feed)) (and_from (slice_index text k == carriage_return)
+    (not (slice_index text (suc k) == line_feed)) e (not_from_false (slice_index text (suc k) == line_feed) no_feed)) in
     let next : line_at text (suc k) ≡ suc (line_at text k) = rw ends refl in
     omega arith)))
 
 -- A line's content ends at the first line feed or carriage return behind its start.
-pub line_length : (text : List ℕ) (line : ℕ) → line ≤ line_ends text → prefix_len is_inside_line (drop (line_start text line) text) ≡ line_stop text line - line_start text line
-line_length text line there = lengths (line_start text line) (line_stop text line) (line_has_start text line there) (line_has_stop text line there)
+pub line_length : (text : List ℕ) (line : ℕ) → line ≤ line_ends text
+    → prefix_len is_inside_line (drop (line_start text line) text) ≡ line_stop text line - line_start text line
+line_length text line there = lengths (line_start text line) (line_stop text line) (line_has_start text line there)
+    (line_has_stop text line there)
   where
-    lengths : (start stop : ℕ) → IsStart text line start → IsStop text line stop → prefix_len is_inside_line (drop start text) ≡ stop - start
+    lengths : (start stop : ℕ) → IsStart text line start → IsStop text line stop
+        → prefix_len is_inside_line (drop start text) ≡ stop - start
     lengths start stop is_start is_stop =
         prefix_len_is is_inside_line (drop start text) (stop - start) 0
         (simp length-drop (omega (arith, is_stop.in_row)))
@@ -238,8 +296,10 @@ line_length text line there = lengths (line_start text line) (line_stop text lin
 
         inside : (k : ℕ) → k < stop - start → is_inside_line (slice_index text (start + k)) ≡ true
         inside k less =
-            let here : is_in_content text line (start + k) ≡ true = between_in_content text line start stop (start + k) is_start is_stop (omega arith) (omega arith) in
-            let next : is_in_content text line (suc (start + k)) ≡ true = between_in_content text line start stop (suc (start + k)) is_start is_stop (omega arith) (omega arith) in
+            let here : is_in_content text line (start + k) ≡ true =
+            between_in_content text line start stop (start + k) is_start is_stop (omega arith) (omega arith) in
+            let next : is_in_content text line (suc (start + k)) ≡ true =
+            between_in_content text line start stop (suc (start + k)) is_start is_stop (omega arith) (omega arith) in
             let here_line : line_at text (start + k) ≡ line = in_content_line text line (start + k) here in
             let next_line : line_at text (suc (start + k)) ≡ line = in_content_line text line (suc (start + k)) next in
             next_inside text (start + k) (next_line ∙ sym here_line) (in_content_whole text line (suc (start + k)) next)
@@ -248,7 +308,9 @@ line_length text line there = lengths (line_start text line) (line_stop text lin
         outside less =
             false_from_ne_true (is_inside_line (slice_index text stop))
             (λ e.
-            let next : (line_at text (suc stop) ≡ line_at text stop) × (splits_crlf text (suc stop) ≡ false) = inside_next text stop e in
+            let next : (line_at text (suc stop) ≡ line_at text stop) × (splits_crlf text (suc stop) ≡ false) =
+            inside_next text stop e in
             let here_line : line_at text stop ≡ line = in_content_line text line stop is_stop.passes in
-            let more : suc stop ≤ stop = is_stop.greatest (suc stop) (omega arith) (in_content text line (suc stop) (next.0 ∙ here_line) next.1) in
+            let more : suc stop ≤ stop =
+            is_stop.greatest (suc stop) (omega arith) (in_content text line (suc stop) (next.0 ∙ here_line) next.1) in
             omega arith)

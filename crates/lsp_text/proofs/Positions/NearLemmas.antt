@@ -22,7 +22,8 @@ agree_from_take text other k same j h =
     cc
 
 -- Where an index splits no CRLF, it ends a line exactly if a line feed or a carriage return stands before it.
-ends_line_whole : (text : List ℕ) (k : ℕ) → splits_crlf text (suc k) ≡ false → ends_line text (suc k) ≡ ((slice_index text k == line_feed) || (slice_index text k == carriage_return))
+ends_line_whole : (text : List ℕ) (k : ℕ) → splits_crlf text (suc k) ≡ false → ends_line text (suc k)
+    ≡ ((slice_index text k == line_feed) || (slice_index text k == carriage_return))
 ends_line_whole text k whole =
     ⊎_elim
     (λ (e : (slice_index text k == carriage_return) ≡ false). rw e refl)
@@ -43,23 +44,30 @@ module _ (text other : List ℕ) where
   ends_near k zero agree h = refl
   ends_near k (suc j) agree h = rw (agree j (omega arith), agree (suc j) h) refl
 
-  ends_near_whole : (k : ℕ) → AgreeBelow text other k → splits_crlf text k ≡ false → splits_crlf other k ≡ false → ends_line text k ≡ ends_line other k
+  ends_near_whole : (k : ℕ) → AgreeBelow text other k → splits_crlf text k ≡ false → splits_crlf other k ≡ false
+      → ends_line text k ≡ ends_line other k
   ends_near_whole zero agree whole other_whole = refl
-  ends_near_whole (suc k) agree whole other_whole = rw (ends_line_whole text k whole, ends_line_whole other k other_whole, agree k (omega arith)) refl
+  ends_near_whole (suc k) agree whole other_whole =
+      rw (ends_line_whole text k whole, ends_line_whole other k other_whole, agree k (omega arith)) refl
 
   line_near : (k j : ℕ) → AgreeBelow text other k → j < k → line_at text j ≡ line_at other j
   line_near k zero agree h = refl
   line_near k (suc j) agree h = rw (ends_near k (suc j) agree h, line_near k j agree (omega arith)) refl
 
-  pub line_near_whole : (k : ℕ) → AgreeBelow text other k → splits_crlf text k ≡ false → splits_crlf other k ≡ false → line_at text k ≡ line_at other k
+  pub line_near_whole : (k : ℕ) → AgreeBelow text other k → splits_crlf text k ≡ false → splits_crlf other k ≡ false
+      → line_at text k ≡ line_at other k
   line_near_whole zero agree whole other_whole = refl
-  line_near_whole (suc k) agree whole other_whole = rw (ends_near_whole (suc k) agree whole other_whole, line_near (suc k) k agree (omega arith)) refl
+  line_near_whole (suc k) agree whole other_whole =
+      rw (ends_near_whole (suc k) agree whole other_whole, line_near (suc k) k agree (omega arith)) refl
 
   -- An index up to k in one text's content of a line is in the other's.
-  content_near : (k line j : ℕ) → AgreeBelow text other k → splits_crlf text k ≡ false → splits_crlf other k ≡ false → j ≤ k → is_in_content text line j ≡ true → is_in_content other line j ≡ true
+  content_near : (k line j : ℕ) → AgreeBelow text other k → splits_crlf text k ≡ false → splits_crlf other k ≡ false
+      → j ≤ k → is_in_content text line j ≡ true → is_in_content other line j ≡ true
   content_near k line j agree whole other_whole order h =
       ⊎_elim
-      (λ (e : j ≡ k). let l : line_at text j ≡ line = in_content_line text line j h in let s : line_at text k ≡ line_at other k = line_near_whole k agree whole other_whole in in_content other line j (rw e (let m : line_at text k ≡ line = rw e at l in cc)) (rw e other_whole))
+      (λ (e : j ≡ k). let l : line_at text j ≡ line = in_content_line text line j h in
+      let s : line_at text k ≡ line_at other k = line_near_whole k agree whole other_whole in
+      in_content other line j (rw e (let m : line_at text k ≡ line = rw e at l in cc)) (rw e other_whole))
       (λ (e : j ≡ k → ⊥).
       let below : j < k = omega arith in
       let l : line_at text j ≡ line = in_content_line text line j h in
@@ -70,7 +78,8 @@ module _ (text other : List ℕ) where
       (cases_eq j k)
 
 -- What a longer text has of units below k goes by what stands below k.
-units_near : (units : ℕ → ℕ) (text other : List ℕ) (i k : ℕ) → take k text ≡ take k other → i ≤ k → units_between units text i k ≡ units_between units other i k
+units_near : (units : ℕ → ℕ) (text other : List ℕ) (i k : ℕ) → take k text ≡ take k other → i ≤ k
+    → units_between units text i k ≡ units_between units other i k
 units_near units text other i k same order =
     let here : i + (k - i) ≡ k = omega arith in
     let left : drop i (take (i + (k - i)) text) ≡ take (k - i) (drop i text) = drop-take i (k - i) text in
@@ -82,12 +91,17 @@ units_near units text other i k same order =
     ap (sum_by units) parts
 
 -- Two texts with the same first k characters, of which k splits no CRLF of either, give k the same exact position.
-pub exact_near : (units : ℕ → ℕ) (text other : List ℕ) (k : ℕ) → take k text ≡ take k other → k ≤ length text → k ≤ length other → splits_crlf text k ≡ false → splits_crlf other k ≡ false → exact_position units text k ≡ exact_position units other k
+pub exact_near : (units : ℕ → ℕ) (text other : List ℕ) (k : ℕ) → take k text ≡ take k other → k ≤ length text
+    → k ≤ length other → splits_crlf text k ≡ false → splits_crlf other k ≡ false → exact_position units text k
+    ≡ exact_position units other k
 exact_near units text other k same within other_within whole other_whole =
-    let starts : line_start text (line_at text k) ≡ line_start other (line_at other k) = ap (line_start text) line_same ∙ start_same in
+    let starts : line_start text (line_at text k) ≡ line_start other (line_at other k) =
+    ap (line_start text) line_same ∙ start_same in
     let order : line_start other (line_at other k) ≤ k = other_begins.least k (omega arith) other_content in
-    let u : units_between units text (line_start text (line_at text k)) k ≡ units_between units other (line_start other (line_at other k)) k
-    = ap (λ (from : ℕ). units_between units text from k) starts ∙ units_near units text other (line_start other (line_at other k)) k same order in
+    let u : units_between units text (line_start text (line_at text k)) k ≡ units_between units other
+    (line_start other (line_at other k)) k
+    = ap (λ (from : ℕ). units_between units text from k) starts ∙ units_near units text other
+    (line_start other (line_at other k)) k same order in
     λ i. record { line = line_same i; character = u i }
   where
     agree : AgreeBelow text other k
@@ -113,7 +127,11 @@ exact_near units text other k same within other_within whole other_whole =
         let low : line_start text (line_at other k) ≤ k = begins.least k (omega arith) content in
         let other_low : line_start other (line_at other k) ≤ k = other_begins.least k (omega arith) other_content in
         let one : line_start other (line_at other k) ≤ line_start text (line_at other k)
-        = other_begins.least (line_start text (line_at other k)) (omega arith) (content_near text other k (line_at other k) (line_start text (line_at other k)) agree whole other_whole low begins.passes) in
+        = other_begins.least (line_start text (line_at other k)) (omega arith)
+        (content_near text other k (line_at other k) (line_start text (line_at other k)) agree whole other_whole low
+        begins.passes) in
         let two : line_start text (line_at other k) ≤ line_start other (line_at other k)
-        = begins.least (line_start other (line_at other k)) (omega arith) (content_near other text k (line_at other k) (line_start other (line_at other k)) (agree_back text other k agree) other_whole whole other_low other_begins.passes) in
+        = begins.least (line_start other (line_at other k)) (omega arith) (content_near other text k (line_at other k)
+        (line_start other (line_at other k)) (agree_back text other k agree) other_whole whole other_low
+        other_begins.passes) in
         omega arith

@@ -22,46 +22,61 @@ use Rattle.lsp_text.proofs.TextLines.ContentLemmas.{stop_behind, stop_within}
 abbrev pub part : List ℕ → ℕ → ℕ → List ℕ
 part bytes from to = take (to - from) (drop from bytes)
 
-pub part_utf8 : (bytes : List ℕ) (j k : ℕ) → IsUtf8 bytes → j ≤ k → k ≤ length (chars bytes) → IsUtf8 (part bytes (place_of (chars bytes) j) (place_of (chars bytes) k))
+pub part_utf8 : (bytes : List ℕ) (j k : ℕ) → IsUtf8 bytes → j ≤ k → k ≤ length (chars bytes)
+    → IsUtf8 (part bytes (place_of (chars bytes) j) (place_of (chars bytes) k))
 part_utf8 bytes j k utf8 order within =
-    IsUtf8-between bytes (place_of (chars bytes) j) (place_of (chars bytes) k) utf8 (omega (arith, place_rises (chars bytes) j k order within))
+    IsUtf8-between bytes (place_of (chars bytes) j) (place_of (chars bytes) k) utf8
+    (omega (arith, place_rises (chars bytes) j k order within))
     (place_boundary bytes j utf8 (omega arith)) (place_boundary bytes k utf8 within)
 
-pub chars_part : (bytes : List ℕ) (j k : ℕ) → IsUtf8 bytes → j ≤ k → k ≤ length (chars bytes) → chars (part bytes (place_of (chars bytes) j) (place_of (chars bytes) k)) ≡ take (k - j) (drop j (chars bytes))
+pub chars_part : (bytes : List ℕ) (j k : ℕ) → IsUtf8 bytes → j ≤ k → k ≤ length (chars bytes)
+    → chars (part bytes (place_of (chars bytes) j) (place_of (chars bytes) k)) ≡ take (k - j) (drop j (chars bytes))
 chars_part bytes j k utf8 order within =
     let from = place_of (chars bytes) j in
     let to = place_of (chars bytes) k in
     let same : encode_utf8_all (take (k - j) (drop j (chars bytes))) ≡ part bytes from to =
     sym (part_place (chars bytes) j k order within) ∙ ap (λ bs. part bs from to) (encodes-chars bytes utf8) in
-    sym (chars_from_encodes (take (k - j) (drop j (chars bytes))) (part bytes from to) (part_utf8 bytes j k utf8 order within) same)
+    sym (chars_from_encodes (take (k - j) (drop j (chars bytes))) (part bytes from to)
+    (part_utf8 bytes j k utf8 order within) same)
 
-map_len : (units : ℕ → ℕ) (x c : ℕ) (f g : ℕ → ℕ) (o : Option ℕ) (p : Option ℕ) → p ≡ option_map g o → ((n : ℕ) → f (suc n) ≡ len_utf8 x + g n) → f 0 ≡ 0 →
-    cond (c == 0) (Some 0) (cond (nat_lt c (units x)) None (option_map (λ n. len_utf8 x + n) p)) ≡ option_map f (cond (c == 0) (Some 0) (cond (nat_lt c (units x)) None (option_map suc o)))
+map_len : (units : ℕ → ℕ) (x c : ℕ) (f g : ℕ → ℕ) (o : Option ℕ) (p : Option ℕ) → p ≡ option_map g o
+    → ((n : ℕ) → f (suc n) ≡ len_utf8 x + g n) → f 0 ≡ 0 →
+    cond (c == 0) (Some 0) (cond (nat_lt c (units x)) None (option_map (λ n. len_utf8 x + n) p))
+    ≡ option_map f (cond (c == 0) (Some 0) (cond (nat_lt c (units x)) None (option_map suc o)))
 map_len units x c f g o p same next start = by_tests (c == 0) (nat_lt c (units x)) o same
   where
-    by_tests : (a b : Bool) (o : Option ℕ) → p ≡ option_map g o → cond a (Some 0) (cond b None (option_map (λ n. len_utf8 x + n) p)) ≡ option_map f (cond a (Some 0) (cond b None (option_map suc o)))
+    by_tests : (a b : Bool) (o : Option ℕ) → p ≡ option_map g o
+        → cond a (Some 0) (cond b None (option_map (λ n. len_utf8 x + n) p))
+        ≡ option_map f (cond a (Some 0) (cond b None (option_map suc o)))
     by_tests true b o same = ap Some (sym start)
     by_tests false true o same = refl
     by_tests false false None same = ap (option_map (λ n. len_utf8 x + n)) same
     by_tests false false (Some n) same = ap (option_map (λ n. len_utf8 x + n)) same ∙ ap Some (sym (next n))
 
 -- The place in a line is that of its index, whatever stands behind the line.
-line_place_is : (units : ℕ → ℕ) (cs rest_after : List ℕ) (c : ℕ) → line_place units cs c ≡ option_map (place_of (cs ++ rest_after)) (index_in_line units cs c)
+line_place_is : (units : ℕ → ℕ) (cs rest_after : List ℕ) (c : ℕ) → line_place units cs c
+    ≡ option_map (place_of (cs ++ rest_after)) (index_in_line units cs c)
 line_place_is units [] rest_after c = refl
 line_place_is units (x ∷ cs) rest_after c =
-    map_len units x c (place_of (x ∷ (cs ++ rest_after))) (place_of (cs ++ rest_after)) (index_in_line units cs (c - units x)) (line_place units cs (c - units x))
+    map_len units x c (place_of (x ∷ (cs ++ rest_after))) (place_of (cs ++ rest_after))
+    (index_in_line units cs (c - units x)) (line_place units cs (c - units x))
     (line_place_is units cs rest_after (c - units x))
-    (λ n. length-append (encode x) (encode_utf8_all (take n (cs ++ rest_after))) ∙ ap (λ l. l + place_of (cs ++ rest_after) n) (length-encode x)) refl
+    (λ n. length-append (encode x) (encode_utf8_all (take n (cs ++ rest_after)))
+    ∙ ap (λ l. l + place_of (cs ++ rest_after) n) (length-encode x)) refl
 
-shifted : (text : List ℕ) (start : ℕ) (o : Option ℕ) → option_map (place_of text) (option_map (λ n. start + n) o) ≡ option_map (λ n. place_of text start + n) (option_map (place_of (drop start text)) o)
+shifted : (text : List ℕ) (start : ℕ) (o : Option ℕ) → option_map (place_of text) (option_map (λ n. start + n) o)
+    ≡ option_map (λ n. place_of text start + n) (option_map (place_of (drop start text)) o)
 shifted text start None = refl
 shifted text start (Some n) = ap Some (place_add text start n)
 
 -- A position of a line denotes the place that the line's bytes alone give.
-pub resolved : (units : ℕ → ℕ) → ((c : ℕ) → 1 ≤ units c) → (bytes : List ℕ) (p : Position) → IsUtf8 bytes → p.line ≤ line_ends (chars bytes) →
+pub resolved : (units : ℕ → ℕ) → ((c : ℕ) → 1 ≤ units c) → (bytes : List ℕ) (p : Position) → IsUtf8 bytes
+    → p.line ≤ line_ends (chars bytes) →
     option_map (place_of (chars bytes)) (denoted units (chars bytes) p) ≡
     option_map (λ n. place_of (chars bytes) (line_start (chars bytes) p.line) + n)
-    (line_place units (chars (part bytes (place_of (chars bytes) (line_start (chars bytes) p.line)) (place_of (chars bytes) (line_stop (chars bytes) p.line)))) p.character)
+    (line_place units
+    (chars (part bytes (place_of (chars bytes) (line_start (chars bytes) p.line))
+    (place_of (chars bytes) (line_stop (chars bytes) p.line)))) p.character)
 resolved units some bytes p utf8 there =
     let text = chars bytes in
     let start = line_start text p.line in
@@ -74,12 +89,15 @@ resolved units some bytes p utf8 there =
     (shifted text start found ∙
     (ap (λ cs. option_map (λ n. place_of text start + n) (option_map (place_of cs) found)) (sym whole) ∙
     (ap (option_map (λ n. place_of text start + n)) (sym (line_place_is units content rest_after p.character)) ∙
-    ap (λ cs. option_map (λ n. place_of text start + n) (line_place units cs p.character)) (sym (chars_part bytes start stop utf8 (stop_behind text p.line there) (stop_within text p.line there))))))
+    ap (λ cs. option_map (λ n. place_of text start + n) (line_place units cs p.character))
+    (sym (chars_part bytes start stop utf8 (stop_behind text p.line there) (stop_within text p.line there))))))
 
 -- A position past the last line denotes the end.
-pub resolved_past : (units : ℕ → ℕ) (bytes : List ℕ) (p : Position) → IsUtf8 bytes → line_ends (chars bytes) < p.line → option_map (place_of (chars bytes)) (denoted units (chars bytes) p) ≡ Some (length bytes)
+pub resolved_past : (units : ℕ → ℕ) (bytes : List ℕ) (p : Position) → IsUtf8 bytes → line_ends (chars bytes) < p.line
+    → option_map (place_of (chars bytes)) (denoted units (chars bytes) p) ≡ Some (length bytes)
 resolved_past units bytes p utf8 past =
-    rw (lt-ltb (line_ends (chars bytes)) p.line past) (ap Some (place_end (chars bytes) ∙ ap length (encodes-chars bytes utf8)))
+    rw (lt-ltb (line_ends (chars bytes)) p.line past)
+    (ap Some (place_end (chars bytes) ∙ ap length (encodes-chars bytes utf8)))
 
 -- The bounds of a line's content, told by their places.
 pub record IsContent (bytes : List ℕ) (line start stop : ℕ) : Type 0 where
@@ -90,20 +108,39 @@ pub record IsContent (bytes : List ℕ) (line start stop : ℕ) : Type 0 where
 pub content_order : (bytes : List ℕ) (line start stop : ℕ) → IsContent bytes line start stop → start ≤ stop
 content_order bytes line start stop content =
     let text = chars bytes in
-    omega (arith, content.start_is, content.stop_is, place_rises text (line_start text line) (line_stop text line) (stop_behind text line content.there) (stop_within text line content.there))
+    omega (
+      arith,
+      content.start_is,
+      content.stop_is,
+      place_rises text (line_start text line) (line_stop text line) (stop_behind text line content.there)
+          (stop_within text line content.there),
+    )
 
-pub content_within : (bytes : List ℕ) (line start stop : ℕ) → IsUtf8 bytes → IsContent bytes line start stop → stop ≤ length bytes
+pub content_within : (bytes : List ℕ) (line start stop : ℕ) → IsUtf8 bytes → IsContent bytes line start stop
+    → stop ≤ length bytes
 content_within bytes line start stop utf8 content =
     let text = chars bytes in
-    omega (arith, content.stop_is, place_within text (line_stop text line) (stop_within text line content.there), ap length (encodes-chars bytes utf8))
+    omega (
+      arith,
+      content.stop_is,
+      place_within text (line_stop text line) (stop_within text line content.there),
+      ap length (encodes-chars bytes utf8),
+    )
 
-pub content_utf8 : (bytes : List ℕ) (line start stop : ℕ) → IsUtf8 bytes → IsContent bytes line start stop → IsUtf8 (part bytes start stop)
+pub content_utf8 : (bytes : List ℕ) (line start stop : ℕ) → IsUtf8 bytes → IsContent bytes line start stop
+    → IsUtf8 (part bytes start stop)
 content_utf8 bytes line start stop utf8 content =
     let text = chars bytes in
-    rw (content.start_is, content.stop_is) (part_utf8 bytes (line_start text line) (line_stop text line) utf8 (stop_behind text line content.there) (stop_within text line content.there))
+    rw (
+      content.start_is,
+      content.stop_is,
+    ) (part_utf8 bytes (line_start text line) (line_stop text line) utf8 (stop_behind text line content.there)
+    (stop_within text line content.there))
 
-pub resolved_at : (units : ℕ → ℕ) → ((c : ℕ) → 1 ≤ units c) → (bytes : List ℕ) (p : Position) (start stop : ℕ) (found : Option ℕ) → IsUtf8 bytes → IsContent bytes p.line start stop →
-    found ≡ line_place units (chars (part bytes start stop)) p.character → option_map (λ n. start + n) found ≡ option_map (place_of (chars bytes)) (denoted units (chars bytes) p)
+pub resolved_at : (units : ℕ → ℕ) → ((c : ℕ) → 1 ≤ units c) → (bytes : List ℕ) (p : Position) (start stop : ℕ)
+    (found : Option ℕ) → IsUtf8 bytes → IsContent bytes p.line start stop →
+    found ≡ line_place units (chars (part bytes start stop)) p.character → option_map (λ n. start + n) found
+    ≡ option_map (place_of (chars bytes)) (denoted units (chars bytes) p)
 resolved_at units some bytes p start stop found utf8 content is =
     let text = chars bytes in
     let from = place_of text (line_start text p.line) in
@@ -116,18 +153,29 @@ resolved_at units some bytes p start stop found utf8 content is =
 -- A place in a line's content lies in it.
 place_most : (cs : List ℕ) (k : ℕ) → place_of cs k ≤ length (encode_utf8_all cs)
 place_most cs k =
-    omega (arith, ap length (sym (encodes-append (take k cs) (drop k cs)) ∙ ap encode_utf8_all (take-append-drop k cs)), length-append (encode_utf8_all (take k cs)) (encode_utf8_all (drop k cs)))
+    omega (
+      arith,
+      ap length (sym (encodes-append (take k cs) (drop k cs)) ∙ ap encode_utf8_all (take-append-drop k cs)),
+      length-append (encode_utf8_all (take k cs)) (encode_utf8_all (drop k cs)),
+    )
 
 of_some : (cs : List ℕ) (n : ℕ) (o : Option ℕ) → Some n ≡ option_map (place_of cs) o → n ≤ length (encode_utf8_all cs)
 of_some cs n None is = absurd (cc)
 of_some cs n (Some k) is = let e : n ≡ place_of cs k = cc in omega (arith, place_most cs k)
 
-place_in_line : (units : ℕ → ℕ) (cs : List ℕ) (c n : ℕ) → Some n ≡ line_place units cs c → n ≤ length (encode_utf8_all cs)
+place_in_line : (units : ℕ → ℕ) (cs : List ℕ) (c n : ℕ) → Some n ≡ line_place units cs c
+    → n ≤ length (encode_utf8_all cs)
 place_in_line units cs c n is =
     let whole : cs ++ [] ≡ cs = append-nil cs in
-    omega (arith, of_some (cs ++ []) n (index_in_line units cs c) (is ∙ line_place_is units cs [] c), ap (λ ds. length (encode_utf8_all ds)) whole)
+    omega (
+      arith,
+      of_some (cs ++ []) n (index_in_line units cs c) (is ∙ line_place_is units cs [] c),
+      ap (λ ds. length (encode_utf8_all ds)) whole,
+    )
 
-pub place_in_content : (units : ℕ → ℕ) (bytes : List ℕ) (line start stop c n : ℕ) → IsUtf8 bytes → IsContent bytes line start stop → Some n ≡ line_place units (chars (part bytes start stop)) c → start + n ≤ length bytes
+pub place_in_content : (units : ℕ → ℕ) (bytes : List ℕ) (line start stop c n : ℕ) → IsUtf8 bytes
+    → IsContent bytes line start stop → Some n ≡ line_place units (chars (part bytes start stop)) c
+    → start + n ≤ length bytes
 place_in_content units bytes line start stop c n utf8 content is =
     omega (
       arith,
@@ -140,15 +188,19 @@ place_in_content units bytes line start stop c n utf8 content is =
     )
 
 -- What a position denotes is a place at which a position may stand.
-pub denoted_place : (units : ℕ → ℕ) (text : List ℕ) (p : Position) (place : ℕ) → Some place ≡ option_map (place_of text) (denoted units text p) → IsPlace text place
+pub denoted_place : (units : ℕ → ℕ) (text : List ℕ) (p : Position) (place : ℕ) → Some place ≡ option_map (place_of text)
+    (denoted units text p) → IsPlace text place
 denoted_place units text p place is = by_index (denoted units text p) refl is
   where
-    by_index : (o : Option ℕ) → denoted units text p ≡ o → Some place ≡ option_map (place_of text) o → IsPlace text place
+    by_index : (o : Option ℕ) → denoted units text p ≡ o → Some place ≡ option_map (place_of text) o
+        → IsPlace text place
     by_index None e is = absurd (cc)
     by_index (Some k) e is =
         let whole = denoted_whole units text p k e in
         let same : place ≡ place_of text k = cc in
         (k, whole.within, whole.whole, sym same)
 
-pub denoted_boundary : (units : ℕ → ℕ) (bytes : List ℕ) (p : Position) (place : ℕ) → IsUtf8 bytes → Some place ≡ option_map (place_of (chars bytes)) (denoted units (chars bytes) p) → IsCharBoundary bytes place
-denoted_boundary units bytes p place utf8 is = (boundary_from bytes place utf8 (denoted_place units (chars bytes) p place is)).0
+pub denoted_boundary : (units : ℕ → ℕ) (bytes : List ℕ) (p : Position) (place : ℕ) → IsUtf8 bytes → Some place
+    ≡ option_map (place_of (chars bytes)) (denoted units (chars bytes) p) → IsCharBoundary bytes place
+denoted_boundary units bytes p place utf8 is =
+    (boundary_from bytes place utf8 (denoted_place units (chars bytes) p place is)).0

@@ -17,7 +17,8 @@ use Rattle.lsp_text.proofs.TextLines.StartLemmas.{starts_of_bytes, AllHigh, enco
 use Rattle.lsp_text.proofs.Positions.PlaceLemmas.{place_add, drop_place}
 
 -- Before an index that splits a CRLF stands an index of the same line, which splits none.
-before_split : (text : List ℕ) (k : ℕ) → splits_crlf text (suc k) ≡ true → (line_at text (suc k) ≡ line_at text k) × (splits_crlf text k ≡ false)
+before_split : (text : List ℕ) (k : ℕ) → splits_crlf text (suc k) ≡ true → (line_at text (suc k) ≡ line_at text k)
+    × (splits_crlf text k ≡ false)
 before_split text k split =
     let both = and_parts (slice_index text k == carriage_return) (slice_index text (suc k) == line_feed) split in
     let is_return : slice_index text k ≡ 13 = eqb-true (slice_index text k) 13 both.0 in
@@ -27,14 +28,21 @@ before_split text k split =
   where
     whole : (k : ℕ) → slice_index text k ≡ 13 → splits_crlf text k ≡ false
     whole zero e = refl
-    whole (suc j) e = and_right (slice_index text j == carriage_return) (slice_index text (suc j) == line_feed) (rw e refl)
+    whole (suc j) e = and_right (slice_index text j == carriage_return) (slice_index text (suc j) == line_feed)
+        (rw e refl)
 
--- A line's content ends before its line end: one index before the next line's start, or two where that would split a CRLF.
-pub stop_is : (text : List ℕ) (line k : ℕ) → suc line ≤ line_ends text → line_start text (suc line) ≡ suc k → line_stop text line ≡ cond (splits_crlf text k) (k - 1) k
+-- A line's content ends before its line end: one index before the next line's start, or two where that would split a
+-- CRLF.
+pub stop_is : (text : List ℕ) (line k : ℕ) → suc line ≤ line_ends text → line_start text (suc line) ≡ suc k
+    → line_stop text line ≡ cond (splits_crlf text k) (k - 1) k
 stop_is text line k there start =
     ⊎_elim
     (λ (e : splits_crlf text k ≡ true). rw e (at_split k e here (omega (arith, within)) all))
-    (λ (e : splits_crlf text k ≡ false). rw e (omega (arith, all (line_stop text line) stop.passes, stop.greatest k (omega (arith, within)) (in_content text line k here e))))
+    (λ (e : splits_crlf text k ≡ false). rw e (omega (
+      arith,
+      all (line_stop text line) stop.passes,
+      stop.greatest k (omega (arith, within)) (in_content text line k here e),
+    )))
     (cases_Bool (splits_crlf text k))
   where
     next : IsNextStart text line (suc k)
@@ -52,24 +60,38 @@ stop_is text line k there start =
     all : (j : ℕ) → is_in_content text line j ≡ true → j ≤ k
     all j inside =
         ⊎_elim
-        (λ (h : k < j). absurd (omega (arith, line_rises text (suc k) j h, next.line_is, in_content_line text line j inside)))
+        (λ (h : k < j). absurd (omega (
+          arith,
+          line_rises text (suc k) j h,
+          next.line_is,
+          in_content_line text line j inside,
+        )))
         (λ (h : j ≤ k). h)
         (cases_lt k j)
 
-    at_split : (k : ℕ) → splits_crlf text k ≡ true → line_at text k ≡ line → k ≤ length text → ((j : ℕ) → is_in_content text line j ≡ true → j ≤ k) → line_stop text line ≡ k - 1
+    at_split : (k : ℕ) → splits_crlf text k ≡ true → line_at text k ≡ line → k ≤ length text
+        → ((j : ℕ) → is_in_content text line j ≡ true → j ≤ k) → line_stop text line ≡ k - 1
     at_split zero e here within all = absurd (cc)
     at_split (suc j) e here within all =
         let before = before_split text j e in
-        let whole : splits_crlf text (line_stop text line) ≡ false = in_content_whole text line (line_stop text line) stop.passes in
+        let whole : splits_crlf text (line_stop text line) ≡ false =
+        in_content_whole text line (line_stop text line) stop.passes in
         ⊎_elim
-        (λ (h : line_stop text line ≡ suc j). absurd (let w : splits_crlf text (suc j) ≡ false = ap (splits_crlf text) (sym h) ∙ whole in cc))
+        (λ (h : line_stop text line ≡ suc j). absurd (let w : splits_crlf text (suc j) ≡ false = ap (splits_crlf text)
+        (sym h) ∙ whole in cc))
         (λ (h : line_stop text line ≡ suc j → ⊥).
-        omega (arith, h, all (line_stop text line) stop.passes, stop.greatest j (omega arith) (in_content text line j (sym before.0 ∙ here) before.1)))
+        omega (
+          arith,
+          h,
+          all (line_stop text line) stop.passes,
+          stop.greatest j (omega arith) (in_content text line j (sym before.0 ∙ here) before.1),
+        ))
         (cases_eq (line_stop text line) (suc j))
 
 pub stop_behind : (text : List ℕ) (line : ℕ) → line ≤ line_ends text → line_start text line ≤ line_stop text line
 stop_behind text line there =
-    let stop = line_has_stop text line there in (line_has_start text line there).least (line_stop text line) (omega arith) stop.passes
+    let stop = line_has_stop text line there in
+    (line_has_start text line there).least (line_stop text line) (omega arith) stop.passes
 
 pub stop_within : (text : List ℕ) (line : ℕ) → line ≤ line_ends text → line_stop text line ≤ length text
 stop_within text line there = omega (arith, (line_has_stop text line there).in_row)
@@ -78,14 +100,26 @@ stop_within text line there = omega (arith, (line_has_stop text line there).in_r
 pub last_stop : (text : List ℕ) → line_stop text (line_ends text) ≡ length text
 last_stop text =
     let stop = line_has_stop text (line_ends text) (omega arith) in
-    omega (arith, stop.in_row, stop.greatest (length text) (omega arith) (in_content text (line_ends text) (length text) refl (splits_none_past text (length text) (omega arith))))
+    omega (
+      arith,
+      stop.in_row,
+      stop.greatest (length text) (omega arith) (in_content text (line_ends text) (length text) refl
+          (splits_none_past text (length text) (omega arith))),
+    )
 
 -- The lines of the bytes are at the places of those of the characters.
 pub same_line_ends : (text : List ℕ) → line_ends (encode_utf8_all text) ≡ line_ends text
 same_line_ends text =
-    omega (arith, ap length (starts_of_bytes text), length-map (line_starts text) (place_of text), length-line_starts text, length-line_starts (encode_utf8_all text))
+    omega (
+      arith,
+      ap length (starts_of_bytes text),
+      length-map (line_starts text) (place_of text),
+      length-line_starts text,
+      length-line_starts (encode_utf8_all text),
+    )
 
-pub same_start : (text : List ℕ) (line : ℕ) → line ≤ line_ends text → place_of text (line_start text line) ≡ line_start (encode_utf8_all text) line
+pub same_start : (text : List ℕ) (line : ℕ) → line ≤ line_ends text → place_of text (line_start text line)
+    ≡ line_start (encode_utf8_all text) line
 same_start text line there =
     let bytes = encode_utf8_all text in
     ap (place_of text) (sym (start_at text line there)) ∙
@@ -97,7 +131,8 @@ same_start text line there =
 inside_high : (b : ℕ) → 128 ≤ b → is_inside_line b ≡ true
 inside_high b h = grind (arith, nat_tests)
 
-prefix_high : (bytes rest : List ℕ) → AllHigh bytes → prefix_len is_inside_line (bytes ++ rest) ≡ length bytes + prefix_len is_inside_line rest
+prefix_high : (bytes rest : List ℕ) → AllHigh bytes → prefix_len is_inside_line (bytes ++ rest) ≡ length bytes
+    + prefix_len is_inside_line rest
 prefix_high [] rest all = omega arith
 prefix_high (b ∷ bytes) rest all = rw (inside_high b all.0, prefix_high bytes rest all.1) (omega arith)
 
@@ -106,14 +141,16 @@ place_cons c cs n =
     let next : 1 + n ≡ suc n = omega arith in
     ap (place_of (c ∷ cs)) next ∙ length-append (encode c) (encode_utf8_all (take n cs))
 
-prefix_of_bytes : (cs : List ℕ) → prefix_len is_inside_line (encode_utf8_all cs) ≡ place_of cs (prefix_len is_inside_line cs)
+prefix_of_bytes : (cs : List ℕ) → prefix_len is_inside_line (encode_utf8_all cs)
+    ≡ place_of cs (prefix_len is_inside_line cs)
 prefix_of_bytes [] = refl
 prefix_of_bytes (c ∷ cs) =
     let bytes = encode_utf8_all cs in
     let front = prefix_len is_inside_line cs in
     ⊎_elim
     (λ (h : c < 128).
-    ap (λ bs. prefix_len is_inside_line (bs ++ bytes)) (encode_ascii c h) ∙ ascii (is_inside_line c) (ap length (encode_ascii c h)) (prefix_of_bytes cs))
+    ap (λ bs. prefix_len is_inside_line (bs ++ bytes)) (encode_ascii c h)
+    ∙ ascii (is_inside_line c) (ap length (encode_ascii c h)) (prefix_of_bytes cs))
     (λ (h : 128 ≤ c).
     let continues : prefix_len is_inside_line (c ∷ cs) ≡ 1 + front = rw (inside_high c h) refl in
     prefix_high (encode c) bytes (encode_high c h) ∙
@@ -121,23 +158,32 @@ prefix_of_bytes (c ∷ cs) =
     (sym (place_cons c cs front) ∙ ap (place_of (c ∷ cs)) (sym continues))))
     (cases_lt c 128)
   where
-    ascii : (b : Bool) → length (encode c) ≡ 1 → prefix_len is_inside_line (encode_utf8_all cs) ≡ place_of cs (prefix_len is_inside_line cs) → cond b (1 + prefix_len is_inside_line (encode_utf8_all cs)) 0 ≡ place_of (c ∷ cs) (cond b (1 + prefix_len is_inside_line cs) 0)
+    ascii : (b : Bool) → length (encode c) ≡ 1 → prefix_len is_inside_line (encode_utf8_all cs)
+        ≡ place_of cs (prefix_len is_inside_line cs) → cond b (1 + prefix_len is_inside_line (encode_utf8_all cs)) 0
+        ≡ place_of (c ∷ cs) (cond b (1 + prefix_len is_inside_line cs) 0)
     ascii true one front = omega (arith, one, front, place_cons c cs (prefix_len is_inside_line cs))
     ascii false one front = refl
 
 -- The content of a line ends at one place, whether it is told by characters or by bytes.
-pub same_stop : (text : List ℕ) (line : ℕ) → line ≤ line_ends text → place_of text (line_stop text line) ≡ line_stop (encode_utf8_all text) line
+pub same_stop : (text : List ℕ) (line : ℕ) → line ≤ line_ends text → place_of text (line_stop text line)
+    ≡ line_stop (encode_utf8_all text) line
 same_stop text line there =
     let bytes = encode_utf8_all text in
     let start = line_start text line in
     let begin : place_of text start ≡ line_start bytes line = same_start text line there in
-    let front : prefix_len is_inside_line (drop start text) ≡ line_stop text line - start = line_length text line there in
-    let byte_front : prefix_len is_inside_line (drop (line_start bytes line) bytes) ≡ line_stop bytes line - line_start bytes line = line_length bytes line (omega (arith, same_line_ends text)) in
-    let rest : drop (line_start bytes line) bytes ≡ encode_utf8_all (drop start text) = ap (λ n. drop n bytes) (sym begin) ∙ drop_place text start in
+    let front : prefix_len is_inside_line (drop start text) ≡ line_stop text line - start =
+    line_length text line there in
+    let byte_front : prefix_len is_inside_line (drop (line_start bytes line) bytes) ≡ line_stop bytes line
+    - line_start bytes line = line_length bytes line (omega (arith, same_line_ends text)) in
+    let rest : drop (line_start bytes line) bytes ≡ encode_utf8_all (drop start text) =
+    ap (λ n. drop n bytes) (sym begin) ∙ drop_place text start in
     let order : start ≤ line_stop text line = stop_behind text line there in
-    let byte_order : line_start bytes line ≤ line_stop bytes line = stop_behind bytes line (omega (arith, same_line_ends text)) in
+    let byte_order : line_start bytes line ≤ line_stop bytes line =
+    stop_behind bytes line (omega (arith, same_line_ends text)) in
     let sum : start + (line_stop text line - start) ≡ line_stop text line = omega arith in
-    let whole : place_of text (line_stop text line) ≡ place_of text start + place_of (drop start text) (line_stop text line - start) = ap (place_of text) (sym sum) ∙ place_add text start (line_stop text line - start) in
-    let part : prefix_len is_inside_line (drop (line_start bytes line) bytes) ≡ place_of (drop start text) (line_stop text line - start) =
+    let whole : place_of text (line_stop text line) ≡ place_of text start + place_of (drop start text)
+    (line_stop text line - start) = ap (place_of text) (sym sum) ∙ place_add text start (line_stop text line - start) in
+    let part : prefix_len is_inside_line (drop (line_start bytes line) bytes) ≡ place_of (drop start text)
+    (line_stop text line - start) =
     ap (prefix_len is_inside_line) rest ∙ (prefix_of_bytes (drop start text) ∙ ap (place_of (drop start text)) front) in
     omega arith

@@ -19,23 +19,31 @@ Marks low high (at ∷ marks) = (low + at < high) × Marks low high marks
 no_mark : (text : List ℕ) (k : ℕ) → is_byte2 10 13 (slice_index text k) ≡ false → ends_line text (suc k) ≡ false
 no_mark text k e = grind (arith, nat_tests)
 
-pub ends_of-places : (text part : List ℕ) (low i n : ℕ) → ((k : ℕ) → k < length part → get_or part k 0 ≡ get_or text (low + k) 0) → i + n ≡ length part →
+pub ends_of-places : (text part : List ℕ) (low i n : ℕ)
+    → ((k : ℕ) → k < length part → get_or part k 0 ≡ get_or text (low + k) 0) → i + n ≡ length part →
     ends_of text low (places_from (is_byte2 10 13) part i n) ≡ filter (ends_line text) (numbers_from (suc (low + i)) n)
 unfolding places_from
 ends_of-places text part low i zero same e = refl
 ends_of-places text part low i (suc n) same e =
-    let more : ends_of text low (places_from (is_byte2 10 13) part (i + 1) n) ≡ filter (ends_line text) (numbers_from (suc (suc (low + i))) n) =
-    ends_of-places text part low (i + 1) n same (omega arith) ∙ ap (λ x. filter (ends_line text) (numbers_from (suc x) n)) (omega arith) in
+    let more : ends_of text low (places_from (is_byte2 10 13) part (i + 1) n)
+    ≡ filter (ends_line text) (numbers_from (suc (suc (low + i))) n) =
+    ends_of-places text part low (i + 1) n same (omega arith)
+    ∙ ap (λ x. filter (ends_line text) (numbers_from (suc x) n)) (omega arith) in
     ⊎_elim
     (λ (y : is_byte2 10 13 (slice_index part i) ≡ true). rw (y, more) refl)
-    (λ (y : is_byte2 10 13 (slice_index part i) ≡ false). rw (y, no_mark text (low + i) (ap (is_byte2 10 13) (sym (same i (omega arith))) ∙ y)) more)
+    (λ (y : is_byte2 10 13 (slice_index part i) ≡ false). rw (
+      y,
+      no_mark text (low + i) (ap (is_byte2 10 13) (sym (same i (omega arith))) ∙ y),
+    ) more)
     (cases_Bool (is_byte2 10 13 (slice_index part i)))
 
-pub Marks-places : (part : List ℕ) (low high i n : ℕ) → low + (i + n) ≤ high → Marks low high (places_from (is_byte2 10 13) part i n)
+pub Marks-places : (part : List ℕ) (low high i n : ℕ) → low + (i + n) ≤ high
+    → Marks low high (places_from (is_byte2 10 13) part i n)
 unfolding places_from
 Marks-places part low high i zero e = tt
 Marks-places part low high i (suc n) e =
-    let more : Marks low high (places_from (is_byte2 10 13) part (i + 1) n) = Marks-places part low high (i + 1) n (omega arith) in
+    let more : Marks low high (places_from (is_byte2 10 13) part (i + 1) n) =
+    Marks-places part low high (i + 1) n (omega arith) in
     ⊎_elim
     (λ (y : is_byte2 10 13 (slice_index part i) ≡ true). rw y (omega arith, more))
     (λ (y : is_byte2 10 13 (slice_index part i) ≡ false). rw y more)
@@ -43,23 +51,35 @@ Marks-places part low high i (suc n) e =
 
 -- The marks of the bytes from `low` to `high` give the ends behind `low`, up to `high`.
 pub ends_of-part : (text : List ℕ) (low high : ℕ) → low ≤ high → high ≤ length text →
-    ends_of text low (places (is_byte2 10 13) (take (high - low) (drop low text))) ≡ filter (ends_line text) (numbers_from (suc low) (high - low))
+    ends_of text low (places (is_byte2 10 13) (take (high - low) (drop low text)))
+    ≡ filter (ends_line text) (numbers_from (suc low) (high - low))
 ends_of-part text low high order within =
     let part = take (high - low) (drop low text) in
-    let size : length part ≡ high - low = length-take-le (high - low) (drop low text) (omega (arith, length-drop low text)) in
-    let same = λ (k : ℕ) (h : k < length part). get_or-take (high - low) (drop low text) k 0 (omega arith) ∙ get_or-drop low text k 0 in
+    let size : length part ≡ high - low =
+    length-take-le (high - low) (drop low text) (omega (arith, length-drop low text)) in
+    let same = λ (k : ℕ) (h : k < length part). get_or-take (high - low) (drop low text) k 0 (omega arith)
+    ∙ get_or-drop low text k 0 in
     let count : length part - 0 ≡ high - low = omega (arith, size) in
     let from : suc (low + 0) ≡ suc low = omega arith in
-    ends_of-places text part low 0 (length part - 0) same (omega arith) ∙ (ap (λ n. filter (ends_line text) (numbers_from (suc (low + 0)) n)) count ∙ ap (λ x. filter (ends_line text) (numbers_from x (high - low))) from)
+    ends_of-places text part low 0 (length part - 0) same (omega arith)
+    ∙ (ap (λ n. filter (ends_line text) (numbers_from (suc (low + 0)) n)) count
+    ∙ ap (λ x. filter (ends_line text) (numbers_from x (high - low))) from)
 
 pub Marks-part : (text : List ℕ) (low high : ℕ) → low ≤ high → high ≤ length text →
     Marks low high (places (is_byte2 10 13) (take (high - low) (drop low text)))
 Marks-part text low high order within =
-    Marks-places (take (high - low) (drop low text)) low high 0 _ (omega (arith, length-take (high - low) (drop low text), length-drop low text))
+    Marks-places (take (high - low) (drop low text)) low high 0 _ (omega (
+      arith,
+      length-take (high - low) (drop low text),
+      length-drop low text,
+    ))
 
 -- the last turn: nothing is left
-pub ends_of-all : (text : List ℕ) (low high : ℕ) (starts old marks : List ℕ) → low ≤ high → high ≤ length text → marks ≡ [] →
-    starts ++ ends_of text low marks ≡ old ++ ends_of text low (places (is_byte2 10 13) (take (high - low) (drop low text))) →
+pub ends_of-all : (text : List ℕ) (low high : ℕ) (starts old marks : List ℕ) → low ≤ high → high ≤ length text
+    → marks ≡ [] →
+    starts ++ ends_of text low marks
+    ≡ old ++ ends_of text low (places (is_byte2 10 13) (take (high - low) (drop low text))) →
     starts ≡ old ++ filter (ends_line text) (numbers_from (suc low) (high - low))
 ends_of-all text low high starts old marks order within none found =
-    sym (append-nil starts) ∙ (ap (λ ms. starts ++ ends_of text low ms) (sym none) ∙ (found ∙ ap (λ zs. old ++ zs) (ends_of-part text low high order within)))
+    sym (append-nil starts) ∙ (ap (λ ms. starts ++ ends_of text low ms) (sym none)
+    ∙ (found ∙ ap (λ zs. old ++ zs) (ends_of-part text low high order within)))

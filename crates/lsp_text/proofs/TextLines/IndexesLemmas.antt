@@ -14,14 +14,16 @@ use Rattle.std.proofs.lemmas.Str.{encodes-chars}
 use Rattle.std.specs.Prelude.{encode_utf8_all}
 
 -- Lines made of the bytes of a text are those of the text.
-pub indexes_from : (bytes starts : List ℕ) → IsUtf8 bytes → length bytes ≤ 2147483648 → starts ≡ line_starts bytes → Indexes starts bytes
+pub indexes_from : (bytes starts : List ℕ) → IsUtf8 bytes → length bytes ≤ 2147483648 → starts ≡ line_starts bytes
+    → Indexes starts bytes
 indexes_from bytes starts utf8 size looks_made = record { starts = looks_made ∙ starts_of_text bytes utf8; size = size }
 
 pub starts_from : (bytes starts : List ℕ) → starts ≡ line_starts bytes → AreStarts starts
 starts_from bytes starts looks_made = subst AreStarts (sym looks_made) (line_starts_are bytes)
 
 -- `starts` after the first start was put in, and then the line ends; `read` are the bytes as they were lent
-pub made_whole : (bytes read before first starts : List ℕ) → read ≡ bytes → before ≡ [] → first ≡ before ++ 0 ∷ [] → starts ≡ first ++ ends_between read 0 (length read) → starts ≡ line_starts bytes
+pub made_whole : (bytes read before first starts : List ℕ) → read ≡ bytes → before ≡ [] → first ≡ before ++ 0 ∷ []
+    → starts ≡ first ++ ends_between read 0 (length read) → starts ≡ line_starts bytes
 made_whole bytes read before first starts same empty pushed found =
     found ∙
     (ap (λ xs. xs ++ ends_between read 0 (length read)) (pushed ∙ ap (λ xs. xs ++ 0 ∷ []) empty) ∙
@@ -33,30 +35,37 @@ indexes_count bytes lines indexes =
     omega (arith, ap length indexes.starts, length-map (line_starts text) (place_of text), length-line_starts text)
 
 -- The start with a line's number is the place of that line's start.
-pub indexes_start : (bytes lines : List ℕ) (line : ℕ) → Indexes lines bytes → line ≤ line_ends (chars bytes) → slice_index lines line ≡ place_of (chars bytes) (line_start (chars bytes) line)
+pub indexes_start : (bytes lines : List ℕ) (line : ℕ) → Indexes lines bytes → line ≤ line_ends (chars bytes)
+    → slice_index lines line ≡ place_of (chars bytes) (line_start (chars bytes) line)
 indexes_start bytes lines line indexes there =
     let text = chars bytes in
     ap (λ xs. get_or xs line 0) indexes.starts ∙
-    (get_or-map (place_of text) (line_starts text) line 0 0 (omega (arith, length-line_starts text)) ∙ ap (place_of text) (start_at text line there))
+    (get_or-map (place_of text) (line_starts text) line 0 0 (omega (arith, length-line_starts text))
+    ∙ ap (place_of text) (start_at text line there))
 
 -- The line of an index below the number of starts is one of the text's.
-pub indexes_line : (bytes lines : List ℕ) (line : ℕ) → Indexes lines bytes → line < length lines → line ≤ line_ends (chars bytes)
+pub indexes_line : (bytes lines : List ℕ) (line : ℕ) → Indexes lines bytes → line < length lines
+    → line ≤ line_ends (chars bytes)
 indexes_line bytes lines line indexes h = omega (arith, indexes_count bytes lines indexes)
 
 -- The content of the last line ends where the text does.
-pub indexes_last : (bytes lines : List ℕ) (line : ℕ) → IsUtf8 bytes → Indexes lines bytes → line + 1 ≡ length lines → length bytes ≡ place_of (chars bytes) (line_stop (chars bytes) line)
+pub indexes_last : (bytes lines : List ℕ) (line : ℕ) → IsUtf8 bytes → Indexes lines bytes → line + 1 ≡ length lines
+    → length bytes ≡ place_of (chars bytes) (line_stop (chars bytes) line)
 indexes_last bytes lines line utf8 indexes last =
     let text = chars bytes in
     let same : line ≡ line_ends text = omega (arith, indexes_count bytes lines indexes) in
-    ap length (sym (encodes-chars bytes utf8)) ∙ (sym (place_end text) ∙ ap (place_of text) (sym (last_stop text) ∙ ap (line_stop text) (sym same)))
+    ap length (sym (encodes-chars bytes utf8))
+    ∙ (sym (place_end text) ∙ ap (place_of text) (sym (last_stop text) ∙ ap (line_stop text) (sym same)))
 
 -- What the start of the next line tells.
 pub record IsNext (bytes : List ℕ) (line next : ℕ) : Type 0 where
   pub some : 0 < next
   pub within : next ≤ length bytes
-  pub stop : cond (splits_crlf bytes (next - 1)) (next - 2) (next - 1) ≡ place_of (chars bytes) (line_stop (chars bytes) line)
+  pub stop : cond (splits_crlf bytes (next - 1)) (next - 2) (next - 1)
+      ≡ place_of (chars bytes) (line_stop (chars bytes) line)
 
-pub indexes_next : (bytes lines : List ℕ) (line : ℕ) → IsUtf8 bytes → Indexes lines bytes → line + 1 < length lines → IsNext bytes line (slice_index lines (line + 1))
+pub indexes_next : (bytes lines : List ℕ) (line : ℕ) → IsUtf8 bytes → Indexes lines bytes → line + 1 < length lines
+    → IsNext bytes line (slice_index lines (line + 1))
 indexes_next bytes lines line utf8 indexes h =
     let text = chars bytes in
     let same : encode_utf8_all text ≡ bytes = encodes-chars bytes utf8 in
@@ -64,13 +73,17 @@ indexes_next bytes lines line utf8 indexes h =
     let ends : line_ends bytes ≡ line_ends text = ap line_ends (sym same) ∙ same_line_ends text in
     let at : suc line ≡ line + 1 = omega arith in
     let next : slice_index lines (line + 1) ≡ line_start bytes (suc line) =
-    ap (slice_index lines) (sym at) ∙ (indexes_start bytes lines (suc line) indexes there ∙ (same_start text (suc line) there ∙ ap (λ bs. line_start bs (suc line)) same)) in
-    let is_next : IsNextStart bytes line (slice_index lines (line + 1)) = subst (IsNextStart bytes line) (sym next) (next_start bytes line (omega arith)) in
-    let stop : place_of text (line_stop text line) ≡ line_stop bytes line = same_stop text line (omega arith) ∙ ap (λ bs. line_stop bs line) same in
+    ap (slice_index lines) (sym at) ∙ (indexes_start bytes lines (suc line) indexes there
+    ∙ (same_start text (suc line) there ∙ ap (λ bs. line_start bs (suc line)) same)) in
+    let is_next : IsNextStart bytes line (slice_index lines (line + 1)) =
+    subst (IsNextStart bytes line) (sym next) (next_start bytes line (omega arith)) in
+    let stop : place_of text (line_stop text line) ≡ line_stop bytes line =
+    same_stop text line (omega arith) ∙ ap (λ bs. line_stop bs line) same in
     let n = slice_index lines (line + 1) in
     let minus : n - 1 - 1 ≡ n - 2 = omega arith in
     record {
       some = is_next.some;
       within = is_next.within;
-      stop = sym (stop ∙ (stop_is bytes line (n - 1) (omega arith) (sym next ∙ omega (arith, is_next.some)) ∙ ap (λ m. cond (splits_crlf bytes (n - 1)) m (n - 1)) minus));
+      stop = sym (stop ∙ (stop_is bytes line (n - 1) (omega arith) (sym next ∙ omega (arith, is_next.some))
+          ∙ ap (λ m. cond (splits_crlf bytes (n - 1)) m (n - 1)) minus));
     }

@@ -6,7 +6,8 @@ use Rattle.lsp_text.specs.TextLines.{line_feed, carriage_return, ends_line, spli
 use Rattle.lsp_text.proofs.TextLines.RowLemmas.{IsFirst, IsLast, first_passes, last_passes}
 
 -- One index on, the line is the same or the next.
-pub line_step : (text : List ℕ) (k : ℕ) → (line_at text k ≤ line_at text (suc k)) × (line_at text (suc k) ≤ suc (line_at text k))
+pub line_step : (text : List ℕ) (k : ℕ) → (line_at text k ≤ line_at text (suc k))
+    × (line_at text (suc k) ≤ suc (line_at text k))
 line_step text k =
     ⊎_elim
     (λ (e : ends_line text (suc k) ≡ true). rw e (omega arith, omega arith))
@@ -42,19 +43,25 @@ line_end_whole text (suc k) ends =
     and_right
     (slice_index text k == carriage_return)
     (slice_index text (suc k) == line_feed)
-    (not-true (slice_index text (suc k) == line_feed) (and_parts (slice_index text k == carriage_return) (not (slice_index text (suc k) == line_feed)) h).1))
-    (or_cases (slice_index text k == line_feed) ((slice_index text k == carriage_return) && not (slice_index text (suc k) == line_feed)) ends)
+    (not-true (slice_index text (suc k) == line_feed) (and_parts (slice_index text k == carriage_return)
+    (not (slice_index text (suc k) == line_feed)) h).1))
+    (or_cases (slice_index text k == line_feed) ((slice_index text k == carriage_return)
+    && not (slice_index text (suc k) == line_feed)) ends)
 
 -- An index that splits no CRLF is in the content of its line, and whatever is in a content is so.
-pub in_content : (text : List ℕ) (line k : ℕ) → line_at text k ≡ line → splits_crlf text k ≡ false → is_in_content text line k ≡ true
+pub in_content : (text : List ℕ) (line k : ℕ) → line_at text k ≡ line → splits_crlf text k ≡ false
+    → is_in_content text line k ≡ true
 in_content text line k here whole =
-    and_from (line_at text k == line) (not (splits_crlf text k)) (eq-eqb (line_at text k) line here) (not_from_false (splits_crlf text k) whole)
+    and_from (line_at text k == line) (not (splits_crlf text k)) (eq-eqb (line_at text k) line here)
+    (not_from_false (splits_crlf text k) whole)
 
 pub in_content_line : (text : List ℕ) (line k : ℕ) → is_in_content text line k ≡ true → line_at text k ≡ line
-in_content_line text line k h = eqb-true (line_at text k) line (and_parts (line_at text k == line) (not (splits_crlf text k)) h).0
+in_content_line text line k h =
+    eqb-true (line_at text k) line (and_parts (line_at text k == line) (not (splits_crlf text k)) h).0
 
 pub in_content_whole : (text : List ℕ) (line k : ℕ) → is_in_content text line k ≡ true → splits_crlf text k ≡ false
-in_content_whole text line k h = not-true (splits_crlf text k) (and_parts (line_at text k == line) (not (splits_crlf text k)) h).1
+in_content_whole text line k h =
+    not-true (splits_crlf text k) (and_parts (line_at text k == line) (not (splits_crlf text k)) h).1
 
 -- A line that an index in the text reaches begins in the text, at the first index of its content.
 abbrev pub IsStart : List ℕ → ℕ → ℕ → Type 0
@@ -63,11 +70,15 @@ IsStart text line k = IsFirst (is_in_content text line) 0 (suc (length text)) k
 abbrev pub IsStop : List ℕ → ℕ → ℕ → Type 0
 IsStop text line k = IsLast (is_in_content text line) 0 (suc (length text)) k
 
-pub start_in_content : (text : List ℕ) (line k : ℕ) → k ≤ length text → is_in_content text line k ≡ true → IsStart text line (line_start text line)
-start_in_content text line k within h = first_passes (is_in_content text line) 0 0 (suc (length text)) k (omega arith) (omega arith) h
+pub start_in_content : (text : List ℕ) (line k : ℕ) → k ≤ length text → is_in_content text line k ≡ true
+    → IsStart text line (line_start text line)
+start_in_content text line k within h = first_passes (is_in_content text line) 0 0 (suc (length text)) k (omega arith)
+    (omega arith) h
 
-pub stop_in_content : (text : List ℕ) (line k : ℕ) → k ≤ length text → is_in_content text line k ≡ true → IsStop text line (line_stop text line)
-stop_in_content text line k within h = last_passes (is_in_content text line) 0 0 (suc (length text)) k (omega arith) (omega arith) h
+pub stop_in_content : (text : List ℕ) (line k : ℕ) → k ≤ length text → is_in_content text line k ≡ true
+    → IsStop text line (line_stop text line)
+stop_in_content text line k within h = last_passes (is_in_content text line) 0 0 (suc (length text)) k (omega arith)
+    (omega arith) h
 
 -- Each line up to that of index k has an index in its content, up to k.
 pub record IsReached (text : List ℕ) (line k : ℕ) : Type 0 where
@@ -90,7 +101,11 @@ reached text line (suc k) up_to = at_next (reached text line k)
         (λ (e : ends_line text (suc k) ≡ true).
         ⊎_elim
         (λ (o : line ≡ line_at text (suc k)).
-        record { index = suc k; order = omega arith; content = in_content text line (suc k) (cc) (line_end_whole text (suc k) e) })
+        record {
+          index = suc k;
+          order = omega arith;
+          content = in_content text line (suc k) (cc) (line_end_whole text (suc k) e);
+        })
         (λ (o : line ≡ line_at text (suc k) → ⊥).
         let s : line_at text (suc k) ≤ suc (line_at text k) = (line_step text k).1 in further (before (omega arith)))
         (cases_eq line (line_at text (suc k))))
@@ -99,7 +114,9 @@ reached text line (suc k) up_to = at_next (reached text line k)
         (cases_Bool (ends_line text (suc k)))
 
 pub line_has_start : (text : List ℕ) (line : ℕ) → line ≤ line_ends text → IsStart text line (line_start text line)
-line_has_start text line h = let r : IsReached text line (length text) = reached text line (length text) h in start_in_content text line r.index r.order r.content
+line_has_start text line h = let r : IsReached text line (length text) = reached text line (length text) h in
+    start_in_content text line r.index r.order r.content
 
 pub line_has_stop : (text : List ℕ) (line : ℕ) → line ≤ line_ends text → IsStop text line (line_stop text line)
-line_has_stop text line h = let r : IsReached text line (length text) = reached text line (length text) h in stop_in_content text line r.index r.order r.content
+line_has_stop text line h = let r : IsReached text line (length text) = reached text line (length text) h in
+    stop_in_content text line r.index r.order r.content

@@ -13,49 +13,68 @@ use Rattle.lsp_text.proofs.TextLines.StartRowLemmas.{first_starts, next_start}
 use Rattle.lsp_text.proofs.TextLines.ContentLemmas.{stop_is, stop_behind, last_stop}
 
 -- the characters of a line's content
-inside : (text : List ℕ) (line k : ℕ) → line ≤ line_ends text → line_start text line ≤ k → k < line_stop text line → is_inside_line (slice_index text k) ≡ true
+inside : (text : List ℕ) (line k : ℕ) → line ≤ line_ends text → line_start text line ≤ k → k < line_stop text line
+    → is_inside_line (slice_index text k) ≡ true
 inside text line k there low high =
     let start = line_start text line in
     let at : start + (k - start) ≡ k = omega arith in
     let less : k - start < prefix_len is_inside_line (drop start text) = omega (arith, line_length text line there) in
-    ap (λ i. is_inside_line (get_or text i 0)) (sym at) ∙ (ap is_inside_line (sym (get_or-drop start text (k - start) 0)) ∙ prefix_len_passes is_inside_line (drop start text) (k - start) 0 less)
+    ap (λ i. is_inside_line (get_or text i 0)) (sym at)
+    ∙ (ap is_inside_line (sym (get_or-drop start text (k - start) 0)) ∙ prefix_len_passes is_inside_line
+    (drop start text) (k - start) 0 less)
 
 not_feed : (x : ℕ) → is_inside_line x ≡ true → x ≢ line_feed
-not_feed x h e = false≢true (sym (not-true (x == line_feed) (and_parts (not (x == line_feed)) (not (x == carriage_return)) h).0) ∙ eq-eqb x line_feed e)
+not_feed x h e =
+    false≢true (sym (not-true (x == line_feed) (and_parts (not (x == line_feed)) (not (x == carriage_return)) h).0)
+    ∙ eq-eqb x line_feed e)
 
 not_return : (x : ℕ) → is_inside_line x ≡ true → x ≢ carriage_return
-not_return x h e = false≢true (sym (not-true (x == carriage_return) (and_parts (not (x == line_feed)) (not (x == carriage_return)) h).1) ∙ eq-eqb x carriage_return e)
+not_return x h e =
+    false≢true (sym (not-true (x == carriage_return) (and_parts (not (x == line_feed)) (not (x == carriage_return))
+    h).1) ∙ eq-eqb x carriage_return e)
 
 -- one character, and two
 take_one : (text : List ℕ) (k : ℕ) → k < length text → take 1 (drop k text) ≡ get_or text k 0 ∷ []
 take_one text k h = ap (take 1) (drop-cons text k 0 h)
 
-take_two : (text : List ℕ) (k : ℕ) → suc k < length text → take 2 (drop k text) ≡ get_or text k 0 ∷ get_or text (suc k) 0 ∷ []
-take_two text k h = ap (take 2) (drop-cons text k 0 (omega arith) ∙ ap (λ xs. get_or text k 0 ∷ xs) (drop-cons text (suc k) 0 h))
+take_two : (text : List ℕ) (k : ℕ) → suc k < length text → take 2 (drop k text) ≡ get_or text k 0 ∷ get_or text (suc k)
+    0 ∷ []
+take_two text k h =
+    ap (take 2) (drop-cons text k 0 (omega arith) ∙ ap (λ xs. get_or text k 0 ∷ xs) (drop-cons text (suc k) 0 h))
 
 one_end : (text : List ℕ) (k : ℕ) → k < length text → ends_line text (suc k) ≡ true → IsLineEnd (take 1 (drop k text))
 one_end text k within ends =
     ⊎_elim
-    (λ (h : (slice_index text k == line_feed) ≡ true). inl (inl (take_one text k within ∙ ap (λ x. x ∷ []) (eqb-true (slice_index text k) 10 h))))
+    (λ (h : (slice_index text k == line_feed) ≡ true). inl
+    (inl (take_one text k within ∙ ap (λ x. x ∷ []) (eqb-true (slice_index text k) 10 h))))
     (λ (h : ((slice_index text k == carriage_return) && not (slice_index text (suc k) == line_feed)) ≡ true).
-    inl (inr (take_one text k within ∙ ap (λ x. x ∷ []) (eqb-true (slice_index text k) 13 (and_parts (slice_index text k == carriage_return) (not (slice_index text (suc k) == line_feed)) h).0))))
-    (or_cases (slice_index text k == line_feed) ((slice_index text k == carriage_return) && not (slice_index text (suc k) == line_feed)) ends)
+    inl (inr (take_one text k within
+    ∙ ap (λ x. x ∷ [])
+    (eqb-true (slice_index text k) 13 (and_parts (slice_index text k == carriage_return)
+    (not (slice_index text (suc k) == line_feed)) h).0))))
+    (or_cases (slice_index text k == line_feed) ((slice_index text k == carriage_return)
+    && not (slice_index text (suc k) == line_feed)) ends)
 
-two_ends : (text : List ℕ) (k : ℕ) → suc k < length text → splits_crlf text (suc k) ≡ true → IsLineEnd (take 2 (drop k text))
+two_ends : (text : List ℕ) (k : ℕ) → suc k < length text → splits_crlf text (suc k) ≡ true
+    → IsLineEnd (take 2 (drop k text))
 two_ends text k within split =
     let both = and_parts (slice_index text k == carriage_return) (slice_index text (suc k) == line_feed) split in
-    inr (take_two text k within ∙ (ap (λ x. x ∷ get_or text (suc k) 0 ∷ []) (eqb-true (slice_index text k) 13 both.0) ∙ ap (λ x. carriage_return ∷ x ∷ []) (eqb-true (slice_index text (suc k)) 10 both.1)))
+    inr (take_two text k within ∙ (ap (λ x. x ∷ get_or text (suc k) 0 ∷ []) (eqb-true (slice_index text k) 13 both.0)
+    ∙ ap (λ x. carriage_return ∷ x ∷ []) (eqb-true (slice_index text (suc k)) 10 both.1)))
 
 -- the line end from where the content stops to where the next line starts
-end_from : (text : List ℕ) (line stop size : ℕ) → line_stop text line ≡ stop → line_start text (suc line) - stop ≡ size → IsLineEnd (take size (drop stop text)) → IsLineEnd (line_end_of text line)
+end_from : (text : List ℕ) (line stop size : ℕ) → line_stop text line ≡ stop → line_start text (suc line) - stop ≡ size
+    → IsLineEnd (take size (drop stop text)) → IsLineEnd (line_end_of text line)
 end_from text line stop size here long end =
     rw (here, long) end
 
-line_end_is : (text : List ℕ) (line k : ℕ) → line < line_ends text → line_start text (suc line) ≡ suc k → IsLineEnd (line_end_of text line)
+line_end_is : (text : List ℕ) (line k : ℕ) → line < line_ends text → line_start text (suc line) ≡ suc k
+    → IsLineEnd (line_end_of text line)
 line_end_is text line zero there start =
     let next = next_start text line there in
     let ends : ends_line text 1 ≡ true = ap (ends_line text) (sym start) ∙ next.ends in
-    end_from text line 0 1 (stop_is text line 0 there start) (omega (arith, start)) (one_end text 0 (omega (arith, start, next.within)) ends)
+    end_from text line 0 1 (stop_is text line 0 there start) (omega (arith, start))
+    (one_end text 0 (omega (arith, start, next.within)) ends)
 line_end_is text line (suc k) there start =
     let next = next_start text line there in
     let ends : ends_line text (suc (suc k)) ≡ true = ap (ends_line text) (sym start) ∙ next.ends in
@@ -66,7 +85,8 @@ line_end_is text line (suc k) there start =
     end_from text line k 2 here (omega (arith, start)) (two_ends text k (omega (arith, start, next.within)) e))
     (λ (e : splits_crlf text (suc k) ≡ false).
     let here : line_stop text line ≡ suc k = stop ∙ ap (λ b. cond b (suc k - 1) (suc k)) e in
-    end_from text line (suc k) 1 here (omega (arith, start)) (one_end text (suc k) (omega (arith, start, next.within)) ends))
+    end_from text line (suc k) 1 here (omega (arith, start)) (one_end text (suc k) (omega (arith, start, next.within))
+    ends))
     (cases_Bool (splits_crlf text (suc k)))
 
 -- A carriage return that ends a line by itself has no line feed after it.
@@ -77,24 +97,38 @@ return_alone text line k there start alone feed =
     let within : k < length text = omega (arith, start, next.within) in
     let size = line_start text (suc line) - line_stop text line in
     let stop : line_stop text line ≡ k =
-    omega (arith, start, next.within, ap length alone, length-take size (drop (line_stop text line) text), length-drop (line_stop text line) text) in
+    omega (
+      arith,
+      start,
+      next.within,
+      ap length alone,
+      length-take size (drop (line_stop text line) text),
+      length-drop (line_stop text line) text,
+    ) in
     let one : size ≡ 1 = omega (arith, start, stop) in
     let same : take 1 (drop k text) ≡ carriage_return ∷ [] = rw (one, stop) at alone in
     let last : get_or text k 0 ∷ [] ≡ carriage_return ∷ [] = sym (take_one text k within) ∙ same in
     let is_return : slice_index text k ≡ carriage_return = cc in
     let ends : ends_line text (suc k) ≡ true = ap (ends_line text) (sym start) ∙ next.ends in
     ⊎_elim
-    (λ (h : (slice_index text k == line_feed) ≡ true). absurd (omega (arith, is_return, eqb-true (slice_index text k) 10 h)))
+    (λ (h : (slice_index text k == line_feed) ≡ true). absurd (omega (
+      arith,
+      is_return,
+      eqb-true (slice_index text k) 10 h,
+    )))
     (λ (h : ((slice_index text k == carriage_return) && not (slice_index text (suc k) == line_feed)) ≡ true).
     false≢true
-    (sym (not-true (slice_index text (suc k) == line_feed) (and_parts (slice_index text k == carriage_return) (not (slice_index text (suc k) == line_feed)) h).1)
+    (sym (not-true (slice_index text (suc k) == line_feed) (and_parts (slice_index text k == carriage_return)
+    (not (slice_index text (suc k) == line_feed)) h).1)
     ∙ eq-eqb (slice_index text (suc k)) line_feed feed))
-    (or_cases (slice_index text k == line_feed) ((slice_index text k == carriage_return) && not (slice_index text (suc k) == line_feed)) ends)
+    (or_cases (slice_index text k == line_feed) ((slice_index text k == carriage_return)
+    && not (slice_index text (suc k) == line_feed)) ends)
 
 crlf_is_one : (text : List ℕ) (line : ℕ) → line < line_ends text → line_end_of text line ≡ carriage_return ∷ [] →
     slice_index text (line_start text (suc line)) ≢ line_feed
 crlf_is_one text line there alone feed =
-    let at : line_start text (suc line) ≡ suc (line_start text (suc line) - 1) = omega (arith, (next_start text line there).some) in
+    let at : line_start text (suc line) ≡ suc (line_start text (suc line) - 1) =
+    omega (arith, (next_start text line there).some) in
     return_alone text line (line_start text (suc line) - 1) there at alone (ap (slice_index text) (sym at) ∙ feed)
 
 pub lines_part : (text : List ℕ) → LinesPart text
@@ -102,7 +136,8 @@ lines_part text = record {
   first = first_starts text;
   last = last_stop text;
   order = stop_behind text;
-  ends = λ line there. line_end_is text line (line_start text (suc line) - 1) there (omega (arith, (next_start text line there).some));
+  ends = λ line there. line_end_is text line (line_start text (suc line) - 1) there
+      (omega (arith, (next_start text line there).some));
   crlf_is_one = crlf_is_one text;
   no_feed = λ line k there low high. not_feed (slice_index text k) (inside text line k there low high);
   no_return = λ line k there low high. not_return (slice_index text k) (inside text line k there low high);

@@ -21,13 +21,20 @@ differs : (test : ℕ → Bool) (low k : ℕ) → test low ≡ false → test k 
 differs test low k fails passes order =
     ⊎_elim (λ (e : low ≡ k). absurd (cc)) (λ (e : low ≡ k → ⊥). omega arith) (cases_eq low k)
 
-pub first_passes : (test : ℕ → Bool) (default low count k : ℕ) → low ≤ k → k < low + count → test k ≡ true → IsFirst test low count (first_or default (filter test (numbers_from low count)))
+pub first_passes : (test : ℕ → Bool) (default low count k : ℕ) → low ≤ k → k < low + count → test k ≡ true
+    → IsFirst test low count (first_or default (filter test (numbers_from low count)))
 first_passes test default low zero k order within passes = absurd (omega arith)
 first_passes test default low (suc count) k order within passes =
     ⊎_elim
-    (λ (e : test low ≡ true). rw e (record { from_low = omega arith; in_row = omega arith; passes = e; least = λ j o p. o }))
+    (λ (e : test low ≡ true). rw e (record {
+      from_low = omega arith;
+      in_row = omega arith;
+      passes = e;
+      least = λ j o p. o;
+    }))
     (λ (e : test low ≡ false).
-    rw e (later e (first_passes test default (suc low) count k (differs test low k e passes order) (omega arith) passes)))
+    rw e (later e (first_passes test default (suc low) count k (differs test low k e passes order) (omega arith)
+    passes)))
     (cases_Bool (test low))
   where
     later : {found : ℕ} → test low ≡ false → IsFirst test (suc low) count found → IsFirst test low (suc count) found
@@ -43,13 +50,17 @@ LastOr : (ℕ → Bool) → ℕ → ℕ → ℕ → ℕ → Type 0
 LastOr test default low count found =
     ((found ≡ default) × ((k : ℕ) → low ≤ k → k < low + count → test k ≡ true → ⊥)) ⊎ IsLast test low count found
 
-last_or_default : (test : ℕ → Bool) (default low count : ℕ) → LastOr test default low count (last_or default (filter test (numbers_from low count)))
+last_or_default : (test : ℕ → Bool) (default low count : ℕ)
+    → LastOr test default low count (last_or default (filter test (numbers_from low count)))
 unfolding LastOr
 last_or_default test default low zero = inl (refl, λ k order within passes. omega arith)
 last_or_default test default low (suc count) =
     ⊎_elim
-    (λ (e : test low ≡ true). rw e (inr (taken e (last_or low (filter test (numbers_from (suc low) count))) (last_or_default test low (suc low) count))))
-    (λ (e : test low ≡ false). rw e (left_out e (last_or default (filter test (numbers_from (suc low) count))) (last_or_default test default (suc low) count)))
+    (λ (e : test low ≡ true). rw e
+    (inr (taken e (last_or low (filter test (numbers_from (suc low) count)))
+    (last_or_default test low (suc low) count))))
+    (λ (e : test low ≡ false). rw e (left_out e (last_or default (filter test (numbers_from (suc low) count)))
+    (last_or_default test default (suc low) count)))
     (cases_Bool (test low))
   where
     below : (j : ℕ) → j < low + suc count → (low ≡ j) ⊎ ((suc low ≤ j) ⊎ (j ≤ low))
@@ -63,7 +74,8 @@ last_or_default test default low (suc count) =
           from_low = omega (arith, g.0);
           in_row = omega (arith, g.0);
           passes = rw g.0 e;
-          greatest = λ j o p. ⊎_elim (λ (h : low < j). absurd (g.1 j h (omega arith) p)) (λ (h : j ≤ low). omega (arith, g.0, h)) (cases_lt low j);
+          greatest = λ j o p. ⊎_elim (λ (h : low < j). absurd (g.1 j h (omega arith) p))
+              (λ (h : j ≤ low). omega (arith, g.0, h)) (cases_lt low j);
         })
         (λ (g : IsLast test (suc low) count found).
         record {
@@ -74,7 +86,8 @@ last_or_default test default low (suc count) =
         })
         f
 
-    left_out : test low ≡ false → (found : ℕ) → LastOr test default (suc low) count found → LastOr test default low (suc count) found
+    left_out : test low ≡ false → (found : ℕ) → LastOr test default (suc low) count found
+        → LastOr test default low (suc count) found
     left_out e found f =
         ⊎_elim
         (λ (g : (found ≡ default) × ((k : ℕ) → suc low ≤ k → k < suc low + count → test k ≡ true → ⊥)).
@@ -88,25 +101,31 @@ last_or_default test default low (suc count) =
         }))
         f
 
-pub last_passes : (test : ℕ → Bool) (default low count k : ℕ) → low ≤ k → k < low + count → test k ≡ true → IsLast test low count (last_or default (filter test (numbers_from low count)))
+pub last_passes : (test : ℕ → Bool) (default low count k : ℕ) → low ≤ k → k < low + count → test k ≡ true
+    → IsLast test low count (last_or default (filter test (numbers_from low count)))
 unfolding LastOr
 last_passes test default low count k order within passes =
     ⊎_elim
-    (λ (none : (last_or default (filter test (numbers_from low count)) ≡ default) × ((j : ℕ) → low ≤ j → j < low + count → test j ≡ true → ⊥)).
+    (λ (none : (last_or default (filter test (numbers_from low count)) ≡ default)
+    × ((j : ℕ) → low ≤ j → j < low + count → test j ≡ true → ⊥)).
     absurd (none.1 k order within passes))
     (λ (some : IsLast test low count (last_or default (filter test (numbers_from low count)))). some)
     (last_or_default test default low count)
 
 -- A row's numbers that pass one test, searched by another: the only number that passes both is found.
-pub find_only : (test wanted : ℕ → Bool) (low count k : ℕ) → low ≤ k → k < low + count → test k ≡ true → wanted k ≡ true → ((j : ℕ) → j < low + count → test j ≡ true → wanted j ≡ true → j ≡ k) → find wanted (filter test (numbers_from low count)) ≡ Some k
+pub find_only : (test wanted : ℕ → Bool) (low count k : ℕ) → low ≤ k → k < low + count → test k ≡ true → wanted k ≡ true
+    → ((j : ℕ) → j < low + count → test j ≡ true → wanted j ≡ true → j ≡ k)
+    → find wanted (filter test (numbers_from low count)) ≡ Some k
 find_only test wanted low zero k order within passes is_wanted only = absurd (omega arith)
 find_only test wanted low (suc count) k order within passes is_wanted only =
     ⊎_elim
     (λ (e : low ≡ k). rw (e, passes, is_wanted) refl)
-    (λ (e : low ≡ k → ⊥). passed_over e (find_only test wanted (suc low) count k (omega arith) (omega arith) passes is_wanted (λ j w. only j (omega arith))))
+    (λ (e : low ≡ k → ⊥). passed_over e (find_only test wanted (suc low) count k (omega arith) (omega arith) passes
+    is_wanted (λ j w. only j (omega arith))))
     (cases_eq low k)
   where
-    passed_over : (low ≡ k → ⊥) → find wanted (filter test (numbers_from (suc low) count)) ≡ Some k → find wanted (filter test (numbers_from low (suc count))) ≡ Some k
+    passed_over : (low ≡ k → ⊥) → find wanted (filter test (numbers_from (suc low) count)) ≡ Some k
+        → find wanted (filter test (numbers_from low (suc count))) ≡ Some k
     passed_over e rest =
         ⊎_elim
         (λ (p : test low ≡ true).
@@ -124,21 +143,31 @@ pub record IsFound (test wanted : ℕ → Bool) (low count found : ℕ) : Type 0
   pub passes : test found ≡ true
   pub is_wanted : wanted found ≡ true
 
-pub find_found : (test wanted : ℕ → Bool) (low count found : ℕ) → find wanted (filter test (numbers_from low count)) ≡ Some found → IsFound test wanted low count found
+pub find_found : (test wanted : ℕ → Bool) (low count found : ℕ) → find wanted (filter test (numbers_from low count))
+    ≡ Some found → IsFound test wanted low count found
 find_found test wanted low zero found f = absurd (cc)
 find_found test wanted low (suc count) found f =
     ⊎_elim
-    (λ (p : test low ≡ true). at_low p (rw p at f) (λ (g : find wanted (filter test (numbers_from (suc low) count)) ≡ Some found). later (find_found test wanted (suc low) count found g)))
+    (λ (p : test low ≡ true). at_low p (rw p at f)
+    (λ (g : find wanted (filter test (numbers_from (suc low) count)) ≡ Some found). later
+    (find_found test wanted (suc low) count found g)))
     (λ (p : test low ≡ false). later (find_found test wanted (suc low) count found (rw p at f)))
     (cases_Bool (test low))
   where
     later : IsFound test wanted (suc low) count found → IsFound test wanted low (suc count) found
-    later r = record { from_low = omega (arith, r.from_low); in_row = omega (arith, r.in_row); passes = r.passes; is_wanted = r.is_wanted }
+    later r = record {
+      from_low = omega (arith, r.from_low);
+      in_row = omega (arith, r.in_row);
+      passes = r.passes;
+      is_wanted = r.is_wanted;
+    }
 
     here : test low ≡ true → wanted low ≡ true → low ≡ found → IsFound test wanted low (suc count) found
     here p w e = record { from_low = omega arith; in_row = omega arith; passes = rw (← e) p; is_wanted = rw (← e) w }
 
-    at_low : test low ≡ true → find wanted (low ∷ filter test (numbers_from (suc low) count)) ≡ Some found → (find wanted (filter test (numbers_from (suc low) count)) ≡ Some found → IsFound test wanted low (suc count) found) → IsFound test wanted low (suc count) found
+    at_low : test low ≡ true → find wanted (low ∷ filter test (numbers_from (suc low) count)) ≡ Some found
+        → (find wanted (filter test (numbers_from (suc low) count)) ≡ Some found → IsFound test wanted low (suc count)
+        found) → IsFound test wanted low (suc count) found
     at_low p g more =
         ⊎_elim
         (λ (w : wanted low ≡ true). here p w (let s : Some low ≡ Some found = rw w at g in cc))
@@ -146,14 +175,19 @@ find_found test wanted low (suc count) found f =
         (cases_Bool (wanted low))
 
 -- Nothing is found where no number of the row passes both tests.
-pub find_none : (test wanted : ℕ → Bool) (low count : ℕ) → ((k : ℕ) → low ≤ k → k < low + count → test k ≡ true → wanted k ≡ true → ⊥) → find wanted (filter test (numbers_from low count)) ≡ None
+pub find_none : (test wanted : ℕ → Bool) (low count : ℕ) → ((k : ℕ) → low ≤ k → k < low + count → test k ≡ true
+    → wanted k ≡ true → ⊥) → find wanted (filter test (numbers_from low count)) ≡ None
 find_none test wanted low zero none = refl
 find_none test wanted low (suc count) none =
     ⊎_elim
     (λ (p : test low ≡ true).
     ⊎_elim
     (λ (w : wanted low ≡ true). absurd (none low (omega arith) (omega arith) p w))
-    (λ (w : wanted low ≡ false). rw (p, w) (find_none test wanted (suc low) count (λ k order within. none k (omega arith) (omega arith))))
+    (λ (w : wanted low ≡ false). rw (
+      p,
+      w,
+    ) (find_none test wanted (suc low) count (λ k order within. none k (omega arith) (omega arith))))
     (cases_Bool (wanted low)))
-    (λ (p : test low ≡ false). rw p (find_none test wanted (suc low) count (λ k order within. none k (omega arith) (omega arith))))
+    (λ (p : test low ≡ false). rw p
+    (find_none test wanted (suc low) count (λ k order within. none k (omega arith) (omega arith))))
     (cases_Bool (test low))

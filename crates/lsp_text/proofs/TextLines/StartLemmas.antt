@@ -19,7 +19,8 @@ use Rattle.lsp_text.proofs.Positions.PlaceLemmas.{place_more}
 abbrev pub weighed_ends : (ℕ → ℕ) → ℕ → List ℕ → List ℕ
 weighed_ends weight before [] = []
 weighed_ends weight before (c ∷ cs) =
-    cond (ends_line (c ∷ cs) 1) ((before + weight c) ∷ weighed_ends weight (before + weight c) cs) (weighed_ends weight (before + weight c) cs)
+    cond (ends_line (c ∷ cs) 1) ((before + weight c) ∷ weighed_ends weight (before + weight c) cs)
+    (weighed_ends weight (before + weight c) cs)
 
 -- An index ends a line in a text exactly as it does in what is left of the text before it.
 ends_left : (text : List ℕ) (k : ℕ) → ends_line (get_or text k 0 ∷ drop (suc k) text) 1 ≡ ends_line text (suc k)
@@ -27,20 +28,25 @@ ends_left text k =
     ap (λ x. (slice_index text k == 10) || ((slice_index text k == 13) && not (x == 10)))
     (get_or-drop (suc k) text 0 0 ∙ ap (λ i. get_or text i 0) (omega arith))
 
-map_cond : (f : ℕ → ℕ) (b : Bool) (x : ℕ) (xs ys : List ℕ) → map f xs ≡ ys → map f (cond b (x ∷ xs) xs) ≡ cond b (f x ∷ ys) ys
+map_cond : (f : ℕ → ℕ) (b : Bool) (x : ℕ) (xs ys : List ℕ) → map f xs ≡ ys → map f (cond b (x ∷ xs) xs)
+    ≡ cond b (f x ∷ ys) ys
 map_cond f true x xs ys e = ap (λ zs. f x ∷ zs) e
 map_cond f false x xs ys e = e
 
 -- `where_is` gives what stands before each index
-pub ends_weighed : (where_is weight : ℕ → ℕ) (text : List ℕ) → ((k : ℕ) → k < length text → where_is (suc k) ≡ where_is k + weight (get_or text k 0)) →
-    (k n : ℕ) → k + n ≡ length text → map where_is (filter (ends_line text) (numbers_from (suc k) n)) ≡ weighed_ends weight (where_is k) (drop k text)
-ends_weighed where_is weight text more k zero e = ap (weighed_ends weight (where_is k)) (sym (drop_all k text (omega arith)))
+pub ends_weighed : (where_is weight : ℕ → ℕ) (text : List ℕ)
+    → ((k : ℕ) → k < length text → where_is (suc k) ≡ where_is k + weight (get_or text k 0)) →
+    (k n : ℕ) → k + n ≡ length text → map where_is (filter (ends_line text) (numbers_from (suc k) n))
+    ≡ weighed_ends weight (where_is k) (drop k text)
+ends_weighed where_is weight text more k zero e =
+    ap (weighed_ends weight (where_is k)) (sym (drop_all k text (omega arith)))
 ends_weighed where_is weight text more k (suc n) e =
     let x = get_or text k 0 in
     let rest = drop (suc k) text in
     let ends = λ (b : Bool) (m : ℕ). cond b (m ∷ weighed_ends weight m rest) (weighed_ends weight m rest) in
     let within : k < length text = omega arith in
-    map_cond where_is (ends_line text (suc k)) (suc k) (filter (ends_line text) (numbers_from (suc (suc k)) n)) (weighed_ends weight (where_is (suc k)) rest)
+    map_cond where_is (ends_line text (suc k)) (suc k) (filter (ends_line text) (numbers_from (suc (suc k)) n))
+    (weighed_ends weight (where_is (suc k)) rest)
     (ends_weighed where_is weight text more (suc k) n (omega arith)) ∙
     (ap (λ m. ends (ends_line text (suc k)) m) (more k within) ∙
     (ap (λ b. ends b (where_is k + weight x)) (sym (ends_left text k)) ∙
@@ -54,7 +60,8 @@ AllHigh (b ∷ bs) = (128 ≤ b) × AllHigh bs
 high_ends_none : (b : ℕ) (bs : List ℕ) → 128 ≤ b → ends_line (b ∷ bs) 1 ≡ false
 high_ends_none b bs h = grind (arith, nat_tests)
 
-high_skipped : (high rest : List ℕ) (before : ℕ) → AllHigh high → weighed_ends (λ _. 1) before (high ++ rest) ≡ weighed_ends (λ _. 1) (before + length high) rest
+high_skipped : (high rest : List ℕ) (before : ℕ) → AllHigh high → weighed_ends (λ _. 1) before (high ++ rest)
+    ≡ weighed_ends (λ _. 1) (before + length high) rest
 high_skipped [] rest before all = ap (λ n. weighed_ends (λ _. 1) n rest) (omega arith)
 high_skipped (b ∷ bs) rest before all =
     let later = weighed_ends (λ (_ : ℕ). 1) (before + 1) (bs ++ rest) in
@@ -66,7 +73,8 @@ unfolding encode
 encode_high c h =
     cond_both (ltb c 128) _ _ AllHigh (λ e. absurd (omega (arith, ltb-true c 128 e)))
     (λ _. cond_both (ltb c 2048) _ _ AllHigh (λ _. (omega arith, (omega arith, tt)))
-    (λ _. cond_both (ltb c 65536) _ _ AllHigh (λ _. (omega arith, (omega arith, (omega arith, tt)))) (λ _. (omega arith, (omega arith, (omega arith, (omega arith, tt)))))))
+    (λ _. cond_both (ltb c 65536) _ _ AllHigh (λ _. (omega arith, (omega arith, (omega arith, tt))))
+    (λ _. (omega arith, (omega arith, (omega arith, (omega arith, tt)))))))
 
 high_first : (bs rest : List ℕ) → AllHigh bs → 0 < length bs → 128 ≤ get_or (bs ++ rest) 0 0
 high_first [] rest all some = absurd (omega arith)
@@ -81,10 +89,16 @@ first_line_feed [] = refl
 first_line_feed (c ∷ cs) =
     ⊎_elim
     (λ (h : c < 128). ap (λ bs. slice_index (bs ++ encode_utf8_all cs) 0 == 10) (encode_ascii c h))
-    (λ (h : 128 ≤ c). not_line_feed (slice_index (encode c ++ encode_utf8_all cs) 0) c (high_first (encode c) (encode_utf8_all cs) (encode_high c h) (omega (arith, length-encode c, (len_utf8_bounds c).0))) h)
+    (λ (h : 128 ≤ c). not_line_feed (slice_index (encode c ++ encode_utf8_all cs) 0) c
+    (high_first (encode c) (encode_utf8_all cs) (encode_high c h) (omega (
+      arith,
+      length-encode c,
+      (len_utf8_bounds c).0,
+    ))) h)
     (cases_lt c 128)
 
-pub ends_of_bytes : (cs : List ℕ) (before : ℕ) → weighed_ends (λ _. 1) before (encode_utf8_all cs) ≡ weighed_ends len_utf8 before cs
+pub ends_of_bytes : (cs : List ℕ) (before : ℕ) → weighed_ends (λ _. 1) before (encode_utf8_all cs)
+    ≡ weighed_ends len_utf8 before cs
 ends_of_bytes [] before = refl
 ends_of_bytes (c ∷ cs) before =
     let bytes = encode_utf8_all cs in

@@ -21,7 +21,8 @@ filter_ascends test low (suc count) =
     let later : Ascends (suc low) (filter test (numbers_from (suc low) count)) = filter_ascends test (suc low) count in
     ⊎_elim
     (λ (e : test low ≡ true). rw e (omega arith, later))
-    (λ (e : test low ≡ false). rw e (ascends_lower low (suc low) (filter test (numbers_from (suc low) count)) (omega arith) later))
+    (λ (e : test low ≡ false). rw e (ascends_lower low (suc low) (filter test (numbers_from (suc low) count))
+    (omega arith) later))
     (cases_Bool (test low))
 
 pub ascends_from : (low : ℕ) (xs : List ℕ) → Ascends low xs → (k : ℕ) → k < length xs → low ≤ get_or xs k 0
@@ -29,7 +30,8 @@ ascends_from low [] a k h = absurd (omega arith)
 ascends_from low (x ∷ xs) a zero h = a.0
 ascends_from low (x ∷ xs) a (suc k) h = omega (arith, a.0, ascends_from (suc x) xs a.1 k (omega arith))
 
-pub ascends_at : (low : ℕ) (xs : List ℕ) → Ascends low xs → (j k : ℕ) → j < k → k < length xs → get_or xs j 0 < get_or xs k 0
+pub ascends_at : (low : ℕ) (xs : List ℕ) → Ascends low xs → (j k : ℕ) → j < k → k < length xs
+    → get_or xs j 0 < get_or xs k 0
 ascends_at low [] a j k order h = absurd (omega arith)
 ascends_at low (x ∷ xs) a j zero order h = absurd (omega arith)
 ascends_at low (x ∷ xs) a zero (suc k) order h = omega (arith, ascends_from (suc x) xs a.1 k (omega arith))
@@ -44,25 +46,31 @@ line_starts_are text = record {
   first = refl;
   ascend = λ (j k : ℕ) (order : j ≤ k) (within : k < length (line_starts text)).
       ⊎_elim
-      (λ (h : j < k). let r : get_or (line_starts text) j 0 < get_or (line_starts text) k 0 = ascends_at 0 (line_starts text) (starts_ascend text) j k h within in omega arith)
+      (λ (h : j < k). let r : get_or (line_starts text) j 0 < get_or (line_starts text) k 0 = ascends_at 0
+      (line_starts text) (starts_ascend text) j k h within in omega arith)
       (λ (h : k ≤ j). let e : j ≡ k = omega arith in rw e (omega arith))
       (cases_lt j k);
 }
 
 -- There is one start more than line ends.
-ends_counted : (text : List ℕ) (k n : ℕ) → length (filter (ends_line text) (numbers_from (suc k) n)) + line_at text k ≡ line_at text (k + n)
+ends_counted : (text : List ℕ) (k n : ℕ) → length (filter (ends_line text) (numbers_from (suc k) n)) + line_at text k
+    ≡ line_at text (k + n)
 ends_counted text k zero = omega (arith, ap (line_at text) (let e : k ≡ k + 0 = omega arith in e))
 ends_counted text k (suc n) =
-    let later : length (filter (ends_line text) (numbers_from (suc (suc k)) n)) + line_at text (suc k) ≡ line_at text (suc k + n) = ends_counted text (suc k) n in
+    let later : length (filter (ends_line text) (numbers_from (suc (suc k)) n)) + line_at text (suc k)
+    ≡ line_at text (suc k + n) = ends_counted text (suc k) n in
     let end : line_at text (suc k + n) ≡ line_at text (k + suc n) = ap (line_at text) (omega arith) in
     ⊎_elim
-    (λ (e : ends_line text (suc k) ≡ true). let l : line_at text (suc k) ≡ suc (line_at text k) = rw e refl in rw e (omega arith))
-    (λ (e : ends_line text (suc k) ≡ false). let l : line_at text (suc k) ≡ line_at text k = rw e refl in rw e (omega arith))
+    (λ (e : ends_line text (suc k) ≡ true). let l : line_at text (suc k) ≡ suc (line_at text k) = rw e refl in
+    rw e (omega arith))
+    (λ (e : ends_line text (suc k) ≡ false). let l : line_at text (suc k) ≡ line_at text k = rw e refl in
+    rw e (omega arith))
     (cases_Bool (ends_line text (suc k)))
 
 pub length-line_starts : (text : List ℕ) → length (line_starts text) ≡ suc (line_ends text)
 length-line_starts text =
-    let counted : length (filter (ends_line text) (numbers_from 1 (length text - 0))) + 0 ≡ line_at text (0 + (length text - 0)) = ends_counted text 0 (length text - 0) in
+    let counted : length (filter (ends_line text) (numbers_from 1 (length text - 0))) + 0
+    ≡ line_at text (0 + (length text - 0)) = ends_counted text 0 (length text - 0) in
     let end : line_at text (0 + (length text - 0)) ≡ line_at text (length text) = ap (line_at text) (omega arith) in
     omega arith
 
@@ -75,52 +83,74 @@ record IsEnd (text : List ℕ) (k n line end : ℕ) : Type 0 where
 
 one_further : (text : List ℕ) (k n : ℕ) (b : Bool) → ends_line text (suc k) ≡ b → (later : List ℕ) →
     ((j : ℕ) → j < length later → IsEnd text (suc k) n (line_at text (suc k) + suc j) (get_or later j 0)) →
-    (j : ℕ) → j < length (cond b (suc k ∷ later) later) → IsEnd text k (suc n) (line_at text k + suc j) (get_or (cond b (suc k ∷ later) later) j 0)
+    (j : ℕ) → j < length (cond b (suc k ∷ later) later) → IsEnd text k (suc n) (line_at text k + suc j)
+    (get_or (cond b (suc k ∷ later) later) j 0)
 one_further text k n true e later each zero h =
     let l : line_at text (suc k) ≡ suc (line_at text k) = rw e refl in
     record { rest_after = omega arith; within = omega arith; ends = e; line_is = omega arith }
 one_further text k n true e later each (suc j) h =
     let l : line_at text (suc k) ≡ suc (line_at text k) = rw e refl in
     let end = each j (omega arith) in
-    record { rest_after = omega (arith, end.rest_after); within = omega (arith, end.within); ends = end.ends; line_is = omega (arith, end.line_is) }
+    record {
+      rest_after = omega (arith, end.rest_after);
+      within = omega (arith, end.within);
+      ends = end.ends;
+      line_is = omega (arith, end.line_is);
+    }
 one_further text k n false e later each j h =
     let l : line_at text (suc k) ≡ line_at text k = rw e refl in
     let end = each j h in
-    record { rest_after = omega (arith, end.rest_after); within = omega (arith, end.within); ends = end.ends; line_is = omega (arith, end.line_is) }
+    record {
+      rest_after = omega (arith, end.rest_after);
+      within = omega (arith, end.within);
+      ends = end.ends;
+      line_is = omega (arith, end.line_is);
+    }
 
 end_at : (text : List ℕ) (k n j : ℕ) → j < length (filter (ends_line text) (numbers_from (suc k) n)) →
     IsEnd text k n (line_at text k + suc j) (get_or (filter (ends_line text) (numbers_from (suc k) n)) j 0)
 end_at text k zero j h = absurd (omega arith)
 end_at text k (suc n) j h =
-    one_further text k n (ends_line text (suc k)) refl (filter (ends_line text) (numbers_from (suc (suc k)) n)) (end_at text (suc k) n) j h
+    one_further text k n (ends_line text (suc k)) refl (filter (ends_line text) (numbers_from (suc (suc k)) n))
+    (end_at text (suc k) n) j h
 
 -- An index that ends a line is the start of its line.
-end_starts : (text : List ℕ) (end : ℕ) → end ≤ length text → 0 < end → ends_line text end ≡ true → line_start text (line_at text end) ≡ end
+end_starts : (text : List ℕ) (end : ℕ) → end ≤ length text → 0 < end → ends_line text end ≡ true
+    → line_start text (line_at text end) ≡ end
 end_starts text zero within some ends = absurd (omega arith)
 end_starts text (suc k) within some ends =
     let line = line_at text (suc k) in
     let start = line_has_start text line (line_rises text (suc k) (length text) within) in
-    let low : line_start text line ≤ suc k = start.least (suc k) (omega arith) (in_content text line (suc k) refl (line_end_whole text (suc k) ends)) in
-    let here : line_at text (line_start text line) ≡ line = in_content_line text line (line_start text line) start.passes in
+    let low : line_start text line ≤ suc k =
+    start.least (suc k) (omega arith) (in_content text line (suc k) refl (line_end_whole text (suc k) ends)) in
+    let here : line_at text (line_start text line) ≡ line =
+    in_content_line text line (line_start text line) start.passes in
     let before : line ≡ suc (line_at text k) = rw ends refl in
     ⊎_elim
-    (λ (h : line_start text line < suc k). absurd (omega (arith, line_rises text (line_start text line) k (omega arith))))
+    (λ (h : line_start text line < suc k). absurd (omega (
+      arith,
+      line_rises text (line_start text line) k (omega arith),
+    )))
     (λ (h : suc k ≤ line_start text line). omega arith)
     (cases_lt (line_start text line) (suc k))
 
 pub first_starts : (text : List ℕ) → line_start text 0 ≡ 0
 first_starts text =
-    let start = line_has_start text 0 (omega arith) in omega (arith, start.least 0 (omega arith) (in_content text 0 0 refl refl))
+    let start = line_has_start text 0 (omega arith) in
+    omega (arith, start.least 0 (omega arith) (in_content text 0 0 refl refl))
 
 -- The start at an index of the row is that of the line with this number.
-pub start_at : (text : List ℕ) (line : ℕ) → line ≤ line_ends text → get_or (line_starts text) line 0 ≡ line_start text line
+pub start_at : (text : List ℕ) (line : ℕ) → line ≤ line_ends text → get_or (line_starts text) line 0
+    ≡ line_start text line
 start_at text zero h = sym (first_starts text)
 start_at text (suc j) h =
     let row = filter (ends_line text) (numbers_from 1 (length text - 0)) in
     let size : suc (length row) ≡ suc (line_ends text) = length-line_starts text in
-    let end : IsEnd text 0 (length text - 0) (0 + suc j) (get_or row j 0) = end_at text 0 (length text - 0) j (omega arith) in
+    let end : IsEnd text 0 (length text - 0) (0 + suc j) (get_or row j 0) =
+    end_at text 0 (length text - 0) j (omega arith) in
     let line_is : line_at text (get_or row j 0) ≡ suc j = omega (arith, end.line_is) in
-    sym (ap (line_start text) (sym line_is) ∙ end_starts text (get_or row j 0) (omega (arith, end.within)) (omega (arith, end.rest_after)) end.ends)
+    sym (ap (line_start text) (sym line_is) ∙ end_starts text (get_or row j 0) (omega (arith, end.within))
+    (omega (arith, end.rest_after)) end.ends)
 
 -- Where a later line starts, an index ends the line before it.
 pub record IsNextStart (text : List ℕ) (line next : ℕ) : Type 0 where
@@ -129,10 +159,17 @@ pub record IsNextStart (text : List ℕ) (line next : ℕ) : Type 0 where
   pub ends : ends_line text next ≡ true
   pub line_is : line_at text next ≡ suc line
 
-pub next_start : (text : List ℕ) (line : ℕ) → suc line ≤ line_ends text → IsNextStart text line (line_start text (suc line))
+pub next_start : (text : List ℕ) (line : ℕ) → suc line ≤ line_ends text
+    → IsNextStart text line (line_start text (suc line))
 next_start text line h =
     let row = filter (ends_line text) (numbers_from 1 (length text - 0)) in
     let size : suc (length row) ≡ suc (line_ends text) = length-line_starts text in
-    let end : IsEnd text 0 (length text - 0) (0 + suc line) (get_or row line 0) = end_at text 0 (length text - 0) line (omega arith) in
-    let found : IsNextStart text line (get_or row line 0) = record { some = omega (arith, end.rest_after); within = omega (arith, end.within); ends = end.ends; line_is = omega (arith, end.line_is) } in
+    let end : IsEnd text 0 (length text - 0) (0 + suc line) (get_or row line 0) =
+    end_at text 0 (length text - 0) line (omega arith) in
+    let found : IsNextStart text line (get_or row line 0) = record {
+      some = omega (arith, end.rest_after);
+      within = omega (arith, end.within);
+      ends = end.ends;
+      line_is = omega (arith, end.line_is);
+    } in
     subst (IsNextStart text line) (start_at text (suc line) h) found

@@ -68,7 +68,8 @@ pub record IsKeyAt (keys : List (Option (String Global))) (slot : ℕ) (bytes : 
   pub same : string_bytes key ≡ bytes
 
 -- The place of each key is its slot, and nothing else has a place.
-pub record ArePlaced (keys : List (Option (String Global))) (place : List ℕ → Option ℕ) : Type 0 where
+pub record ArePlaced (keys : List (Option (String Global))) (place : List ℕ → Option ℕ) : Type
+    0 where
   pub found : (slot : ℕ) (key : String Global) → slice_get keys slot ≡ Some (Some key)
       → place (string_bytes key) ≡ Some slot
   pub there : (bytes : List ℕ) (slot : ℕ) → place bytes ≡ Some slot → IsKeyAt keys slot bytes

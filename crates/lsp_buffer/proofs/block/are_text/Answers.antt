@@ -8,12 +8,16 @@ returns-in-None c = (
   λ h. absurd (false≢true h),
   λ whole.
       absurd
-      (text_none c.args.blocks.now c.loop-block.block-index c.block-item.result c.loop-block.rest.now c.args.bytes.now c.loop-block-test.true c.block-item.is c.loop-block.invariant
-      (subst (λ (b : List ℕ). (back : List ℕ) → c.loop-block.rest.now ≢ b ++ back) (c.as_bytes.ensures.value ∙ c.text.ensures) c.in-None.ensures.none)
+      (text_none c.args.blocks.now c.loop-block.block-index c.block-item.result c.loop-block.rest.now c.args.bytes.now
+      c.loop-block-test.true c.block-item.is c.loop-block.invariant
+      (subst (λ (b : List ℕ). (back : List ℕ) → c.loop-block.rest.now ≢ b ++ back) (c.as_bytes.ensures.value
+      ∙ c.text.ensures) c.in-None.ensures.none)
       whole),
 )
 
 pub loop-block-preserved : goal.loop-block-preserved
 loop-block-preserved c =
-    text_more c.args.blocks.now c.loop-block.block-index c.block-item.result c.loop-block.rest.now c.in-Some.back.now c.args.bytes.now c.loop-block-test.true c.block-item.is c.loop-block.invariant
-    (subst (λ (b : List ℕ). c.loop-block.rest.now ≡ b ++ c.in-Some.back.now) (c.as_bytes.ensures.value ∙ c.text.ensures) c.in-Some.ensures.some)
+    text_more c.args.blocks.now c.loop-block.block-index c.block-item.result c.loop-block.rest.now c.in-Some.back.now
+    c.args.bytes.now c.loop-block-test.true c.block-item.is c.loop-block.invariant
+    (subst (λ (b : List ℕ). c.loop-block.rest.now ≡ b ++ c.in-Some.back.now) (c.as_bytes.ensures.value ∙ c.text.ensures)
+    c.in-Some.ensures.some)

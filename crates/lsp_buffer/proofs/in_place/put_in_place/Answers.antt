@@ -7,21 +7,25 @@ use Rattle.lsp_buffer.proofs.in_place.put_in_place.Goals as goal
 pub replace_range-requires-clause-start_boundary : goal.replace_range-requires-clause-start_boundary
 replace_range-requires-clause-start_boundary c =
     rw (c.in_ok-replace_bytes.ensures.bytes, c.in_ok-reserve.ensures.bytes)
-    (start_again (string_bytes c.args.text.now) (IsUtf8-string_bytes c.args.text.now) c.args.start c.args.end c.args.new.now c.utf8.new c.requires.order c.requires.at_start c.requires.at_end)
+    (start_again (string_bytes c.args.text.now) (IsUtf8-string_bytes c.args.text.now) c.args.start c.args.end
+    c.args.new.now c.utf8.new c.requires.order c.requires.at_start c.requires.at_end)
 
 pub returns-then-is_err-clause-unchanged : goal.returns-then-is_err-clause-unchanged
 returns-then-is_err-clause-unchanged c =
     let old : List ℕ = string_bytes c.args.text.now in
-    let now : string_bytes c.replace_bytes.new.text ≡ replace_range old c.args.start c.args.end c.args.new.now = rw c.in_ok-reserve.ensures.bytes at c.in_ok-replace_bytes.ensures.bytes in
+    let now : string_bytes c.replace_bytes.new.text ≡ replace_range old c.args.start c.args.end c.args.new.now =
+    rw c.in_ok-reserve.ensures.bytes at c.in_ok-replace_bytes.ensures.bytes in
     let gone : c.deref-then-is_err.result.now ≡ slice_range old c.args.start c.args.end =
     c.deref-then-is_err.ensures ∙ (c.in_ok-removed.ensures.ok ∙ (rw c.deref.ensures at c.range.ensures.value)) in
-    let room : string_len c.replace_bytes.new.text + length c.deref-then-is_err.result.now ≤ string_capacity c.replace_bytes.new.text =
+    let room : string_len c.replace_bytes.new.text + length c.deref-then-is_err.result.now ≤ string_capacity
+    c.replace_bytes.new.text =
     omega (
       arith,
       ap length now,
       ap length gone,
       removed_len old c.args.start c.args.end,
-      replaced_len old (IsUtf8-string_bytes c.args.text.now) c.args.start c.args.end c.args.new.now c.utf8.new c.requires.order c.requires.at_start c.requires.at_end,
+      replaced_len old (IsUtf8-string_bytes c.args.text.now) c.args.start c.args.end c.args.new.now c.utf8.new
+          c.requires.order c.requires.at_start c.requires.at_end,
       c.replace_bytes.new.text.bytes.ok.0,
       c.args.text.now.bytes.ok.0,
       c.requires.order,
@@ -31,8 +35,15 @@ returns-then-is_err-clause-unchanged c =
       c.in_ok-replace_bytes.ensures.capacity,
     ) in
     put_back c.replace_range.result _ _ _ _ c.replace_range.ensures.bytes c.replace_range.ensures.full room
-    ∙ rw (now, gone) (undone old (IsUtf8-string_bytes c.args.text.now) c.args.start c.args.end c.args.new.now c.utf8.new c.requires.order c.requires.at_start c.requires.at_end)
+    ∙ rw (
+      now,
+      gone,
+    ) (undone old (IsUtf8-string_bytes c.args.text.now) c.args.start c.args.end c.args.new.now c.utf8.new
+    c.requires.order c.requires.at_start c.requires.at_end)
 
 pub returns-then-is_err-clause-indexed : goal.returns-then-is_err-clause-indexed
 returns-then-is_err-clause-indexed c =
-    rw (returns-then-is_err-clause-unchanged c, at_err _ c.splice.result (sym c.is_err.ensures.value ∙ c.if-is_err.true) c.splice.ensures.unchanged) c.requires.indexed
+    rw (
+      returns-then-is_err-clause-unchanged c,
+      at_err _ c.splice.result (sym c.is_err.ensures.value ∙ c.if-is_err.true) c.splice.ensures.unchanged,
+    ) c.requires.indexed

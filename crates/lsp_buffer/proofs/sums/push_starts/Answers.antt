@@ -3,13 +3,30 @@ use Rattle.lsp_buffer.proofs.Blocks.SumLemmas.{row_more, row_low, sums_more}
 use Rattle.lsp_buffer.proofs.sums.push_starts.Goals as goal
 
 pub overflow_cast-next : goal.overflow_cast-next
-overflow_cast-next c = omega (arith, c.len.ensures, row_low (length {A = ℕ}) c.loop-block.block-index c.args.blocks.now c.block-item.result c.loop-block-test.true c.block-item.is, c.requires)
+overflow_cast-next c = omega (
+  arith,
+  c.len.ensures,
+  row_low (length {A = ℕ}) c.loop-block.block-index c.args.blocks.now c.block-item.result c.loop-block-test.true
+      c.block-item.is,
+  c.requires,
+)
 
 pub overflow_add-next : goal.overflow_add-next
-overflow_add-next c = omega (arith, c.len.ensures, row_low (length {A = ℕ}) c.loop-block.block-index c.args.blocks.now c.block-item.result c.loop-block-test.true c.block-item.is, c.requires, c.loop-block.invariant.next)
+overflow_add-next c = omega (
+  arith,
+  c.len.ensures,
+  row_low (length {A = ℕ}) c.loop-block.block-index c.args.blocks.now c.block-item.result c.loop-block-test.true
+      c.block-item.is,
+  c.requires,
+  c.loop-block.invariant.next,
+)
 
 pub loop-block-preserved : goal.loop-block-preserved
 loop-block-preserved c = record {
-  next = row_more (length {A = ℕ}) c.args.first c.loop-block.next c.len.result c.loop-block.block-index c.args.blocks.now c.block-item.result c.loop-block-test.true c.block-item.is c.len.ensures c.loop-block.invariant.next;
-  starts = c.in_ok-push.ensures.items ∙ sums_more (length {A = ℕ}) c.args.first c.loop-block.next c.loop-block.block-index c.args.blocks.now c.block-item.result c.loop-block.starts.items c.args.starts.now.items c.loop-block-test.true c.block-item.is c.loop-block.invariant.next c.loop-block.invariant.starts;
+  next = row_more (length {A = ℕ}) c.args.first c.loop-block.next c.len.result c.loop-block.block-index
+      c.args.blocks.now c.block-item.result c.loop-block-test.true c.block-item.is c.len.ensures
+      c.loop-block.invariant.next;
+  starts = c.in_ok-push.ensures.items ∙ sums_more (length {A = ℕ}) c.args.first c.loop-block.next
+      c.loop-block.block-index c.args.blocks.now c.block-item.result c.loop-block.starts.items c.args.starts.now.items
+      c.loop-block-test.true c.block-item.is c.loop-block.invariant.next c.loop-block.invariant.starts;
 }

@@ -7,4 +7,6 @@ use Rattle.lsp_edit.proofs.composed.apply_all.Given as goal
 
 abbrev pub invariant-loop-change : goal.invariant-loop-change
 invariant-loop-change l =
-    Applying (units_in l.encoding) l.fn.pieces.edited.before (after_changes (units_in l.encoding) l.fn.pieces.edited.before 0 l.fn.pieces.edited.items (map edit_of l.changes)) l.change-index (drop l.change-index l.changes) l.pieces.edited
+    Applying (units_in l.encoding) l.fn.pieces.edited.before
+    (after_changes (units_in l.encoding) l.fn.pieces.edited.before 0 l.fn.pieces.edited.items (map edit_of l.changes))
+    l.change-index (drop l.change-index l.changes) l.pieces.edited

@@ -7,7 +7,8 @@ use Rattle.lsp_edit.proofs.Composing.RoomLemmas.{applying_on}
 use Rattle.lsp_edit.proofs.plain.compose.Goals as goal
 
 pub loop-change-init : goal.loop-change-init
-loop-change-init c = applying_begins (units_in c.args.encoding) c.args.before.now c.args.changes.now c.in_ok-plain.plain c.utf8.before c.in_ok-plain.ensures c.requires.size c.requires.fits
+loop-change-init c = applying_begins (units_in c.args.encoding) c.args.before.now c.args.changes.now c.in_ok-plain.plain
+    c.utf8.before c.in_ok-plain.ensures c.requires.size c.requires.fits
 
 pub loop-change-preserved : goal.loop-change-preserved
 loop-change-preserved c =

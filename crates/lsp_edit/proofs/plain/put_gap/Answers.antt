@@ -18,16 +18,33 @@ some_left text e =
 pub position-stop-requires-clause-place : goal.position-stop-requires-clause-place
 position-stop-requires-clause-place c =
     let changed : (c.args.low < c.args.high) ⊎ (0 < length c.args.text.now)
-    = elim c.then-low-high.branch [ then-low-high-via-then-low-high w ↦ inl w.if-low-high.true | then-low-high-via-else-low-high+then-not-is_empty w ↦ inr (some_left c.args.text.now w.if-not-is_empty.ensures) ] in
-    let ends : HasExactEnds (chars c.args.before.now) (gap_at c.args.low c.args.high c.args.text.now) = c.requires.ends (gap_some (units_in c.args.encoding) (chars c.args.before.now) c.args.low c.args.high c.args.text.now changed) in
-    end_place (chars c.args.before.now) c.args.high c.in_ok-place_of-2.field-0 (omega (arith, ends.within)) ends.high_whole (c.in_ok-place_of-2.ensures ∙ ap (λ (cs : List ℕ). length (encode_utf8_all (take c.args.high cs))) c.requires.old)
+    = elim c.then-low-high.branch [
+      | then-low-high-via-then-low-high w ↦ inl w.if-low-high.true
+      | then-low-high-via-else-low-high+then-not-is_empty w ↦ inr (some_left c.args.text.now w.if-not-is_empty.ensures)
+    ] in
+    let ends : HasExactEnds (chars c.args.before.now) (gap_at c.args.low c.args.high c.args.text.now) =
+    c.requires.ends (gap_some (units_in c.args.encoding) (chars c.args.before.now) c.args.low c.args.high
+    c.args.text.now changed) in
+    end_place (chars c.args.before.now) c.args.high c.in_ok-place_of-2.field-0 (omega (arith, ends.within))
+    ends.high_whole (c.in_ok-place_of-2.ensures ∙ ap (λ (cs : List ℕ). length (encode_utf8_all (take c.args.high cs)))
+    c.requires.old)
 
 pub returns-in_ok-push : goal.returns-in_ok-push
 returns-in_ok-push c =
     let changed : (c.args.low < c.args.high) ⊎ (0 < length c.args.text.now)
-    = elim c.then-low-high.branch [ then-low-high-via-then-low-high w ↦ inl w.if-low-high.true | then-low-high-via-else-low-high+then-not-is_empty w ↦ inr (some_left c.args.text.now w.if-not-is_empty.ensures) ] in
-    let ends : HasExactEnds (chars c.args.before.now) (gap_at c.args.low c.args.high c.args.text.now) = c.requires.ends (gap_some (units_in c.args.encoding) (chars c.args.before.now) c.args.low c.args.high c.args.text.now changed) in
+    = elim c.then-low-high.branch [
+      | then-low-high-via-then-low-high w ↦ inl w.if-low-high.true
+      | then-low-high-via-else-low-high+then-not-is_empty w ↦ inr (some_left c.args.text.now w.if-not-is_empty.ensures)
+    ] in
+    let ends : HasExactEnds (chars c.args.before.now) (gap_at c.args.low c.args.high c.args.text.now) =
+    c.requires.ends (gap_some (units_in c.args.encoding) (chars c.args.before.now) c.args.low c.args.high
+    c.args.text.now changed) in
     rw c.in_ok-push.ensures.items
-    (gap_one (units_in c.args.encoding) (chars c.args.before.now) c.args.low c.args.high c.args.text.now _ _ c.position-start.result c.position-stop.result changed refl c.in_ok-text.ensures
-    (c.position-start.ensures.exact c.args.low (omega (arith, ends.order, ends.within)) (sym (c.in_ok-place_of.ensures ∙ ap (λ (cs : List ℕ). length (encode_utf8_all (take c.args.low cs))) c.requires.old)))
-    (c.position-stop.ensures.exact c.args.high (omega (arith, ends.within)) (sym (c.in_ok-place_of-2.ensures ∙ ap (λ (cs : List ℕ). length (encode_utf8_all (take c.args.high cs))) c.requires.old))))
+    (gap_one (units_in c.args.encoding) (chars c.args.before.now) c.args.low c.args.high c.args.text.now _ _
+    c.position-start.result c.position-stop.result changed refl c.in_ok-text.ensures
+    (c.position-start.ensures.exact c.args.low (omega (arith, ends.order, ends.within))
+    (sym (c.in_ok-place_of.ensures ∙ ap (λ (cs : List ℕ). length (encode_utf8_all (take c.args.low cs)))
+    c.requires.old)))
+    (c.position-stop.ensures.exact c.args.high (omega (arith, ends.within))
+    (sym (c.in_ok-place_of-2.ensures ∙ ap (λ (cs : List ℕ). length (encode_utf8_all (take c.args.high cs)))
+    c.requires.old))))

@@ -16,17 +16,25 @@ returns-in_err-start-clause-error c =
     let p = err_from_is_err_and c.from_residual.result c.from_residual.ensures.1 in
     rw (p.1, p.2)
     (inr
-    (nowhere (units_in c.args.encoding) (chars c.args.text.now) c.args.edits.now c.loop-edit.edit-index c.loop-edit.placed.items c.edit-item.result (drop (c.loop-edit.edit-index + 1) c.args.edits.now) c.len-number.result _
-    (drop_more c.args.edits.now c.loop-edit.edit-index c.edit-item.result c.loop-edit-test.true ∙ ap (λ (x : TextEdit). x ∷ drop (c.loop-edit.edit-index + 1) c.args.edits.now) (sym c.edit-item.is))
+    (nowhere (units_in c.args.encoding) (chars c.args.text.now) c.args.edits.now c.loop-edit.edit-index
+    c.loop-edit.placed.items c.edit-item.result (drop (c.loop-edit.edit-index + 1) c.args.edits.now) c.len-number.result
+    _
+    (drop_more c.args.edits.now c.loop-edit.edit-index c.edit-item.result c.loop-edit-test.true
+    ∙ ap (λ (x : TextEdit). x ∷ drop (c.loop-edit.edit-index + 1) c.args.edits.now) (sym c.edit-item.is))
     c.loop-edit.invariant (c.len-number.ensures ∙ c.loop-edit.placed.ok.0) c.in_err-start.ensures))
 
 pub loop-edit-preserved : goal.loop-edit-preserved
 loop-edit-preserved c =
-    placed_next (units_in c.args.encoding) (chars c.args.text.now) c.args.edits.now c.loop-edit.edit-index c.loop-edit.placed.items _ c.edit-item.result _
-    (take_more c.args.edits.now c.loop-edit.edit-index c.edit-item.result c.loop-edit-test.true ∙ ap (λ (x : TextEdit). take c.loop-edit.edit-index c.args.edits.now ++ x ∷ []) (sym c.edit-item.is))
-    c.loop-edit.invariant c.in_ok-start.ensures (c.len-number.ensures ∙ c.loop-edit.placed.ok.0) c.deref.ensures c.in_ok-push_placed.ensures
+    placed_next (units_in c.args.encoding) (chars c.args.text.now) c.args.edits.now c.loop-edit.edit-index
+    c.loop-edit.placed.items _ c.edit-item.result _
+    (take_more c.args.edits.now c.loop-edit.edit-index c.edit-item.result c.loop-edit-test.true
+    ∙ ap (λ (x : TextEdit). take c.loop-edit.edit-index c.args.edits.now ++ x ∷ []) (sym c.edit-item.is))
+    c.loop-edit.invariant c.in_ok-start.ensures (c.len-number.ensures ∙ c.loop-edit.placed.ok.0) c.deref.ensures
+    c.in_ok-push_placed.ensures
 
 pub returns-clause-ok : goal.returns-clause-ok
 returns-clause-ok c =
-    let all : take c.loop-edit.edit-index c.args.edits.now ≡ c.args.edits.now = take_all c.loop-edit.edit-index c.args.edits.now c.loop-edit-test.false in
-    subst (λ (es : List TextEdit). ArePlaced (units_in c.args.encoding) (chars c.args.text.now) 0 es c.loop-edit.placed.items) all c.loop-edit.invariant
+    let all : take c.loop-edit.edit-index c.args.edits.now ≡ c.args.edits.now =
+    take_all c.loop-edit.edit-index c.args.edits.now c.loop-edit-test.false in
+    subst (λ (es : List TextEdit). ArePlaced (units_in c.args.encoding) (chars c.args.text.now) 0 es
+    c.loop-edit.placed.items) all c.loop-edit.invariant

@@ -5,4 +5,5 @@ use Rattle.lsp_edit.proofs.text_edits.spans_left.Given as goal
 
 abbrev pub invariant-loop-edit : goal.invariant-loop-edit
 invariant-loop-edit l =
-    Spanning l.len l.ordered (take l.edit-index l.ordered) (drop l.edit-index l.ordered) (parts_of l.spans.items) l.low l.last
+    Spanning l.len l.ordered (take l.edit-index l.ordered) (drop l.edit-index l.ordered) (parts_of l.spans.items) l.low
+    l.last

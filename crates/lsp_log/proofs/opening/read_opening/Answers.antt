@@ -7,23 +7,33 @@ use Rattle.lsp_log.proofs.opening.read_opening.Goals as goal
 
 pub returns-then-not-is_undecided-clause-read : goal.returns-then-not-is_undecided-clause-read
 returns-then-not-is_undecided-clause-read g c =
-    next_read _ _ _ c.opening.len c.in_ok-n.n c.opening.buf c.read_piece.new.buf (omega arith) (omega (arith, c.read_piece.auto.buf, length-take {A = ℕ}, length-drop {A = ℕ})) c.in_ok-n.ensures.bound
+    next_read _ _ _ c.opening.len c.in_ok-n.n c.opening.buf c.read_piece.new.buf (omega arith)
+    (omega (arith, c.read_piece.auto.buf, length-take {A = ℕ}, length-drop {A = ℕ})) c.in_ok-n.ensures.bound
     c.opening.invariant.read c.in_ok-n.ensures.read
 
 pub returns-then-not-is_undecided-clause-known : goal.returns-then-not-is_undecided-clause-known
 returns-then-not-is_undecided-clause-known g c = λ more last.
-    stays c.args.versions c.version_of-version.result _ more (λ looks front. last (c.is_undecided.ensures.no c.if-not-is_undecided.true looks front)) c.version_of-version.ensures
+    stays c.args.versions c.version_of-version.result _ more
+    (λ looks front. last (c.is_undecided.ensures.no c.if-not-is_undecided.true looks front))
+    c.version_of-version.ensures
 
 pub opening-preserved : goal.opening-preserved
 opening-preserved g c =
     let within : c.opening.len ≤ length c.opening.buf = omega arith in
-    let long : length c.read_piece.new.buf ≡ length c.opening.buf - c.opening.len = omega (arith, c.read_piece.auto.buf, length-take {A = ℕ}, length-drop {A = ℕ}) in
+    let long : length c.read_piece.new.buf ≡ length c.opening.buf - c.opening.len =
+    omega (arith, c.read_piece.auto.buf, length-take {A = ℕ}, length-drop {A = ℕ}) in
     let front = c.is_undecided.ensures.yes c.if-not-is_undecided.false in
     record {
-      within = omega (arith, front.0, next_len c.opening.len c.in_ok-n.n c.opening.buf c.read_piece.new.buf within long c.in_ok-n.ensures.bound);
+      within = omega (
+        arith,
+        front.0,
+        next_len c.opening.len c.in_ok-n.n c.opening.buf c.read_piece.new.buf within long c.in_ok-n.ensures.bound,
+      );
       front = front;
-      unread = λ no. absurd (let two : false ≡ true = sym no ∙ c.is_undecided.ensures.looked_for c.if-not-is_undecided.false in cc);
-      read = next_read _ _ _ c.opening.len c.in_ok-n.n c.opening.buf c.read_piece.new.buf within long c.in_ok-n.ensures.bound c.opening.invariant.read c.in_ok-n.ensures.read;
+      unread = λ no. absurd (let two : false ≡ true = sym no ∙ c.is_undecided.ensures.looked_for
+          c.if-not-is_undecided.false in cc);
+      read = next_read _ _ _ c.opening.len c.in_ok-n.n c.opening.buf c.read_piece.new.buf within long
+          c.in_ok-n.ensures.bound c.opening.invariant.read c.in_ok-n.ensures.read;
       not_ended = λ _. false_from_ne_true _ (λ error.
           let zero : nat_eq c.in_ok-n.n 0 ≡ true = ap (λ k. nat_eq k 0) (c.in_ok-n.ensures.ended.0 error) in
           let other = c.is_undecided.ensures.not_ended c.if-not-is_undecided.false in
@@ -33,6 +43,12 @@ opening-preserved g c =
         within = omega (arith, c.opening.invariant.spent.within, c.in_ok-n.ensures.calls.spent.within);
         least = omega (arith, c.opening.invariant.spent.least, c.in_ok-n.ensures.calls.spent.least);
         most = omega (arith, c.opening.invariant.spent.most, c.in_ok-n.ensures.calls.spent.most);
-        exact = λ h. omega (arith, h, c.opening.invariant.spent.exact, c.in_ok-n.ensures.calls.spent.exact, c.in_ok-n.ensures.calls.spent.least);
+        exact = λ h. omega (
+          arith,
+          h,
+          c.opening.invariant.spent.exact,
+          c.in_ok-n.ensures.calls.spent.exact,
+          c.in_ok-n.ensures.calls.spent.least,
+        );
       };
     }

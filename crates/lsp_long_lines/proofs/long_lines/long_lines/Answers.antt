@@ -19,11 +19,14 @@ loop-line-preserved c =
       | in-Some+in_ok-push w ↦
           let items : c.match-excess.ranges.items ≡ c.loop-line.ranges.items ++ w.in-Some.range ∷ [] =
           ap (λ (v : Vec Range Global). v.items) w.ranges-is ∙ w.in_ok-push.ensures.items in
-          ap stops items ∙ stops-long (units_in c.args.encoding) c.args.document.now.text c.text-text.result.now c.loop-line.line c.loop-line.ranges.items w.in-Some.range
+          ap stops items ∙ stops-long (units_in c.args.encoding) c.args.document.now.text c.text-text.result.now
+          c.loop-line.line c.loop-line.ranges.items w.in-Some.range
           c.text-text.ensures.text w.in-Some.ensures.long w.in-Some.ensures.stop c.loop-line.invariant
       | in_default w ↦
-          let items : c.match-excess.ranges.items ≡ c.loop-line.ranges.items = ap (λ (v : Vec Range Global). v.items) w.ranges-is in
-          ap stops items ∙ stops-short (units_in c.args.encoding) c.args.document.now.text c.text-text.result.now c.loop-line.line c.loop-line.ranges.items
+          let items : c.match-excess.ranges.items ≡ c.loop-line.ranges.items =
+          ap (λ (v : Vec Range Global). v.items) w.ranges-is in
+          ap stops items ∙ stops-short (units_in c.args.encoding) c.args.document.now.text c.text-text.result.now
+          c.loop-line.line c.loop-line.ranges.items
           c.text-text.ensures.text w.in_default.ensures.long c.loop-line.invariant
     ]
 
@@ -31,5 +34,10 @@ pub returns : goal.returns
 returns c =
     let text = chars c.args.document.now.text in
     let all : c.loop-line.line ≡ line_ends text + 1 =
-    omega (arith, c.line_count-line-end.ensures.count, ap (λ (b : List ℕ). line_ends (chars b)) c.text-text.ensures.text) in
-    subst (λ (n : ℕ). stops c.loop-line.ranges.items ≡ ends_before (units_in c.args.encoding) text n) all c.loop-line.invariant
+    omega (
+      arith,
+      c.line_count-line-end.ensures.count,
+      ap (λ (b : List ℕ). line_ends (chars b)) c.text-text.ensures.text,
+    ) in
+    subst (λ (n : ℕ). stops c.loop-line.ranges.items ≡ ends_before (units_in c.args.encoding) text n) all
+    c.loop-line.invariant

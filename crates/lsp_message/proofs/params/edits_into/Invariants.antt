@@ -10,6 +10,7 @@ abbrev pub invariant-loop-value : goal.invariant-loop-value
 invariant-loop-value l = record {
   going : (goal.iterator-loop-value).can_next l.value-iterator;
   ending : (goal.iterator-loop-value).is_finite l.value-iterator;
-  so_far : option_map (λ es. map edit_view l.changes.items ++ es) (edits_in (items_view (into_iter_items l.value-iterator))) ≡ edits_in (items_view l.fn.values.items);
+  so_far : option_map (λ es. map edit_view l.changes.items ++ es)
+      (edits_in (items_view (into_iter_items l.value-iterator))) ≡ edits_in (items_view l.fn.values.items);
   room : vec_len l.changes + length (into_iter_items l.value-iterator) ≤ vec_capacity l.changes;
 }

@@ -17,9 +17,13 @@ returns-else-is_err-clause-ok c =
     let value = value_of (change_message c.args.uri.now number c.args.changes.now) in
     on_ok_weaker c.write_change-written.result
     (λ appended.
-    let before : c.write_change-written.new.writer.before ≡ c.args.bytes.now.items = appended.before ∙ c.new-writer.ensures.before ∙ ap (λ v. v.items) c.replace.ensures.value in
-    let tokens : c.write_change-written.new.writer.tokens ≡ tokens_of value = appended.tokens ∙ ap (λ ts. ts ++ tokens_of value) c.new-writer.ensures.tokens in
-    c.into_inner.ensures.items ∙ ap₂ (λ bytes ts. bytes ++ print ts) before tokens ∙ ap (λ text. c.args.bytes.now.items ++ text) (print-outline value ∙ sym (body_is (change_message c.args.uri.now number c.args.changes.now))))
+    let before : c.write_change-written.new.writer.before ≡ c.args.bytes.now.items =
+    appended.before ∙ c.new-writer.ensures.before ∙ ap (λ v. v.items) c.replace.ensures.value in
+    let tokens : c.write_change-written.new.writer.tokens ≡ tokens_of value =
+    appended.tokens ∙ ap (λ ts. ts ++ tokens_of value) c.new-writer.ensures.tokens in
+    c.into_inner.ensures.items ∙ ap₂ (λ bytes ts. bytes ++ print ts) before tokens
+    ∙ ap (λ text. c.args.bytes.now.items ++ text) (print-outline value
+    ∙ sym (body_is (change_message c.args.uri.now number c.args.changes.now))))
     (rw version at c.write_change-written.ensures.tokens)
 
 pub returns-then-is_err-clause-read_as : goal.returns-then-is_err-clause-read_as

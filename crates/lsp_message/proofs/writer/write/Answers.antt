@@ -12,9 +12,12 @@ pub returns-clause-body : goal.returns-clause-body
 returns-clause-body c =
     let value = value_of (outgoing_view c.args.message.now) in
     let appended = c.in_ok-write_message.ensures in
-    let before : c.write_message.new.writer.before ≡ [] = appended.before ∙ c.new-writer.ensures.before ∙ c.in_ok-with_capacity.ensures.items in
-    let tokens : c.write_message.new.writer.tokens ≡ tokens_of value = appended.tokens ∙ ap (λ ts. ts ++ tokens_of value) c.new-writer.ensures.tokens in
-    c.into_inner.ensures.items ∙ ap₂ (λ bytes ts. bytes ++ print ts) before tokens ∙ print-outline value ∙ sym (body_is (outgoing_view c.args.message.now))
+    let before : c.write_message.new.writer.before ≡ [] = appended.before ∙ c.new-writer.ensures.before
+    ∙ c.in_ok-with_capacity.ensures.items in
+    let tokens : c.write_message.new.writer.tokens ≡ tokens_of value =
+    appended.tokens ∙ ap (λ ts. ts ++ tokens_of value) c.new-writer.ensures.tokens in
+    c.into_inner.ensures.items ∙ ap₂ (λ bytes ts. bytes ++ print ts) before tokens ∙ print-outline value
+    ∙ sym (body_is (outgoing_view c.args.message.now))
 
 pub returns-clause-read_as : goal.returns-clause-read_as
 returns-clause-read_as c = reading-body_of

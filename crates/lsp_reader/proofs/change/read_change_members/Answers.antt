@@ -12,7 +12,8 @@ members-init c = (length c.args.reader.now, no_members, omega arith, refl, omega
 pub returns-in_err-name-clause-error : goal.returns-in_err-name-clause-error
 returns-in_err-name-clause-error c =
     let l = c.members in
-    on_err _ (l.invariant.3 ∙ members_at-no_key c.args.depth l.invariant.0 l.invariant.1 l.reader c.in_err-name.ensures.value)
+    on_err _ (l.invariant.3 ∙ members_at-no_key c.args.depth l.invariant.0 l.invariant.1 l.reader
+    c.in_err-name.ensures.value)
 
 pub members-preserved : goal.members-preserved
 members-preserved c =
@@ -28,7 +29,8 @@ members-preserved c =
       n - 1,
       put k read.0 old,
       omega (arith, l.invariant.2),
-      l.invariant.3 ∙ members_at-more c.args.depth n old k l.reader s c.read_member.new.reader read.0 (omega (arith, l.invariant.2)) named read.1,
+      l.invariant.3 ∙ members_at-more c.args.depth n old k l.reader s c.read_member.new.reader read.0
+          (omega (arith, l.invariant.2)) named read.1,
       omega (arith, l.invariant.4),
       read.2 old l.invariant.5,
     )
@@ -39,9 +41,14 @@ returns-in_err-read_member-clause-error c =
     let k = c.in-Some.name.now in
     let s = c.next_key.new.self in
     let named : read_key l.reader ≡ Some (Some k, s) = grind arith in
-    on_err _ (l.invariant.3 ∙ members_at-refused c.args.depth l.invariant.0 l.invariant.1 k l.reader s named c.in_err-read_member.ensures.error)
+    on_err _ (l.invariant.3 ∙ members_at-refused c.args.depth l.invariant.0 l.invariant.1 k l.reader s named
+    c.in_err-read_member.ensures.error)
 
 pub returns-clause-ok : goal.returns-clause-ok
 returns-clause-ok c =
-    let l = c.members in
-    (l.invariant.1, l.invariant.3 ∙ members_at-end c.args.depth l.invariant.0 l.invariant.1 l.reader c.next_key.new.self l.invariant.2 (grind arith), l.invariant.5)
+    let l = c.members in (
+      l.invariant.1,
+      l.invariant.3 ∙ members_at-end c.args.depth l.invariant.0 l.invariant.1 l.reader c.next_key.new.self l.invariant.2
+          (grind arith),
+      l.invariant.5,
+    )

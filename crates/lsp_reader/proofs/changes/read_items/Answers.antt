@@ -13,7 +13,8 @@ returns-in_err-change-clause-error c = λ e.
     let l = c.items in
     let going : (after_end_array l.reader ≡ None) × (c.take_end_array.new.self ≡ l.reader) = grind arith in
     let refused = c.in_err-change.ensures.error (grind arith) in
-    l.invariant.3 ∙ ap (parse_map (items_before l.invariant.1)) (items_at-refused c.args.depth l.invariant.0 l.reader going.0 (rw (← going.1) refused))
+    l.invariant.3 ∙ ap (parse_map (items_before l.invariant.1)) (items_at-refused c.args.depth l.invariant.0 l.reader
+    going.0 (rw (← going.1) refused))
 
 pub items-preserved-in-Continue-branch-3 : goal.items-preserved-in-Continue-branch-3
 items-preserved-in-Continue-branch-3 c =
@@ -27,14 +28,18 @@ items-preserved-in-Continue-branch-3 c =
     let read = done.ok in
     let less : length r < length l.reader = rw (← going.1) done.shorter in
     let turn = items_at-more depth n l.reader r read.0 (omega (arith, l.invariant.2)) going.0 (rw (← going.1) read.1) in
-    let edit : Some (edit_view c.in-Some.change) ≡ edit_in read.0 = ap (option_map edit_view) (sym c.in-Some.is) ∙ read.2 in
-    let longer : map edit_view c.push.new.self.items ≡ map edit_view l.found.items ++ edit_view c.in-Some.change ∷ [] = ap (map edit_view) c.in_ok-push-in-Some.ensures.items ∙ map_push edit_view l.found.items c.in-Some.change in (
+    let edit : Some (edit_view c.in-Some.change) ≡ edit_in read.0 = ap (option_map edit_view) (sym c.in-Some.is)
+    ∙ read.2 in
+    let longer : map edit_view c.push.new.self.items ≡ map edit_view l.found.items ++ edit_view c.in-Some.change ∷ [] =
+    ap (map edit_view) c.in_ok-push-in-Some.ensures.items ∙ map_push edit_view l.found.items c.in-Some.change in (
       n - 1,
       before ++ read.0 ∷ [],
       omega (arith, l.invariant.2),
-      l.invariant.3 ∙ ap (parse_map (items_before before)) turn ∙ one_more_item before read.0 (items_at depth (n - 1) r),
+      l.invariant.3 ∙ ap (parse_map (items_before before)) turn ∙ one_more_item before read.0
+          (items_at depth (n - 1) r),
       omega (arith, l.invariant.4),
-      rw longer (with_edit l.all_changes (map edit_view l.found.items) (edit_view c.in-Some.change) before read.0 l.invariant.5 edit),
+      rw longer (with_edit l.all_changes (map edit_view l.found.items) (edit_view c.in-Some.change) before read.0
+          l.invariant.5 edit),
     )
 
 pub items-preserved : goal.items-preserved
@@ -53,7 +58,8 @@ items-preserved c =
       n - 1,
       before ++ read.0 ∷ [],
       omega (arith, l.invariant.2),
-      l.invariant.3 ∙ ap (parse_map (items_before before)) turn ∙ one_more_item before read.0 (items_at depth (n - 1) r),
+      l.invariant.3 ∙ ap (parse_map (items_before before)) turn ∙ one_more_item before read.0
+          (items_at depth (n - 1) r),
       omega (arith, l.invariant.4),
       without_edit before read.0 none,
     )
@@ -63,13 +69,19 @@ returns-then-all_changes-clause-ok c =
     let l = c.items in
     let before = l.invariant.1 in
     let ends = items_at-end c.args.depth l.invariant.0 l.reader c.take_end_array.new.self l.invariant.2 (grind arith) in
-    let so_far = rw c.if-all_changes.true at l.invariant.5 in
-    (items_before before no_items, l.invariant.3 ∙ ap (parse_map (items_before before)) ends, so_far ∙ sym (edits_in-items_before before))
+    let so_far = rw c.if-all_changes.true at l.invariant.5 in (
+      items_before before no_items,
+      l.invariant.3 ∙ ap (parse_map (items_before before)) ends,
+      so_far ∙ sym (edits_in-items_before before),
+    )
 
 pub returns-else-all_changes-clause-ok : goal.returns-else-all_changes-clause-ok
 returns-else-all_changes-clause-ok c =
     let l = c.items in
     let before = l.invariant.1 in
     let ends = items_at-end c.args.depth l.invariant.0 l.reader c.take_end_array.new.self l.invariant.2 (grind arith) in
-    let so_far = rw c.if-all_changes.false at l.invariant.5 in
-    (items_before before no_items, l.invariant.3 ∙ ap (parse_map (items_before before)) ends, so_far ∙ sym (edits_in-items_before before))
+    let so_far = rw c.if-all_changes.false at l.invariant.5 in (
+      items_before before no_items,
+      l.invariant.3 ∙ ap (parse_map (items_before before)) ends,
+      so_far ∙ sym (edits_in-items_before before),
+    )

@@ -9,7 +9,8 @@ use Rattle.lsp_reader.proofs.changes.read_items.Given as goal
 abbrev pub invariant-items : goal.invariant-items
 invariant-items l =
     (n : ℕ) × (before : List Data) × (length l.reader ≤ n)
-    × (items_at l.depth (length l.initial.reader) l.initial.reader ≡ parse_map (items_before before) (items_at l.depth n l.reader))
+    × (items_at l.depth (length l.initial.reader) l.initial.reader ≡ parse_map (items_before before)
+    (items_at l.depth n l.reader))
     × (length l.reader ≤ length l.initial.reader)
     × ((if l.all_changes then Some (map edit_view l.found.items) else None) ≡ edits_list before)
 

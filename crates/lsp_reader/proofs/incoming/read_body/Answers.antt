@@ -4,7 +4,8 @@ use Rattle.lsp_reader.specs.Incoming.{incoming_of}
 use Rattle.lsp_reader.proofs.incoming.read_body.Goals as goal
 
 pub returns-in_default-clause-ok : goal.returns-in_default-clause-ok
-returns-in_default-clause-ok c = sym (ap incoming_of (reading_of_none c.args.body.now (λ utf8. absurd (c.in_default.ensures.cases.0 utf8))))
+returns-in_default-clause-ok c =
+    sym (ap incoming_of (reading_of_none c.args.body.now (λ utf8. absurd (c.in_default.ensures.cases.0 utf8))))
 
 pub returns-in-Ok-Some-clause-ok : goal.returns-in-Ok-Some-clause-ok
 returns-in-Ok-Some-clause-ok c =

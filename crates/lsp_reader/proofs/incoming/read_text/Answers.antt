@@ -11,30 +11,41 @@ use Rattle.lsp_reader.proofs.incoming.read_text.Goals as goal
 pub returns-in-None-clause-ok : goal.returns-in-None-clause-ok
 returns-in-None-clause-ok c =
     let start : c.in_ok-reader.reader ≡ tokens c.args.text.now = c.in_ok-reader.ensures.ok in
-    let is = opened_otherwise c.in_ok-open_object.field-0 127 c.in_ok-reader.reader c.open_object.new.reader c.in-Null.is c.in_ok-open_object.ensures.ok in
-    let none : c.open_object.new.reader ≡ [] = c.in-None.ensures.value.0 in
-    (is.0, text_read c.args.text.now is.0 (ap (value_at 127) (sym start) ∙ is.1 ∙ ap (λ r. Some (is.0, r)) none), rw is.2 refl)
+    let is = opened_otherwise c.in_ok-open_object.field-0 127 c.in_ok-reader.reader c.open_object.new.reader
+    c.in-Null.is c.in_ok-open_object.ensures.ok in
+    let none : c.open_object.new.reader ≡ [] = c.in-None.ensures.value.0 in (
+      is.0,
+      text_read c.args.text.now is.0 (ap (value_at 127) (sym start) ∙ is.1 ∙ ap (λ r. Some (is.0, r)) none),
+      rw is.2 refl,
+    )
 
 pub returns-in_err-found-clause-error : goal.returns-in_err-found-clause-error
 returns-in_err-found-clause-error c = λ e.
     let start : c.in_ok-reader.reader ≡ tokens c.args.text.now = c.in_ok-reader.ensures.ok in
-    let opened = opened_object c.in_ok-open_object.field-0 127 c.in_ok-reader.reader c.open_object.new.reader c.in-Object.is c.in_ok-open_object.ensures.ok in
-    text_refused c.args.text.now (ap (value_at 127) (sym start) ∙ opened ∙ ap (parse_map object) (c.in_err-found.ensures.error (grind arith)))
+    let opened = opened_object c.in_ok-open_object.field-0 127 c.in_ok-reader.reader c.open_object.new.reader
+    c.in-Object.is c.in_ok-open_object.ensures.ok in
+    text_refused c.args.text.now (ap (value_at 127) (sym start) ∙ opened
+    ∙ ap (parse_map object) (c.in_err-found.ensures.error (grind arith)))
 
 pub returns-in-Some-next-clause-error : goal.returns-in-Some-next-clause-error
 returns-in-Some-next-clause-error c = λ e.
     let start : c.in_ok-reader.reader ≡ tokens c.args.text.now = c.in_ok-reader.ensures.ok in
-    let opened = opened_object c.in_ok-open_object.field-0 127 c.in_ok-reader.reader c.open_object.new.reader c.in-Object.is c.in_ok-open_object.ensures.ok in
+    let opened = opened_object c.in_ok-open_object.field-0 127 c.in_ok-reader.reader c.open_object.new.reader
+    c.in-Object.is c.in_ok-open_object.ensures.ok in
     let read = c.in_ok-found.ensures.ok in
-    let more : c.read_message_members.new.reader ≡ token_of c.in-Some-next.field-0 ∷ c.next-2.new.self = c.in-Some-next.ensures.value in
+    let more : c.read_message_members.new.reader ≡ token_of c.in-Some-next.field-0 ∷ c.next-2.new.self =
+    c.in-Some-next.ensures.value in
     text_and_more c.args.text.now (object read.0) (token_of c.in-Some-next.field-0) c.next-2.new.self
     (ap (value_at 127) (sym start) ∙ opened ∙ ap (parse_map object) read.1 ∙ ap (λ r. Some (object read.0, r)) more)
 
 pub returns-in_ok-incoming-in-None-next-clause-ok : goal.returns-in_ok-incoming-in-None-next-clause-ok
 returns-in_ok-incoming-in-None-next-clause-ok c =
     let start : c.in_ok-reader.reader ≡ tokens c.args.text.now = c.in_ok-reader.ensures.ok in
-    let opened = opened_object c.in_ok-open_object.field-0 127 c.in_ok-reader.reader c.open_object.new.reader c.in-Object.is c.in_ok-open_object.ensures.ok in
+    let opened = opened_object c.in_ok-open_object.field-0 127 c.in_ok-reader.reader c.open_object.new.reader
+    c.in-Object.is c.in_ok-open_object.ensures.ok in
     let read = c.in_ok-found.ensures.ok in
     let none : c.read_message_members.new.reader ≡ [] = c.in-None-next.ensures.value.0 in
-    let whole = text_read c.args.text.now (object read.0) (ap (value_at 127) (sym start) ∙ opened ∙ ap (parse_map object) read.1 ∙ ap (λ r. Some (object read.0, r)) none) in
-    if_some_weaker c.in_ok-incoming-in-None-next.field-0 _ _ (λ m h. (object read.0, whole, h read.0 read.2)) c.in_ok-incoming-in-None-next.ensures
+    let whole = text_read c.args.text.now (object read.0) (ap (value_at 127) (sym start) ∙ opened
+    ∙ ap (parse_map object) read.1 ∙ ap (λ r. Some (object read.0, r)) none) in
+    if_some_weaker c.in_ok-incoming-in-None-next.field-0 _ _ (λ m h. (object read.0, whole, h read.0 read.2))
+    c.in_ok-incoming-in-None-next.ensures

@@ -4,4 +4,5 @@ use Rattle.lsp_reader.proofs.number.short_natural.Given as goal
 
 abbrev pub invariant-loop-byte : goal.invariant-loop-byte
 invariant-loop-byte l =
-    AllDigits 10 (take l.byte-index l.bytes) × (l.value ≡ digits_value 10 (take l.byte-index l.bytes)) × (l.value < 2 ^ 64)
+    AllDigits 10 (take l.byte-index l.bytes) × (l.value ≡ digits_value 10 (take l.byte-index l.bytes))
+    × (l.value < 2 ^ 64)

@@ -44,37 +44,44 @@ returns-in-None-clause-error c =
 pub returns-in-EndObject-clause-error : goal.returns-in-EndObject-clause-error
 returns-in-EndObject-clause-error c =
     let first : c.args.reader.now ≡ token_of c.in_ok-token.token ∷ c.next.new.self = grind arith in
-    let none : value c.args.depth c.args.reader.now ≡ None = rw (value_is c.args.depth c.args.reader.now, first) (grind arith) in
+    let none : value c.args.depth c.args.reader.now ≡ None =
+    rw (value_is c.args.depth c.args.reader.now, first) (grind arith) in
     ap (converted of_json) none
 
 pub returns-in_ok-skip_value_from-in-BeginArray-clause-ok : goal.returns-in_ok-skip_value_from-in-BeginArray-clause-ok
 returns-in_ok-skip_value_from-in-BeginArray-clause-ok c =
     let first : c.args.reader.now ≡ token_of c.in_ok-token.token ∷ c.next.new.self = grind arith in
     let is : token_of c.in_ok-token.token ≡ Token.begin_array = ap token_of c.in-BeginArray.is in
-    let read = array_read c.args.depth c.next.new.self c.skip_value_from.new.reader (rw (← is) c.in_ok-skip_value_from-in-BeginArray.ensures.ok) in
+    let read = array_read c.args.depth c.next.new.self c.skip_value_from.new.reader
+    (rw (← is) c.in_ok-skip_value_from-in-BeginArray.ensures.ok) in
     (array read.0, ap (value_at c.args.depth) (first ∙ ap (λ k. k ∷ c.next.new.self) is) ∙ read.1, refl)
 
 pub returns-in_ok-skip_value_from-in-BeginObject-clause-ok : goal.returns-in_ok-skip_value_from-in-BeginObject-clause-ok
 returns-in_ok-skip_value_from-in-BeginObject-clause-ok c =
     let first : c.args.reader.now ≡ token_of c.in_ok-token.token ∷ c.next.new.self = grind arith in
     let is : token_of c.in_ok-token.token ≡ Token.begin_object = ap token_of c.in-BeginObject.is in
-    let read = object_read c.args.depth c.next.new.self c.skip_value_from-in-BeginObject.new.reader (rw (← is) c.in_ok-skip_value_from-in-BeginObject.ensures.ok) in
+    let read = object_read c.args.depth c.next.new.self c.skip_value_from-in-BeginObject.new.reader
+    (rw (← is) c.in_ok-skip_value_from-in-BeginObject.ensures.ok) in
     (object read.0, ap (value_at c.args.depth) (first ∙ ap (λ k. k ∷ c.next.new.self) is) ∙ read.1, refl)
 
 pub returns-in-Some-Natural-clause-ok : goal.returns-in-Some-Natural-clause-ok
 returns-in-Some-Natural-clause-ok c =
     let first : c.args.reader.now ≡ token_of c.in_ok-token.token ∷ c.next.new.self = grind arith in
     let is : c.args.reader.now ≡ Token.number c.in-Number.text.now ∷ c.next.new.self = grind (arith, first) in
-    let seen : natural c.in-Some-Natural.n ≡ number_view c.in-Some-Natural.field-0 = rw c.in-Some-Natural.field-0-is (search rules) in
-    let read = value_at-number c.args.depth c.in-Number.text.now c.next.new.self (number_view c.in-Some-Natural.field-0) c.in-Some-Natural.ensures in
+    let seen : natural c.in-Some-Natural.n ≡ number_view c.in-Some-Natural.field-0 =
+    rw c.in-Some-Natural.field-0-is (search rules) in
+    let read = value_at-number c.args.depth c.in-Number.text.now c.next.new.self (number_view c.in-Some-Natural.field-0)
+    c.in-Some-Natural.ensures in
     (number read.0, ap (value_at c.args.depth) is ∙ read.1, ap numeric (seen ∙ read.2))
 
 pub returns-in-Some-Negative-clause-ok : goal.returns-in-Some-Negative-clause-ok
 returns-in-Some-Negative-clause-ok c =
     let first : c.args.reader.now ≡ token_of c.in_ok-token.token ∷ c.next.new.self = grind arith in
     let is : c.args.reader.now ≡ Token.number c.in-Number.text.now ∷ c.next.new.self = grind (arith, first) in
-    let seen : negative (to_z w64 (of_z w64 c.in-Some-Negative.n)) ≡ number_view c.in-Some-Negative.field-0 = rw c.in-Some-Negative.field-0-is (search rules) in
-    let read = value_at-number c.args.depth c.in-Number.text.now c.next.new.self (number_view c.in-Some-Negative.field-0) c.in-Some-Negative.ensures in
+    let seen : negative (to_z w64 (of_z w64 c.in-Some-Negative.n)) ≡ number_view c.in-Some-Negative.field-0 =
+    rw c.in-Some-Negative.field-0-is (search rules) in
+    let read = value_at-number c.args.depth c.in-Number.text.now c.next.new.self
+    (number_view c.in-Some-Negative.field-0) c.in-Some-Negative.ensures in
     (number read.0, ap (value_at c.args.depth) is ∙ read.1, ap numeric (seen ∙ read.2))
 
 pub returns-in-Some-Float-clause-ok : goal.returns-in-Some-Float-clause-ok
@@ -82,5 +89,6 @@ returns-in-Some-Float-clause-ok c =
     let first : c.args.reader.now ≡ token_of c.in_ok-token.token ∷ c.next.new.self = grind arith in
     let is : c.args.reader.now ≡ Token.number c.in-Number.text.now ∷ c.next.new.self = grind (arith, first) in
     let seen : float ≡ number_view c.in-Some-Float.field-0 = rw c.in-Some-Float.field-0-is (search rules) in
-    let read = value_at-number c.args.depth c.in-Number.text.now c.next.new.self (number_view c.in-Some-Float.field-0) c.in-Some-Float.ensures in
+    let read = value_at-number c.args.depth c.in-Number.text.now c.next.new.self (number_view c.in-Some-Float.field-0)
+    c.in-Some-Float.ensures in
     (number read.0, ap (value_at c.args.depth) is ∙ read.1, ap numeric (seen ∙ read.2))

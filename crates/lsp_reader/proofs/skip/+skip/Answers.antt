@@ -13,27 +13,39 @@ pub skip_value-returns-in_err-token-clause-error : goal.skip_value-returns-in_er
 skip_value-returns-in_err-token-clause-error t c = on_err _ (value_at-nil c.args.depth c.args.reader.now (grind arith))
 
 pub skip_value_from-returns-then-depth-eq0-clause-error : goal.skip_value_from-returns-then-depth-eq0-clause-error
-skip_value_from-returns-then-depth-eq0-clause-error t c = ap (λ k. value_at c.args.depth (token_of k ∷ c.args.reader.now)) c.in-BeginArray.is ∙ value_at-shallow_array c.args.depth c.args.reader.now (omega arith)
+skip_value_from-returns-then-depth-eq0-clause-error t c =
+    ap (λ k. value_at c.args.depth (token_of k ∷ c.args.reader.now)) c.in-BeginArray.is
+    ∙ value_at-shallow_array c.args.depth c.args.reader.now (omega arith)
 
 pub skip_value_from-returns-then-depth-eq0-2-clause-error : goal.skip_value_from-returns-then-depth-eq0-2-clause-error
-skip_value_from-returns-then-depth-eq0-2-clause-error t c = ap (λ k. value_at c.args.depth (token_of k ∷ c.args.reader.now)) c.in-BeginObject.is ∙ value_at-shallow_object c.args.depth c.args.reader.now (omega arith)
+skip_value_from-returns-then-depth-eq0-2-clause-error t c =
+    ap (λ k. value_at c.args.depth (token_of k ∷ c.args.reader.now)) c.in-BeginObject.is
+    ∙ value_at-shallow_object c.args.depth c.args.reader.now (omega arith)
 
 pub skip_value_from-returns-in-String-clause-ok : goal.skip_value_from-returns-in-String-clause-ok
-skip_value_from-returns-in-String-clause-ok t c = ap (λ k. rest_of (value_at c.args.depth (token_of k ∷ c.args.reader.now))) c.in-String.is ∙ ap rest_of (value_at-string c.args.depth _ c.args.reader.now)
+skip_value_from-returns-in-String-clause-ok t c =
+    ap (λ k. rest_of (value_at c.args.depth (token_of k ∷ c.args.reader.now))) c.in-String.is
+    ∙ ap rest_of (value_at-string c.args.depth _ c.args.reader.now)
 
 pub skip_value_from-returns-in-Bool-clause-ok : goal.skip_value_from-returns-in-Bool-clause-ok
-skip_value_from-returns-in-Bool-clause-ok t c = ap (λ k. rest_of (value_at c.args.depth (token_of k ∷ c.args.reader.now))) c.in-Bool.is ∙ ap rest_of (value_at-boolean c.args.depth _ c.args.reader.now)
+skip_value_from-returns-in-Bool-clause-ok t c =
+    ap (λ k. rest_of (value_at c.args.depth (token_of k ∷ c.args.reader.now))) c.in-Bool.is
+    ∙ ap rest_of (value_at-boolean c.args.depth _ c.args.reader.now)
 
 pub skip_value_from-returns-in-Null-clause-ok : goal.skip_value_from-returns-in-Null-clause-ok
-skip_value_from-returns-in-Null-clause-ok t c = ap (λ k. rest_of (value_at c.args.depth (token_of k ∷ c.args.reader.now))) c.in-Null.is ∙ ap rest_of (value_at-null c.args.depth c.args.reader.now)
+skip_value_from-returns-in-Null-clause-ok t c =
+    ap (λ k. rest_of (value_at c.args.depth (token_of k ∷ c.args.reader.now))) c.in-Null.is
+    ∙ ap rest_of (value_at-null c.args.depth c.args.reader.now)
 
 pub skip_value_from-returns-in-Some-clause-ok : goal.skip_value_from-returns-in-Some-clause-ok
 skip_value_from-returns-in-Some-clause-ok t c =
-    ap (λ k. rest_of (value_at c.args.depth (token_of k ∷ c.args.reader.now))) c.in-Number.is ∙ ap rest_of (value_at-number c.args.depth c.in-Number.text.now c.args.reader.now _ c.in-Some.ensures).1
+    ap (λ k. rest_of (value_at c.args.depth (token_of k ∷ c.args.reader.now))) c.in-Number.is
+    ∙ ap rest_of (value_at-number c.args.depth c.in-Number.text.now c.args.reader.now _ c.in-Some.ensures).1
 
 pub skip_value_from-returns-in-None-clause-error : goal.skip_value_from-returns-in-None-clause-error
 skip_value_from-returns-in-None-clause-error t c =
-    ap (λ k. value_at c.args.depth (token_of k ∷ c.args.reader.now)) c.in-Number.is ∙ value_at-no_number c.args.depth c.in-Number.text.now c.args.reader.now c.in-None.ensures
+    ap (λ k. value_at c.args.depth (token_of k ∷ c.args.reader.now)) c.in-Number.is ∙ value_at-no_number c.args.depth
+    c.in-Number.text.now c.args.reader.now c.in-None.ensures
 
 pub skip_value_from-returns-in-EndObject-clause-error : goal.skip_value_from-returns-in-EndObject-clause-error
 skip_value_from-returns-in-EndObject-clause-error t c =
@@ -43,25 +55,31 @@ skip_value_from-returns-in-EndObject-clause-error t c =
 pub skip_value_from-returns-else-depth-eq0-clause-ok : goal.skip_value_from-returns-else-depth-eq0-clause-ok
 skip_value_from-returns-else-depth-eq0-clause-ok t c =
     let ts = c.args.reader.now in
-    let opened = ap (λ k. value_at c.args.depth (token_of k ∷ ts)) c.in-BeginArray.is ∙ value_at-array c.args.depth ts (omega arith) in
-    on_ok_weaker c.skip_items.result (λ e. ap rest_of opened ∙ left-parse_map array (items_at (c.args.depth - 1) (length ts) ts) ∙ e) c.skip_items.ensures.ok
+    let opened = ap (λ k. value_at c.args.depth (token_of k ∷ ts)) c.in-BeginArray.is ∙ value_at-array c.args.depth ts
+    (omega arith) in
+    on_ok_weaker c.skip_items.result (λ e. ap rest_of opened
+    ∙ left-parse_map array (items_at (c.args.depth - 1) (length ts) ts) ∙ e) c.skip_items.ensures.ok
 
 pub skip_value_from-returns-else-depth-eq0-clause-error : goal.skip_value_from-returns-else-depth-eq0-clause-error
 skip_value_from-returns-else-depth-eq0-clause-error t c =
     let ts = c.args.reader.now in
-    let opened = ap (λ k. value_at c.args.depth (token_of k ∷ ts)) c.in-BeginArray.is ∙ value_at-array c.args.depth ts (omega arith) in
+    let opened = ap (λ k. value_at c.args.depth (token_of k ∷ ts)) c.in-BeginArray.is ∙ value_at-array c.args.depth ts
+    (omega arith) in
     on_err_weaker c.skip_items.result (λ e. opened ∙ ap (parse_map array) e) c.skip_items.ensures.error
 
 pub skip_value_from-returns-else-depth-eq0-2-clause-ok : goal.skip_value_from-returns-else-depth-eq0-2-clause-ok
 skip_value_from-returns-else-depth-eq0-2-clause-ok t c =
     let ts = c.args.reader.now in
-    let opened = ap (λ k. value_at c.args.depth (token_of k ∷ ts)) c.in-BeginObject.is ∙ value_at-object c.args.depth ts (omega arith) in
-    on_ok_weaker c.skip_members.result (λ e. ap rest_of opened ∙ left-parse_map object (members_at (c.args.depth - 1) (length ts) no_members ts) ∙ e) c.skip_members.ensures.ok
+    let opened = ap (λ k. value_at c.args.depth (token_of k ∷ ts)) c.in-BeginObject.is ∙ value_at-object c.args.depth ts
+    (omega arith) in
+    on_ok_weaker c.skip_members.result (λ e. ap rest_of opened
+    ∙ left-parse_map object (members_at (c.args.depth - 1) (length ts) no_members ts) ∙ e) c.skip_members.ensures.ok
 
 pub skip_value_from-returns-else-depth-eq0-2-clause-error : goal.skip_value_from-returns-else-depth-eq0-2-clause-error
 skip_value_from-returns-else-depth-eq0-2-clause-error t c =
     let ts = c.args.reader.now in
-    let opened = ap (λ k. value_at c.args.depth (token_of k ∷ ts)) c.in-BeginObject.is ∙ value_at-object c.args.depth ts (omega arith) in
+    let opened = ap (λ k. value_at c.args.depth (token_of k ∷ ts)) c.in-BeginObject.is ∙ value_at-object c.args.depth ts
+    (omega arith) in
     on_err_weaker c.skip_members.result (λ e. opened ∙ ap (parse_map object) e) c.skip_members.ensures.error
 
 pub skip_items-items-preserved : goal.skip_items-items-preserved
@@ -102,7 +120,8 @@ skip_members-members-init t c = (length c.args.reader.now, no_members, omega ari
 pub skip_members-returns-in_err-next_key-clause-error : goal.skip_members-returns-in_err-next_key-clause-error
 skip_members-returns-in_err-next_key-clause-error t c =
     let l = c.members in
-    on_err _ (l.invariant.3 ∙ members_at-no_key c.args.depth l.invariant.0 l.invariant.1 l.reader c.in_err-next_key.ensures.value)
+    on_err _ (l.invariant.3 ∙ members_at-no_key c.args.depth l.invariant.0 l.invariant.1 l.reader
+    c.in_err-next_key.ensures.value)
 
 pub skip_members-members-preserved : goal.skip_members-members-preserved
 skip_members-members-preserved t c =
@@ -131,9 +150,11 @@ skip_members-returns-in_err-skip_value-clause-error t c =
     let k = c.in-Some.field-0.now in
     let s = c.next_key.new.self in
     let named : read_key l.reader ≡ Some (Some k, s) = grind arith in
-    on_err _ (l.invariant.3 ∙ members_at-refused c.args.depth l.invariant.0 l.invariant.1 k l.reader s named c.in_err-skip_value.ensures.error)
+    on_err _ (l.invariant.3 ∙ members_at-refused c.args.depth l.invariant.0 l.invariant.1 k l.reader s named
+    c.in_err-skip_value.ensures.error)
 
 pub skip_members-returns-clause-ok : goal.skip_members-returns-clause-ok
 skip_members-returns-clause-ok t c =
     let l = c.members in
-    ap rest_of (l.invariant.3 ∙ members_at-end c.args.depth l.invariant.0 l.invariant.1 l.reader c.next_key.new.self l.invariant.2 (grind arith))
+    ap rest_of (l.invariant.3 ∙ members_at-end c.args.depth l.invariant.0 l.invariant.1 l.reader c.next_key.new.self
+    l.invariant.2 (grind arith))

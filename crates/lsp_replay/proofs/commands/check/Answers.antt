@@ -9,4 +9,7 @@ returns g c =
     let run_output = rw c.config.ensures.value at c.new-check.ensures.session in
     let run = rw (c.rules-rules.ensures, run_output) at c.run_engine.ensures.run in
     let whole = rw (c.rules-rules.ensures, run_output) at c.run_engine.ensures.whole in
-    record { run = run_of c.run_engine.ensures.first c.run_engine.ensures.version checking (opened (log_config c.args.settings)) false run (λ _. whole (λ _. refl)) }
+    record {
+      run = run_of c.run_engine.ensures.first c.run_engine.ensures.version checking
+          (opened (log_config c.args.settings)) false run (λ _. whole (λ _. refl));
+    }

@@ -11,7 +11,8 @@ returns-clause-run g c =
     let run_output = rw c.config.ensures.value at c.new-squashing.ensures in
     let run = rw (c.rules-rules.ensures, run_output) at c.run_engine.ensures.run in
     let whole = rw (c.rules-rules.ensures, run_output) at c.run_engine.ensures.whole in
-    run_of_squashed c.run_engine.ensures.first c.run_engine.ensures.version (opened (log_config c.args.settings)) None run (λ _. whole (λ _. refl))
+    run_of_squashed c.run_engine.ensures.first c.run_engine.ensures.version (opened (log_config c.args.settings)) None
+    run (λ _. whole (λ _. refl))
 
 pub returns-clause-squashed : goal.returns-clause-squashed
 returns-clause-squashed g c =

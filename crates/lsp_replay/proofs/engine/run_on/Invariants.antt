@@ -11,18 +11,27 @@ invariant-pieces g l = record {
   from : l.from ≤ l.to;
   to : l.to ≤ length l.buf;
   ready : IsReady l.splitter;
-  runs : Runs (record { max_body = l.fn.rules.limits.max_body; versions = l.fn.rules.versions; only_one = l.fn.rules.only_one }) (g.H.Handler.run_output l.fn.handler) (g.R.Source.seen l.fn.ends.reader.now).left (g.W.Sink.seen l.fn.ends.writer.now).written
-      (g.R.Source.seen l.ends.reader.now).left l.ended l.place (take (l.to - l.from) (drop l.from l.buf)) l.splitter (g.H.Handler.run_output l.handler) (g.W.Sink.seen l.ends.writer.now).written;
+  runs : Runs (record {
+    max_body = l.fn.rules.limits.max_body;
+    versions = l.fn.rules.versions;
+    only_one = l.fn.rules.only_one;
+  }) (g.H.Handler.run_output l.fn.handler) (g.R.Source.seen l.fn.ends.reader.now).left
+      (g.W.Sink.seen l.fn.ends.writer.now).written
+      (g.R.Source.seen l.ends.reader.now).left l.ended l.place (take (l.to - l.from) (drop l.from l.buf)) l.splitter
+      (g.H.Handler.run_output l.handler) (g.W.Sink.seen l.ends.writer.now).written;
   ended : (g.R.Source.seen l.ends.reader.now).ended ≡ true ↔ l.ended ≡ true;
   at_end : l.ended ≡ true → IsAtEnd (g.R.Source.seen l.ends.reader.now).left;
   rose : Rose (g.R.Source.seen l.fn.ends.reader.now).calls (g.R.Source.seen l.ends.reader.now).calls;
   reads_well : StaysWell (g.R.Source.seen l.fn.ends.reader.now).failed (g.R.Source.seen l.ends.reader.now).failed;
   writes_well : StaysWell (g.W.Sink.seen l.fn.ends.writer.now).failed (g.W.Sink.seen l.ends.writer.now).failed;
-  flushed : g.H.Handler.FLUSHES ≡ true → StaysFlushed (g.W.Sink.seen l.fn.ends.writer.now).flushed (g.W.Sink.seen l.ends.writer.now).flushed;
-  in_time : g.H.Handler.FLUSHES ≡ true → (g.W.Sink.seen l.fn.ends.writer.now).flushed ≡ true → l.ends.read_early ≡ l.fn.ends.read_early;
+  flushed : g.H.Handler.FLUSHES ≡ true → StaysFlushed (g.W.Sink.seen l.fn.ends.writer.now).flushed
+      (g.W.Sink.seen l.ends.writer.now).flushed;
+  in_time : g.H.Handler.FLUSHES ≡ true → (g.W.Sink.seen l.fn.ends.writer.now).flushed ≡ true → l.ends.read_early
+      ≡ l.fn.ends.read_early;
   same_reader : l.ends.reader.ghost_name ≡ l.fn.ends.reader.ghost_name;
   same_writer : l.ends.writer.ghost_name ≡ l.fn.ends.writer.ghost_name;
-  spent : BothSpend (g.R.Source.seen l.fn.ends.reader.now).calls (g.R.Source.seen l.ends.reader.now).calls (g.W.Sink.seen l.fn.ends.writer.now).calls (g.W.Sink.seen l.ends.writer.now).calls l.fn.max_turns l.turns.left;
+  spent : BothSpend (g.R.Source.seen l.fn.ends.reader.now).calls (g.R.Source.seen l.ends.reader.now).calls
+      (g.W.Sink.seen l.fn.ends.writer.now).calls (g.W.Sink.seen l.ends.writer.now).calls l.fn.max_turns l.turns.left;
 }
 
 abbrev pub decreases-pieces : goal.decreases-pieces

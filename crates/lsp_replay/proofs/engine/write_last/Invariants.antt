@@ -5,11 +5,15 @@ use Rattle.lsp_replay.proofs.engine.write_last.Given as goal
 
 abbrev pub invariant-parts : goal.invariant-parts
 invariant-parts g l = record {
-  wrote : (out : List ℕ) × ((g.H.Handler.run_output l.fn.handler []).last l.fn.line_due ≡ out ++ (g.H.Handler.run_output l.handler []).last l.due) × Appends (g.W.Sink.seen l.fn.writer).written (g.W.Sink.seen l.writer).written out;
-  first : g.H.Handler.parts l.fn.handler ≡ 0 → (g.H.Handler.parts l.handler ≡ 0) × Appends (g.W.Sink.seen l.fn.writer).written (g.W.Sink.seen l.writer).written [];
+  wrote : (out : List ℕ) × ((g.H.Handler.run_output l.fn.handler []).last l.fn.line_due
+      ≡ out ++ (g.H.Handler.run_output l.handler []).last l.due) × Appends (g.W.Sink.seen l.fn.writer).written
+      (g.W.Sink.seen l.writer).written out;
+  first : g.H.Handler.parts l.fn.handler ≡ 0 → (g.H.Handler.parts l.handler ≡ 0)
+      × Appends (g.W.Sink.seen l.fn.writer).written (g.W.Sink.seen l.writer).written [];
   outcome : (g.H.Handler.run_output l.handler []).outcome ≡ (g.H.Handler.run_output l.fn.handler []).outcome;
   well : StaysWell (g.W.Sink.seen l.fn.writer).failed (g.W.Sink.seen l.writer).failed;
-  flushed : g.H.Handler.FLUSHES ≡ true → StaysFlushed (g.W.Sink.seen l.fn.writer).flushed (g.W.Sink.seen l.writer).flushed;
+  flushed : g.H.Handler.FLUSHES ≡ true → StaysFlushed (g.W.Sink.seen l.fn.writer).flushed
+      (g.W.Sink.seen l.writer).flushed;
   spent : Spends (g.W.Sink.seen l.fn.writer).calls (g.W.Sink.seen l.writer).calls l.fn.turns.left l.turns.left;
 }
 

@@ -7,4 +7,12 @@ use Rattle.lsp_replay.proofs.Reports.TraceLawLemmas.{trace_law}
 use Rattle.lsp_replay.proofs.laws.log_laws.Goals as goal
 
 pub returns : goal.returns
-returns c = record { unique = c.reading_laws.ensures.unique; report = report_law; canonical_log = canonical_log_law; stops = stops_alike; squashed = squashed_law; converted = converted_law; traced = trace_law }
+returns c = record {
+  unique = c.reading_laws.ensures.unique;
+  report = report_law;
+  canonical_log = canonical_log_law;
+  stops = stops_alike;
+  squashed = squashed_law;
+  converted = converted_law;
+  traced = trace_law;
+}

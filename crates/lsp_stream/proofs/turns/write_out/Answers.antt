@@ -8,7 +8,12 @@ use Rattle.lsp_stream.proofs.turns.write_out.Goals as goal
 pub returns-in_err-spend-clause-front : goal.returns-in_err-spend-clause-front
 returns-in_err-spend-clause-front g c =
     let p = err_from_is_err_and c.from_residual.result c.from_residual.ensures.1 in
-    rw p.1 (take c.writes.at c.args.bytes.now, drop c.writes.at c.args.bytes.now, sym (take-append-drop c.writes.at c.args.bytes.now), c.writes.invariant.wrote)
+    rw p.1 (
+      take c.writes.at c.args.bytes.now,
+      drop c.writes.at c.args.bytes.now,
+      sym (take-append-drop c.writes.at c.args.bytes.now),
+      c.writes.invariant.wrote,
+    )
 
 pub returns-in_err-spend-clause-short : goal.returns-in_err-spend-clause-short
 returns-in_err-spend-clause-short g c =
@@ -16,12 +21,14 @@ returns-in_err-spend-clause-short g c =
     rw (p.1, p.2) (λ _. not_all _ _ c.args.bytes.now c.writes.at c.writes.invariant.wrote c.writes-test.true)
 
 pub returns-in-Ok-eq0-clause-front : goal.returns-in-Ok-eq0-clause-front
-returns-in-Ok-eq0-clause-front g c = nothing_more _ _ _ c.args.bytes.now _ c.writes.at c.in-Ok-eq0.field-0 c.writes.invariant.wrote c.in-Ok-eq0.ensures.bytes c.in-Ok-eq0.field-0-test
+returns-in-Ok-eq0-clause-front g c = nothing_more _ _ _ c.args.bytes.now _ c.writes.at c.in-Ok-eq0.field-0
+    c.writes.invariant.wrote c.in-Ok-eq0.ensures.bytes c.in-Ok-eq0.field-0-test
 
 pub writes-preserved-in-Ok : goal.writes-preserved-in-Ok
 writes-preserved-in-Ok g c = record {
   within = omega (arith, c.in-Ok.ensures.bound, length-take {A = ℕ}, length-drop {A = ℕ});
-  wrote = more_written _ _ _ c.args.bytes.now c.writes.at c.in-Ok.n c.writes.invariant.within c.in-Ok.ensures.bound c.writes.invariant.wrote c.in-Ok.ensures.bytes;
+  wrote = more_written _ _ _ c.args.bytes.now c.writes.at c.in-Ok.n c.writes.invariant.within c.in-Ok.ensures.bound
+      c.writes.invariant.wrote c.in-Ok.ensures.bytes;
   well = λ before. false_from_ne_true _ (λ failed. omega (arith, c.in-Ok.n-test, (c.in-Ok.ensures.failed.0 failed).0));
   spent = record {
     within = omega (arith, c.writes.invariant.spent.within, c.in_ok-spend.ensures.spent);
@@ -32,4 +39,5 @@ writes-preserved-in-Ok g c = record {
 }
 
 pub returns-then-not-is_interrupted-clause-front : goal.returns-then-not-is_interrupted-clause-front
-returns-then-not-is_interrupted-clause-front g c = kept _ _ _ c.args.bytes.now c.writes.at c.writes.invariant.wrote c.in-Err.ensures.bytes
+returns-then-not-is_interrupted-clause-front g c =
+    kept _ _ _ c.args.bytes.now c.writes.at c.writes.invariant.wrote c.in-Err.ensures.bytes

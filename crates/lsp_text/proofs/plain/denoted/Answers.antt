@@ -9,11 +9,16 @@ pub returns-then-units_between-character-2 : goal.returns-then-units_between-cha
 returns-then-units_between-character-2 c =
     let units = units_in c.args.encoding in
     let text = c.args.text.now in
-    let passes : is_in_content c.args.text.now c.args.position.line c.loop-index.index ≡ true = sym c.is_in_content.ensures ∙ c.if-is_in_content.true in
-    let there = has_them units text c.args.position.line c.args.position.character c.line_start-start.result c.loop-index.index _
+    let passes : is_in_content c.args.text.now c.args.position.line c.loop-index.index ≡ true =
+    sym c.is_in_content.ensures ∙ c.if-is_in_content.true in
+    let there = has_them units text c.args.position.line c.args.position.character c.line_start-start.result
+    c.loop-index.index _
     c.line_start-start.ensures c.units_between-then-is_in_content.ensures.value c.if-units_between-character-2.true in
-    sym (find_here (is_in_content text c.args.position.line) (has_units units text c.args.position.line c.args.position.character) c.loop-index.index (suc (length text)) (omega arith) passes there)
-    ∙ (c.loop-index.invariant ∙ sym (denoted_found units text c.args.position _ _ _ c.line_start-start.ensures c.line_stop-stop.ensures.value c.units_between.ensures.value
+    sym (find_here (is_in_content text c.args.position.line)
+    (has_units units text c.args.position.line c.args.position.character) c.loop-index.index (suc (length text))
+    (omega arith) passes there)
+    ∙ (c.loop-index.invariant ∙ sym (denoted_found units text c.args.position _ _ _ c.line_start-start.ensures
+    c.line_stop-stop.ensures.value c.units_between.ensures.value
     (omega arith) (omega arith)))
 
 pub loop-index-preserved : goal.loop-index-preserved
@@ -24,11 +29,17 @@ loop-index-preserved c =
     let wanted = has_units units text c.args.position.line c.args.position.character in
     elim c.else-is_in_content.branch [
       | else-is_in_content-via-then-is_in_content+else-units_between-character-2 w ↦
-          let passes : is_in_content c.args.text.now c.args.position.line c.loop-index.index ≡ true = sym c.is_in_content.ensures ∙ w.if-is_in_content.true in
-          let other = has_others units text c.args.position.line c.args.position.character c.line_start-start.result c.loop-index.index _
-          c.line_start-start.ensures w.units_between-then-is_in_content.ensures.value w.if-units_between-character-2.false in
-          sym (find_on test wanted c.loop-index.index (suc (length text)) (omega arith) passes other) ∙ c.loop-index.invariant
+          let passes : is_in_content c.args.text.now c.args.position.line c.loop-index.index ≡ true =
+          sym c.is_in_content.ensures ∙ w.if-is_in_content.true in
+          let other = has_others units text c.args.position.line c.args.position.character c.line_start-start.result
+          c.loop-index.index _
+          c.line_start-start.ensures w.units_between-then-is_in_content.ensures.value
+          w.if-units_between-character-2.false in
+          sym (find_on test wanted c.loop-index.index (suc (length text)) (omega arith) passes other)
+          ∙ c.loop-index.invariant
       | else-is_in_content-via-else-is_in_content w ↦
-          let fails : is_in_content c.args.text.now c.args.position.line c.loop-index.index ≡ false = sym c.is_in_content.ensures ∙ w.if-is_in_content.false in
-          ap (find wanted) (sym (row_on test c.loop-index.index (suc (length text)) (omega arith) fails)) ∙ c.loop-index.invariant
+          let fails : is_in_content c.args.text.now c.args.position.line c.loop-index.index ≡ false =
+          sym c.is_in_content.ensures ∙ w.if-is_in_content.false in
+          ap (find wanted) (sym (row_on test c.loop-index.index (suc (length text)) (omega arith) fails))
+          ∙ c.loop-index.invariant
     ]

@@ -12,13 +12,15 @@ loop-index-preserved c =
       | then-is_in_content w ↦
           let passes : is_in_content c.args.text.now c.args.line c.loop-index.index ≡ true = cc in
           rw w.stop-is record {
-            left = sym (last_on test c.loop-index.stop c.loop-index.index end (omega arith) passes) ∙ c.loop-index.invariant.left;
+            left = sym (last_on test c.loop-index.stop c.loop-index.index end (omega arith) passes)
+                ∙ c.loop-index.invariant.left;
             within = omega arith;
           }
       | else-is_in_content w ↦
           let fails : is_in_content c.args.text.now c.args.line c.loop-index.index ≡ false = cc in
           rw w.stop-is record {
-            left = ap (last_or c.loop-index.stop) (sym (row_on test c.loop-index.index end (omega arith) fails)) ∙ c.loop-index.invariant.left;
+            left = ap (last_or c.loop-index.stop) (sym (row_on test c.loop-index.index end (omega arith) fails))
+                ∙ c.loop-index.invariant.left;
             within = c.loop-index.invariant.within;
           }
     ]

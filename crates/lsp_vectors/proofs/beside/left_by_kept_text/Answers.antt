@@ -8,5 +8,8 @@ pub returns : goal.returns
 returns c =
     left_told (units_in c.args.encoding) _ c.args.text.now (map edit_of c.args.changes.now) c.in_ok-delta.delta _
     (rw (c.in_ok-kept.ensures, c.in_ok-from_str.ensures.ok) at c.in_ok-delta.ensures.ok)
-    (c.in_ok-text.ensures ∙ (c.text.ensures ∙ rw (c.in_ok-kept.ensures, c.in_ok-from_str.ensures.ok) at c.in_ok-apply.ensures.changed))
+    (c.in_ok-text.ensures ∙ (c.text.ensures ∙ rw (
+      c.in_ok-kept.ensures,
+      c.in_ok-from_str.ensures.ok,
+    ) at c.in_ok-apply.ensures.changed))
     (rw (c.in_ok-kept.ensures, c.in_ok-from_str.ensures.ok) at c.in_ok-canonical.ensures)

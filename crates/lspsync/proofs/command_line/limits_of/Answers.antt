@@ -15,4 +15,5 @@ returns-in_err-max_docs-clause-none c = λ limits are.
 
 pub returns-in_err-max_changes-clause-none : goal.returns-in_err-max_changes-clause-none
 returns-in_err-max_changes-clause-none c = λ limits are.
-    no_some c.number_of-4.result _ c.in_err-max_changes.was (c.number_of-4.ensures.none limits.max_changes are.max_changes)
+    no_some c.number_of-4.result _ c.in_err-max_changes.was (c.number_of-4.ensures.none limits.max_changes
+    are.max_changes)

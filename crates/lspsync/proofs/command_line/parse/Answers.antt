@@ -14,5 +14,6 @@ returns-in_err-matches c =
 pub returns : goal.returns
 returns c =
     let program : IsProgram (app_of c.in_ok-program.field-0) = c.in_ok-program.ensures c.limits.ensures in
-    read_ok _ _ c.in_ok-matches.matches c.in_ok-call.call program (c.in_ok-matches.ensures.kinds (is_free_program _ program))
+    read_ok _ _ c.in_ok-matches.matches c.in_ok-call.call program
+    (c.in_ok-matches.ensures.kinds (is_free_program _ program))
     (c.in_ok-matches.ensures.matches (is_simple_program _ program)).1 c.in_ok-call.ensures

@@ -9,8 +9,10 @@ returns c = record {
     | in-None w ↦ rw w.at-is (λ n has. let bad : false ≡ true = w.in-None.ensures.none n has in cc)
   ];
   uri = elim c.match-get_str.branch [
-    | in-Some-get_str+in_ok-from_str-in-Some-get_str w ↦ ap (option_map string_bytes) w.uri-is ∙ ap Some w.in_ok-from_str-in-Some-get_str.ensures.ok
+    | in-Some-get_str+in_ok-from_str-in-Some-get_str w ↦ ap (option_map string_bytes) w.uri-is
+        ∙ ap Some w.in_ok-from_str-in-Some-get_str.ensures.ok
         ∙ sym (ap (option_map (λ s. s.now)) w.in-Some-get_str.is) ∙ c.get_str.ensures
-    | in-None-get_str w ↦ ap (option_map string_bytes) w.uri-is ∙ sym (ap (option_map (λ s. s.now)) w.in-None-get_str.is) ∙ c.get_str.ensures
+    | in-None-get_str w ↦ ap (option_map string_bytes) w.uri-is
+        ∙ sym (ap (option_map (λ s. s.now)) w.in-None-get_str.is) ∙ c.get_str.ensures
   ];
 }

@@ -5,5 +5,6 @@ use Rattle.ordered_map.proofs.counts.index_of.Goals as goal
 
 pub returns-then-live-slots : goal.returns-then-live-slots
 returns-then-live-slots g c =
-    let all : length (somes (keys_in c.args.slots.now)) ≡ length (keys_in c.args.slots.now) = omega (arith, length_keys c.args.slots.now) in
+    let all : length (somes (keys_in c.args.slots.now)) ≡ length (keys_in c.args.slots.now) =
+    omega (arith, length_keys c.args.slots.now) in
     sym (live_all (keys_in c.args.slots.now) c.args.slot all (omega (arith, length_keys c.args.slots.now)))

@@ -8,10 +8,19 @@ pub loop-block-init : goal.loop-block-init
 loop-block-init g c = rw live_none (omega arith)
 
 pub live_from-requires : goal.live_from-requires
-live_from-requires g c = omega (arith, block_begins (keys_in c.args.slots.now) c.args.counts.now c.loop-block.block c.requires (omega arith) (omega arith), length_keys c.args.slots.now)
+live_from-requires g c = omega (
+  arith,
+  block_begins (keys_in c.args.slots.now) c.args.counts.now c.loop-block.block c.requires (omega arith) (omega arith),
+  length_keys c.args.slots.now,
+)
 
 pub returns-clause-none : goal.returns-clause-none
 returns-clause-none g c =
     let keys = keys_in c.args.slots.now in
     let so_far : live_to keys (256 * c.loop-block.block) + c.loop-block.left ≡ c.args.index = c.loop-block.invariant in
-    omega (arith, so_far, c.requires.enough, live_past keys (256 * c.loop-block.block) (omega (arith, c.requires.enough)))
+    omega (
+      arith,
+      so_far,
+      c.requires.enough,
+      live_past keys (256 * c.loop-block.block) (omega (arith, c.requires.enough)),
+    )

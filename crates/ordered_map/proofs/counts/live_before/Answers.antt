@@ -12,9 +12,16 @@ pub overflow_add-live : goal.overflow_add-live
 overflow_add-live g c =
     let keys = keys_in c.args.slots.now in
     let within : c.loop-block.block < length c.args.counts.now
-    = omega (arith, c.loop-block-test.true, c.requires.within, length_keys c.args.slots.now, c.requires.counted.enough) in
+    = omega (
+      arith,
+      c.loop-block-test.true,
+      c.requires.within,
+      length_keys c.args.slots.now,
+      c.requires.counted.enough,
+    ) in
     let so_far : c.loop-block.live ≡ live_to keys (256 * c.loop-block.block) = c.loop-block.invariant in
-    let next : live_to keys (256 * (c.loop-block.block + 1)) ≡ live_to keys (256 * c.loop-block.block) + slice_index c.args.counts.now c.loop-block.block
+    let next : live_to keys (256 * (c.loop-block.block + 1)) ≡ live_to keys (256 * c.loop-block.block) + slice_index
+    c.args.counts.now c.loop-block.block
     = c.requires.counted.each c.loop-block.block within in
     omega (arith, so_far, next, live_below keys (256 * (c.loop-block.block + 1)), c.loop-block-test.true, c.ranges.slot)
 
@@ -27,13 +34,28 @@ overflow_add-live-then-is_live g c =
 pub loop-before-preserved : goal.loop-before-preserved
 loop-before-preserved g c =
     let keys = keys_in c.args.slots.now in
-    let within : c.loop-before.before < length c.args.slots.now = omega (arith, c.loop-before-test.true, c.requires.within) in
+    let within : c.loop-before.before < length c.args.slots.now =
+    omega (arith, c.loop-before-test.true, c.requires.within) in
     let so_far : c.loop-before.live ≡ live_to keys c.loop-before.before = c.loop-before.invariant in
-    let next : live_to keys (c.loop-before.before + 1) ≡ live_to keys c.loop-before.before + here (slot_key c.index-slots-before.result)
-    = live_next keys c.loop-before.before (slot_key c.index-slots-before.result) (key_read c.args.slots.now c.loop-before.before c.index-slots-before.result within c.index-slots-before.is) in
+    let next : live_to keys (c.loop-before.before + 1) ≡ live_to keys c.loop-before.before
+    + here (slot_key c.index-slots-before.result)
+    = live_next keys c.loop-before.before (slot_key c.index-slots-before.result)
+    (key_read c.args.slots.now c.loop-before.before c.index-slots-before.result within c.index-slots-before.is) in
     let more : c.if-is_live.live ≡ live_to keys (c.loop-before.before + 1) =
     elim c.if-is_live.branch [
-      | then-is_live w ↦ omega (arith, so_far, next, w.live-is, here_some (slot_key c.index-slots-before.result) (sym c.is_live.ensures ∙ w.if-is_live.true))
-      | else-is_live w ↦ omega (arith, so_far, next, w.live-is, here_none (slot_key c.index-slots-before.result) (sym c.is_live.ensures ∙ w.if-is_live.false))
+      | then-is_live w ↦ omega (
+        arith,
+        so_far,
+        next,
+        w.live-is,
+        here_some (slot_key c.index-slots-before.result) (sym c.is_live.ensures ∙ w.if-is_live.true),
+      )
+      | else-is_live w ↦ omega (
+        arith,
+        so_far,
+        next,
+        w.live-is,
+        here_none (slot_key c.index-slots-before.result) (sym c.is_live.ensures ∙ w.if-is_live.false),
+      )
     ] in
     more

@@ -12,19 +12,27 @@ loop-slot-preserved g c =
     let keys = keys_in c.args.slots.now in
     let old = get_by_text c.args.places.now in
     let place = get_by_text c.loop-slot.places in
-    let read = key_read c.args.slots.now c.loop-slot.slot c.index-slots-slot.result c.loop-slot-test.true c.index-slots-slot.is in
+    let read = key_read c.args.slots.now c.loop-slot.slot c.index-slots-slot.result c.loop-slot-test.true
+    c.index-slots-slot.is in
     elim c.match-entry.branch [
       | in-Some w ↦
           let here : slice_get keys c.loop-slot.slot ≡ Some (Some w.in-Some.key.now) =
-          read ∙ ap (λ key. Some key) (key_of_slot c.index-slots-slot.result w.in-Some.key.now w.in-Some.field-0-1.now w.in-Some.ensures) in
+          read ∙ ap (λ key. Some key) (key_of_slot c.index-slots-slot.result w.in-Some.key.now w.in-Some.field-0-1.now
+          w.in-Some.ensures) in
           rw w.places-is
-          (numbered_live keys old place (get_by_text w.set_place.new.places) c.loop-slot.slot c.loop-slot.invariant c.requires.unlike w.in-Some.key.now here (c.requires.placed c.loop-slot.slot w.in-Some.key.now here)
+          (numbered_live keys old place (get_by_text w.set_place.new.places) c.loop-slot.slot c.loop-slot.invariant
+          c.requires.unlike w.in-Some.key.now here (c.requires.placed c.loop-slot.slot w.in-Some.key.now here)
           (rw w.deref.ensures at w.set_place.ensures))
       | in_default w ↦
           rw w.places-is
-          (numbered_vacant keys old place place c.loop-slot.slot c.loop-slot.invariant (read ∙ ap (λ key. Some key) (no_key_of_slot c.index-slots-slot.result w.in_default.ensures)))
+          (numbered_vacant keys old place place c.loop-slot.slot c.loop-slot.invariant
+          (read ∙ ap (λ key. Some key) (no_key_of_slot c.index-slots-slot.result w.in_default.ensures)))
     ]
 
 pub returns-clause-found : goal.returns-clause-found
 returns-clause-found g c = λ slot key here.
-    c.loop-slot.invariant.found slot key (omega (arith, length_keys c.args.slots.now, slice_get_within (keys_in c.args.slots.now) slot (Some key) here)) here
+    c.loop-slot.invariant.found slot key (omega (
+      arith,
+      length_keys c.args.slots.now,
+      slice_get_within (keys_in c.args.slots.now) slot (Some key) here,
+    )) here

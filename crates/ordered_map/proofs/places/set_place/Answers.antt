@@ -6,6 +6,9 @@ use Rattle.ordered_map.proofs.places.set_place.Goals as goal
 
 pub returns-in-Some : goal.returns-in-Some
 returns-in-Some c =
-    let found : is_some (get_by_text c.args.places.now c.args.key.now) ≡ true = ap is_some (sym c.in-Some.ensures.value) in
-    place_set (get_by_text c.args.places.now) (get_by_text (c.get_mut.follows.lender c.args.slot)) c.args.key.now c.args.slot found
-    (hash_map_updates_text c.args.key.now c.args.places.now (c.get_mut.follows.lender c.args.slot) (Some c.args.slot) ((c.get_mut.follows.holds c.args.slot).3 found))
+    let found : is_some (get_by_text c.args.places.now c.args.key.now) ≡ true =
+    ap is_some (sym c.in-Some.ensures.value) in
+    place_set (get_by_text c.args.places.now) (get_by_text (c.get_mut.follows.lender c.args.slot)) c.args.key.now
+    c.args.slot found
+    (hash_map_updates_text c.args.key.now c.args.places.now (c.get_mut.follows.lender c.args.slot) (Some c.args.slot)
+    ((c.get_mut.follows.holds c.args.slot).3 found))

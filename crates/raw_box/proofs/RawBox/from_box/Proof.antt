@@ -44,7 +44,11 @@ pub from_box_spec : {M : Type 1} → statement M
 from_box_spec 𝓤 𝓛 𝓜 𝓡 wired T A laws A-laws g d dx dd allocator glue glued =
     let H = 𝓛.H in let 𝓣 = tables 𝓤 H 𝓜 𝓡 𝓡.env in
     let R : RattleType = param 0 T in let P : RattleType = param 1 A in let P-laws = param_laws 1 A A-laws in
-    let E : box.Bx = record { row = T; laws = laws; al = record { row = A; laws = A-laws; g = g; d = d; drops = dd } } in
+    let E : box.Bx = record {
+      row = T;
+      laws = laws;
+      al = record { row = A; laws = A-laws; g = g; d = d; drops = dd };
+    } in
     let args = bounded (a_type ∷ a_type ∷ []) (T, (A, tt)) (dcons d (dcons dx (dcons dd dnil))) in
     let f = inst_fn args code.function in
     let End = its.ended T A g d dx dd in let c = its.clauses T A g d dx dd 𝓛 𝓜.mem 𝓡.returns in
@@ -66,18 +70,23 @@ from_box_spec 𝓤 𝓛 𝓜 𝓡 wired T A laws A-laws g d dx dd allocator glue
     let Pair = Tuple (RawPtr ∷ P ∷ []) in
     let Left : Type 0 = (Unit {0} × (Unit {0} × Unit {0})) × Unit {0} in
     fjoin ! $ move ! (1 ∷ 0 ∷ []) $ join ! $ join ! $ use1 𝓛 (raw (G.pre z)) (id⊢ 𝓤 _) $
-    suffices ! (Runs (v ∷ [])) (subst (λ (vs : List Val). ent 𝓤 (Runs (v ∷ [])) (Runs vs)) (sym (λ i. stored i ++ [])) (id⊢ 𝓤 (Runs (v ∷ [])))) $
+    suffices ! (Runs (v ∷ [])) (subst (λ (vs : List Val). ent 𝓤 (Runs (v ∷ [])) (Runs vs)) (sym (λ i. stored i ++ []))
+    (id⊢ 𝓤 (Runs (v ∷ [])))) $
     enter ! 𝓣.C 𝓣.Λ f (v ∷ []) Post $ alloc_all ! (λ l. pass_all ! refl (v-fits, tt) $
     sets ! (of_opd ! (get ! refl)) refl v-fits $
     calls_at ! (fm 𝓛 𝓜 𝓡) G
-    (met 𝓤 𝓛 𝓜 𝓡 (code.calls-std_alloc::boxed::Box::into_raw_with_allocator 𝓡.env wired) T A laws A-laws g d dd dx allocator glued glue)
+    (met 𝓤 𝓛 𝓜 𝓡 (code.calls-std_alloc::boxed::Box::into_raw_with_allocator 𝓡.env wired) T A laws A-laws g d dd dx
+    allocator glued glue)
     z (and_then ! (get ! refl) (no_more !)) (λ u.
     use1 𝓛 (later (some (λ (r : Ptr × A.Denot). (tokens ⊛ ‵ (Pair.own_val r (u ∷ []))) ⊛
-    some (λ (_ : Left). ‵ (fsep (fsep ftrue (fsep ftrue ftrue)) ftrue) ⊛ (raw (fact 𝓤 (r.1 ≡ alloc)) ⊛ ‵ (own r.0)))))) (id⊢ 𝓤 _) $
-    await ! tt $ pick ! (λ r. split ! $ move ! (1 ∷ []) $ pick ! (λ _. split3 ! $ drop ! $ heard ! (r.1 ≡ alloc) (λ same.
+    some (λ (_ : Left). ‵ (fsep (fsep ftrue (fsep ftrue ftrue)) ftrue) ⊛ (raw (fact 𝓤 (r.1 ≡ alloc)) ⊛ ‵ (own r.0))))))
+    (id⊢ 𝓤 _) $
+    await ! tt $ pick
+    ! (λ r. split ! $ move ! (1 ∷ []) $ pick ! (λ _. split3 ! $ drop ! $ heard ! (r.1 ≡ alloc) (λ same.
     in_a_block ! r.0 own (fst∗ 𝓤 (never 𝓤) (sem 𝓛 (g.dealloc_token alloc (bare (layout T)) null_ptr))) (λ b' o' at'.
     -- the pair that came back is a pointer and a handle
-    move ! (1 ∷ []) $ split ! $ move ! (1 ∷ []) $ fpick ! (λ vss. fsplit ! $ feq_l ! (λ both. fsplit ! $ feq_l ! (λ pointer. fsplit ! $
+    move ! (1 ∷ []) $ split ! $ move ! (1 ∷ []) $ fpick
+    ! (λ vss. fsplit ! $ feq_l ! (λ both. fsplit ! $ feq_l ! (λ pointer. fsplit ! $
     rewrite ! 0 (λ (s : A.Denot). ‵ (A.own_val s vss.1.0)) same refl $
     handle_tells E.al ! alloc vss.1.0 (λ h' handle fits'.
     let fits-pair = pair_fits R P P-laws g b' o' h' fits' in
@@ -90,5 +99,9 @@ from_box_spec 𝓤 𝓛 𝓜 𝓡 wired T A laws A-laws g d dx dd allocator glue
     move ! (3 ∷ 0 ∷ []) $ closes_raw R P P-laws g ! b' o' h' alloc owned.value $
     use0 𝓛 (raw (fact 𝓤 (owned.value ≡ owned.value))) (fact_i 𝓤 (owned.value ≡ owned.value) (emp 𝓤) refl) $
     nothing ! $ nothing ! $ fjoin ! $ returns ! (look_at ! 0 refl) $ free_all ! refl $ keep ! (4 ∷ 0 ∷ 2 ∷ 1 ∷ []) $
-    by ! (leaves 𝓛 End stays c y (pair b' o' h') (record { pointer = block_ptr b' o'; alloc = alloc; value = owned.value })
+    by ! (leaves 𝓛 End stays c y (pair b' o' h') (record {
+      pointer = block_ptr b' o';
+      alloc = alloc;
+      value = owned.value;
+    })
     ((tt, (tt, tt)), tt) (tt, tt))))))))))))))

@@ -43,7 +43,11 @@ pub into_box_spec : {M : Type 1} → statement M
 into_box_spec 𝓤 𝓛 𝓜 𝓡 wired T A laws A-laws g d dx dd allocator glue glued =
     let H = 𝓛.H in let 𝓣 = tables 𝓤 H 𝓜 𝓡 𝓡.env in
     let R : RattleType = param 0 T in let P : RattleType = param 1 A in let P-laws = param_laws 1 A A-laws in
-    let E : box.Bx = record { row = T; laws = laws; al = record { row = A; laws = A-laws; g = g; d = d; drops = dd } } in
+    let E : box.Bx = record {
+      row = T;
+      laws = laws;
+      al = record { row = A; laws = A-laws; g = g; d = d; drops = dd };
+    } in
     let B : RattleType = box.B E in let Raw : RattleType = Row R P P-laws g in
     let args = bounded (a_type ∷ a_type ∷ []) (T, (A, tt)) (dcons d (dcons dx (dcons dd dnil))) in
     let f = inst_fn args code.function in
@@ -64,9 +68,11 @@ into_box_spec 𝓤 𝓛 𝓜 𝓡 wired T A laws A-laws g d dx dd allocator glue
     -- the requires: two lifetimes are long enough, of which the call needs none
     move ! (4 ∷ []) $ use1 𝓛 (raw (fact 𝓤 (κs.0 ⊑ T.lives)) ⊛ raw (fact 𝓤 (κs.1.0 ⊑ A.lives)) ⊛ ‵ ftrue) (id⊢ 𝓤 _) $
     split3 ! $ move ! (2 ∷ []) $ drop ! $ move ! (1 ∷ 2 ∷ []) $ join ! $ move ! (1 ∷ 0 ∷ []) $ join ! $
-    move ! (2 ∷ []) $ feq_i ! (List Val) (vptr b o ∷ []) (vptr b o ∷ []) refl $ fjoin ! $ move ! (2 ∷ 0 ∷ []) $ fjoin ! $
+    move ! (2 ∷ []) $ feq_i ! (List Val) (vptr b o ∷ []) (vptr b o ∷ []) refl $ fjoin ! $ move ! (2 ∷ 0 ∷ []) $ fjoin
+    ! $
     move ! (2 ∷ 0 ∷ []) $ join ! $ join ! $ use1 𝓛 (raw (G.pre z)) (id⊢ 𝓤 _) $
-    suffices ! (Runs (v ∷ [])) (subst (λ (vs : List Val). ent 𝓤 (Runs (v ∷ [])) (Runs vs)) (sym (λ i. stored i ++ [])) (id⊢ 𝓤 (Runs (v ∷ [])))) $
+    suffices ! (Runs (v ∷ [])) (subst (λ (vs : List Val). ent 𝓤 (Runs (v ∷ [])) (Runs vs)) (sym (λ i. stored i ++ []))
+    (id⊢ 𝓤 (Runs (v ∷ [])))) $
     enter ! 𝓣.C 𝓣.Λ f (v ∷ []) Post $ alloc_all ! (λ l. pass_all ! refl (v-fits, tt) $ let locals = env f.locals l in
     sets ! (of_opd ! (get_in ! (fld ! refl (stop !)) (sub ! 0 refl (whole !)))) refl (tt, tt) $
     sets ! (of_opd ! (get_in ! (fld ! refl (stop !)) (sub ! 1 refl (whole !)))) refl fits $
@@ -77,11 +83,14 @@ into_box_spec 𝓤 𝓛 𝓜 𝓡 wired T A laws A-laws g d dx dd allocator glue
     use1 𝓛 (later (some (λ (r : B.Denot). (tokens ⊛ ‵ (B.own_val r (u ∷ []))) ⊛
     some (λ (ls : Lasts (callee.ended T A g d dd) κs z.0.3). ‵ (lasts (callee.ended T A g d dd) κs z.0.3 ls) ⊛
     (raw (fact 𝓤 (r.value ≡ owned.value)) ⊛ raw (fact 𝓤 (r.alloc ≡ alloc))))))) (id⊢ 𝓤 (G.post z u)) $
-    await ! tt $ pick ! (λ r. split ! $ move ! (1 ∷ []) $ pick ! (λ _. split3 ! $ drop ! $ move ! (2 ∷ []) $ split ! $ move ! (1 ∷ []) $
+    await ! tt $ pick ! (λ r. split ! $ move ! (1 ∷ []) $ pick ! (λ _. split3 ! $ drop ! $ move ! (2 ∷ []) $ split
+    ! $ move ! (1 ∷ []) $
     -- the box that came back, as it is stored
     box_out E ! r (u ∷ []) (λ b' o' h' at' stored' fits'. box_in E ! r b' o' r.value at' refl $
     rewrite ! 0 (λ (vs : List Val). ‵ (B.own_val r vs)) (sym stored') refl $
-    let u-fits : Good (layout B) u = subst (Good (layout B)) (sym (ap only stored')) (pair_fits R P P-laws g b' o' h' fits') in
-    lands_last ! refl u-fits $ exec ! 𝓣.C 𝓣.Λ locals (after 3 f.body) (at_ret locals Post) $ sets ! (of_opd ! (get ! refl)) refl u-fits $
+    let u-fits : Good (layout B) u =
+    subst (Good (layout B)) (sym (ap only stored')) (pair_fits R P P-laws g b' o' h' fits') in
+    lands_last ! refl u-fits $ exec ! 𝓣.C 𝓣.Λ locals (after 3 f.body) (at_ret locals Post) $ sets
+    ! (of_opd ! (get ! refl)) refl u-fits $
     nothing ! $ nothing ! $ fjoin ! $ returns ! (look_at ! 0 refl) $ free_all ! refl $ keep ! (2 ∷ 0 ∷ 1 ∷ 3 ∷ []) $
     by ! (leaves 𝓛 End stays c y u r ((tt, (tt, tt)), tt) (tt, tt)))))))))

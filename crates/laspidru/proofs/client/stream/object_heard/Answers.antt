@@ -9,8 +9,10 @@ use Rattle.laspidru.proofs.client.stream.object_heard.Goals as goal
 pub returns-clause-answer : goal.returns-clause-answer
 returns-clause-answer c =
     subst (λ (o : Object). IsRefusedOr (client_of o) c.copy_body.result (λ editor.
-    IsBodyAnswer editor.stream.framing c.args.start c.copy_body.result c.args.out.now c.copy_body.new.out c.copy_body.new.copied))
+    IsBodyAnswer editor.stream.framing c.args.start c.copy_body.result c.args.out.now c.copy_body.new.out
+    c.copy_body.new.copied))
     (sym c.in-Client.is)
     (subst (λ (e : EditorData).
-    IsBodyAnswer e.stream.framing c.args.start c.copy_body.result c.args.out.now c.copy_body.new.out c.copy_body.new.copied)
+    IsBodyAnswer e.stream.framing c.args.start c.copy_body.result c.args.out.now c.copy_body.new.out
+    c.copy_body.new.copied)
     c.editor.view_is c.copy_body.ensures.answer)

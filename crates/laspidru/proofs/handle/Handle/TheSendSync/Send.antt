@@ -17,8 +17,12 @@ use Rattle.laspidru.proofs.object.Object.TheSendSync as inner
 use Rattle.laspidru.specs.Stored.{object_if}
 use Rattle.laspidru.specs.contracts.handle.Handle as handle
 
-what_it_owns : (full : Bool) (a : Global) (p : Ptr) (value : Option ((object.the_row).Denot)) → Keyless (object_if full a p value)
-what_it_owns true a p (Some x) = (lies object.the_row inner.the_send p x, frees.frees a (raw (lone (object.the_row).mir)) p)
+what_it_owns : (full : Bool) (a : Global) (p : Ptr) (value : Option ((object.the_row).Denot))
+    → Keyless (object_if full a p value)
+what_it_owns true a p (Some x) = (
+  lies object.the_row inner.the_send p x,
+  frees.frees a (raw (lone (object.the_row).mir)) p,
+)
 what_it_owns true a p None = tt
 what_it_owns false a p (Some x) = tt
 what_it_owns false a p None = tt
@@ -28,4 +32,5 @@ its_fields = search (sendable, crosses, global.the_field_send)
 
 pub send : IsSend handle.the_row
 send = owning_send handle.the_type its_fields (λ h. what_it_owns h.is_full h.alloc h.pointer h.value)
-    (λ k. quiet (to handle.the_type) (exits_of k (fields handle.the_type)) ((struct_send (shape handle.the_type) its_fields).leaving k))
+    (λ k. quiet (to handle.the_type) (exits_of k (fields handle.the_type))
+    ((struct_send (shape handle.the_type) its_fields).leaving k))

@@ -34,24 +34,32 @@ into_raw_spec 𝓤 𝓛 𝓜 𝓡 wired =
     let H = 𝓛.H in let 𝓣 = tables 𝓤 H 𝓜 𝓡 𝓡.env in let c = clauses 𝓛 𝓜.mem 𝓡.returns in let f = code.function in
     let P = handle.the_row in
     let stays : Stays ended.signature.params ended.kept = (stay_dropped (plain (λ _. P)) ended.kept.0, tt) in
-    proved_at 𝓛 ended stays c 𝓜 𝓡 (Goes-blank 𝓛 0 (plain (λ _. P)) ended.kept.0 (λ κs x w. tt), tt) name f (code.unfolded 𝓤 H 𝓜 𝓡 wired) (λ y are.
+    proved_at 𝓛 ended stays c 𝓜 𝓡 (Goes-blank 𝓛 0 (plain (λ _. P)) ended.kept.0 (λ κs x w. tt), tt) name f
+    (code.unfolded 𝓤 H 𝓜 𝓡 wired) (λ y are.
     let κs = y.0.0 in let given = y.0.3.0 in
     let Post : Val → SProp 𝓤 = (walk_of 𝓛 ended stays c).post y in
     let Runs : List Val → SProp 𝓤 = λ vs. WpFn 𝓤 H 𝓣.C 𝓣.Λ f vs Post in
-    qed 𝓛 ((raw (alive 𝓛 ended.signature κs y.0.1) ⊛ ‵ (owns (types_at ended.signature.params κs) y.0.3 y.0.4)) ∷ raw ((c κs y.0.3).requires y.1) ∷ []) ∵
+    qed 𝓛 ((raw (alive 𝓛 ended.signature κs y.0.1) ⊛ ‵ (owns (types_at ended.signature.params κs) y.0.3 y.0.4))
+    ∷ raw ((c κs y.0.3).requires y.1) ∷ []) ∵
     split ! $ move ! (1 ∷ []) $ fsplit ! $
     opens_handle ! given y.0.4.0 (λ h stored₀ fits. move ! (4 ∷ []) $ heard ! (IsSome given.value) (λ is.
     is_there ! given.is_full given.alloc given.pointer given.value is (λ b o x full at holds.
-    let v : Val = triple (block_ptr b o) given.is_full h in let v-fits = triple_fits (block_ptr b o) given.is_full h fits in
+    let v : Val = triple (block_ptr b o) given.is_full h in let v-fits =
+    triple_fits (block_ptr b o) given.is_full h fits in
     let stored : y.0.4.0 ≡ v ∷ [] = subst (λ p. y.0.4.0 ≡ triple p given.is_full h ∷ []) at stored₀ in
     let raw-fits = pair_fits object.the_row A global-laws.the_row_laws ghosts b o h fits in
-    suffices ! (Runs (v ∷ [])) (subst (λ (vs : List Val). ent 𝓤 (Runs (v ∷ [])) (Runs vs)) (sym (λ i. stored i ++ [])) (id⊢ 𝓤 (Runs (v ∷ [])))) $
+    suffices ! (Runs (v ∷ [])) (subst (λ (vs : List Val). ent 𝓤 (Runs (v ∷ [])) (Runs vs)) (sym (λ i. stored i ++ []))
+    (id⊢ 𝓤 (Runs (v ∷ [])))) $
     enter ! 𝓣.C 𝓣.Λ f (v ∷ []) Post $ alloc_all ! (λ l. pass_all ! refl (v-fits, tt) $
     sets ! (of_opd ! (get_in ! (fld ! refl (stop !)) (sub ! 0 refl (whole !)))) refl (tt, tt) $
     sets ! (of_opd ! (get_in ! (fld ! refl (stop !)) (sub ! 2 refl (whole !)))) refl fits $
     sets ! (of_opd ! (get ! refl)) refl (tt, tt) $
     sets ! (agg ! (and_then ! (get ! refl) (and_then ! (get ! refl) (no_more !)))) refl raw-fits $
     closes_raw object.the_row A global-laws.the_row_laws ghosts ! b o h given.alloc x $
-    use0 𝓛 (raw (fact 𝓤 (given.value ≡ Some x))) (fact_i 𝓤 (given.value ≡ Some x) (emp 𝓤) holds) $ nothing ! $ nothing ! $ fjoin ! $
+    use0 𝓛 (raw (fact 𝓤 (given.value ≡ Some x))) (fact_i 𝓤 (given.value ≡ Some x) (emp 𝓤) holds) $ nothing ! $ nothing
+    ! $ fjoin ! $
     returns ! (look_at ! 0 refl) $ free_all ! refl $ keep ! (4 ∷ 0 ∷ 2 ∷ 1 ∷ []) $
-    by ! (leaves 𝓛 ended stays c y (pair b o h) (record { pointer = block_ptr b o; alloc = given.alloc; value = x }) (tt, tt) (tt, tt)))))))
+    by ! (leaves 𝓛 ended stays c y (pair b o h) (record { pointer = block_ptr b o; alloc = given.alloc; value = x }) (
+      tt,
+      tt,
+    ) (tt, tt)))))))

@@ -9,8 +9,10 @@ use Rattle.laspidru.proofs.server.stream.object_served.Goals as goal
 pub returns-clause-answer : goal.returns-clause-answer
 returns-clause-answer c =
     subst (λ (o : Object). IsRefusedOr (server_of o) c.copy_body.result (λ session.
-    IsBodyAnswer session.stream.framing c.args.start c.copy_body.result c.args.out.now c.copy_body.new.out c.copy_body.new.copied))
+    IsBodyAnswer session.stream.framing c.args.start c.copy_body.result c.args.out.now c.copy_body.new.out
+    c.copy_body.new.copied))
     (sym c.in-Server.is)
     (subst (λ (s : SessionData).
-    IsBodyAnswer s.stream.framing c.args.start c.copy_body.result c.args.out.now c.copy_body.new.out c.copy_body.new.copied)
+    IsBodyAnswer s.stream.framing c.args.start c.copy_body.result c.args.out.now c.copy_body.new.out
+    c.copy_body.new.copied)
     c.session.view_is c.copy_body.ensures.answer)

@@ -11,21 +11,29 @@ use Rattle.lsp_buffer.proofs.block.Block.head.Goals as goal
 
 pub returns-then-bytes-end-eq10-clause-head : goal.returns-then-bytes-end-eq10-clause-head
 returns-then-bytes-end-eq10-clause-head c =
-    let utf8 : IsUtf8 c.as_bytes-bytes.result.now = subst IsUtf8 (sym c.as_bytes-bytes.ensures.value) (IsUtf8-string_bytes c.self.inside.text) in
+    let utf8 : IsUtf8 c.as_bytes-bytes.result.now =
+    subst IsUtf8 (sym c.as_bytes-bytes.ensures.value) (IsUtf8-string_bytes c.self.inside.text) in
     let same : c.as_bytes-bytes.result.now ≡ c.args.self.now = c.as_bytes-bytes.ensures.value ∙ c.self.view_is in
-    sym (ap (head_of (units_in c.args.encoding)) (sym same) ∙ feed_head (units_in c.args.encoding) c.as_bytes-bytes.result.now utf8 c.if-end-gt0.true c.if-bytes-end-eq10.true)
+    sym (ap (head_of (units_in c.args.encoding)) (sym same) ∙ feed_head (units_in c.args.encoding)
+    c.as_bytes-bytes.result.now utf8 c.if-end-gt0.true c.if-bytes-end-eq10.true)
 
 pub position-requires : goal.position-requires
 position-requires c =
     let same : c.as_bytes-bytes.result.now ≡ c.args.self.now = c.as_bytes-bytes.ensures.value ∙ c.self.view_is in
-    subst (λ (n : ℕ). IsPlace (chars c.args.self.now) n) (ap length (sym same)) (end_place c.args.self.now (subst IsUtf8 c.self.view_is (IsUtf8-string_bytes c.self.inside.text)))
+    subst (λ (n : ℕ). IsPlace (chars c.args.self.now) n) (ap length (sym same))
+    (end_place c.args.self.now (subst IsUtf8 c.self.view_is (IsUtf8-string_bytes c.self.inside.text)))
 
 pub returns-clause-head : goal.returns-clause-head
 returns-clause-head c =
     let same : c.as_bytes-bytes.result.now ≡ c.args.self.now = c.as_bytes-bytes.ensures.value ∙ c.self.view_is in
     let utf8 : IsUtf8 c.args.self.now = subst IsUtf8 c.self.view_is (IsUtf8-string_bytes c.self.inside.text) in
-    ap (λ (p : Position). p.character) (c.position.ensures (length (chars c.args.self.now)) (omega arith) (end_at c.args.self.now utf8 ∙ ap length (sym same)))
+    ap (λ (p : Position). p.character) (c.position.ensures (length (chars c.args.self.now)) (omega arith)
+    (end_at c.args.self.now utf8 ∙ ap length (sym same)))
 
 pub returns-clause-few : goal.returns-clause-few
 returns-clause-few c =
-    omega (arith, returns-clause-head c, head_low c.args.encoding c.args.self.now (subst IsUtf8 c.self.view_is (IsUtf8-string_bytes c.self.inside.text)))
+    omega (
+      arith,
+      returns-clause-head c,
+      head_low c.args.encoding c.args.self.now (subst IsUtf8 c.self.view_is (IsUtf8-string_bytes c.self.inside.text)),
+    )

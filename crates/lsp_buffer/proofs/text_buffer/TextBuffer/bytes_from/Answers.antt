@@ -6,33 +6,55 @@ use Rattle.lsp_buffer.proofs.Reads.FoundLemmas.{chunk_is, found_place, found_wit
 use Rattle.lsp_buffer.proofs.text_buffer.TextBuffer.bytes_from.Goals as goal
 
 pub block_of-index-requires : goal.block_of-index-requires
-block_of-index-requires c = subst AreStarts (sym c.deref.ensures.value) (starts_are_starts c.self.inside.blocks.items c.self.inside.starts.items c.self.inside.lines.items c.self.invariant.sums)
+block_of-index-requires c =
+    subst AreStarts (sym c.deref.ensures.value) (starts_are_starts c.self.inside.blocks.items c.self.inside.starts.items
+    c.self.inside.lines.items c.self.invariant.sums)
 
 pub index-block-requires : goal.index-block-requires
 index-block-requires c =
-    omega (arith, c.block_of-index.ensures.within, ap length c.deref.ensures.value, starts_count c.self.inside.blocks.items c.self.inside.starts.items c.self.inside.lines.items c.self.invariant.sums, c.self.inside.blocks.ok.0)
+    omega (
+      arith,
+      c.block_of-index.ensures.within,
+      ap length c.deref.ensures.value,
+      starts_count c.self.inside.blocks.items c.self.inside.starts.items c.self.inside.lines.items
+          c.self.invariant.sums,
+      c.self.inside.blocks.ok.0,
+    )
 
 pub split_at-requires : goal.split_at-requires
 split_at-requires c =
-    let found = found_place c.self.inside.blocks.items c.self.inside.starts.items c.self.inside.lines.items c.args.self.now c.self.invariant.sums c.self.view_is c.block_of-index.result c.index-block.result.now c.index-block.ensures
-    c.args.offset c.index.result.now c.deref.result.now c.deref.ensures.value c.block_of-index.ensures c.index.ensures in
+    let found = found_place c.self.inside.blocks.items c.self.inside.starts.items c.self.inside.lines.items
+    c.args.self.now c.self.invariant.sums c.self.view_is c.block_of-index.result c.index-block.result.now
+    c.index-block.ensures
+    c.args.offset c.index.result.now c.deref.result.now c.deref.ensures.value c.block_of-index.ensures
+    c.index.ensures in
     omega (
       arith,
-      found_within c.args.self.now (concat (take c.block_of-index.result c.self.inside.blocks.items)) c.index-block.result.now (concat (drop (c.block_of-index.result + 1) c.self.inside.blocks.items)) c.args.offset c.index.result.now found c.requires,
+      found_within c.args.self.now (concat (take c.block_of-index.result c.self.inside.blocks.items))
+          c.index-block.result.now (concat (drop (c.block_of-index.result + 1) c.self.inside.blocks.items))
+          c.args.offset c.index.result.now found c.requires,
       found.from_is,
       ap length (c.as_bytes-bytes.ensures.value ∙ c.text.ensures),
     )
 
 pub returns-clause-part : goal.returns-clause-part
 returns-clause-part c =
-    (chunk_is c.args.self.now (concat (take c.block_of-index.result c.self.inside.blocks.items)) c.index-block.result.now (concat (drop (c.block_of-index.result + 1) c.self.inside.blocks.items)) c.args.offset c.index.result.now c.as_bytes-bytes.result.now c.split_at.result.1.now (c.as_bytes-bytes.ensures.value ∙ c.text.ensures) c.split_at.ensures.back
-    (found_place c.self.inside.blocks.items c.self.inside.starts.items c.self.inside.lines.items c.args.self.now c.self.invariant.sums c.self.view_is c.block_of-index.result c.index-block.result.now c.index-block.ensures
+    (chunk_is c.args.self.now (concat (take c.block_of-index.result c.self.inside.blocks.items))
+    c.index-block.result.now (concat (drop (c.block_of-index.result + 1) c.self.inside.blocks.items)) c.args.offset
+    c.index.result.now c.as_bytes-bytes.result.now c.split_at.result.1.now (c.as_bytes-bytes.ensures.value
+    ∙ c.text.ensures) c.split_at.ensures.back
+    (found_place c.self.inside.blocks.items c.self.inside.starts.items c.self.inside.lines.items c.args.self.now
+    c.self.invariant.sums c.self.view_is c.block_of-index.result c.index-block.result.now c.index-block.ensures
     c.args.offset c.index.result.now c.deref.result.now c.deref.ensures.value c.block_of-index.ensures c.index.ensures)
     c.requires).part
 
 pub returns-clause-some : goal.returns-clause-some
 returns-clause-some c =
-    (chunk_is c.args.self.now (concat (take c.block_of-index.result c.self.inside.blocks.items)) c.index-block.result.now (concat (drop (c.block_of-index.result + 1) c.self.inside.blocks.items)) c.args.offset c.index.result.now c.as_bytes-bytes.result.now c.split_at.result.1.now (c.as_bytes-bytes.ensures.value ∙ c.text.ensures) c.split_at.ensures.back
-    (found_place c.self.inside.blocks.items c.self.inside.starts.items c.self.inside.lines.items c.args.self.now c.self.invariant.sums c.self.view_is c.block_of-index.result c.index-block.result.now c.index-block.ensures
+    (chunk_is c.args.self.now (concat (take c.block_of-index.result c.self.inside.blocks.items))
+    c.index-block.result.now (concat (drop (c.block_of-index.result + 1) c.self.inside.blocks.items)) c.args.offset
+    c.index.result.now c.as_bytes-bytes.result.now c.split_at.result.1.now (c.as_bytes-bytes.ensures.value
+    ∙ c.text.ensures) c.split_at.ensures.back
+    (found_place c.self.inside.blocks.items c.self.inside.starts.items c.self.inside.lines.items c.args.self.now
+    c.self.invariant.sums c.self.view_is c.block_of-index.result c.index-block.result.now c.index-block.ensures
     c.args.offset c.index.result.now c.deref.result.now c.deref.ensures.value c.block_of-index.ensures c.index.ensures)
     c.requires).some

@@ -5,12 +5,15 @@ use Rattle.std.proofs.Math.Seq.{take-add}
 use Rattle.lsp_buffer.proofs.text_buffer.TextBuffer.push_range.Goals as goal
 
 -- A range that is followed by some bytes is a longer range.
-range_more : (bytes : List ℕ) (start offset n : ℕ) → start ≤ offset → slice_range bytes start offset ++ take n (drop offset bytes) ≡ slice_range bytes start (offset + n)
+range_more : (bytes : List ℕ) (start offset n : ℕ) → start ≤ offset → slice_range bytes start offset
+    ++ take n (drop offset bytes) ≡ slice_range bytes start (offset + n)
 range_more bytes start offset n order =
     let at : start + (offset - start) ≡ offset = omega arith in
-    let rest : drop (offset - start) (drop start bytes) ≡ drop offset bytes = drop-drop (offset - start) start bytes ∙ ap (λ (k : ℕ). drop k bytes) at in
+    let rest : drop (offset - start) (drop start bytes) ≡ drop offset bytes = drop-drop (offset - start) start bytes
+    ∙ ap (λ (k : ℕ). drop k bytes) at in
     let count : offset + n - start ≡ (offset - start) + n = omega arith in
-    sym (ap (λ (k : ℕ). take k (drop start bytes)) count ∙ (take-add (offset - start) n (drop start bytes) ∙ ap (λ (bs : List ℕ). take (offset - start) (drop start bytes) ++ take n bs) rest))
+    sym (ap (λ (k : ℕ). take k (drop start bytes)) count ∙ (take-add (offset - start) n (drop start bytes)
+    ∙ ap (λ (bs : List ℕ). take (offset - start) (drop start bytes) ++ take n bs) rest))
 
 pub loop-offset-preserved : goal.loop-offset-preserved
 loop-offset-preserved c =

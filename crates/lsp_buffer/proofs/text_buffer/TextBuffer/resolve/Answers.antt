@@ -21,68 +21,183 @@ pub block_at-index-requires : goal.block_at-index-requires
 block_at-index-requires c =
     subst (λ (hs : List ℕ). AreMarks c.deref.result.now hs) (sym c.of-heads.ensures)
     (subst (λ (ls : List ℕ). AreMarks ls (row_of c.self.inside.heads c.args.encoding)) (sym c.deref.ensures.value)
-    (marks_are c.args.encoding c.self.inside.blocks.items c.self.inside.starts.items c.self.inside.lines.items (row_of c.self.inside.heads) c.self.invariant))
+    (marks_are c.args.encoding c.self.inside.blocks.items c.self.inside.starts.items c.self.inside.lines.items
+    (row_of c.self.inside.heads) c.self.invariant))
 
 pub index-block-requires : goal.index-block-requires
-index-block-requires c = omega (arith, (shown_within c.self.inside.blocks.items c.self.inside.starts.items c.self.inside.lines.items (row_of c.self.inside.heads) c.args.self.now c.self.invariant c.self.view_is c.args.encoding c.block_at-index.result (mark c.args.position.line c.args.position.character) c.deref.result.now c.of-heads.result.now c.deref.ensures.value c.of-heads.ensures c.block_at-index.ensures), c.self.inside.blocks.ok.0)
+index-block-requires c = omega (
+  arith,
+  (shown_within c.self.inside.blocks.items c.self.inside.starts.items c.self.inside.lines.items
+      (row_of c.self.inside.heads) c.args.self.now c.self.invariant c.self.view_is c.args.encoding
+      c.block_at-index.result (mark c.args.position.line c.args.position.character) c.deref.result.now
+      c.of-heads.result.now c.deref.ensures.value c.of-heads.ensures c.block_at-index.ensures),
+  c.self.inside.blocks.ok.0,
+)
 
 pub index-requires : goal.index-requires
-index-requires c = omega (arith, (shown_within c.self.inside.blocks.items c.self.inside.starts.items c.self.inside.lines.items (row_of c.self.inside.heads) c.args.self.now c.self.invariant c.self.view_is c.args.encoding c.block_at-index.result (mark c.args.position.line c.args.position.character) c.deref.result.now c.of-heads.result.now c.deref.ensures.value c.of-heads.ensures c.block_at-index.ensures), lines_count c.self.inside.blocks.items c.self.inside.starts.items c.self.inside.lines.items c.self.invariant.sums, c.self.inside.lines.ok.0)
+index-requires c = omega (
+  arith,
+  (shown_within c.self.inside.blocks.items c.self.inside.starts.items c.self.inside.lines.items
+      (row_of c.self.inside.heads) c.args.self.now c.self.invariant c.self.view_is c.args.encoding
+      c.block_at-index.result (mark c.args.position.line c.args.position.character) c.deref.result.now
+      c.of-heads.result.now c.deref.ensures.value c.of-heads.ensures c.block_at-index.ensures),
+  lines_count c.self.inside.blocks.items c.self.inside.starts.items c.self.inside.lines.items c.self.invariant.sums,
+  c.self.inside.lines.ok.0,
+)
 
 pub bounds-heads-index : goal.bounds-heads-index
-bounds-heads-index c = omega (arith, (shown_within c.self.inside.blocks.items c.self.inside.starts.items c.self.inside.lines.items (row_of c.self.inside.heads) c.args.self.now c.self.invariant c.self.view_is c.args.encoding c.block_at-index.result (mark c.args.position.line c.args.position.character) c.deref.result.now c.of-heads.result.now c.deref.ensures.value c.of-heads.ensures c.block_at-index.ensures), ap length c.of-heads.ensures, heads_count c.self.inside.blocks.items c.self.inside.starts.items c.self.inside.lines.items (row_of c.self.inside.heads) c.args.self.now c.self.invariant c.self.view_is c.args.encoding)
+bounds-heads-index c = omega (
+  arith,
+  (shown_within c.self.inside.blocks.items c.self.inside.starts.items c.self.inside.lines.items
+      (row_of c.self.inside.heads) c.args.self.now c.self.invariant c.self.view_is c.args.encoding
+      c.block_at-index.result (mark c.args.position.line c.args.position.character) c.deref.result.now
+      c.of-heads.result.now c.deref.ensures.value c.of-heads.ensures c.block_at-index.ensures),
+  ap length c.of-heads.ensures,
+  heads_count c.self.inside.blocks.items c.self.inside.starts.items c.self.inside.lines.items
+      (row_of c.self.inside.heads) c.args.self.now c.self.invariant c.self.view_is c.args.encoding,
+)
 
 pub offset_bounds-heads-index : goal.offset_bounds-heads-index
 offset_bounds-heads-index c =
-    let within : c.block_at-index.result < length c.of-heads.result.now = omega (arith, (shown_within c.self.inside.blocks.items c.self.inside.starts.items c.self.inside.lines.items (row_of c.self.inside.heads) c.args.self.now c.self.invariant c.self.view_is c.args.encoding c.block_at-index.result (mark c.args.position.line c.args.position.character) c.deref.result.now c.of-heads.result.now c.deref.ensures.value c.of-heads.ensures c.block_at-index.ensures), ap length c.of-heads.ensures, heads_count c.self.inside.blocks.items c.self.inside.starts.items c.self.inside.lines.items (row_of c.self.inside.heads) c.args.self.now c.self.invariant c.self.view_is c.args.encoding) in
+    let within : c.block_at-index.result < length c.of-heads.result.now =
+    omega (
+      arith,
+      (shown_within c.self.inside.blocks.items c.self.inside.starts.items c.self.inside.lines.items
+          (row_of c.self.inside.heads) c.args.self.now c.self.invariant c.self.view_is c.args.encoding
+          c.block_at-index.result (mark c.args.position.line c.args.position.character) c.deref.result.now
+          c.of-heads.result.now c.deref.ensures.value c.of-heads.ensures c.block_at-index.ensures),
+      ap length c.of-heads.ensures,
+      heads_count c.self.inside.blocks.items c.self.inside.starts.items c.self.inside.lines.items
+          (row_of c.self.inside.heads) c.args.self.now c.self.invariant c.self.view_is c.args.encoding,
+    ) in
     first_of (search rules, grind (arith, common_steps))
 
 pub position_after-inner-requires : goal.position_after-inner-requires
 position_after-inner-requires c =
-    (found_shown c.self.inside.blocks.items c.self.inside.starts.items c.self.inside.lines.items (row_of c.self.inside.heads) c.args.self.now c.self.invariant c.self.view_is c.args.encoding c.block_at-index.result c.index-block.result.now c.args.position c.index.result.now (get_or c.self.inside.starts.items c.block_at-index.result 0) c.deref.result.now c.of-heads.result.now
-    c.index-block.ensures c.deref.ensures.value c.of-heads.ensures (omega arith) c.block_at-index.ensures c.index.ensures (same_default c.self.inside.starts.items c.block_at-index.result (omega (arith, (shown_within c.self.inside.blocks.items c.self.inside.starts.items c.self.inside.lines.items (row_of c.self.inside.heads) c.args.self.now c.self.invariant c.self.view_is c.args.encoding c.block_at-index.result (mark c.args.position.line c.args.position.character) c.deref.result.now c.of-heads.result.now c.deref.ensures.value c.of-heads.ensures c.block_at-index.ensures), starts_count c.self.inside.blocks.items c.self.inside.starts.items c.self.inside.lines.items c.self.invariant.sums)))).low
+    (found_shown c.self.inside.blocks.items c.self.inside.starts.items c.self.inside.lines.items
+    (row_of c.self.inside.heads) c.args.self.now c.self.invariant c.self.view_is c.args.encoding c.block_at-index.result
+    c.index-block.result.now c.args.position c.index.result.now
+    (get_or c.self.inside.starts.items c.block_at-index.result 0) c.deref.result.now c.of-heads.result.now
+    c.index-block.ensures c.deref.ensures.value c.of-heads.ensures (omega arith) c.block_at-index.ensures
+    c.index.ensures (same_default c.self.inside.starts.items c.block_at-index.result
+    (omega (
+      arith,
+      (shown_within c.self.inside.blocks.items c.self.inside.starts.items c.self.inside.lines.items
+          (row_of c.self.inside.heads) c.args.self.now c.self.invariant c.self.view_is c.args.encoding
+          c.block_at-index.result (mark c.args.position.line c.args.position.character) c.deref.result.now
+          c.of-heads.result.now c.deref.ensures.value c.of-heads.ensures c.block_at-index.ensures),
+      starts_count c.self.inside.blocks.items c.self.inside.starts.items c.self.inside.lines.items
+          c.self.invariant.sums,
+    )))).low
 
 pub index-requires-in-Ok : goal.index-requires-in-Ok
-index-requires-in-Ok c = omega (arith, (shown_within c.self.inside.blocks.items c.self.inside.starts.items c.self.inside.lines.items (row_of c.self.inside.heads) c.args.self.now c.self.invariant c.self.view_is c.args.encoding c.block_at-index.result (mark c.args.position.line c.args.position.character) c.deref.result.now c.of-heads.result.now c.deref.ensures.value c.of-heads.ensures c.block_at-index.ensures), starts_count c.self.inside.blocks.items c.self.inside.starts.items c.self.inside.lines.items c.self.invariant.sums, c.self.inside.starts.ok.0)
+index-requires-in-Ok c = omega (
+  arith,
+  (shown_within c.self.inside.blocks.items c.self.inside.starts.items c.self.inside.lines.items
+      (row_of c.self.inside.heads) c.args.self.now c.self.invariant c.self.view_is c.args.encoding
+      c.block_at-index.result (mark c.args.position.line c.args.position.character) c.deref.result.now
+      c.of-heads.result.now c.deref.ensures.value c.of-heads.ensures c.block_at-index.ensures),
+  starts_count c.self.inside.blocks.items c.self.inside.starts.items c.self.inside.lines.items c.self.invariant.sums,
+  c.self.inside.starts.ok.0,
+)
 
 pub returns-in-Ok-clause-value : goal.returns-in-Ok-clause-value
 returns-in-Ok-clause-value c =
-    resolved_found c.args.self.now (concat (take c.block_at-index.result c.self.inside.blocks.items)) c.index-block.result.now (concat (drop (c.block_at-index.result + 1) c.self.inside.blocks.items)) c.args.encoding c.args.position c.index.result.now (slice_index c.of-heads.result.now c.block_at-index.result) c.index-in-Ok.result.now (Some c.in-Ok.offset)
-    (found_shown c.self.inside.blocks.items c.self.inside.starts.items c.self.inside.lines.items (row_of c.self.inside.heads) c.args.self.now c.self.invariant c.self.view_is c.args.encoding c.block_at-index.result c.index-block.result.now c.args.position c.index.result.now c.index-in-Ok.result.now c.deref.result.now c.of-heads.result.now
-    c.index-block.ensures c.deref.ensures.value c.of-heads.ensures (omega arith) c.block_at-index.ensures c.index.ensures c.index-in-Ok.ensures)
-    (c.in-Ok.ensures ∙ ap (λ (q : Position). option_map (place_of (chars c.index-block.result.now)) (denoted (units_in c.args.encoding) (chars c.index-block.result.now) q)) c.position_after-inner.ensures)
+    resolved_found c.args.self.now (concat (take c.block_at-index.result c.self.inside.blocks.items))
+    c.index-block.result.now (concat (drop (c.block_at-index.result + 1) c.self.inside.blocks.items)) c.args.encoding
+    c.args.position c.index.result.now (slice_index c.of-heads.result.now c.block_at-index.result)
+    c.index-in-Ok.result.now (Some c.in-Ok.offset)
+    (found_shown c.self.inside.blocks.items c.self.inside.starts.items c.self.inside.lines.items
+    (row_of c.self.inside.heads) c.args.self.now c.self.invariant c.self.view_is c.args.encoding c.block_at-index.result
+    c.index-block.result.now c.args.position c.index.result.now c.index-in-Ok.result.now c.deref.result.now
+    c.of-heads.result.now
+    c.index-block.ensures c.deref.ensures.value c.of-heads.ensures (omega arith) c.block_at-index.ensures
+    c.index.ensures c.index-in-Ok.ensures)
+    (c.in-Ok.ensures ∙ ap (λ (q : Position). option_map (place_of (chars c.index-block.result.now))
+    (denoted (units_in c.args.encoding) (chars c.index-block.result.now) q)) c.position_after-inner.ensures)
 
 pub returns-in-Ok-clause-place : goal.returns-in-Ok-clause-place
 returns-in-Ok-clause-place c =
-    denoted_place (units_in c.args.encoding) (chars c.args.self.now) c.args.position (c.index-in-Ok.result.now + c.in-Ok.offset)
-    (resolved_found c.args.self.now (concat (take c.block_at-index.result c.self.inside.blocks.items)) c.index-block.result.now (concat (drop (c.block_at-index.result + 1) c.self.inside.blocks.items)) c.args.encoding c.args.position c.index.result.now (slice_index c.of-heads.result.now c.block_at-index.result) c.index-in-Ok.result.now (Some c.in-Ok.offset)
-    (found_shown c.self.inside.blocks.items c.self.inside.starts.items c.self.inside.lines.items (row_of c.self.inside.heads) c.args.self.now c.self.invariant c.self.view_is c.args.encoding c.block_at-index.result c.index-block.result.now c.args.position c.index.result.now c.index-in-Ok.result.now c.deref.result.now c.of-heads.result.now
-    c.index-block.ensures c.deref.ensures.value c.of-heads.ensures (omega arith) c.block_at-index.ensures c.index.ensures c.index-in-Ok.ensures)
-    (c.in-Ok.ensures ∙ ap (λ (q : Position). option_map (place_of (chars c.index-block.result.now)) (denoted (units_in c.args.encoding) (chars c.index-block.result.now) q)) c.position_after-inner.ensures))
+    denoted_place (units_in c.args.encoding) (chars c.args.self.now) c.args.position
+    (c.index-in-Ok.result.now + c.in-Ok.offset)
+    (resolved_found c.args.self.now (concat (take c.block_at-index.result c.self.inside.blocks.items))
+    c.index-block.result.now (concat (drop (c.block_at-index.result + 1) c.self.inside.blocks.items)) c.args.encoding
+    c.args.position c.index.result.now (slice_index c.of-heads.result.now c.block_at-index.result)
+    c.index-in-Ok.result.now (Some c.in-Ok.offset)
+    (found_shown c.self.inside.blocks.items c.self.inside.starts.items c.self.inside.lines.items
+    (row_of c.self.inside.heads) c.args.self.now c.self.invariant c.self.view_is c.args.encoding c.block_at-index.result
+    c.index-block.result.now c.args.position c.index.result.now c.index-in-Ok.result.now c.deref.result.now
+    c.of-heads.result.now
+    c.index-block.ensures c.deref.ensures.value c.of-heads.ensures (omega arith) c.block_at-index.ensures
+    c.index.ensures c.index-in-Ok.ensures)
+    (c.in-Ok.ensures ∙ ap (λ (q : Position). option_map (place_of (chars c.index-block.result.now))
+    (denoted (units_in c.args.encoding) (chars c.index-block.result.now) q)) c.position_after-inner.ensures))
 
 pub returns-in-Ok-clause-boundary : goal.returns-in-Ok-clause-boundary
 returns-in-Ok-clause-boundary c =
-    denoted_boundary (units_in c.args.encoding) c.args.self.now c.args.position (c.index-in-Ok.result.now + c.in-Ok.offset)
-    (bytes_utf8 c.self.inside.blocks.items c.self.inside.starts.items c.self.inside.lines.items c.args.self.now c.self.invariant.sums c.self.view_is)
-    (resolved_found c.args.self.now (concat (take c.block_at-index.result c.self.inside.blocks.items)) c.index-block.result.now (concat (drop (c.block_at-index.result + 1) c.self.inside.blocks.items)) c.args.encoding c.args.position c.index.result.now (slice_index c.of-heads.result.now c.block_at-index.result) c.index-in-Ok.result.now (Some c.in-Ok.offset)
-    (found_shown c.self.inside.blocks.items c.self.inside.starts.items c.self.inside.lines.items (row_of c.self.inside.heads) c.args.self.now c.self.invariant c.self.view_is c.args.encoding c.block_at-index.result c.index-block.result.now c.args.position c.index.result.now c.index-in-Ok.result.now c.deref.result.now c.of-heads.result.now
-    c.index-block.ensures c.deref.ensures.value c.of-heads.ensures (omega arith) c.block_at-index.ensures c.index.ensures c.index-in-Ok.ensures)
-    (c.in-Ok.ensures ∙ ap (λ (q : Position). option_map (place_of (chars c.index-block.result.now)) (denoted (units_in c.args.encoding) (chars c.index-block.result.now) q)) c.position_after-inner.ensures))
+    denoted_boundary (units_in c.args.encoding) c.args.self.now c.args.position
+    (c.index-in-Ok.result.now + c.in-Ok.offset)
+    (bytes_utf8 c.self.inside.blocks.items c.self.inside.starts.items c.self.inside.lines.items c.args.self.now
+    c.self.invariant.sums c.self.view_is)
+    (resolved_found c.args.self.now (concat (take c.block_at-index.result c.self.inside.blocks.items))
+    c.index-block.result.now (concat (drop (c.block_at-index.result + 1) c.self.inside.blocks.items)) c.args.encoding
+    c.args.position c.index.result.now (slice_index c.of-heads.result.now c.block_at-index.result)
+    c.index-in-Ok.result.now (Some c.in-Ok.offset)
+    (found_shown c.self.inside.blocks.items c.self.inside.starts.items c.self.inside.lines.items
+    (row_of c.self.inside.heads) c.args.self.now c.self.invariant c.self.view_is c.args.encoding c.block_at-index.result
+    c.index-block.result.now c.args.position c.index.result.now c.index-in-Ok.result.now c.deref.result.now
+    c.of-heads.result.now
+    c.index-block.ensures c.deref.ensures.value c.of-heads.ensures (omega arith) c.block_at-index.ensures
+    c.index.ensures c.index-in-Ok.ensures)
+    (c.in-Ok.ensures ∙ ap (λ (q : Position). option_map (place_of (chars c.index-block.result.now))
+    (denoted (units_in c.args.encoding) (chars c.index-block.result.now) q)) c.position_after-inner.ensures))
 
 pub overflow_add-result : goal.overflow_add-result
 overflow_add-result c =
     let within : c.index-in-Ok.result.now + c.in-Ok.offset ≤ length c.args.self.now =
-    (denoted_boundary (units_in c.args.encoding) c.args.self.now c.args.position (c.index-in-Ok.result.now + c.in-Ok.offset)
-    (bytes_utf8 c.self.inside.blocks.items c.self.inside.starts.items c.self.inside.lines.items c.args.self.now c.self.invariant.sums c.self.view_is)
-    (resolved_found c.args.self.now (concat (take c.block_at-index.result c.self.inside.blocks.items)) c.index-block.result.now (concat (drop (c.block_at-index.result + 1) c.self.inside.blocks.items)) c.args.encoding c.args.position c.index.result.now (slice_index c.of-heads.result.now c.block_at-index.result) c.index-in-Ok.result.now (Some c.in-Ok.offset)
-    (found_shown c.self.inside.blocks.items c.self.inside.starts.items c.self.inside.lines.items (row_of c.self.inside.heads) c.args.self.now c.self.invariant c.self.view_is c.args.encoding c.block_at-index.result c.index-block.result.now c.args.position c.index.result.now c.index-in-Ok.result.now c.deref.result.now c.of-heads.result.now
-    c.index-block.ensures c.deref.ensures.value c.of-heads.ensures (omega arith) c.block_at-index.ensures c.index.ensures c.index-in-Ok.ensures)
-    (c.in-Ok.ensures ∙ ap (λ (q : Position). option_map (place_of (chars c.index-block.result.now)) (denoted (units_in c.args.encoding) (chars c.index-block.result.now) q)) c.position_after-inner.ensures))).0 in
-    omega (arith, within, bytes_size c.self.inside.blocks.items c.self.inside.starts.items c.self.inside.lines.items c.args.self.now c.self.invariant.sums c.self.view_is)
+    (denoted_boundary (units_in c.args.encoding) c.args.self.now c.args.position
+    (c.index-in-Ok.result.now + c.in-Ok.offset)
+    (bytes_utf8 c.self.inside.blocks.items c.self.inside.starts.items c.self.inside.lines.items c.args.self.now
+    c.self.invariant.sums c.self.view_is)
+    (resolved_found c.args.self.now (concat (take c.block_at-index.result c.self.inside.blocks.items))
+    c.index-block.result.now (concat (drop (c.block_at-index.result + 1) c.self.inside.blocks.items)) c.args.encoding
+    c.args.position c.index.result.now (slice_index c.of-heads.result.now c.block_at-index.result)
+    c.index-in-Ok.result.now (Some c.in-Ok.offset)
+    (found_shown c.self.inside.blocks.items c.self.inside.starts.items c.self.inside.lines.items
+    (row_of c.self.inside.heads) c.args.self.now c.self.invariant c.self.view_is c.args.encoding c.block_at-index.result
+    c.index-block.result.now c.args.position c.index.result.now c.index-in-Ok.result.now c.deref.result.now
+    c.of-heads.result.now
+    c.index-block.ensures c.deref.ensures.value c.of-heads.ensures (omega arith) c.block_at-index.ensures
+    c.index.ensures c.index-in-Ok.ensures)
+    (c.in-Ok.ensures ∙ ap (λ (q : Position). option_map (place_of (chars c.index-block.result.now))
+    (denoted (units_in c.args.encoding) (chars c.index-block.result.now) q)) c.position_after-inner.ensures))).0 in
+    omega (
+      arith,
+      within,
+      bytes_size c.self.inside.blocks.items c.self.inside.starts.items c.self.inside.lines.items c.args.self.now
+          c.self.invariant.sums c.self.view_is,
+    )
 
 pub returns-in-Err-clause-value : goal.returns-in-Err-clause-value
 returns-in-Err-clause-value c =
-    resolved_found c.args.self.now (concat (take c.block_at-index.result c.self.inside.blocks.items)) c.index-block.result.now (concat (drop (c.block_at-index.result + 1) c.self.inside.blocks.items)) c.args.encoding c.args.position c.index.result.now (slice_index c.of-heads.result.now c.block_at-index.result) (get_or c.self.inside.starts.items c.block_at-index.result 0) None
-    (found_shown c.self.inside.blocks.items c.self.inside.starts.items c.self.inside.lines.items (row_of c.self.inside.heads) c.args.self.now c.self.invariant c.self.view_is c.args.encoding c.block_at-index.result c.index-block.result.now c.args.position c.index.result.now (get_or c.self.inside.starts.items c.block_at-index.result 0) c.deref.result.now c.of-heads.result.now
-    c.index-block.ensures c.deref.ensures.value c.of-heads.ensures (omega arith) c.block_at-index.ensures c.index.ensures (same_default c.self.inside.starts.items c.block_at-index.result (omega (arith, (shown_within c.self.inside.blocks.items c.self.inside.starts.items c.self.inside.lines.items (row_of c.self.inside.heads) c.args.self.now c.self.invariant c.self.view_is c.args.encoding c.block_at-index.result (mark c.args.position.line c.args.position.character) c.deref.result.now c.of-heads.result.now c.deref.ensures.value c.of-heads.ensures c.block_at-index.ensures), starts_count c.self.inside.blocks.items c.self.inside.starts.items c.self.inside.lines.items c.self.invariant.sums))))
-    (c.in-Err.ensures ∙ ap (λ (q : Position). option_map (place_of (chars c.index-block.result.now)) (denoted (units_in c.args.encoding) (chars c.index-block.result.now) q)) c.position_after-inner.ensures)
+    resolved_found c.args.self.now (concat (take c.block_at-index.result c.self.inside.blocks.items))
+    c.index-block.result.now (concat (drop (c.block_at-index.result + 1) c.self.inside.blocks.items)) c.args.encoding
+    c.args.position c.index.result.now (slice_index c.of-heads.result.now c.block_at-index.result)
+    (get_or c.self.inside.starts.items c.block_at-index.result 0) None
+    (found_shown c.self.inside.blocks.items c.self.inside.starts.items c.self.inside.lines.items
+    (row_of c.self.inside.heads) c.args.self.now c.self.invariant c.self.view_is c.args.encoding c.block_at-index.result
+    c.index-block.result.now c.args.position c.index.result.now
+    (get_or c.self.inside.starts.items c.block_at-index.result 0) c.deref.result.now c.of-heads.result.now
+    c.index-block.ensures c.deref.ensures.value c.of-heads.ensures (omega arith) c.block_at-index.ensures
+    c.index.ensures (same_default c.self.inside.starts.items c.block_at-index.result
+    (omega (
+      arith,
+      (shown_within c.self.inside.blocks.items c.self.inside.starts.items c.self.inside.lines.items
+          (row_of c.self.inside.heads) c.args.self.now c.self.invariant c.self.view_is c.args.encoding
+          c.block_at-index.result (mark c.args.position.line c.args.position.character) c.deref.result.now
+          c.of-heads.result.now c.deref.ensures.value c.of-heads.ensures c.block_at-index.ensures),
+      starts_count c.self.inside.blocks.items c.self.inside.starts.items c.self.inside.lines.items
+          c.self.invariant.sums,
+    ))))
+    (c.in-Err.ensures ∙ ap (λ (q : Position). option_map (place_of (chars c.index-block.result.now))
+    (denoted (units_in c.args.encoding) (chars c.index-block.result.now) q)) c.position_after-inner.ensures)

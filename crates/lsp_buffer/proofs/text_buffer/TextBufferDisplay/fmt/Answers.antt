@@ -9,5 +9,6 @@ pub loop-block-preserved : goal.loop-block-preserved
 loop-block-preserved g c = λ plain.
     subst (λ (bs : List ℕ). HasWritten g.W.Write.write_str_gives c.args.f.now bs c.write_str.new.self)
     (ap (λ bs. concat (take c.loop-block.block-index c.deref-block-items.result.now) ++ bs) c.text.ensures ∙
-    sym (concat_more c.deref-block-items.result.now c.loop-block.block-index c.block-item.result c.loop-block-test.true c.block-item.is))
+    sym (concat_more c.deref-block-items.result.now c.loop-block.block-index c.block-item.result c.loop-block-test.true
+    c.block-item.is))
     (has_written_append _ _ _ _ _ _ (c.loop-block.invariant plain) (search rules))

@@ -11,10 +11,18 @@ put_inside-requires-clause-are c = c.requires.are.sums
 
 pub put-requires : goal.put-requires
 put-requires c =
-    subst (λ (bs : List (List ℕ)). WereHeads bs c.args.index c.deref.result.now (row_of c.args.heads.now)) (sym c.deref-2.ensures.value)
-    (subst (λ (ls : List ℕ). WereHeads c.put_inside.new.blocks.items c.args.index ls (row_of c.args.heads.now)) (sym c.deref.ensures.value)
-    (were_heads c.args.blocks.now.items c.put_inside.new.blocks.items c.put_inside.new.starts.items c.put_inside.new.lines.items c.args.index (row_of c.args.heads.now) c.in_ok-put_inside.ensures.other c.put_inside.ensures.are c.requires.are.heads_are
-    (omega (arith, c.requires.first.within, starts_count c.args.blocks.now.items c.args.starts.now.items c.args.lines.now.items c.requires.are.sums))))
+    subst (λ (bs : List (List ℕ)). WereHeads bs c.args.index c.deref.result.now (row_of c.args.heads.now))
+    (sym c.deref-2.ensures.value)
+    (subst (λ (ls : List ℕ). WereHeads c.put_inside.new.blocks.items c.args.index ls (row_of c.args.heads.now))
+    (sym c.deref.ensures.value)
+    (were_heads c.args.blocks.now.items c.put_inside.new.blocks.items c.put_inside.new.starts.items
+    c.put_inside.new.lines.items c.args.index (row_of c.args.heads.now) c.in_ok-put_inside.ensures.other
+    c.put_inside.ensures.are c.requires.are.heads_are
+    (omega (
+      arith,
+      c.requires.first.within,
+      starts_count c.args.blocks.now.items c.args.starts.now.items c.args.lines.now.items c.requires.are.sums,
+    ))))
 
 pub returns-clause-are : goal.returns-clause-are
 returns-clause-are c = record {
@@ -28,5 +36,6 @@ returns-clause-changed c = c.in_ok-put_inside.ensures.changed
 pub returns-in_err-put_inside-clause-are : goal.returns-in_err-put_inside-clause-are
 returns-in_err-put_inside-clause-are c = record {
   sums = c.put_inside.ensures.are;
-  heads_are = λ e. c.requires.are.heads_are e ∙ ap (heads_from (units_in e) 0) (sym c.in_err-put_inside.ensures.unchanged);
+  heads_are = λ e. c.requires.are.heads_are e ∙ ap (heads_from (units_in e) 0)
+      (sym c.in_err-put_inside.ensures.unchanged);
 }

@@ -12,7 +12,8 @@ pub returns-in_err-send_close-in-Ready-clause-error : goal.returns-in_err-send_c
 returns-in_err-send_close-in-Ready-clause-error c =
     let p = err_from_is_err_and c.from_residual.result c.from_residual.ensures.1 in
     rw (p.1, p.2)
-    (order_fault c.args.self.now (closes c.args.uri.now) c.in_err-send_close-in-Ready.field-0.0 (sym (ap (λ (x : ClientData). x.phase) c.self.view_is) ∙ c.in-Ready.is) c.in_err-send_close-in-Ready.ensures.error)
+    (order_fault c.args.self.now (closes c.args.uri.now) c.in_err-send_close-in-Ready.field-0.0
+    (sym (ap (λ (x : ClientData). x.phase) c.self.view_is) ∙ c.in-Ready.is) c.in_err-send_close-in-Ready.ensures.error)
 
 pub returns-in_err-send_close-in-Ready-clause-memory : goal.returns-in_err-send_close-in-Ready-clause-memory
 returns-in_err-send_close-in-Ready-clause-memory c = λ e.
@@ -21,6 +22,7 @@ returns-in_err-send_close-in-Ready-clause-memory c = λ e.
     let same = p.2 in
     let was = c.in_err-send_close-in-Ready.was in
     let given : client_fault c.in_err-send_close-in-Ready.field-0.0 ≡ NoMemory = cc in
-    let fault : c.in_err-send_close-in-Ready.field-0.0 ≡ store_faults.NoMemory = client_no_memory c.in_err-send_close-in-Ready.field-0.0 given in
+    let fault : c.in_err-send_close-in-Ready.field-0.0 ≡ store_faults.NoMemory =
+    client_no_memory c.in_err-send_close-in-Ready.field-0.0 given in
     let no_memory : c.send_close.result ≡ Err store_faults.NoMemory = cc in
     (sym (ap (λ (x : ClientData). x.phase) c.self.view_is) ∙ c.in-Ready.is, (c.send_close.ensures.memory no_memory))

@@ -15,36 +15,60 @@ replace-requires-clause-order c =
 
 pub replace-requires-clause-at_start : goal.replace-requires-clause-at_start
 replace-requires-clause-at_start c =
-    let p : IsPut (units_in c.args.encoding) c.as_old-before.result c.args.start c.args.stop c.args.new.now = subst (λ (bytes : List ℕ). IsPut (units_in c.args.encoding) bytes c.args.start c.args.stop c.args.new.now) (sym c.as_old-before.ensures) c.requires.put in
-    subst (λ (parts : List Part). AreCut parts c.args.start) (sym c.whole-spans.ensures.parts) (put_start_cut _ _ _ _ _ p)
+    let p : IsPut (units_in c.args.encoding) c.as_old-before.result c.args.start c.args.stop c.args.new.now =
+    subst (λ (bytes : List ℕ). IsPut (units_in c.args.encoding) bytes c.args.start c.args.stop c.args.new.now)
+    (sym c.as_old-before.ensures) c.requires.put in
+    subst (λ (parts : List Part). AreCut parts c.args.start) (sym c.whole-spans.ensures.parts)
+    (put_start_cut _ _ _ _ _ p)
 
 pub replace-requires-clause-at_stop : goal.replace-requires-clause-at_stop
 replace-requires-clause-at_stop c =
-    let p : IsPut (units_in c.args.encoding) c.as_old-before.result c.args.start c.args.stop c.args.new.now = subst (λ (bytes : List ℕ). IsPut (units_in c.args.encoding) bytes c.args.start c.args.stop c.args.new.now) (sym c.as_old-before.ensures) c.requires.put in
+    let p : IsPut (units_in c.args.encoding) c.as_old-before.result c.args.start c.args.stop c.args.new.now =
+    subst (λ (bytes : List ℕ). IsPut (units_in c.args.encoding) bytes c.args.start c.args.stop c.args.new.now)
+    (sym c.as_old-before.ensures) c.requires.put in
     subst (λ (parts : List Part). AreCut parts c.args.stop) (sym c.whole-spans.ensures.parts) (put_stop_cut _ _ _ _ _ p)
 
 pub replace-requires-clause-ordered : goal.replace-requires-clause-ordered
 replace-requires-clause-ordered c =
-    let p : IsPut (units_in c.args.encoding) c.as_old-before.result c.args.start c.args.stop c.args.new.now = subst (λ (bytes : List ℕ). IsPut (units_in c.args.encoding) bytes c.args.start c.args.stop c.args.new.now) (sym c.as_old-before.ensures) c.requires.put in
+    let p : IsPut (units_in c.args.encoding) c.as_old-before.result c.args.start c.args.stop c.args.new.now =
+    subst (λ (bytes : List ℕ). IsPut (units_in c.args.encoding) bytes c.args.start c.args.stop c.args.new.now)
+    (sym c.as_old-before.ensures) c.requires.put in
     subst AreOrdered (sym c.whole-spans.ensures.parts) (put_ordered _ _ _ _ _ p)
 
 pub canonical_of-requires-clause-parts : goal.canonical_of-requires-clause-parts
 canonical_of-requires-clause-parts c =
-    let p : IsPut (units_in c.args.encoding) c.as_old-before.result c.args.start c.args.stop c.args.new.now = subst (λ (bytes : List ℕ). IsPut (units_in c.args.encoding) bytes c.args.start c.args.stop c.args.new.now) (sym c.as_old-before.ensures) c.requires.put in
-    let made : parts_of c.as_slice.result.now ≡ replaced_parts (whole_parts c.as_old-before.result) c.args.start c.args.stop c.args.new.now
-    = ap parts_of c.as_slice.ensures ∙ (c.in_ok-replace.ensures.ok ∙ ap (λ (parts : List Part). replaced_parts parts c.args.start c.args.stop c.args.new.now) c.whole-spans.ensures.parts) in
+    let p : IsPut (units_in c.args.encoding) c.as_old-before.result c.args.start c.args.stop c.args.new.now =
+    subst (λ (bytes : List ℕ). IsPut (units_in c.args.encoding) bytes c.args.start c.args.stop c.args.new.now)
+    (sym c.as_old-before.ensures) c.requires.put in
+    let made : parts_of c.as_slice.result.now ≡ replaced_parts (whole_parts c.as_old-before.result) c.args.start
+    c.args.stop c.args.new.now
+    = ap parts_of c.as_slice.ensures
+    ∙ (c.in_ok-replace.ensures.ok ∙ ap (λ (parts : List Part). replaced_parts parts c.args.start c.args.stop
+    c.args.new.now) c.whole-spans.ensures.parts) in
     subst (AreParts c.as_old-before.result) (sym made) (put_are _ _ _ _ _ p)
 
 pub canonical_of-requires-clause-ends : goal.canonical_of-requires-clause-ends
 canonical_of-requires-clause-ends c =
-    let p : IsPut (units_in c.args.encoding) c.as_old-before.result c.args.start c.args.stop c.args.new.now = subst (λ (bytes : List ℕ). IsPut (units_in c.args.encoding) bytes c.args.start c.args.stop c.args.new.now) (sym c.as_old-before.ensures) c.requires.put in
-    let made : parts_of c.as_slice.result.now ≡ replaced_parts (whole_parts c.as_old-before.result) c.args.start c.args.stop c.args.new.now
-    = ap parts_of c.as_slice.ensures ∙ (c.in_ok-replace.ensures.ok ∙ ap (λ (parts : List Part). replaced_parts parts c.args.start c.args.stop c.args.new.now) c.whole-spans.ensures.parts) in
-    subst (λ (parts : List Part). AllHaveExactEnds (chars c.as_old-before.result) (gaps (chars c.as_old-before.result) (items_of (chars c.as_old-before.result) parts))) (sym made) (put_exact _ _ _ _ _ p)
+    let p : IsPut (units_in c.args.encoding) c.as_old-before.result c.args.start c.args.stop c.args.new.now =
+    subst (λ (bytes : List ℕ). IsPut (units_in c.args.encoding) bytes c.args.start c.args.stop c.args.new.now)
+    (sym c.as_old-before.ensures) c.requires.put in
+    let made : parts_of c.as_slice.result.now ≡ replaced_parts (whole_parts c.as_old-before.result) c.args.start
+    c.args.stop c.args.new.now
+    = ap parts_of c.as_slice.ensures
+    ∙ (c.in_ok-replace.ensures.ok ∙ ap (λ (parts : List Part). replaced_parts parts c.args.start c.args.stop
+    c.args.new.now) c.whole-spans.ensures.parts) in
+    subst (λ (parts : List Part). AllHaveExactEnds (chars c.as_old-before.result)
+    (gaps (chars c.as_old-before.result) (items_of (chars c.as_old-before.result) parts))) (sym made)
+    (put_exact _ _ _ _ _ p)
 
 pub returns : goal.returns
 returns c =
-    let p : IsPut (units_in c.args.encoding) c.as_old-before.result c.args.start c.args.stop c.args.new.now = subst (λ (bytes : List ℕ). IsPut (units_in c.args.encoding) bytes c.args.start c.args.stop c.args.new.now) (sym c.as_old-before.ensures) c.requires.put in
-    let made : parts_of c.as_slice.result.now ≡ replaced_parts (whole_parts c.as_old-before.result) c.args.start c.args.stop c.args.new.now
-    = ap parts_of c.as_slice.ensures ∙ (c.in_ok-replace.ensures.ok ∙ ap (λ (parts : List Part). replaced_parts parts c.args.start c.args.stop c.args.new.now) c.whole-spans.ensures.parts) in
+    let p : IsPut (units_in c.args.encoding) c.as_old-before.result c.args.start c.args.stop c.args.new.now =
+    subst (λ (bytes : List ℕ). IsPut (units_in c.args.encoding) bytes c.args.start c.args.stop c.args.new.now)
+    (sym c.as_old-before.ensures) c.requires.put in
+    let made : parts_of c.as_slice.result.now ≡ replaced_parts (whole_parts c.as_old-before.result) c.args.start
+    c.args.stop c.args.new.now
+    = ap parts_of c.as_slice.ensures
+    ∙ (c.in_ok-replace.ensures.ok ∙ ap (λ (parts : List Part). replaced_parts parts c.args.start c.args.stop
+    c.args.new.now) c.whole-spans.ensures.parts) in
     rw (made, put_items_are _ _ _ _ _ p, c.as_old-before.ensures) at c.canonical_of.ensures

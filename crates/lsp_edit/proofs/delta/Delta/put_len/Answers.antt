@@ -9,4 +9,10 @@ pub overflow_sub-result-2 : goal.overflow_sub-result-2
 overflow_sub-result-2 c = omega (arith, (put_stop _ _ _ _ _ c.requires.put).0, c.len.ensures.len)
 
 pub returns : goal.returns
-returns c = omega (arith, put_len _ _ _ _ _ c.requires.put, put_order _ _ _ _ _ c.requires.put, (put_stop _ _ _ _ _ c.requires.put).0, c.len.ensures.len)
+returns c = omega (
+  arith,
+  put_len _ _ _ _ _ c.requires.put,
+  put_order _ _ _ _ _ c.requires.put,
+  (put_stop _ _ _ _ _ c.requires.put).0,
+  c.len.ensures.len,
+)

@@ -8,11 +8,13 @@ replaced-requires-clause-order c = put_order _ _ _ _ _ c.requires.put
 
 pub replaced-requires-clause-at_start : goal.replaced-requires-clause-at_start
 replaced-requires-clause-at_start c =
-    subst (λ (bytes : List ℕ). IsCharBoundary bytes c.args.start) (sym c.as_old-before.ensures) (put_start _ _ _ _ _ c.requires.put)
+    subst (λ (bytes : List ℕ). IsCharBoundary bytes c.args.start) (sym c.as_old-before.ensures)
+    (put_start _ _ _ _ _ c.requires.put)
 
 pub replaced-requires-clause-at_end : goal.replaced-requires-clause-at_end
 replaced-requires-clause-at_end c =
-    subst (λ (bytes : List ℕ). IsCharBoundary bytes c.args.stop) (sym c.as_old-before.ensures) (put_stop _ _ _ _ _ c.requires.put)
+    subst (λ (bytes : List ℕ). IsCharBoundary bytes c.args.stop) (sym c.as_old-before.ensures)
+    (put_stop _ _ _ _ _ c.requires.put)
 
 pub returns : goal.returns
 returns c = rw c.as_old-before.ensures at c.replaced.ensures

@@ -8,4 +8,5 @@ use Rattle.lsp_edit.proofs.indexed.IndexedText.after_all.Given as goal
 
 abbrev pub invariant-loop-number : goal.invariant-loop-number
 invariant-loop-number l =
-    Drafting (units_in l.encoding) (text_after_changes (units_in l.encoding) 0 (chars l.fn.self) (map edit_of l.changes)) l.number (drop l.number l.changes) l.draft
+    Drafting (units_in l.encoding) (text_after_changes (units_in l.encoding) 0 (chars l.fn.self)
+    (map edit_of l.changes)) l.number (drop l.number l.changes) l.draft

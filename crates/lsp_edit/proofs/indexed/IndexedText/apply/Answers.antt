@@ -8,20 +8,33 @@ use Rattle.lsp_edit.proofs.indexed.IndexedText.apply.Goals as goal
 
 pub replace_range-requires-clause-order : goal.replace_range-requires-clause-order
 replace_range-requires-clause-order c =
-    let p : IsPut (units_in c.in-Put.encoding) c.args.self.now c.in-Put.start c.in-Put.stop c.in-Put.new.now = subst (IsOn c.args.self.now) c.in-Put.is c.requires.on in
+    let p : IsPut (units_in c.in-Put.encoding) c.args.self.now c.in-Put.start c.in-Put.stop c.in-Put.new.now =
+    subst (IsOn c.args.self.now) c.in-Put.is c.requires.on in
     put_order _ _ _ _ _ p
 
 pub replace_range-requires-clause-at_start : goal.replace_range-requires-clause-at_start
 replace_range-requires-clause-at_start c =
-    let p : IsPut (units_in c.in-Put.encoding) c.args.self.now c.in-Put.start c.in-Put.stop c.in-Put.new.now = subst (IsOn c.args.self.now) c.in-Put.is c.requires.on in
+    let p : IsPut (units_in c.in-Put.encoding) c.args.self.now c.in-Put.start c.in-Put.stop c.in-Put.new.now =
+    subst (IsOn c.args.self.now) c.in-Put.is c.requires.on in
     subst (λ (bytes : List ℕ). IsCharBoundary bytes c.in-Put.start) (sym c.self.view_is) (put_start _ _ _ _ _ p)
 
 pub replace_range-requires-clause-at_end : goal.replace_range-requires-clause-at_end
 replace_range-requires-clause-at_end c =
-    let p : IsPut (units_in c.in-Put.encoding) c.args.self.now c.in-Put.start c.in-Put.stop c.in-Put.new.now = subst (IsOn c.args.self.now) c.in-Put.is c.requires.on in
+    let p : IsPut (units_in c.in-Put.encoding) c.args.self.now c.in-Put.start c.in-Put.stop c.in-Put.new.now =
+    subst (IsOn c.args.self.now) c.in-Put.is c.requires.on in
     subst (λ (bytes : List ℕ). IsCharBoundary bytes c.in-Put.stop) (sym c.self.view_is) (put_stop _ _ _ _ _ p)
 
 pub replace_range-requires-clause-room : goal.replace_range-requires-clause-room
 replace_range-requires-clause-room c =
-    let p : IsPut (units_in c.in-Put.encoding) c.args.self.now c.in-Put.start c.in-Put.stop c.in-Put.new.now = subst (IsOn c.args.self.now) c.in-Put.is c.requires.on in
-    omega (arith, put_len _ _ _ _ _ p, put_order _ _ _ _ _ p, (put_stop _ _ _ _ _ p).0, p.size, p.short, ap (λ (bytes : List ℕ). length (replace_range bytes c.in-Put.start c.in-Put.stop c.in-Put.new.now)) c.self.view_is)
+    let p : IsPut (units_in c.in-Put.encoding) c.args.self.now c.in-Put.start c.in-Put.stop c.in-Put.new.now =
+    subst (IsOn c.args.self.now) c.in-Put.is c.requires.on in
+    omega (
+      arith,
+      put_len _ _ _ _ _ p,
+      put_order _ _ _ _ _ p,
+      (put_stop _ _ _ _ _ p).0,
+      p.size,
+      p.short,
+      ap (λ (bytes : List ℕ). length (replace_range bytes c.in-Put.start c.in-Put.stop c.in-Put.new.now))
+          c.self.view_is,
+    )

@@ -8,12 +8,14 @@ use Rattle.lsp_edit.proofs.indexed.IndexedText.batch_of_edits.Goals as goal
 pub canonical_of-requires-clause-parts : goal.canonical_of-requires-clause-parts
 canonical_of-requires-clause-parts c =
     rw c.deref.ensures.value
-    (parts_are c.as_old-text.result c.in_ok-spans.ensures.utf8 (units_in c.args.encoding) c.args.edits.now (parts_of c.in_ok-spans.spans.items) c.in_ok-spans.ensures.are)
+    (parts_are c.as_old-text.result c.in_ok-spans.ensures.utf8 (units_in c.args.encoding) c.args.edits.now
+    (parts_of c.in_ok-spans.spans.items) c.in_ok-spans.ensures.are)
 
 pub canonical_of-requires-clause-ends : goal.canonical_of-requires-clause-ends
 canonical_of-requires-clause-ends c =
     rw c.deref.ensures.value
-    (ends_exact _ _ (items_keep c.as_old-text.result c.in_ok-spans.ensures.utf8 (units_in c.args.encoding) c.args.edits.now (parts_of c.in_ok-spans.spans.items) c.in_ok-spans.ensures.are))
+    (ends_exact _ _ (items_keep c.as_old-text.result c.in_ok-spans.ensures.utf8 (units_in c.args.encoding)
+    c.args.edits.now (parts_of c.in_ok-spans.spans.items) c.in_ok-spans.ensures.are))
 
 pub returns-clause-batch : goal.returns-clause-batch
 returns-clause-batch c =
@@ -23,5 +25,6 @@ returns-clause-batch c =
       parts = parts_of c.in_ok-spans.spans.items;
       edited = c.in_ok-spans.ensures.are;
       is = made;
-      means = batch_means c.as_old-text.result c.in_ok-spans.ensures.utf8 (units_in c.args.encoding) c.args.edits.now (parts_of c.in_ok-spans.spans.items) c.in_ok-spans.ensures.are (units_some c.args.encoding) _ made;
+      means = batch_means c.as_old-text.result c.in_ok-spans.ensures.utf8 (units_in c.args.encoding) c.args.edits.now
+          (parts_of c.in_ok-spans.spans.items) c.in_ok-spans.ensures.are (units_some c.args.encoding) _ made;
     })

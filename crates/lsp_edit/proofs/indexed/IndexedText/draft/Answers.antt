@@ -8,14 +8,21 @@ use Rattle.lsp_edit.proofs.indexed.IndexedText.draft.Goals as goal
 pub returns-in_err-draft-clause-error : goal.returns-in_err-draft-clause-error
 returns-in_err-draft-clause-error c =
     let p = err_from_is_err_and c.from_residual.result c.from_residual.ensures.1 in
-    rw (p.1, p.2) (left_fault (units_in c.args.encoding) c.args.self.now (map edit_of c.args.changes.now) c.args.max_len _ c.in_err-draft.ensures.error)
+    rw (
+      p.1,
+      p.2,
+    ) (left_fault (units_in c.args.encoding) c.args.self.now (map edit_of c.args.changes.now) c.args.max_len _
+    c.in_err-draft.ensures.error)
 
 pub returns-in_err-may_be_left-clause-error : goal.returns-in_err-may_be_left-clause-error
 returns-in_err-may_be_left-clause-error c =
-    let p = err_from_is_err_and c.from_residual-in_err-may_be_left.result c.from_residual-in_err-may_be_left.ensures.1 in
+    let p = err_from_is_err_and c.from_residual-in_err-may_be_left.result
+    c.from_residual-in_err-may_be_left.ensures.1 in
     rw (p.1, p.2, c.in_err-may_be_left.ensures.error.0)
-    (inr (left_too_long (units_in c.args.encoding) c.args.self.now (map edit_of c.args.changes.now) c.in_ok-draft.draft c.in_err-may_be_left.ensures.utf8 c.in_ok-draft.ensures.ok c.args.max_len c.in_err-may_be_left.ensures.error.1))
+    (inr (left_too_long (units_in c.args.encoding) c.args.self.now (map edit_of c.args.changes.now) c.in_ok-draft.draft
+    c.in_err-may_be_left.ensures.utf8 c.in_ok-draft.ensures.ok c.args.max_len c.in_err-may_be_left.ensures.error.1))
 
 pub returns-clause-ok : goal.returns-clause-ok
 returns-clause-ok c =
-    left_within (units_in c.args.encoding) c.args.self.now (map edit_of c.args.changes.now) c.in_ok-draft.draft c.in_ok-may_be_left.ensures.utf8 c.in_ok-draft.ensures.ok c.args.max_len c.in_ok-may_be_left.ensures.ok
+    left_within (units_in c.args.encoding) c.args.self.now (map edit_of c.args.changes.now) c.in_ok-draft.draft
+    c.in_ok-may_be_left.ensures.utf8 c.in_ok-draft.ensures.ok c.args.max_len c.in_ok-may_be_left.ensures.ok

@@ -6,20 +6,29 @@ use Rattle.lsp_edit.proofs.joined.Joined.join_last.Goals as goal
 
 pub then-requires-clause-through : goal.then-requires-clause-through
 then-requires-clause-through c =
-    last_through (chars c.self.inside.before) (plain (chars c.self.inside.before)) c.self.inside.layers.items _ c.index-first.result.now c.index-second.result.now
-    (two_last c.self.inside.layers.items c.len-len.result c.index-first.result.now c.index-second.result.now (omega (arith, c.if-len-lt2.false)) (omega (arith, c.len-len.ensures, c.self.inside.layers.ok)) c.index-first.ensures c.index-second.ensures)
+    last_through (chars c.self.inside.before) (plain (chars c.self.inside.before)) c.self.inside.layers.items _
+    c.index-first.result.now c.index-second.result.now
+    (two_last c.self.inside.layers.items c.len-len.result c.index-first.result.now c.index-second.result.now
+    (omega (arith, c.if-len-lt2.false)) (omega (arith, c.len-len.ensures, c.self.inside.layers.ok))
+    c.index-first.ensures c.index-second.ensures)
     c.self.invariant
 
 pub then-requires-clause-order : goal.then-requires-clause-order
 then-requires-clause-order c =
-    last_order (chars c.self.inside.before) (plain (chars c.self.inside.before)) c.self.inside.layers.items _ c.index-first.result.now c.index-second.result.now
-    (two_last c.self.inside.layers.items c.len-len.result c.index-first.result.now c.index-second.result.now (omega (arith, c.if-len-lt2.false)) (omega (arith, c.len-len.ensures, c.self.inside.layers.ok)) c.index-first.ensures c.index-second.ensures)
+    last_order (chars c.self.inside.before) (plain (chars c.self.inside.before)) c.self.inside.layers.items _
+    c.index-first.result.now c.index-second.result.now
+    (two_last c.self.inside.layers.items c.len-len.result c.index-first.result.now c.index-second.result.now
+    (omega (arith, c.if-len-lt2.false)) (omega (arith, c.len-len.ensures, c.self.inside.layers.ok))
+    c.index-first.ensures c.index-second.ensures)
     c.self.invariant
 
 pub invariant_of-self : goal.invariant_of-self
 invariant_of-self c =
-    last_all (chars c.self.inside.before) (plain (chars c.self.inside.before)) c.self.inside.layers.items _ c.index-first.result.now c.index-second.result.now
-    (two_last c.self.inside.layers.items c.len-len.result c.index-first.result.now c.index-second.result.now (omega (arith, c.if-len-lt2.false)) (omega (arith, c.len-len.ensures, c.self.inside.layers.ok)) c.index-first.ensures c.index-second.ensures)
+    last_all (chars c.self.inside.before) (plain (chars c.self.inside.before)) c.self.inside.layers.items _
+    c.index-first.result.now c.index-second.result.now
+    (two_last c.self.inside.layers.items c.len-len.result c.index-first.result.now c.index-second.result.now
+    (omega (arith, c.if-len-lt2.false)) (omega (arith, c.len-len.ensures, c.self.inside.layers.ok))
+    c.index-first.ensures c.index-second.ensures)
     c.self.invariant
     c.in_ok-both.both
     c.in_ok-both.ensures
@@ -28,8 +37,11 @@ invariant_of-self c =
 
 pub returns : goal.returns
 returns c =
-    let same = last_same (chars c.self.inside.before) (plain (chars c.self.inside.before)) c.self.inside.layers.items _ c.index-first.result.now c.index-second.result.now
-    (two_last c.self.inside.layers.items c.len-len.result c.index-first.result.now c.index-second.result.now (omega (arith, c.if-len-lt2.false)) (omega (arith, c.len-len.ensures, c.self.inside.layers.ok)) c.index-first.ensures c.index-second.ensures)
+    let same = last_same (chars c.self.inside.before) (plain (chars c.self.inside.before)) c.self.inside.layers.items _
+    c.index-first.result.now c.index-second.result.now
+    (two_last c.self.inside.layers.items c.len-len.result c.index-first.result.now c.index-second.result.now
+    (omega (arith, c.if-len-lt2.false)) (omega (arith, c.len-len.ensures, c.self.inside.layers.ok))
+    c.index-first.ensures c.index-second.ensures)
     c.self.invariant
     c.in_ok-both.both
     c.in_ok-both.ensures

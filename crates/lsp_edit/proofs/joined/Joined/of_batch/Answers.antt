@@ -18,8 +18,10 @@ loop-run-init c =
     = subst (IsReached c.in_ok-joined.joined) (sym c.in_ok-reached.ensures.copy) c.in_ok-joined.ensures.reached in (
       search rules,
       rw rest c.requires.fits,
-      subst (λ (r : List Change). IsRun (units_in c.args.encoding) c.args.before.now batch c.in_ok-joined.joined c.in_ok-reached.reached (map edit_of r)) (sym rest)
-          (run_begins (units_in c.args.encoding) c.args.before.now batch c.in_ok-joined.joined c.in_ok-reached.reached c.in_ok-reached.ensures.utf8 c.in_ok-joined.ensures.joined at
+      subst (λ (r : List Change). IsRun (units_in c.args.encoding) c.args.before.now batch c.in_ok-joined.joined
+          c.in_ok-reached.reached (map edit_of r)) (sym rest)
+          (run_begins (units_in c.args.encoding) c.args.before.now batch c.in_ok-joined.joined c.in_ok-reached.reached
+          c.in_ok-reached.ensures.utf8 c.in_ok-joined.ensures.joined at
           (omega (arith, ap length c.in_ok-reached.ensures.copy, c.requires.size))),
     )
 
@@ -27,17 +29,22 @@ pub loop-run-preserved : goal.loop-run-preserved
 loop-run-preserved c =
     let steps = c.in-Some.ensures.steps in
     let f = (λ (change : Change). string_len change.text) in
-    let sum : sum_by f (chunks_rest c.loop-run.run-iterator) ≡ sum_by f c.in-Some.run'.now + sum_by f (chunks_rest c.next.new.self)
+    let sum : sum_by f (chunks_rest c.loop-run.run-iterator) ≡ sum_by f c.in-Some.run'.now
+    + sum_by f (chunks_rest c.next.new.self)
     = ap (sum_by f) steps.1.0 ∙ sum_by-append f c.in-Some.run'.now (chunks_rest c.next.new.self) in (
       omega (arith, steps.0, c.loop-run.invariant.0),
       omega (arith, sum, c.loop-run.invariant.1),
-      run_next (units_in c.args.encoding) c.args.before.now (map edit_of c.args.changes.now) c.loop-run.joined c.change.new.self c.loop-run.reached c.change.new.reached
-          (map edit_of c.in-Some.run'.now) (map edit_of (chunks_rest c.loop-run.run-iterator)) (map edit_of (chunks_rest c.next.new.self)) c.loop-run.invariant.2
+      run_next (units_in c.args.encoding) c.args.before.now (map edit_of c.args.changes.now) c.loop-run.joined
+          c.change.new.self c.loop-run.reached c.change.new.reached
+          (map edit_of c.in-Some.run'.now) (map edit_of (chunks_rest c.loop-run.run-iterator))
+          (map edit_of (chunks_rest c.next.new.self)) c.loop-run.invariant.2
           (ap (map edit_of) steps.1.0 ∙ map-append edit_of c.in-Some.run'.now (chunks_rest c.next.new.self))
           c.in_ok-change.ensures.ok c.in_ok-change.ensures.reached c.in_ok-change.ensures.changed,
     )
 
 pub returns : goal.returns
 returns c =
-    run_ends (units_in c.args.encoding) c.args.before.now (map edit_of c.args.changes.now) c.args.max_len c.loop-run.joined c.loop-run.reached (map edit_of (chunks_rest c.loop-run.run-iterator)) c.loop-run.invariant.2
-    (ap (map edit_of) (nil_from_length _ c.in-None.ensures.steps.1.0)) (omega (arith, c.if-len-max_len.false, c.len.ensures.len))
+    run_ends (units_in c.args.encoding) c.args.before.now (map edit_of c.args.changes.now) c.args.max_len
+    c.loop-run.joined c.loop-run.reached (map edit_of (chunks_rest c.loop-run.run-iterator)) c.loop-run.invariant.2
+    (ap (map edit_of) (nil_from_length _ c.in-None.ensures.steps.1.0))
+    (omega (arith, c.if-len-max_len.false, c.len.ensures.len))

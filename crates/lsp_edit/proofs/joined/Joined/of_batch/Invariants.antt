@@ -10,4 +10,5 @@ abbrev pub invariant-loop-run : goal.invariant-loop-run
 invariant-loop-run l =
     (0 < chunks_size l.run-iterator)
     × (sum_by (λ (change : Change). string_len change.text) (chunks_rest l.run-iterator) ≤ 1073741824)
-    × IsRun (units_in l.encoding) l.before (map edit_of l.changes) l.joined l.reached (map edit_of (chunks_rest l.run-iterator))
+    × IsRun (units_in l.encoding) l.before (map edit_of l.changes) l.joined l.reached
+    (map edit_of (chunks_rest l.run-iterator))

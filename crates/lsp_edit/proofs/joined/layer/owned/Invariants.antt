@@ -6,4 +6,5 @@ use Rattle.lsp_edit.proofs.joined.layer.owned.Given as goal
 
 abbrev pub invariant-loop-span : goal.invariant-loop-span
 invariant-loop-span l =
-    AreSameItems (owned_parts l.owned.items ++ (new_parts (string_bytes l.text) ++ parts_of (drop l.span-index l.spans))) (parts_of l.spans)
+    AreSameItems (owned_parts l.owned.items
+    ++ (new_parts (string_bytes l.text) ++ parts_of (drop l.span-index l.spans))) (parts_of l.spans)

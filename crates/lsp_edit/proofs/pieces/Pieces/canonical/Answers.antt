@@ -12,14 +12,20 @@ canonical_of-requires-clause-ends c = rw c.as_slice.ensures (ends_exact _ _ c.se
 
 pub returns-clause-means : goal.returns-clause-means
 returns-clause-means c =
-    (canonical_makes (units_in c.args.encoding) (units_some c.args.encoding) c.args.self.now.edited.before c.args.self.now.edited.items (keeps_seen _ _ _ _ c.args.self.now.edited c.self.invariant.0 (same_edited c.self.view_is))).leaves 0
+    (canonical_makes (units_in c.args.encoding) (units_some c.args.encoding) c.args.self.now.edited.before
+    c.args.self.now.edited.items (keeps_seen _ _ _ _ c.args.self.now.edited c.self.invariant.0
+    (same_edited c.self.view_is))).leaves 0
 
 pub returns-clause-ranges : goal.returns-clause-ranges
 returns-clause-ranges c =
-    (canonical_makes (units_in c.args.encoding) (units_some c.args.encoding) c.args.self.now.edited.before c.args.self.now.edited.items (keeps_seen _ _ _ _ c.args.self.now.edited c.self.invariant.0 (same_edited c.self.view_is))).ranges
+    (canonical_makes (units_in c.args.encoding) (units_some c.args.encoding) c.args.self.now.edited.before
+    c.args.self.now.edited.items (keeps_seen _ _ _ _ c.args.self.now.edited c.self.invariant.0
+    (same_edited c.self.view_is))).ranges
 
 pub returns-clause-pairs : goal.returns-clause-pairs
-returns-clause-pairs c = pairs_kept c.args.self.now.edited.before c.args.self.now.edited.items (keeps_seen _ _ _ _ c.args.self.now.edited c.self.invariant.0 (same_edited c.self.view_is))
+returns-clause-pairs c = pairs_kept c.args.self.now.edited.before c.args.self.now.edited.items
+    (keeps_seen _ _ _ _ c.args.self.now.edited c.self.invariant.0 (same_edited c.self.view_is))
 
 pub returns-clause-law : goal.returns-clause-law
-returns-clause-law c batch is = canonical_law (units_in c.args.encoding) (units_some c.args.encoding) c.args.self.now.edited.before batch c.args.self.now.edited.items is
+returns-clause-law c batch is = canonical_law (units_in c.args.encoding) (units_some c.args.encoding)
+    c.args.self.now.edited.before batch c.args.self.now.edited.items is

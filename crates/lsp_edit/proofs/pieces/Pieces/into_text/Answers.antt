@@ -10,13 +10,16 @@ use Rattle.lsp_edit.proofs.pieces.Pieces.into_text.Goals as goal
 
 pub returns-in-Some : goal.returns-in-Some
 returns-in-Some c =
-    subst (λ (bytes : List ℕ). IfOk c.into_text.result (λ made. (string_bytes made.0 ≡ bytes) × Indexes made.1 (string_bytes made.0)))
-    (current_is _ _ _ c.self.invariant.1 c.in-Some.is ∙ (sym (now_bytes _ _ _ _ c.self.invariant.0) ∙ ap edited_bytes (same_edited c.self.view_is)))
+    subst (λ (bytes : List ℕ). IfOk c.into_text.result (λ made. (string_bytes made.0 ≡ bytes)
+    × Indexes made.1 (string_bytes made.0)))
+    (current_is _ _ _ c.self.invariant.1 c.in-Some.is
+    ∙ (sym (now_bytes _ _ _ _ c.self.invariant.0) ∙ ap edited_bytes (same_edited c.self.view_is)))
     c.into_text.ensures
 
 pub returns : goal.returns
 returns c =
-    subst (λ (bytes : List ℕ). IfOk c.text_with_lines.result (λ made. (string_bytes made.0 ≡ bytes) × Indexes made.1 (string_bytes made.0)))
+    subst (λ (bytes : List ℕ). IfOk c.text_with_lines.result (λ made. (string_bytes made.0 ≡ bytes)
+    × Indexes made.1 (string_bytes made.0)))
     (ap (λ (spans : List Span). bytes_of c.self.inside.before (parts_of spans)) c.as_slice.ensures
     ∙ (sym (now_bytes _ _ _ _ c.self.invariant.0) ∙ ap edited_bytes (same_edited c.self.view_is)))
     c.text_with_lines.ensures

@@ -10,12 +10,16 @@ pub returns-then-self-eq0-clause-places : goal.returns-then-self-eq0-clause-plac
 returns-then-self-eq0-clause-places c =
     places_told (units_in c.args.encoding) c.args.range _ c.args.self.now.edited (chars c.self.inside.before) 0
     (sym (ap (λ (e : PlainData). e.changes) (same_edited c.self.view_is)) ∙ c.if-self-eq0.true)
-    (sym (ap edited_text (same_edited c.self.view_is)) ∙ sym (fresh_chars _ _ _ _ c.self.invariant.0 c.if-self-eq0.true))
+    (sym (ap edited_text (same_edited c.self.view_is))
+    ∙ sym (fresh_chars _ _ _ _ c.self.invariant.0 c.if-self-eq0.true))
     c.ends.ensures
 
 pub returns-clause-places : goal.returns-clause-places
 returns-clause-places c =
-    places_told (units_in c.args.encoding) c.args.range _ c.args.self.now.edited (chars c.in_ok-current.current) c.self.inside.changes
+    places_told (units_in c.args.encoding) c.args.range _ c.args.self.now.edited (chars c.in_ok-current.current)
+    c.self.inside.changes
     (sym (ap (λ (e : PlainData). e.changes) (same_edited c.self.view_is)))
-    (sym (ap edited_text (same_edited c.self.view_is)) ∙ sym (now_chars _ _ _ _ c.in_ok-current.current c.self.invariant.0 c.ends_in-places.ensures.utf8 (c.in_ok-current.ensures ∙ rw c.as_slice.ensures refl)))
+    (sym (ap edited_text (same_edited c.self.view_is))
+    ∙ sym (now_chars _ _ _ _ c.in_ok-current.current c.self.invariant.0 c.ends_in-places.ensures.utf8
+    (c.in_ok-current.ensures ∙ rw c.as_slice.ensures refl)))
     c.ends_in-places.ensures.value

@@ -5,4 +5,5 @@ use Rattle.lsp_edit.proofs.Composing.SpannedLemmas.{same_edited}
 use Rattle.lsp_edit.proofs.pieces.Pieces.text_len.Goals as goal
 
 pub returns : goal.returns
-returns c = c.self.invariant.0.long ∙ (sym (ap length (now_bytes _ _ _ _ c.self.invariant.0)) ∙ ap (λ (e : PlainData). length (edited_bytes e)) (same_edited c.self.view_is))
+returns c = c.self.invariant.0.long ∙ (sym (ap length (now_bytes _ _ _ _ c.self.invariant.0))
+    ∙ ap (λ (e : PlainData). length (edited_bytes e)) (same_edited c.self.view_is))

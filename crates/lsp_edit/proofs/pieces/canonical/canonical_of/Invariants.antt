@@ -12,7 +12,8 @@ invariant-loop-span l =
     Walks
     (units_in l.encoding)
     l.before
-    (changes_of (units_in l.encoding) (chars l.before) (gaps (chars l.before) (items_of (chars l.before) (parts_of l.spans))))
+    (changes_of (units_in l.encoding) (chars l.before)
+    (gaps (chars l.before) (items_of (chars l.before) (parts_of l.spans))))
     (map edit_of l.changes.items)
     l.low
     (string_bytes l.text)

@@ -8,10 +8,16 @@ use Rattle.lsp_edit.proofs.pieces.current.ends_in.Goals as goal
 
 pub returns-then-start-stop-clause-value : goal.returns-then-start-stop-clause-value
 returns-then-start-stop-clause-value c =
-    places_reversed (units_in c.args.encoding) (chars c.args.text.now) c.args.range c.args.change c.in-Ok.start c.in-Ok-resolve.stop c.in-Ok.ensures.value
-    (subst (λ (t : List ℕ). Some c.in-Ok-resolve.stop ≡ option_map (place_of (chars t)) (denoted (units_in c.args.encoding) (chars t) c.args.range.stop)) c.in-Ok.ensures.unchanged c.in-Ok-resolve.ensures.value) c.if-start-stop.true
+    places_reversed (units_in c.args.encoding) (chars c.args.text.now) c.args.range c.args.change c.in-Ok.start
+    c.in-Ok-resolve.stop c.in-Ok.ensures.value
+    (subst (λ (t : List ℕ). Some c.in-Ok-resolve.stop ≡ option_map (place_of (chars t))
+    (denoted (units_in c.args.encoding) (chars t) c.args.range.stop)) c.in-Ok.ensures.unchanged
+    c.in-Ok-resolve.ensures.value) c.if-start-stop.true
 
 pub returns-clause-value : goal.returns-clause-value
 returns-clause-value c =
-    places_in_order (units_in c.args.encoding) (chars c.args.text.now) c.args.range c.args.change c.in-Ok.start c.in-Ok-resolve.stop c.in-Ok.ensures.value
-    (subst (λ (t : List ℕ). Some c.in-Ok-resolve.stop ≡ option_map (place_of (chars t)) (denoted (units_in c.args.encoding) (chars t) c.args.range.stop)) c.in-Ok.ensures.unchanged c.in-Ok-resolve.ensures.value) c.if-start-stop.false
+    places_in_order (units_in c.args.encoding) (chars c.args.text.now) c.args.range c.args.change c.in-Ok.start
+    c.in-Ok-resolve.stop c.in-Ok.ensures.value
+    (subst (λ (t : List ℕ). Some c.in-Ok-resolve.stop ≡ option_map (place_of (chars t))
+    (denoted (units_in c.args.encoding) (chars t) c.args.range.stop)) c.in-Ok.ensures.unchanged
+    c.in-Ok-resolve.ensures.value) c.if-start-stop.false

@@ -5,28 +5,42 @@ use Rattle.lsp_edit.proofs.pieces.replace.replace.Goals as goal
 
 pub passed_by-last-requires-clause-ordered : goal.passed_by-last-requires-clause-ordered
 passed_by-last-requires-clause-ordered c =
-    rw (c.deref-2.ensures.value, rest_all c.args.spans.now.items c.ended_by-first.result.0) (drop_ordered c.args.spans.now.items c.ended_by-first.result.0 c.requires.ordered)
+    rw (
+      c.deref-2.ensures.value,
+      rest_all c.args.spans.now.items c.ended_by-first.result.0,
+    ) (drop_ordered c.args.spans.now.items c.ended_by-first.result.0 c.requires.ordered)
 
 pub between-requires-clause-stop : goal.between-requires-clause-stop
 between-requires-clause-stop c =
     let ended = rw c.deref.ensures.value at c.ended_by-first.ensures.passed in
-    let passed = rw (c.deref-2.ensures.value, rest_all c.args.spans.now.items c.ended_by-first.result.0) at c.passed_by-last.ensures.passed in
-    let rest_after = rw (c.deref-2.ensures.value, rest_all c.args.spans.now.items c.ended_by-first.result.0) at c.passed_by-last.ensures.rest_after in
+    let passed = rw (c.deref-2.ensures.value, rest_all c.args.spans.now.items c.ended_by-first.result.0) at
+    c.passed_by-last.ensures.passed in
+    let rest_after = rw (c.deref-2.ensures.value, rest_all c.args.spans.now.items c.ended_by-first.result.0) at
+    c.passed_by-last.ensures.rest_after in
     rw (c.deref-2.ensures.value, rest_all c.args.spans.now.items c.ended_by-first.result.0)
-    (first_cut _ _ (passed.cut (c.args.stop - c.ended_by-first.result.1) (omega arith) (ended.cut c.args.stop c.requires.order c.requires.at_stop)) rest_after)
+    (first_cut _ _ (passed.cut (c.args.stop - c.ended_by-first.result.1) (omega arith)
+    (ended.cut c.args.stop c.requires.order c.requires.at_stop)) rest_after)
 
 pub returns-clause-ok : goal.returns-clause-ok
 returns-clause-ok c =
     let gave = c.in_ok-splice.ensures.items in
     let ended = rw c.deref.ensures.value at c.ended_by-first.ensures.passed in
     let front = rw c.deref.ensures.value at c.ended_by-first.ensures.front in
-    let passed = rw (c.deref-2.ensures.value, rest_all c.args.spans.now.items c.ended_by-first.result.0) at c.passed_by-last.ensures.passed in
-    let rest_after = rw (c.deref-2.ensures.value, rest_all c.args.spans.now.items c.ended_by-first.result.0) at c.passed_by-last.ensures.rest_after in
-    let made = rw (c.deref-2.ensures.value, rest_all c.args.spans.now.items c.ended_by-first.result.0) at c.in_ok-new.ensures in
-    let least = rw (c.deref-2.ensures.value, rest_all c.args.spans.now.items c.ended_by-first.result.0) at c.min.ensures in
-    replaced_spans c.args.spans.now.items c.splice.new.self.items c.in_ok-new.new.items c.ended_by-first.result.0 c.passed_by-last.result.0 c.ended_by-first.result.1 c.passed_by-last.result.1 c.args.start c.args.stop _ c.args.text.now
+    let passed = rw (c.deref-2.ensures.value, rest_all c.args.spans.now.items c.ended_by-first.result.0) at
+    c.passed_by-last.ensures.passed in
+    let rest_after = rw (c.deref-2.ensures.value, rest_all c.args.spans.now.items c.ended_by-first.result.0) at
+    c.passed_by-last.ensures.rest_after in
+    let made = rw (c.deref-2.ensures.value, rest_all c.args.spans.now.items c.ended_by-first.result.0) at
+    c.in_ok-new.ensures in
+    let least = rw (c.deref-2.ensures.value, rest_all c.args.spans.now.items c.ended_by-first.result.0) at
+    c.min.ensures in
+    replaced_spans c.args.spans.now.items c.splice.new.self.items c.in_ok-new.new.items c.ended_by-first.result.0
+    c.passed_by-last.result.0 c.ended_by-first.result.1 c.passed_by-last.result.1 c.args.start c.args.stop _
+    c.args.text.now
     c.requires.order
-    (gave.4 ∙ ap (λ xs. take c.ended_by-first.result.0 c.args.spans.now.items ++ (xs ++ drop (c.ended_by-first.result.0 + c.min.result) c.args.spans.now.items)) (drained_is gave.0 gave.1 c.in_ok-new.new.items gave.2.0 (gave.2.1 ∙ c.in_ok-new.new.ok.0) gave.3))
+    (gave.4 ∙ ap (λ xs. take c.ended_by-first.result.0 c.args.spans.now.items
+    ++ (xs ++ drop (c.ended_by-first.result.0 + c.min.result) c.args.spans.now.items))
+    (drained_is gave.0 gave.1 c.in_ok-new.new.items gave.2.0 (gave.2.1 ∙ c.in_ok-new.new.ok.0) gave.3))
     (ap (λ (n : ℕ). c.ended_by-first.result.0 + n) least)
     ended
     front
@@ -38,4 +52,6 @@ returns-clause-ok c =
 pub returns-clause-marked : goal.returns-clause-marked
 returns-clause-marked c =
     let gave = c.in_ok-splice.ensures.items in
-    mark_stays c.args.spans.now.items c.splice.new.self.items gave.1 (drop (c.ended_by-first.result.0 + c.min.result) c.args.spans.now.items) c.ended_by-first.result.0 c.ended_by-first.result.1 (rw c.deref.ensures.value at c.ended_by-first.ensures.marked) gave.4
+    mark_stays c.args.spans.now.items c.splice.new.self.items gave.1 (drop (c.ended_by-first.result.0 + c.min.result)
+    c.args.spans.now.items) c.ended_by-first.result.0 c.ended_by-first.result.1
+    (rw c.deref.ensures.value at c.ended_by-first.ensures.marked) gave.4

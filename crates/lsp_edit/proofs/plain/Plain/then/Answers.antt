@@ -9,33 +9,41 @@ use Rattle.lsp_edit.proofs.plain.Plain.then.Goals as goal
 
 pub invariant_of-result : goal.invariant_of-result
 invariant_of-result c =
-    subst (λ (characters : List ℕ). ArePlain c.self.inside.before.now characters (items_in_order c.in_ok-items.items.items)) (sym (c.in_ok-characters.ensures.items ∙ c.deref-3.ensures.value))
-    (then_plain _ _ _ _ _ _ _ c.self.invariant c.second.invariant (over_plain _ _ _ _ _ _ c.args.self.now c.args.second.now c.self.view_is c.second.view_is c.requires)
-    (c.in_ok-items.ensures ∙ ap₂ (λ (x y : List Item). then_items x y) (ap items_in_order c.deref.ensures.value) (ap items_in_order c.deref-2.ensures.value)))
+    subst (λ (characters : List ℕ). ArePlain c.self.inside.before.now characters
+    (items_in_order c.in_ok-items.items.items)) (sym (c.in_ok-characters.ensures.items ∙ c.deref-3.ensures.value))
+    (then_plain _ _ _ _ _ _ _ c.self.invariant c.second.invariant
+    (over_plain _ _ _ _ _ _ c.args.self.now c.args.second.now c.self.view_is c.second.view_is c.requires)
+    (c.in_ok-items.ensures ∙ ap₂ (λ (x y : List Item). then_items x y) (ap items_in_order c.deref.ensures.value)
+    (ap items_in_order c.deref-2.ensures.value)))
 
 pub returns-clause-composed : goal.returns-clause-composed
 returns-clause-composed c =
     then_told _ _ _ _ _ _ _ _ c.args.self.now c.args.second.now c.self.view_is c.second.view_is
-    (c.in_ok-items.ensures ∙ ap₂ (λ (x y : List Item). then_items x y) (ap items_in_order c.deref.ensures.value) (ap items_in_order c.deref-2.ensures.value))
+    (c.in_ok-items.ensures ∙ ap₂ (λ (x y : List Item). then_items x y) (ap items_in_order c.deref.ensures.value)
+    (ap items_in_order c.deref-2.ensures.value))
     c.saturating_add.ensures
 
 pub returns-clause-means : goal.returns-clause-means
 returns-clause-means c units batch next one two =
-    then_means units c.args.self.now.before batch next c.args.self.now.items c.args.second.now.items one (subst (λ (text : List ℕ). meaning units text next ≡ Ok c.args.second.now.items) c.requires two)
+    then_means units c.args.self.now.before batch next c.args.self.now.items c.args.second.now.items one
+    (subst (λ (text : List ℕ). meaning units text next ≡ Ok c.args.second.now.items) c.requires two)
 
 pub returns-clause-associative : goal.returns-clause-associative
 returns-clause-associative c third = then_associative c.args.self.now.items c.args.second.now.items third
 
 pub returns-in_err-items-clause-means : goal.returns-in_err-items-clause-means
 returns-in_err-items-clause-means c units batch next one two =
-    then_means units c.args.self.now.before batch next c.args.self.now.items c.args.second.now.items one (subst (λ (text : List ℕ). meaning units text next ≡ Ok c.args.second.now.items) c.requires two)
+    then_means units c.args.self.now.before batch next c.args.self.now.items c.args.second.now.items one
+    (subst (λ (text : List ℕ). meaning units text next ≡ Ok c.args.second.now.items) c.requires two)
 
 pub returns-in_err-items-clause-associative : goal.returns-in_err-items-clause-associative
 returns-in_err-items-clause-associative c third = then_associative c.args.self.now.items c.args.second.now.items third
 
 pub returns-in_err-characters-clause-means : goal.returns-in_err-characters-clause-means
 returns-in_err-characters-clause-means c units batch next one two =
-    then_means units c.args.self.now.before batch next c.args.self.now.items c.args.second.now.items one (subst (λ (text : List ℕ). meaning units text next ≡ Ok c.args.second.now.items) c.requires two)
+    then_means units c.args.self.now.before batch next c.args.self.now.items c.args.second.now.items one
+    (subst (λ (text : List ℕ). meaning units text next ≡ Ok c.args.second.now.items) c.requires two)
 
 pub returns-in_err-characters-clause-associative : goal.returns-in_err-characters-clause-associative
-returns-in_err-characters-clause-associative c third = then_associative c.args.self.now.items c.args.second.now.items third
+returns-in_err-characters-clause-associative c third =
+    then_associative c.args.self.now.items c.args.second.now.items third

@@ -4,4 +4,6 @@ use Rattle.lsp_edit.specs.Edited.{edited_text}
 use Rattle.lsp_edit_tests.proofs.tests.pieces.left_by_second.Goals as goal
 
 pub then-requires : goal.then-requires
-then-requires c = c.in_ok-two.ensures.same ∙ sym (chars_from_encodes (edited_text c.args.one.now.edited) c.args.middle.now c.utf8.middle (sym c.requires))
+then-requires c =
+    c.in_ok-two.ensures.same ∙ sym (chars_from_encodes (edited_text c.args.one.now.edited) c.args.middle.now
+    c.utf8.middle (sym c.requires))

@@ -5,4 +5,8 @@ use Rattle.lsp_edit.specs.Edited.{edited_text}
 use Rattle.lsp_edit_tests.proofs.tests.plain.left_by_both_plainly.Goals as goal
 
 pub then-requires : goal.then-requires
-then-requires c = c.in_ok-two.ensures.same ∙ (ap chars c.deref.ensures ∙ sym (chars_from_encodes (edited_text c.in_ok-one.one) (string_bytes c.in_ok-middle.middle) (IsUtf8-string_bytes c.in_ok-middle.middle) (sym c.in_ok-middle.ensures)))
+then-requires c =
+    c.in_ok-two.ensures.same
+    ∙ (ap chars c.deref.ensures
+    ∙ sym (chars_from_encodes (edited_text c.in_ok-one.one) (string_bytes c.in_ok-middle.middle)
+    (IsUtf8-string_bytes c.in_ok-middle.middle) (sym c.in_ok-middle.ensures)))

@@ -6,13 +6,30 @@ use Rattle.lsp_frame.proofs.framer.stage.take_written.Goals as goal
 
 pub returns-clause-stage : goal.returns-clause-stage
 returns-clause-stage c =
-    let items : c.extend_from_slice.new.self.items ≡ take (c.args.header.len + c.args.header.body) c.args.piece.now = rw (c.if-is_err.ensures.negation, c.requires.nothing_buffered, c.first-frame.ensures) at c.extend_from_slice.ensures.items in
+    let items : c.extend_from_slice.new.self.items ≡ take (c.args.header.len + c.args.header.body) c.args.piece.now =
+    rw (
+      c.if-is_err.ensures.negation,
+      c.requires.nothing_buffered,
+      c.first-frame.ensures,
+    ) at c.extend_from_slice.ensures.items in
     rw items (written_in_body c.args.max_body c.args.piece.now c.args.header c.requires.written)
 
 pub returns-clause-stops : goal.returns-clause-stops
 returns-clause-stops c = λ less.
-    let items : c.extend_from_slice.new.self.items ≡ take (c.args.header.len + c.args.header.body) c.args.piece.now = rw (c.if-is_err.ensures.negation, c.requires.nothing_buffered, c.first-frame.ensures) at c.extend_from_slice.ensures.items in
-    let all : length (take (c.args.header.len + c.args.header.body) c.args.piece.now) ≡ c.args.header.len + c.args.header.body =
-    omega (arith, less, ap length c.first-frame.ensures, length-take (c.args.header.len + c.args.header.body) c.args.piece.now) in
-    rw items (body_frame c.args.max_body (take (c.args.header.len + c.args.header.body) c.args.piece.now) c.args.header.len (c.args.header.len + c.args.header.body)
+    let items : c.extend_from_slice.new.self.items ≡ take (c.args.header.len + c.args.header.body) c.args.piece.now =
+    rw (
+      c.if-is_err.ensures.negation,
+      c.requires.nothing_buffered,
+      c.first-frame.ensures,
+    ) at c.extend_from_slice.ensures.items in
+    let all : length (take (c.args.header.len + c.args.header.body) c.args.piece.now) ≡ c.args.header.len
+    + c.args.header.body =
+    omega (
+      arith,
+      less,
+      ap length c.first-frame.ensures,
+      length-take (c.args.header.len + c.args.header.body) c.args.piece.now,
+    ) in
+    rw items (body_frame c.args.max_body (take (c.args.header.len + c.args.header.body) c.args.piece.now)
+    c.args.header.len (c.args.header.len + c.args.header.body)
     (written_in_body c.args.max_body c.args.piece.now c.args.header c.requires.written) all)

@@ -4,12 +4,14 @@ use Rattle.lsp_log.proofs.splitter.Splitter.feed.Goals as goal
 
 pub returns-clause-is_after : goal.returns-clause-is_after
 returns-clause-is_after c = λ log_rules input records at.
-    fed_stands log_rules input c.args.piece.now records c.args.self.now c.feed.new.self c.in_ok-feed.field-0 c.in_ok-feed.ensures.buffered c.in_ok-feed.ensures.part c.in_ok-feed.ensures.one at
+    fed_stands log_rules input c.args.piece.now records c.args.self.now c.feed.new.self c.in_ok-feed.field-0
+    c.in_ok-feed.ensures.buffered c.in_ok-feed.ensures.part c.in_ok-feed.ensures.one at
 
 pub returns-in_err-feed-clause-error : goal.returns-in_err-feed-clause-error
 returns-in_err-feed-clause-error c =
     let given = err_from_is_err_and c.from_residual.result c.from_residual.ensures.1 in
     rw (given.1, given.2)
     (λ log_rules input records at.
-    feed_fault log_rules input c.args.piece.now records c.args.self.now c.feed.new.self c.in_err-feed.field-0.0 (not_none c.args.self.now.side c.is_none.result c.is_none.ensures c.if-is_none.false)
+    feed_fault log_rules input c.args.piece.now records c.args.self.now c.feed.new.self c.in_err-feed.field-0.0
+    (not_none c.args.self.now.side c.is_none.result c.is_none.ensures c.if-is_none.false)
     c.in_err-feed.ensures.error c.requires.fed.sound at)

@@ -10,7 +10,10 @@ use Rattle.lsp_message.proofs.writer.documents.edits_value.Goals as goal
 
 pub returns-clause-tokens : goal.returns-clause-tokens
 returns-clause-tokens c =
-    let all : take c.loop-change.change-index c.args.changes.now ≡ c.args.changes.now = take_all _ _ (omega (arith, c.loop-change-test.false)) in
-    let changes : Appends c.args.writer.now c.loop-change.writer (token.begin_array ∷ flat_map (λ change. tokens_of (values.edit_value (edit_view change))) c.args.changes.now) =
+    let all : take c.loop-change.change-index c.args.changes.now ≡ c.args.changes.now =
+    take_all _ _ (omega (arith, c.loop-change-test.false)) in
+    let changes : Appends c.args.writer.now c.loop-change.writer
+    (token.begin_array ∷ flat_map (λ change. tokens_of (values.edit_value (edit_view change))) c.args.changes.now) =
     rw (sym all) c.loop-change.invariant in
-    rw (items_in_turn values.edit_value edit_view c.args.changes.now) (ending c.end_array.result (λ e. add changes e) c.end_array.ensures)
+    rw (items_in_turn values.edit_value edit_view c.args.changes.now) (ending c.end_array.result (λ e. add changes e)
+    c.end_array.ensures)

@@ -8,4 +8,7 @@ use Rattle.lsp_message.proofs.writer.documents.edits_value.Given as goal
 
 -- the tokens of the changes so far
 abbrev pub invariant-loop-change : goal.invariant-loop-change
-invariant-loop-change l = Appends l.fn.writer l.writer (token.begin_array ∷ flat_map (λ change. tokens_of (values.edit_value (edit_view change))) (take l.change-index l.changes))
+invariant-loop-change l =
+    Appends l.fn.writer l.writer
+    (token.begin_array ∷ flat_map (λ change. tokens_of (values.edit_value (edit_view change)))
+    (take l.change-index l.changes))

@@ -8,4 +8,6 @@ returns c =
     let number = c.args.params.now.version in
     let version : to_z w32 (of_z w32 number) ≡ number = to_z-of_z w32 number (search rules) in
     rw (sym version, sym c.as_str.ensures.value, sym c.as_str-text.ensures.value, sym c.as_str-language.ensures.value)
-    (ending c.end_object.result (λ e. put c.in_ok-begin_object.ensures (put c.in_ok-key.ensures (add c.in_ok-write_document.ensures.tokens e))) c.end_object.ensures)
+    (ending c.end_object.result
+    (λ e. put c.in_ok-begin_object.ensures (put c.in_ok-key.ensures (add c.in_ok-write_document.ensures.tokens e)))
+    c.end_object.ensures)

@@ -8,5 +8,7 @@ returns-clause-tokens c =
     let number = c.args.version in
     let version : to_z w32 (of_z w32 number) ≡ number = to_z-of_z w32 number (search rules) in
     rw (integer_text number, sym version)
-    (ending c.end_object.result (λ e. put c.in_ok-begin_object.ensures (add c.in_ok-text_member.ensures.tokens (add c.in_ok-text_member-2.ensures.tokens
+    (ending c.end_object.result
+    (λ e. put c.in_ok-begin_object.ensures
+    (add c.in_ok-text_member.ensures.tokens (add c.in_ok-text_member-2.ensures.tokens
     (add c.in_ok-text_member-3.ensures.tokens (add c.in_ok-integer_member.ensures.tokens e))))) c.end_object.ensures)

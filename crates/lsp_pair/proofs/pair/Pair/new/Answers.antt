@@ -9,13 +9,25 @@ invariant_of-result c =
     let choice : is_utf16 c.args.config.choice ≡ true = search rules in
     let within : are_within c.args.limits c.args.config.limits ≡ true = search rules in
     let sound : IsFitting (record { limits = c.args.limits; offers = c.args.offers; config = c.args.config }) =
-    sound_from c.args.limits c.args.offers c.args.config c.are_within.ensures.in_range.0 c.are_within.ensures.in_range.1 within choice in
-    rw (c.new.ensures, c.new-2.ensures, c.new-3.ensures.items, c.new-4.ensures.items) (new_reached (record { limits = c.args.limits; offers = c.args.offers; config = c.args.config }) sound)
+    sound_from c.args.limits c.args.offers c.args.config c.are_within.ensures.in_range.0 c.are_within.ensures.in_range.1
+    within choice in
+    rw (
+      c.new.ensures,
+      c.new-2.ensures,
+      c.new-3.ensures.items,
+      c.new-4.ensures.items,
+    ) (new_reached (record { limits = c.args.limits; offers = c.args.offers; config = c.args.config }) sound)
 
 pub returns-clause-history : goal.returns-clause-history
 returns-clause-history c =
     let choice : is_utf16 c.args.config.choice ≡ true = search rules in
     let within : are_within c.args.limits c.args.config.limits ≡ true = search rules in
     let sound : IsFitting (record { limits = c.args.limits; offers = c.args.offers; config = c.args.config }) =
-    sound_from c.args.limits c.args.offers c.args.config c.are_within.ensures.in_range.0 c.are_within.ensures.in_range.1 within choice in
-    rw (c.new.ensures, c.new-2.ensures, c.new-3.ensures.items, c.new-4.ensures.items) (new_history (record { limits = c.args.limits; offers = c.args.offers; config = c.args.config }) sound)
+    sound_from c.args.limits c.args.offers c.args.config c.are_within.ensures.in_range.0 c.are_within.ensures.in_range.1
+    within choice in
+    rw (
+      c.new.ensures,
+      c.new-2.ensures,
+      c.new-3.ensures.items,
+      c.new-4.ensures.items,
+    ) (new_history (record { limits = c.args.limits; offers = c.args.offers; config = c.args.config }) sound)

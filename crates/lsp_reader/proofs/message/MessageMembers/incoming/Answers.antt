@@ -10,14 +10,21 @@ use Rattle.lsp_reader.proofs.message.MessageMembers.incoming.Goals as goal
 pub returns-in_ok-response-in-Missing : goal.returns-in_ok-response-in-Missing
 returns-in_ok-response-in-Missing c = λ ms b.
     let two : c.is_two.result ≡ true = grind arith in
-    let version : is_version_two (get_member (codes "jsonrpc") ms) ≡ true = sym (two_in (get_member (codes "jsonrpc") ms)) ∙ ap is_scalar_two (sym b.0) ∙ sym c.is_two.ensures ∙ two in
-    let is = by_answer (get_member (codes "jsonrpc") ms) (get_member (codes "method") ms) (get_member (codes "id") ms) (get_member (codes "params") ms) (get_member (codes "error") ms) (get_member (codes "result") ms) version (ap scalar_view (sym c.in-Missing.is) ∙ b.1) in
-    c.in_ok-response-in-Missing.ensures (get_member (codes "id") ms) (get_member (codes "error") ms) (get_member (codes "result") ms) b.2 b.3 b.4 ∙ ap incoming_of (sym is)
+    let version : is_version_two (get_member (codes "jsonrpc") ms) ≡ true =
+    sym (two_in (get_member (codes "jsonrpc") ms)) ∙ ap is_scalar_two (sym b.0) ∙ sym c.is_two.ensures ∙ two in
+    let is = by_answer (get_member (codes "jsonrpc") ms) (get_member (codes "method") ms) (get_member (codes "id") ms)
+    (get_member (codes "params") ms) (get_member (codes "error") ms) (get_member (codes "result") ms) version
+    (ap scalar_view (sym c.in-Missing.is) ∙ b.1) in
+    c.in_ok-response-in-Missing.ensures (get_member (codes "id") ms) (get_member (codes "error") ms)
+    (get_member (codes "result") ms) b.2 b.3 b.4 ∙ ap incoming_of (sym is)
 
 pub returns-in_ok-id-in_default : goal.returns-in_ok-id-in_default
 returns-in_ok-id-in_default c = λ ms b.
     let two : c.is_two.result ≡ true = grind arith in
-    let version : is_version_two (get_member (codes "jsonrpc") ms) ≡ true = sym (two_in (get_member (codes "jsonrpc") ms)) ∙ ap is_scalar_two (sym b.0) ∙ sym c.is_two.ensures ∙ two in
-    let is = by_other (get_member (codes "jsonrpc") ms) (get_member (codes "method") ms) (get_member (codes "id") ms) (get_member (codes "params") ms) (get_member (codes "error") ms) (get_member (codes "result") ms) c.args.self.method version c.in_default.not-Missing c.in_default.not-Text b.1 in
+    let version : is_version_two (get_member (codes "jsonrpc") ms) ≡ true =
+    sym (two_in (get_member (codes "jsonrpc") ms)) ∙ ap is_scalar_two (sym b.0) ∙ sym c.is_two.ensures ∙ two in
+    let is = by_other (get_member (codes "jsonrpc") ms) (get_member (codes "method") ms) (get_member (codes "id") ms)
+    (get_member (codes "params") ms) (get_member (codes "error") ms) (get_member (codes "result") ms) c.args.self.method
+    version c.in_default.not-Missing c.in_default.not-Text b.1 in
     let found = c.in_ok-id-in_default.ensures ∙ ap scalar_id b.2 ∙ id_by (get_member (codes "id") ms) in
     ap not_a_message found ∙ ap incoming_of (sym is)

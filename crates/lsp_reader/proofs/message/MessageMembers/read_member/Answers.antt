@@ -139,7 +139,8 @@ pub returns-in_ok-skip_value-in_default-clause-ok : goal.returns-in_ok-skip_valu
 returns-in_ok-skip_value-in_default-clause-ok c =
     let k = c.args.name.now in
     let s = c.args.self.now in
-    let read = left_some (value_at c.args.depth c.args.reader.now) c.skip_value.new.reader c.in_ok-skip_value-in_default.ensures.ok in (
+    let read = left_some (value_at c.args.depth c.args.reader.now) c.skip_value.new.reader
+    c.in_ok-skip_value-in_default.ensures.ok in (
       read.0,
       read.1,
       λ ms before. (

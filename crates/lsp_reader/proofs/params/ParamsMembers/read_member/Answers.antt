@@ -28,7 +28,8 @@ returns-in_ok-self-in-textDocument-clause-ok c =
       read.1,
       λ ms before. (
         subst (is_0 c.in_ok-self-in-textDocument.field-0) (sym (put_here k (codes "textDocument") read.0 ms is)) read.2,
-        subst (is_1 s.changes) (sym (put_elsewhere k (codes "textDocument") (codes "contentChanges") read.0 ms is refl)) before.1,
+        subst (is_1 s.changes) (sym (put_elsewhere k (codes "textDocument") (codes "contentChanges") read.0 ms is refl))
+            before.1,
       ),
     )
 
@@ -41,8 +42,10 @@ returns-in_ok-self-in-contentChanges-clause-ok c =
       read.0,
       read.1,
       λ ms before. (
-        subst (is_0 s.document) (sym (put_elsewhere k (codes "contentChanges") (codes "textDocument") read.0 ms is refl)) before.0,
-        subst (is_1 c.in_ok-self-in-contentChanges.field-0) (sym (put_here k (codes "contentChanges") read.0 ms is)) read.2,
+        subst (is_0 s.document)
+            (sym (put_elsewhere k (codes "contentChanges") (codes "textDocument") read.0 ms is refl)) before.0,
+        subst (is_1 c.in_ok-self-in-contentChanges.field-0) (sym (put_here k (codes "contentChanges") read.0 ms is))
+            read.2,
       ),
     )
 
@@ -50,11 +53,14 @@ pub returns-in_ok-skip_value-in_default-clause-ok : goal.returns-in_ok-skip_valu
 returns-in_ok-skip_value-in_default-clause-ok c =
     let k = c.args.name.now in
     let s = c.args.self.now in
-    let read = left_some (value_at c.args.depth c.args.reader.now) c.skip_value.new.reader c.in_ok-skip_value-in_default.ensures.ok in (
+    let read = left_some (value_at c.args.depth c.args.reader.now) c.skip_value.new.reader
+    c.in_ok-skip_value-in_default.ensures.ok in (
       read.0,
       read.1,
       λ ms before. (
-        subst (is_0 s.document) (sym (put_apart k (codes "textDocument") read.0 ms c.in_default.not-textDocument)) before.0,
-        subst (is_1 s.changes) (sym (put_apart k (codes "contentChanges") read.0 ms c.in_default.not-contentChanges)) before.1,
+        subst (is_0 s.document) (sym (put_apart k (codes "textDocument") read.0 ms c.in_default.not-textDocument))
+            before.0,
+        subst (is_1 s.changes) (sym (put_apart k (codes "contentChanges") read.0 ms c.in_default.not-contentChanges))
+            before.1,
       ),
     )

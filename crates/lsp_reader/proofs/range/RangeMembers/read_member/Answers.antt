@@ -34,7 +34,8 @@ returns-in_ok-self-in-end-clause-ok c =
 pub returns-in_ok-skip_value-in_default-clause-ok : goal.returns-in_ok-skip_value-in_default-clause-ok
 returns-in_ok-skip_value-in_default-clause-ok c =
     let k = c.args.name.now in
-    let read = left_some (value_at c.args.depth c.args.reader.now) c.skip_value.new.reader c.in_ok-skip_value-in_default.ensures.ok in (
+    let read = left_some (value_at c.args.depth c.args.reader.now) c.skip_value.new.reader
+    c.in_ok-skip_value-in_default.ensures.ok in (
       read.0,
       read.1,
       λ ms before. (

@@ -11,7 +11,8 @@ returns-clause-run g c =
     let session = rw c.config.ensures.value at c.new-documents.ensures.session in
     let run = rw (c.rules-rules.ensures, session, c.new-documents.ensures.selection) at c.run_engine.ensures.run in
     let whole = rw (c.rules-rules.ensures, session, c.new-documents.ensures.selection) at c.run_engine.ensures.whole in
-    run_of_each_kept c.run_engine.ensures.first c.run_engine.ensures.version (opened (log_config c.args.settings)) nothing_selected run (λ _. whole (λ _. refl))
+    run_of_each_kept c.run_engine.ensures.first c.run_engine.ensures.version (opened (log_config c.args.settings))
+    nothing_selected run (λ _. whole (λ _. refl))
 
 pub returns-clause-documents : goal.returns-clause-documents
 returns-clause-documents g c = λ squash.

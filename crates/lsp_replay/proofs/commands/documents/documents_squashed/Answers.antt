@@ -10,8 +10,15 @@ pub returns-clause-run : goal.returns-clause-run
 returns-clause-run g c =
     let squashing = rw c.config.ensures.value at c.new-documents.ensures.squashing in
     let run = rw (c.rules-rules.ensures, squashing, c.new-documents.ensures.selection) at c.run_engine.ensures.run in
-    let whole = rw (c.rules-rules.ensures, squashing, c.new-documents.ensures.selection) at c.run_engine.ensures.whole in
-    run_of_squashed_kept c.run_engine.ensures.first c.run_engine.ensures.version (record { session = opened (log_config c.args.settings); run = None }) nothing_selected run (λ _. whole (λ _. refl))
+    let whole = rw (
+      c.rules-rules.ensures,
+      squashing,
+      c.new-documents.ensures.selection,
+    ) at c.run_engine.ensures.whole in
+    run_of_squashed_kept c.run_engine.ensures.first c.run_engine.ensures.version (record {
+      session = opened (log_config c.args.settings);
+      run = None;
+    }) nothing_selected run (λ _. whole (λ _. refl))
 
 pub returns-clause-documents : goal.returns-clause-documents
 returns-clause-documents g c = λ squash.

@@ -15,9 +15,14 @@ returns g c =
     let run = rw c.rules-rules.ensures at c.run_engine.ensures.run in
     let whole = rw c.rules-rules.ensures at c.run_engine.ensures.whole in
     record {
-      run = run_of_lines c.run_engine.ensures.first c.run_engine.ensures.version explaining nothing_known (opened (log_config c.args.settings))
-          (subst (λ run_output. IsLoopRun (as_log c.args.settings) run_output false c.args.max_turns (ports (g.R.Source.seen c.args.reader.now) (g.W.Sink.seen c.args.writer.now))
-          (ports (g.R.Source.seen c.run_engine.new.reader) (g.W.Sink.seen c.run_engine.new.writer)) c.run_engine.result) run_output run)
-          (λ _ memory. subst (λ run_output. WroteRecords (as_log c.args.settings) run_output (g.R.Source.seen c.args.reader.now).left (g.R.Source.seen c.run_engine.new.reader).left
-          (g.W.Sink.seen c.args.writer.now).written (g.W.Sink.seen c.run_engine.new.writer).written) run_output (whole (λ _. refl) memory));
+      run = run_of_lines c.run_engine.ensures.first c.run_engine.ensures.version explaining nothing_known
+          (opened (log_config c.args.settings))
+          (subst (λ run_output. IsLoopRun (as_log c.args.settings) run_output false c.args.max_turns
+          (ports (g.R.Source.seen c.args.reader.now) (g.W.Sink.seen c.args.writer.now))
+          (ports (g.R.Source.seen c.run_engine.new.reader) (g.W.Sink.seen c.run_engine.new.writer)) c.run_engine.result)
+          run_output run)
+          (λ _ memory. subst (λ run_output. WroteRecords (as_log c.args.settings) run_output
+          (g.R.Source.seen c.args.reader.now).left (g.R.Source.seen c.run_engine.new.reader).left
+          (g.W.Sink.seen c.args.writer.now).written (g.W.Sink.seen c.run_engine.new.writer).written) run_output
+          (whole (λ _. refl) memory));
     }

@@ -11,5 +11,6 @@ documents-preserved c =
     let line = document_line c.in-Some.document in
     record {
       written = rw c.in_ok-push_document_line.ensures
-          (c.documents.invariant.written ∙ ap (λ z. buffer ++ z) goes ∙ sym (append_assoc buffer line (report_from (c.documents.next + 1) table)));
+          (c.documents.invariant.written ∙ ap (λ z. buffer ++ z) goes
+          ∙ sym (append_assoc buffer line (report_from (c.documents.next + 1) table)));
     }

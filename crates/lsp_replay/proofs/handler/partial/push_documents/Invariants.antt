@@ -4,7 +4,8 @@ use Rattle.lsp_replay.proofs.handler.partial.push_documents.Given as goal
 
 abbrev pub invariant-documents : goal.invariant-documents
 invariant-documents l = record {
-  written : l.fn.buffer.items ++ report_from 0 l.documents.table ≡ l.buffer.items ++ report_from l.next l.documents.table;
+  written : l.fn.buffer.items ++ report_from 0 l.documents.table ≡ l.buffer.items ++ report_from l.next
+      l.documents.table;
 }
 
 abbrev pub decreases-documents : goal.decreases-documents

@@ -14,5 +14,13 @@ returns c =
     let buffer = c.args.buffer.now.items in
     let pushed = rw version at c.in_ok-push_document.ensures.ok in
     let written : c.push_document.new.bytes.items ≡ buffer ++ line =
-    rw (sym c.version.ensures, sym c.language.ensures, sym c.text.ensures.text, sym c.in_ok-text.ensures, sym c.deref.ensures, sym c.uri.ensures) pushed in
-    c.in_ok-extend_from_slice.ensures.items ∙ ap (λ bytes. bytes ++ codes "\n") written ∙ append_assoc buffer line (codes "\n")
+    rw (
+      sym c.version.ensures,
+      sym c.language.ensures,
+      sym c.text.ensures.text,
+      sym c.in_ok-text.ensures,
+      sym c.deref.ensures,
+      sym c.uri.ensures,
+    ) pushed in
+    c.in_ok-extend_from_slice.ensures.items ∙ ap (λ bytes. bytes ++ codes "\n") written
+    ∙ append_assoc buffer line (codes "\n")

@@ -9,4 +9,5 @@ returns-in-Some c =
     let number = c.version.result in
     let version : to_z w32 (of_z w32 number) ≡ number = to_z-of_z w32 number (search rules) in
     rw c.in-Some.is
-    (one_member c.push_current.result _ c.args.buffer.now.items (codes ",\"version\":") _ (rw c.version.ensures at (rw version at c.push_current.ensures)))
+    (one_member c.push_current.result _ c.args.buffer.now.items (codes ",\"version\":") _
+    (rw c.version.ensures at (rw version at c.push_current.ensures)))

@@ -10,8 +10,10 @@ use Rattle.lsp_replay.proofs.notes.changes.ends.Goals as goal
 pub returns-then-start-stop-clause-none : goal.returns-then-start-stop-clause-none
 returns-then-start-stop-clause-none c =
     no_part (units_in c.args.encoding) c.args.text.now c.args.range (ReversedRange 0)
-    (places_reversed (units_in c.args.encoding) (chars c.args.text.now) c.args.range 0 c.in-Ok.start c.in-Ok-resolve.stop c.in-Ok.ensures.value c.in-Ok-resolve.ensures.value c.if-start-stop.true)
+    (places_reversed (units_in c.args.encoding) (chars c.args.text.now) c.args.range 0 c.in-Ok.start
+    c.in-Ok-resolve.stop c.in-Ok.ensures.value c.in-Ok-resolve.ensures.value c.if-start-stop.true)
 
 pub returns-clause-ends : goal.returns-clause-ends
 returns-clause-ends c =
-    places_in_order (units_in c.args.encoding) (chars c.args.text.now) c.args.range 0 c.in-Ok.start c.in-Ok-resolve.stop c.in-Ok.ensures.value c.in-Ok-resolve.ensures.value c.if-start-stop.false
+    places_in_order (units_in c.args.encoding) (chars c.args.text.now) c.args.range 0 c.in-Ok.start c.in-Ok-resolve.stop
+    c.in-Ok.ensures.value c.in-Ok-resolve.ensures.value c.if-start-stop.false

@@ -6,8 +6,15 @@ use Rattle.lsp_replay.proofs.notes.lengths.units_of.Goals as goal
 
 pub overflow_add-count : goal.overflow_add-count
 overflow_add-count c =
-    let next = units_next (units_in c.args.encoding) _ _ c.in-Some.c c.loop-c.invariant.utf8 c.in-Some.ensures.steps.0 in
-    omega (arith, c.loop-c.invariant.counted, next, c.units.ensures, units_few c.args.encoding c.args.text.now c.utf8.text)
+    let next = units_next (units_in c.args.encoding) _ _ c.in-Some.c c.loop-c.invariant.utf8
+    c.in-Some.ensures.steps.0 in
+    omega (
+      arith,
+      c.loop-c.invariant.counted,
+      next,
+      c.units.ensures,
+      units_few c.args.encoding c.args.text.now c.utf8.text,
+    )
 
 pub loop-c-preserved : goal.loop-c-preserved
 loop-c-preserved c =
@@ -15,8 +22,17 @@ loop-c-preserved c =
     let parts = c.in-Some.ensures.steps.0 in
     record {
       utf8 = IsUtf8-past_char _ _ c.in-Some.c held.utf8 parts;
-      counted = omega (arith, held.counted, units_next (units_in c.args.encoding) _ _ c.in-Some.c held.utf8 parts, c.units.ensures);
+      counted = omega (
+        arith,
+        held.counted,
+        units_next (units_in c.args.encoding) _ _ c.in-Some.c held.utf8 parts,
+        c.units.ensures,
+      );
     }
 
 pub returns : goal.returns
-returns c = omega (arith, c.loop-c.invariant.counted, ap (sum_by (units_in c.args.encoding)) (chars_none _ c.in-None.ensures.steps.0.0))
+returns c = omega (
+  arith,
+  c.loop-c.invariant.counted,
+  ap (sum_by (units_in c.args.encoding)) (chars_none _ c.in-None.ensures.steps.0.0),
+)

@@ -10,26 +10,34 @@ pub join-requires-clause-planned : goal.join-requires-clause-planned
 join-requires-clause-planned c =
     let server : c.self.inside.server ≡ c.args.self.now.server = ap (λ s. s.server) c.self.view_is in
     let change : IsPlanOfChange c.args.self.now.server (change_view c.args.params.now) c.in-Accepted.plan =
-    accepted_at c.self.inside.server c.args.self.now.server server (change_view c.args.params.now) c.in_ok-plan.field-0 c.in_ok-plan.ensures.planned c.in-Accepted.plan c.in-Accepted.is in
+    accepted_at c.self.inside.server c.args.self.now.server server (change_view c.args.params.now) c.in_ok-plan.field-0
+    c.in_ok-plan.ensures.planned c.in-Accepted.plan c.in-Accepted.is in
     change
 
 pub returns-in_ok-commit-in-Accepted-clause-taken : goal.returns-in_ok-commit-in-Accepted-clause-taken
 returns-in_ok-commit-in-Accepted-clause-taken c =
     let server : c.self.inside.server ≡ c.args.self.now.server = ap (λ s. s.server) c.self.view_is in
     let change : IsPlanOfChange c.args.self.now.server (change_view c.args.params.now) c.in-Accepted.plan =
-    accepted_at c.self.inside.server c.args.self.now.server server (change_view c.args.params.now) c.in_ok-plan.field-0 c.in_ok-plan.ensures.planned c.in-Accepted.plan c.in-Accepted.is in
+    accepted_at c.self.inside.server c.args.self.now.server server (change_view c.args.params.now) c.in_ok-plan.field-0
+    c.in_ok-plan.ensures.planned c.in-Accepted.plan c.in-Accepted.is in
     c.in_ok-commit-in-Accepted.ensures (change_view c.args.params.now) change
 
 pub returns-in-Answered-clause-taken : goal.returns-in-Answered-clause-taken
 returns-in-Answered-clause-taken c =
     let server : c.self.inside.server ≡ c.args.self.now.server = ap (λ s. s.server) c.self.view_is in
-    let why : IsAnswered c.args.self.now.server (step_on c.args.self.now.server (did_change (Some (change_view c.args.params.now)))) c.in-Answered.answer =
-    answered_at c.self.inside.server c.args.self.now.server server (change_view c.args.params.now) c.in_ok-plan.field-0 c.in_ok-plan.ensures.planned c.in-Answered.answer c.in-Answered.is in
+    let why : IsAnswered c.args.self.now.server
+    (step_on c.args.self.now.server (did_change (Some (change_view c.args.params.now)))) c.in-Answered.answer =
+    answered_at c.self.inside.server c.args.self.now.server server (change_view c.args.params.now) c.in_ok-plan.field-0
+    c.in_ok-plan.ensures.planned c.in-Answered.answer c.in-Answered.is in
     c.refuse.ensures (change_view c.args.params.now) why
 
 pub returns-in-Answered-clause-writing : goal.returns-in-Answered-clause-writing
 returns-in-Answered-clause-writing c =
     let server : c.self.inside.server ≡ c.args.self.now.server = ap (λ s. s.server) c.self.view_is in
-    let why : IsAnswered c.args.self.now.server (step_on c.args.self.now.server (did_change (Some (change_view c.args.params.now)))) c.in-Answered.answer =
-    answered_at c.self.inside.server c.args.self.now.server server (change_view c.args.params.now) c.in_ok-plan.field-0 c.in_ok-plan.ensures.planned c.in-Answered.answer c.in-Answered.is in
-    (answered_some c.args.self.now.server (change_view c.args.params.now) c.requires.running c.in-Answered.answer why, refl)
+    let why : IsAnswered c.args.self.now.server
+    (step_on c.args.self.now.server (did_change (Some (change_view c.args.params.now)))) c.in-Answered.answer =
+    answered_at c.self.inside.server c.args.self.now.server server (change_view c.args.params.now) c.in_ok-plan.field-0
+    c.in_ok-plan.ensures.planned c.in-Answered.answer c.in-Answered.is in (
+      answered_some c.args.self.now.server (change_view c.args.params.now) c.requires.running c.in-Answered.answer why,
+      refl,
+    )

@@ -15,5 +15,7 @@ commit_change-requires c =
 
 pub returns : goal.returns
 returns c = λ p q.
-    committed c.args.self.now p c.requires.running c.requires.known c.args.plan q _ (ap (λ (a : Answer). verdict_view (Answered a)) c.in_ok-answer.ensures.answer) _ c.self.view_is _ c.in_ok-answer.ensures.committed
+    committed c.args.self.now p c.requires.running c.requires.known c.args.plan q _
+    (ap (λ (a : Answer). verdict_view (Answered a)) c.in_ok-answer.ensures.answer) _ c.self.view_is _
+    c.in_ok-answer.ensures.committed
     _ c.one_more-self-inside.ensures _ c.one_more-self-inside-2.ensures

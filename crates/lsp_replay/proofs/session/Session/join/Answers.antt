@@ -11,29 +11,46 @@ pub planned_message-requires : goal.planned_message-requires
 planned_message-requires c =
     let server : c.self.inside.server ≡ c.args.self.now.server = ap (λ s. s.server) c.self.view_is in
     let store : c.store-store.result.now ≡ store_of c.args.self.now.server = rw (c.store-store.ensures, server) refl in
-    record { on = plan_on c.args.self.now.server (change_view c.args.params.now) c.args.plan.now c.requires.planned c.store-store.result.now store }
+    record {
+      on = plan_on c.args.self.now.server (change_view c.args.params.now) c.args.plan.now c.requires.planned
+          c.store-store.result.now store;
+    }
 
 pub returns-in_default : goal.returns-in_default
 returns-in_default c =
     let server : c.self.inside.server ≡ c.args.self.now.server = ap (λ s. s.server) c.self.view_is in
     let store : c.store-store.result.now ≡ store_of c.args.self.now.server = rw (c.store-store.ensures, server) refl in
-    let refused = message_none (IsMessageFault (store_of c.args.self.now.server) c.args.plan.now) c.planned_message.result c.unless_refused.result c.unless_refused.ensures.ok c.unless_refused.ensures.refused
-    (rw c.in_default.is at c.in_ok-frame.was) (rw store at c.planned_message.ensures.error) in
-    (c.requires.planned.accepted, plan_too_long c.args.self.now.server (change_view c.args.params.now) c.args.plan.now c.requires.planned refused.fault refused.other refused.why)
+    let refused = message_none (IsMessageFault (store_of c.args.self.now.server) c.args.plan.now)
+    c.planned_message.result c.unless_refused.result c.unless_refused.ensures.ok c.unless_refused.ensures.refused
+    (rw c.in_default.is at c.in_ok-frame.was) (rw store at c.planned_message.ensures.error) in (
+      c.requires.planned.accepted,
+      plan_too_long c.args.self.now.server (change_view c.args.params.now) c.args.plan.now c.requires.planned
+          refused.fault refused.other refused.why,
+    )
 
 pub returns-in_default-run : goal.returns-in_default-run
 returns-in_default-run c =
     let server : c.self.inside.server ≡ c.args.self.now.server = ap (λ s. s.server) c.self.view_is in
     let store : c.store-store.result.now ≡ store_of c.args.self.now.server = rw (c.store-store.ensures, server) refl in
-    let made = message_is c.planned_message.result c.unless_refused.result c.unless_refused.ensures.ok c.unless_refused.ensures.refused c.in-Some.frame (rw c.in-Some.is at c.in_ok-frame.was) in
-    let framed : IsFramed c.args.self.now.server (change_view c.args.params.now) c.in-Some.frame.items = plan_framed c.args.self.now.server (change_view c.args.params.now) c.args.plan.now c.requires.planned c.in-Some.frame.items (rw (made, store) at c.planned_message.ensures.framed) in
-    (c.requires.planned.accepted, framed, rw c.in_default-run.is tt, sym c.in_default-run.is, c.in_ok-begun.ensures.begun, c.in_ok-begun.ensures.reached)
+    let made = message_is c.planned_message.result c.unless_refused.result c.unless_refused.ensures.ok
+    c.unless_refused.ensures.refused c.in-Some.frame (rw c.in-Some.is at c.in_ok-frame.was) in
+    let framed : IsFramed c.args.self.now.server (change_view c.args.params.now) c.in-Some.frame.items =
+    plan_framed c.args.self.now.server (change_view c.args.params.now) c.args.plan.now c.requires.planned
+    c.in-Some.frame.items (rw (made, store) at c.planned_message.ensures.framed) in (
+      c.requires.planned.accepted,
+      framed,
+      rw c.in_default-run.is tt,
+      sym c.in_default-run.is,
+      c.in_ok-begun.ensures.begun,
+      c.in_ok-begun.ensures.reached,
+    )
 
 pub add_plan-requires-clause-on : goal.add_plan-requires-clause-on
 add_plan-requires-clause-on c =
     let server : c.self.inside.server ≡ c.args.self.now.server = ap (λ s. s.server) c.self.view_is in
     let store : c.store-store.result.now ≡ store_of c.args.self.now.server = rw (c.store-store.ensures, server) refl in
-    plan_on c.args.self.now.server (change_view c.args.params.now) c.args.plan.now c.requires.planned c.store-store.result.now store
+    plan_on c.args.self.now.server (change_view c.args.params.now) c.args.plan.now c.requires.planned
+    c.store-store.result.now store
 
 pub add_plan-requires-clause-reached : goal.add_plan-requires-clause-reached
 add_plan-requires-clause-reached c =
@@ -41,24 +58,38 @@ add_plan-requires-clause-reached c =
     let store : c.store-store.result.now ≡ store_of c.args.self.now.server = rw (c.store-store.ensures, server) refl in
     let at : IsOpenIn c.args.self.now.server c.in-Some-run.batches = rw c.in-Some-run.is at c.requires.may_be_open in
     let same : string_bytes c.args.params.now.uri ≡ c.in-Some-run.batches.uri = search rules in
-    plan_reached_on c.args.self.now.server (change_view c.args.params.now) c.args.plan.now c.requires.planned c.store-store.result.now store c.in-Some-run.batches at same
+    plan_reached_on c.args.self.now.server (change_view c.args.params.now) c.args.plan.now c.requires.planned
+    c.store-store.result.now store c.in-Some-run.batches at same
 
 pub returns-then-eq : goal.returns-then-eq
 returns-then-eq c =
     let server : c.self.inside.server ≡ c.args.self.now.server = ap (λ s. s.server) c.self.view_is in
     let store : c.store-store.result.now ≡ store_of c.args.self.now.server = rw (c.store-store.ensures, server) refl in
-    let made = message_is c.planned_message.result c.unless_refused.result c.unless_refused.ensures.ok c.unless_refused.ensures.refused c.in-Some.frame (rw c.in-Some.is at c.in_ok-frame.was) in
-    let framed : IsFramed c.args.self.now.server (change_view c.args.params.now) c.in-Some.frame.items = plan_framed c.args.self.now.server (change_view c.args.params.now) c.args.plan.now c.requires.planned c.in-Some.frame.items (rw (made, store) at c.planned_message.ensures.framed) in
+    let made = message_is c.planned_message.result c.unless_refused.result c.unless_refused.ensures.ok
+    c.unless_refused.ensures.refused c.in-Some.frame (rw c.in-Some.is at c.in_ok-frame.was) in
+    let framed : IsFramed c.args.self.now.server (change_view c.args.params.now) c.in-Some.frame.items =
+    plan_framed c.args.self.now.server (change_view c.args.params.now) c.args.plan.now c.requires.planned
+    c.in-Some.frame.items (rw (made, store) at c.planned_message.ensures.framed) in
     let at : IsOpenIn c.args.self.now.server c.in-Some-run.batches = rw c.in-Some-run.is at c.requires.may_be_open in
     let same : string_bytes c.args.params.now.uri ≡ c.in-Some-run.batches.uri = search rules in
-    let both = plan_continued c.args.self.now.server (change_view c.args.params.now) c.args.plan.now c.requires.planned c.store-store.result.now store c.in-Some-run.batches c.add_plan.new.self at same c.in_ok-add_plan.ensures.added in
+    let both = plan_continued c.args.self.now.server (change_view c.args.params.now) c.args.plan.now c.requires.planned
+    c.store-store.result.now store c.in-Some-run.batches c.add_plan.new.self at same c.in_ok-add_plan.ensures.added in
     (c.requires.planned.accepted, framed, rw c.in-Some-run.is both.0, both.1)
 
 pub returns : goal.returns
 returns c =
     let server : c.self.inside.server ≡ c.args.self.now.server = ap (λ s. s.server) c.self.view_is in
     let store : c.store-store.result.now ≡ store_of c.args.self.now.server = rw (c.store-store.ensures, server) refl in
-    let made = message_is c.planned_message.result c.unless_refused.result c.unless_refused.ensures.ok c.unless_refused.ensures.refused c.in-Some.frame (rw c.in-Some.is at c.in_ok-frame.was) in
-    let framed : IsFramed c.args.self.now.server (change_view c.args.params.now) c.in-Some.frame.items = plan_framed c.args.self.now.server (change_view c.args.params.now) c.args.plan.now c.requires.planned c.in-Some.frame.items (rw (made, store) at c.planned_message.ensures.framed) in
-    let differ : c.in-Some-run.batches.uri ≢ string_bytes c.args.params.now.uri = search rules in
-    (c.requires.planned.accepted, framed, rw c.in-Some-run.is (not_same (string_bytes c.args.params.now.uri) c.in-Some-run.batches.uri differ), sym c.in-Some-run.is, c.in_ok-begun-2.ensures.begun, c.in_ok-begun-2.ensures.reached)
+    let made = message_is c.planned_message.result c.unless_refused.result c.unless_refused.ensures.ok
+    c.unless_refused.ensures.refused c.in-Some.frame (rw c.in-Some.is at c.in_ok-frame.was) in
+    let framed : IsFramed c.args.self.now.server (change_view c.args.params.now) c.in-Some.frame.items =
+    plan_framed c.args.self.now.server (change_view c.args.params.now) c.args.plan.now c.requires.planned
+    c.in-Some.frame.items (rw (made, store) at c.planned_message.ensures.framed) in
+    let differ : c.in-Some-run.batches.uri ≢ string_bytes c.args.params.now.uri = search rules in (
+      c.requires.planned.accepted,
+      framed,
+      rw c.in-Some-run.is (not_same (string_bytes c.args.params.now.uri) c.in-Some-run.batches.uri differ),
+      sym c.in-Some-run.is,
+      c.in_ok-begun-2.ensures.begun,
+      c.in_ok-begun-2.ensures.reached,
+    )

@@ -24,14 +24,18 @@ pub returns-in-Some-clause-joined : goal.returns-in-Some-clause-joined
 returns-in-Some-clause-joined c = λ head body is.
     if_both c.change_and_join.result
     (λ judged taken writing.
-    let verdict = taken_verdict c.args.self.now head body c.args.self.now (body_view c.args.read) refl is (change_view c.in-Some.params.now) c.in-Some.ensures (verdict_view judged.0) c.change_and_join.new.self taken in
-    let session = taken_session c.args.self.now head body c.args.self.now (body_view c.args.read) refl is (change_view c.in-Some.params.now) c.in-Some.ensures (verdict_view judged.0) c.change_and_join.new.self taken in
+    let verdict = taken_verdict c.args.self.now head body c.args.self.now (body_view c.args.read) refl is
+    (change_view c.in-Some.params.now) c.in-Some.ensures (verdict_view judged.0) c.change_and_join.new.self taken in
+    let session = taken_session c.args.self.now head body c.args.self.now (body_view c.args.read) refl is
+    (change_view c.in-Some.params.now) c.in-Some.ensures (verdict_view judged.0) c.change_and_join.new.self taken in
     record {
       judged = verdict;
       session = session;
       writing = λ not_bad.
-          subst (λ (v : Verdict). IsWriting c.args.self.now.server c.args.run (change_in (incoming_of (reading body))) v judged.1) (sym verdict)
-          (change_writing_at c.args.self.now head body c.args.self.now (body_view c.args.read) refl is (change_view c.in-Some.params.now) c.in-Some.ensures c.args.run judged.1 writing);
+          subst (λ (v : Verdict). IsWriting c.args.self.now.server c.args.run (change_in (incoming_of (reading body))) v
+          judged.1) (sym verdict)
+          (change_writing_at c.args.self.now head body c.args.self.now (body_view c.args.read) refl is
+          (change_view c.in-Some.params.now) c.in-Some.ensures c.args.run judged.1 writing);
     })
     c.change_and_join.ensures.taken
     c.change_and_join.ensures.writing
@@ -41,7 +45,8 @@ returns-in-Some-clause-reached c =
     if_both c.change_and_join.result
     (λ judged taken writing.
     subst (λ (u : Session). IsOpenAfter u.server judged.1) (sym (taken.session One))
-    (change_open c.args.self.now One c.args.run (change_view c.in-Some.params.now) judged.1 c.in-Some.ensures.running c.in-Some.ensures.known writing))
+    (change_open c.args.self.now One c.args.run (change_view c.in-Some.params.now) judged.1 c.in-Some.ensures.running
+    c.in-Some.ensures.known writing))
     c.change_and_join.ensures.taken
     c.change_and_join.ensures.writing
 
@@ -53,5 +58,6 @@ returns-in_ok-take-in-None-clause-joined c = λ head body is.
       judged = verdict;
       session = rw same at c.in_ok-take-in-None.ensures.session;
       writing = λ not_bad.
-          rw verdict (none_writing c.args.self.now head body c.args.self.now (body_view c.args.read) refl is c.in-None.ensures c.args.run (AsItIs c.args.run) (c.in-None.ensures, refl));
+          rw verdict (none_writing c.args.self.now head body c.args.self.now (body_view c.args.read) refl is
+          c.in-None.ensures c.args.run (AsItIs c.args.run) (c.in-None.ensures, refl));
     }

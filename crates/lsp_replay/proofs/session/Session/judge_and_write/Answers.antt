@@ -16,9 +16,15 @@ pub returns-in-Some-clause-judged : goal.returns-in-Some-clause-judged
 returns-in-Some-clause-judged c = λ head body is.
     if_both c.change_and_write.result
     (λ judged taken written. record {
-      judged = taken_verdict c.args.self.now head body c.args.self.now (body_view c.args.read) refl is (change_view c.in-Some.params.now) c.in-Some.ensures (verdict_view judged.0) c.change_and_write.new.self taken;
-      session = taken_session c.args.self.now head body c.args.self.now (body_view c.args.read) refl is (change_view c.in-Some.params.now) c.in-Some.ensures (verdict_view judged.0) c.change_and_write.new.self taken;
-      written = written_at c.args.self.now head body c.args.self.now (body_view c.args.read) refl is (change_view c.in-Some.params.now) c.in-Some.ensures judged.1 c.args.output.now.items c.change_and_write.new.output.items written;
+      judged = taken_verdict c.args.self.now head body c.args.self.now (body_view c.args.read) refl is
+          (change_view c.in-Some.params.now) c.in-Some.ensures (verdict_view judged.0) c.change_and_write.new.self
+          taken;
+      session = taken_session c.args.self.now head body c.args.self.now (body_view c.args.read) refl is
+          (change_view c.in-Some.params.now) c.in-Some.ensures (verdict_view judged.0) c.change_and_write.new.self
+          taken;
+      written = written_at c.args.self.now head body c.args.self.now (body_view c.args.read) refl is
+          (change_view c.in-Some.params.now) c.in-Some.ensures judged.1 c.args.output.now.items
+          c.change_and_write.new.output.items written;
     })
     c.change_and_write.ensures.taken
     c.change_and_write.ensures.written
@@ -29,5 +35,6 @@ returns-in_ok-take-in-None-clause-judged c = λ head body is.
     record {
       judged = rw same at c.in_ok-take-in-None.ensures.verdict;
       session = rw same at c.in_ok-take-in-None.ensures.session;
-      written = none_written c.args.self.now head body c.args.self.now (body_view c.args.read) refl is c.in-None.ensures c.args.output.now.items c.args.output.now.items;
+      written = none_written c.args.self.now head body c.args.self.now (body_view c.args.read) refl is c.in-None.ensures
+          c.args.output.now.items c.args.output.now.items;
     }

@@ -8,6 +8,10 @@ use Rattle.lsp_store.proofs.squash.Squash.message.Goals as goal
 
 pub returns-clause-error : goal.returns-clause-error
 returns-clause-error c =
-    let is = written_refusal (string_bytes c.self.inside.uri) c.self.inside.limits c.self.inside.encoding c.self.inside.joined c.self.inside.reached.version c.args.self.now c.self.view_is (map edit_of c.in_ok-batch.batch.items) c.in_ok-batch.ensures in
-    let version : to_z w32 (of_z w32 c.self.inside.reached.version) ≡ c.self.inside.reached.version = to_z-of_z w32 c.self.inside.reached.version (search rules) in
-    subst (λ (r : Option Refusal). IfErr c.batch_frame.result (IsRefusal r)) is (rw (c.deref.ensures, version) at c.batch_frame.ensures.error)
+    let is = written_refusal (string_bytes c.self.inside.uri) c.self.inside.limits c.self.inside.encoding
+    c.self.inside.joined c.self.inside.reached.version c.args.self.now c.self.view_is
+    (map edit_of c.in_ok-batch.batch.items) c.in_ok-batch.ensures in
+    let version : to_z w32 (of_z w32 c.self.inside.reached.version) ≡ c.self.inside.reached.version =
+    to_z-of_z w32 c.self.inside.reached.version (search rules) in
+    subst (λ (r : Option Refusal). IfErr c.batch_frame.result (IsRefusal r)) is
+    (rw (c.deref.ensures, version) at c.batch_frame.ensures.error)

@@ -5,9 +5,11 @@ use Rattle.lsp_store.proofs.store.Store.is_taken.Goals as goal
 pub returns-then-not-is_lenient : goal.returns-then-not-is_lenient
 returns-then-not-is_lenient c =
     c.contains_key.ensures
-    ∙ taken_strict c.self.inside.limits c.self.inside.documents.entries c.args.self.now c.self.view_is c.args.uri.now (sym c.is_lenient.ensures ∙ c.if-not-is_lenient.true)
+    ∙ taken_strict c.self.inside.limits c.self.inside.documents.entries c.args.self.now c.self.view_is c.args.uri.now
+    (sym c.is_lenient.ensures ∙ c.if-not-is_lenient.true)
 
 pub returns-else-not-is_lenient : goal.returns-else-not-is_lenient
 returns-else-not-is_lenient c =
     ap not c.if-not-is_lenient.false
-    ∙ taken_never c.self.inside.limits c.self.inside.documents.entries c.args.self.now c.self.view_is c.args.uri.now (sym c.is_lenient.ensures ∙ c.if-not-is_lenient.false)
+    ∙ taken_never c.self.inside.limits c.self.inside.documents.entries c.args.self.now c.self.view_is c.args.uri.now
+    (sym c.is_lenient.ensures ∙ c.if-not-is_lenient.false)

@@ -6,7 +6,8 @@ pub overflow_sub-result : goal.overflow_sub-result
 overflow_sub-result c =
     omega (
       arith,
-      others_open c.self.inside.limits c.self.inside.documents.entries c.args.self.now c.self.view_is c.args.uri.now (sym c.contains_key.ensures ∙ c.if-contains_key.true),
+      others_open c.self.inside.limits c.self.inside.documents.entries c.args.self.now c.self.view_is c.args.uri.now
+          (sym c.contains_key.ensures ∙ c.if-contains_key.true),
       c.len-count.ensures,
     )
 
@@ -14,7 +15,8 @@ pub returns-then-contains_key : goal.returns-then-contains_key
 returns-then-contains_key c =
     omega (
       arith,
-      others_open c.self.inside.limits c.self.inside.documents.entries c.args.self.now c.self.view_is c.args.uri.now (sym c.contains_key.ensures ∙ c.if-contains_key.true),
+      others_open c.self.inside.limits c.self.inside.documents.entries c.args.self.now c.self.view_is c.args.uri.now
+          (sym c.contains_key.ensures ∙ c.if-contains_key.true),
       c.len-count.ensures,
     )
 
@@ -22,6 +24,7 @@ pub returns-else-contains_key : goal.returns-else-contains_key
 returns-else-contains_key c =
     omega (
       arith,
-      others_new c.self.inside.limits c.self.inside.documents.entries c.args.self.now c.self.view_is c.args.uri.now (sym c.contains_key.ensures ∙ c.if-contains_key.false),
+      others_new c.self.inside.limits c.self.inside.documents.entries c.args.self.now c.self.view_is c.args.uri.now
+          (sym c.contains_key.ensures ∙ c.if-contains_key.false),
       c.len-count.ensures,
     )

@@ -5,20 +5,28 @@ use Rattle.lsp_store.proofs.store.Store.planned_batch.Goals as goal
 
 pub unreachable-requires : goal.unreachable-requires
 unreachable-requires c =
-    let there = plan_entry c.self.inside.limits c.self.inside.documents.entries c.args.self.now c.self.view_is c.args.plan.now c.requires.on in
+    let there = plan_entry c.self.inside.limits c.self.inside.documents.entries c.args.self.now c.self.view_is
+    c.args.plan.now c.requires.on in
     let bad : None ≡ Some there.found = c.in_default.ensures.entry ∙ there.at in
     absurd (cc)
 
 pub canonical-requires : goal.canonical-requires
 canonical-requires c =
-    record { on = plan_on c.self.inside.limits c.self.inside.documents.entries c.args.self.now c.self.view_is c.args.plan.now c.requires.on c.in-Some.stored.now (record { key = c.in-Some.uri.now; at = sym c.in-Some.ensures.entry }) }
+    record {
+      on = plan_on c.self.inside.limits c.self.inside.documents.entries c.args.self.now c.self.view_is c.args.plan.now
+          c.requires.on c.in-Some.stored.now (record { key = c.in-Some.uri.now; at = sym c.in-Some.ensures.entry });
+    }
 
 pub returns : goal.returns
 returns c = λ uri version encoding batch q.
-    let given : to_z w32 (of_z w32 c.args.plan.now.version) ≡ c.args.plan.now.version = to_z-of_z w32 c.args.plan.now.version (search rules) in
-    let h : HasEntry c.self.inside.documents.entries c.args.plan.now.index c.in-Some.stored.now = record { key = c.in-Some.uri.now; at = sym c.in-Some.ensures.entry } in
+    let given : to_z w32 (of_z w32 c.args.plan.now.version) ≡ c.args.plan.now.version =
+    to_z-of_z w32 c.args.plan.now.version (search rules) in
+    let h : HasEntry c.self.inside.documents.entries c.args.plan.now.index c.in-Some.stored.now =
+    record { key = c.in-Some.uri.now; at = sym c.in-Some.ensures.entry } in
     planned_body c.args.self.now uri version encoding batch c.args.plan.now q
-    _ (plan_text c.self.inside.limits c.self.inside.documents.entries c.args.self.now c.self.view_is c.args.plan.now q.on c.in-Some.stored.now h)
+    _ (plan_text c.self.inside.limits c.self.inside.documents.entries c.args.self.now c.self.view_is c.args.plan.now
+    q.on c.in-Some.stored.now h)
     _ c.in_ok-batch.ensures
-    _ (plan_key c.self.inside.limits c.self.inside.documents.entries c.args.self.now c.self.view_is c.args.plan.now q.on c.in-Some.stored.now h ∙ sym c.deref.ensures)
+    _ (plan_key c.self.inside.limits c.self.inside.documents.entries c.args.self.now c.self.view_is c.args.plan.now q.on
+    c.in-Some.stored.now h ∙ sym c.deref.ensures)
     _ given

@@ -7,19 +7,25 @@ use Rattle.lsp_store.proofs.store.Store.planned_message.Goals as goal
 
 pub returns-clause-framed : goal.returns-clause-framed
 returns-clause-framed c =
-    let version : to_z w32 (of_z w32 c.in_ok-uri.version) ≡ c.in_ok-uri.version = to_z-of_z w32 c.in_ok-uri.version (search rules) in
+    let version : to_z w32 (of_z w32 c.in_ok-uri.version) ≡ c.in_ok-uri.version =
+    to_z-of_z w32 c.in_ok-uri.version (search rules) in
     let limits = limits_are c.self.inside.limits c.self.inside.documents.entries c.args.self.now c.self.view_is in
     if_ok_on c.change_frame.result
     (λ bytes is within uri version encoding batch q.
-    let body = c.in_ok-uri.ensures uri version encoding batch q in
-    (is ∙ ap frame body, planned_accepted c.args.self.now uri version encoding batch c.args.plan.now q c.self.inside.limits limits _ body within))
+    let body = c.in_ok-uri.ensures uri version encoding batch q in (
+      is ∙ ap frame body,
+      planned_accepted c.args.self.now uri version encoding batch c.args.plan.now q c.self.inside.limits limits _ body
+          within,
+    ))
     (rw version at c.change_frame.ensures.framed)
     (rw version at c.change_frame.ensures.within)
 
 pub returns-clause-error : goal.returns-clause-error
 returns-clause-error c =
-    let version : to_z w32 (of_z w32 c.in_ok-uri.version) ≡ c.in_ok-uri.version = to_z-of_z w32 c.in_ok-uri.version (search rules) in
+    let version : to_z w32 (of_z w32 c.in_ok-uri.version) ≡ c.in_ok-uri.version =
+    to_z-of_z w32 c.in_ok-uri.version (search rules) in
     let limits = limits_are c.self.inside.limits c.self.inside.documents.entries c.args.self.now c.self.view_is in
     if_err c.change_frame.result
-    (λ fault why uri version encoding batch q. planned_refused c.args.self.now uri version encoding batch c.args.plan.now q c.self.inside.limits limits _ (c.in_ok-uri.ensures uri version encoding batch q) fault why)
+    (λ fault why uri version encoding batch q. planned_refused c.args.self.now uri version encoding batch
+    c.args.plan.now q c.self.inside.limits limits _ (c.in_ok-uri.ensures uri version encoding batch q) fault why)
     (rw version at c.change_frame.ensures.error)

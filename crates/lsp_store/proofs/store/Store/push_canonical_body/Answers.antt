@@ -13,29 +13,44 @@ use Rattle.lsp_store.proofs.store.Store.push_canonical_body.Goals as goal
 
 pub returns-in_default-clause-error : goal.returns-in_default-clause-error
 returns-in_default-clause-error c =
-    first_told _ _ _ (change_absent c.self.inside.limits c.self.inside.documents.entries c.args.self.now c.self.view_is c.args.uri.now c.args.version c.args.encoding (map edit_of c.args.changes.now) c.in_default.ensures.value)
+    first_told _ _ _ (change_absent c.self.inside.limits c.self.inside.documents.entries c.args.self.now c.self.view_is
+    c.args.uri.now c.args.version c.args.encoding (map edit_of c.args.changes.now) c.in_default.ensures.value)
 
 pub returns-in_err-batch-clause-error : goal.returns-in_err-batch-clause-error
 returns-in_err-batch-clause-error c =
     let version : to_z w32 (of_z w32 c.args.version) ≡ c.args.version = to_z-of_z w32 c.args.version (search rules) in
     let p = err_from_is_err_and c.from_residual.result c.from_residual.ensures.1 in
     rw (p.1, p.2)
-    (first_told _ _ _ (change_refused c.self.inside.limits c.self.inside.documents.entries c.args.self.now c.self.view_is c.args.uri.now c.args.version c.args.encoding (map edit_of c.args.changes.now) c.in-Some.stored.now c.in-Some.ensures.value _
+    (first_told _ _ _ (change_refused c.self.inside.limits c.self.inside.documents.entries c.args.self.now
+    c.self.view_is c.args.uri.now c.args.version c.args.encoding (map edit_of c.args.changes.now) c.in-Some.stored.now
+    c.in-Some.ensures.value _
     (rw version at (c.in_err-batch.ensures.error c.args.uri.now))))
 
 pub returns-in_err-push_body-clause-error : goal.returns-in_err-push_body-clause-error
 returns-in_err-push_body-clause-error c =
     let version : to_z w32 (of_z w32 c.args.version) ≡ c.args.version = to_z-of_z w32 c.args.version (search rules) in
-    let is_open : entry_at c.args.self.now.table c.args.uri.now ≡ Some (entry_under c.args.uri.now c.in-Some.stored.now) =
-    held_at c.self.inside.limits c.self.inside.documents.entries c.args.self.now c.self.view_is c.args.uri.now c.in-Some.stored.now c.in-Some.ensures.value in
-    let limits : c.self.inside.limits ≡ c.args.self.now.limits = limits_are c.self.inside.limits c.self.inside.documents.entries c.args.self.now c.self.view_is in
-    let may : entry_refusal c.args.self.now.limits (units_in c.args.encoding) (entry_under c.args.uri.now c.in-Some.stored.now) c.args.version (map edit_of c.args.changes.now) ≡ None =
+    let is_open : entry_at c.args.self.now.table c.args.uri.now
+    ≡ Some (entry_under c.args.uri.now c.in-Some.stored.now) =
+    held_at c.self.inside.limits c.self.inside.documents.entries c.args.self.now c.self.view_is c.args.uri.now
+    c.in-Some.stored.now c.in-Some.ensures.value in
+    let limits : c.self.inside.limits ≡ c.args.self.now.limits =
+    limits_are c.self.inside.limits c.self.inside.documents.entries c.args.self.now c.self.view_is in
+    let may : entry_refusal c.args.self.now.limits (units_in c.args.encoding)
+    (entry_under c.args.uri.now c.in-Some.stored.now) c.args.version (map edit_of c.args.changes.now) ≡ None =
     rw (version, limits) at (c.in_ok-batch.ensures.accepted c.args.uri.now) in
     let made = c.in_ok-batch.ensures.batch in
-    let batch : canonical_batch (units_in c.args.encoding) c.args.self.now.table c.args.uri.now (map edit_of c.args.changes.now) ≡ map edit_of c.in_ok-batch.batch.items =
-    canonical_is c.args.self.now.limits c.args.encoding c.args.self.now.table c.args.uri.now c.args.version (entry_under c.args.uri.now c.in-Some.stored.now) is_open made.law (map edit_of c.args.changes.now) may _ made.items made.means made.is in
+    let batch : canonical_batch (units_in c.args.encoding) c.args.self.now.table c.args.uri.now
+    (map edit_of c.args.changes.now) ≡ map edit_of c.in_ok-batch.batch.items =
+    canonical_is c.args.self.now.limits c.args.encoding c.args.self.now.table c.args.uri.now c.args.version
+    (entry_under c.args.uri.now c.in-Some.stored.now) is_open made.law (map edit_of c.args.changes.now) may _ made.items
+    made.means made.is in
     let p = err_from_is_err_and c.from_residual-in_err-push_body.result c.from_residual-in_err-push_body.ensures.1 in
-    rw (p.1, p.2) (message_refused c.args.self.now.limits c.args.encoding c.args.self.now.table c.args.uri.now c.args.version (entry_under c.args.uri.now c.in-Some.stored.now) is_open made.law (map edit_of c.args.changes.now) may _ (rw (batch, ← limits) (rw version at c.in_err-push_body.ensures.error)))
+    rw (
+      p.1,
+      p.2,
+    ) (message_refused c.args.self.now.limits c.args.encoding c.args.self.now.table c.args.uri.now c.args.version
+    (entry_under c.args.uri.now c.in-Some.stored.now) is_open made.law (map edit_of c.args.changes.now) may _
+    (rw (batch, ← limits) (rw version at c.in_err-push_body.ensures.error)))
 
 pub returns-in_err-batch-clause-memory : goal.returns-in_err-batch-clause-memory
 returns-in_err-batch-clause-memory c = λ e.
@@ -45,47 +60,77 @@ returns-in_err-batch-clause-memory c = λ e.
     let same = p.2 in
     let was = c.in_err-batch.was in
     let no_memory : c.canonical.result ≡ Err NoMemory = cc in
-    let is_open : entry_at c.args.self.now.table c.args.uri.now ≡ Some (entry_under c.args.uri.now c.in-Some.stored.now) =
-    held_at c.self.inside.limits c.self.inside.documents.entries c.args.self.now c.self.view_is c.args.uri.now c.in-Some.stored.now c.in-Some.ensures.value in
-    let limits : c.self.inside.limits ≡ c.args.self.now.limits = limits_are c.self.inside.limits c.self.inside.documents.entries c.args.self.now c.self.view_is in
-    let left : IsLeftToMeaning c.args.self.now.limits (entry_under c.args.uri.now c.in-Some.stored.now) c.args.version (map edit_of c.args.changes.now) =
+    let is_open : entry_at c.args.self.now.table c.args.uri.now
+    ≡ Some (entry_under c.args.uri.now c.in-Some.stored.now) =
+    held_at c.self.inside.limits c.self.inside.documents.entries c.args.self.now c.self.view_is c.args.uri.now
+    c.in-Some.stored.now c.in-Some.ensures.value in
+    let limits : c.self.inside.limits ≡ c.args.self.now.limits =
+    limits_are c.self.inside.limits c.self.inside.documents.entries c.args.self.now c.self.view_is in
+    let left : IsLeftToMeaning c.args.self.now.limits (entry_under c.args.uri.now c.in-Some.stored.now) c.args.version
+    (map edit_of c.args.changes.now) =
     rw (version, limits) at (c.canonical.ensures.memory no_memory c.args.uri.now) in
-    may_take c.args.self.now c.args.uri.now c.args.version (map edit_of c.args.changes.now) (entry_under c.args.uri.now c.in-Some.stored.now) is_open left
+    may_take c.args.self.now c.args.uri.now c.args.version (map edit_of c.args.changes.now)
+    (entry_under c.args.uri.now c.in-Some.stored.now) is_open left
 
 pub returns-in_err-push_body-clause-memory : goal.returns-in_err-push_body-clause-memory
 returns-in_err-push_body-clause-memory c = λ e.
     let version : to_z w32 (of_z w32 c.args.version) ≡ c.args.version = to_z-of_z w32 c.args.version (search rules) in
-    let is_open : entry_at c.args.self.now.table c.args.uri.now ≡ Some (entry_under c.args.uri.now c.in-Some.stored.now) =
-    held_at c.self.inside.limits c.self.inside.documents.entries c.args.self.now c.self.view_is c.args.uri.now c.in-Some.stored.now c.in-Some.ensures.value in
-    let limits : c.self.inside.limits ≡ c.args.self.now.limits = limits_are c.self.inside.limits c.self.inside.documents.entries c.args.self.now c.self.view_is in
-    let left : IsLeftToMeaning c.args.self.now.limits (entry_under c.args.uri.now c.in-Some.stored.now) c.args.version (map edit_of c.args.changes.now) =
-    accepted_left c.args.self.now.limits (units_in c.args.encoding) (entry_under c.args.uri.now c.in-Some.stored.now) c.args.version (map edit_of c.args.changes.now) (rw (version, limits) at (c.in_ok-batch.ensures.accepted c.args.uri.now)) in
-    may_take c.args.self.now c.args.uri.now c.args.version (map edit_of c.args.changes.now) (entry_under c.args.uri.now c.in-Some.stored.now) is_open left
+    let is_open : entry_at c.args.self.now.table c.args.uri.now
+    ≡ Some (entry_under c.args.uri.now c.in-Some.stored.now) =
+    held_at c.self.inside.limits c.self.inside.documents.entries c.args.self.now c.self.view_is c.args.uri.now
+    c.in-Some.stored.now c.in-Some.ensures.value in
+    let limits : c.self.inside.limits ≡ c.args.self.now.limits =
+    limits_are c.self.inside.limits c.self.inside.documents.entries c.args.self.now c.self.view_is in
+    let left : IsLeftToMeaning c.args.self.now.limits (entry_under c.args.uri.now c.in-Some.stored.now) c.args.version
+    (map edit_of c.args.changes.now) =
+    accepted_left c.args.self.now.limits (units_in c.args.encoding) (entry_under c.args.uri.now c.in-Some.stored.now)
+    c.args.version (map edit_of c.args.changes.now) (rw (
+      version,
+      limits,
+    ) at (c.in_ok-batch.ensures.accepted c.args.uri.now)) in
+    may_take c.args.self.now c.args.uri.now c.args.version (map edit_of c.args.changes.now)
+    (entry_under c.args.uri.now c.in-Some.stored.now) is_open left
 
 pub returns-clause-body : goal.returns-clause-body
 returns-clause-body c =
     let version : to_z w32 (of_z w32 c.args.version) ≡ c.args.version = to_z-of_z w32 c.args.version (search rules) in
-    let is_open : entry_at c.args.self.now.table c.args.uri.now ≡ Some (entry_under c.args.uri.now c.in-Some.stored.now) =
-    held_at c.self.inside.limits c.self.inside.documents.entries c.args.self.now c.self.view_is c.args.uri.now c.in-Some.stored.now c.in-Some.ensures.value in
-    let limits : c.self.inside.limits ≡ c.args.self.now.limits = limits_are c.self.inside.limits c.self.inside.documents.entries c.args.self.now c.self.view_is in
-    let may : entry_refusal c.args.self.now.limits (units_in c.args.encoding) (entry_under c.args.uri.now c.in-Some.stored.now) c.args.version (map edit_of c.args.changes.now) ≡ None =
+    let is_open : entry_at c.args.self.now.table c.args.uri.now
+    ≡ Some (entry_under c.args.uri.now c.in-Some.stored.now) =
+    held_at c.self.inside.limits c.self.inside.documents.entries c.args.self.now c.self.view_is c.args.uri.now
+    c.in-Some.stored.now c.in-Some.ensures.value in
+    let limits : c.self.inside.limits ≡ c.args.self.now.limits =
+    limits_are c.self.inside.limits c.self.inside.documents.entries c.args.self.now c.self.view_is in
+    let may : entry_refusal c.args.self.now.limits (units_in c.args.encoding)
+    (entry_under c.args.uri.now c.in-Some.stored.now) c.args.version (map edit_of c.args.changes.now) ≡ None =
     rw (version, limits) at (c.in_ok-batch.ensures.accepted c.args.uri.now) in
     let made = c.in_ok-batch.ensures.batch in
-    let batch : canonical_batch (units_in c.args.encoding) c.args.self.now.table c.args.uri.now (map edit_of c.args.changes.now) ≡ map edit_of c.in_ok-batch.batch.items =
-    canonical_is c.args.self.now.limits c.args.encoding c.args.self.now.table c.args.uri.now c.args.version (entry_under c.args.uri.now c.in-Some.stored.now) is_open made.law (map edit_of c.args.changes.now) may _ made.items made.means made.is in
+    let batch : canonical_batch (units_in c.args.encoding) c.args.self.now.table c.args.uri.now
+    (map edit_of c.args.changes.now) ≡ map edit_of c.in_ok-batch.batch.items =
+    canonical_is c.args.self.now.limits c.args.encoding c.args.self.now.table c.args.uri.now c.args.version
+    (entry_under c.args.uri.now c.in-Some.stored.now) is_open made.law (map edit_of c.args.changes.now) may _ made.items
+    made.means made.is in
     rw batch (rw version at c.in_ok-push_body.ensures.body)
 
 pub returns-clause-accepted : goal.returns-clause-accepted
 returns-clause-accepted c =
     let version : to_z w32 (of_z w32 c.args.version) ≡ c.args.version = to_z-of_z w32 c.args.version (search rules) in
-    let is_open : entry_at c.args.self.now.table c.args.uri.now ≡ Some (entry_under c.args.uri.now c.in-Some.stored.now) =
-    held_at c.self.inside.limits c.self.inside.documents.entries c.args.self.now c.self.view_is c.args.uri.now c.in-Some.stored.now c.in-Some.ensures.value in
-    let limits : c.self.inside.limits ≡ c.args.self.now.limits = limits_are c.self.inside.limits c.self.inside.documents.entries c.args.self.now c.self.view_is in
-    let may : entry_refusal c.args.self.now.limits (units_in c.args.encoding) (entry_under c.args.uri.now c.in-Some.stored.now) c.args.version (map edit_of c.args.changes.now) ≡ None =
+    let is_open : entry_at c.args.self.now.table c.args.uri.now
+    ≡ Some (entry_under c.args.uri.now c.in-Some.stored.now) =
+    held_at c.self.inside.limits c.self.inside.documents.entries c.args.self.now c.self.view_is c.args.uri.now
+    c.in-Some.stored.now c.in-Some.ensures.value in
+    let limits : c.self.inside.limits ≡ c.args.self.now.limits =
+    limits_are c.self.inside.limits c.self.inside.documents.entries c.args.self.now c.self.view_is in
+    let may : entry_refusal c.args.self.now.limits (units_in c.args.encoding)
+    (entry_under c.args.uri.now c.in-Some.stored.now) c.args.version (map edit_of c.args.changes.now) ≡ None =
     rw (version, limits) at (c.in_ok-batch.ensures.accepted c.args.uri.now) in
     let made = c.in_ok-batch.ensures.batch in
-    let batch : canonical_batch (units_in c.args.encoding) c.args.self.now.table c.args.uri.now (map edit_of c.args.changes.now) ≡ map edit_of c.in_ok-batch.batch.items =
-    canonical_is c.args.self.now.limits c.args.encoding c.args.self.now.table c.args.uri.now c.args.version (entry_under c.args.uri.now c.in-Some.stored.now) is_open made.law (map edit_of c.args.changes.now) may _ made.items made.means made.is in
-    let within : body_refusal c.args.self.now.limits (canonical_body (units_in c.args.encoding) c.args.self.now.table c.args.uri.now c.args.version (map edit_of c.args.changes.now)) ≡ None =
+    let batch : canonical_batch (units_in c.args.encoding) c.args.self.now.table c.args.uri.now
+    (map edit_of c.args.changes.now) ≡ map edit_of c.in_ok-batch.batch.items =
+    canonical_is c.args.self.now.limits c.args.encoding c.args.self.now.table c.args.uri.now c.args.version
+    (entry_under c.args.uri.now c.in-Some.stored.now) is_open made.law (map edit_of c.args.changes.now) may _ made.items
+    made.means made.is in
+    let within : body_refusal c.args.self.now.limits (canonical_body (units_in c.args.encoding) c.args.self.now.table
+    c.args.uri.now c.args.version (map edit_of c.args.changes.now)) ≡ None =
     rw (batch, ← limits) (rw version at c.in_ok-push_body.ensures.within) in
-    message_accepted c.args.self.now.limits c.args.encoding c.args.self.now.table c.args.uri.now c.args.version (entry_under c.args.uri.now c.in-Some.stored.now) is_open made.law (map edit_of c.args.changes.now) may within
+    message_accepted c.args.self.now.limits c.args.encoding c.args.self.now.table c.args.uri.now c.args.version
+    (entry_under c.args.uri.now c.in-Some.stored.now) is_open made.law (map edit_of c.args.changes.now) may within

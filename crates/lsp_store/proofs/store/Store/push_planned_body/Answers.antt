@@ -6,19 +6,25 @@ use Rattle.lsp_store.proofs.store.Store.push_planned_body.Goals as goal
 
 pub returns-clause-body : goal.returns-clause-body
 returns-clause-body c =
-    let version : to_z w32 (of_z w32 c.in_ok-uri.version) ≡ c.in_ok-uri.version = to_z-of_z w32 c.in_ok-uri.version (search rules) in
+    let version : to_z w32 (of_z w32 c.in_ok-uri.version) ≡ c.in_ok-uri.version =
+    to_z-of_z w32 c.in_ok-uri.version (search rules) in
     let limits = limits_are c.self.inside.limits c.self.inside.documents.entries c.args.self.now c.self.view_is in
     on_ok_on c.push_body.result
     (λ is within uri version encoding batch q.
-    let body = c.in_ok-uri.ensures uri version encoding batch q in
-    (is ∙ ap (λ (b : List ℕ). c.args.bytes.now.items ++ b) body, planned_accepted c.args.self.now uri version encoding batch c.args.plan.now q c.self.inside.limits limits _ body within))
+    let body = c.in_ok-uri.ensures uri version encoding batch q in (
+      is ∙ ap (λ (b : List ℕ). c.args.bytes.now.items ++ b) body,
+      planned_accepted c.args.self.now uri version encoding batch c.args.plan.now q c.self.inside.limits limits _ body
+          within,
+    ))
     (rw version at c.push_body.ensures.body)
     (rw version at c.push_body.ensures.within)
 
 pub returns-clause-error : goal.returns-clause-error
 returns-clause-error c =
-    let version : to_z w32 (of_z w32 c.in_ok-uri.version) ≡ c.in_ok-uri.version = to_z-of_z w32 c.in_ok-uri.version (search rules) in
+    let version : to_z w32 (of_z w32 c.in_ok-uri.version) ≡ c.in_ok-uri.version =
+    to_z-of_z w32 c.in_ok-uri.version (search rules) in
     let limits = limits_are c.self.inside.limits c.self.inside.documents.entries c.args.self.now c.self.view_is in
     if_err c.push_body.result
-    (λ fault why uri version encoding batch q. planned_refused c.args.self.now uri version encoding batch c.args.plan.now q c.self.inside.limits limits _ (c.in_ok-uri.ensures uri version encoding batch q) fault why)
+    (λ fault why uri version encoding batch q. planned_refused c.args.self.now uri version encoding batch
+    c.args.plan.now q c.self.inside.limits limits _ (c.in_ok-uri.ensures uri version encoding batch q) fault why)
     (rw version at c.push_body.ensures.error)

@@ -12,7 +12,8 @@ returns-clause-body c =
     let version : to_z w32 (of_z w32 c.args.version) ≡ c.args.version = to_z-of_z w32 c.args.version (search rules) in
     let body = change_body c.args.uri.now c.args.version (map edit_of c.args.changes.items) in
     let pushed : c.push_change.new.bytes.items ≡ c.args.bytes.now.items ++ body =
-    body_pushed c.args.bytes.now.items c.push_change.new.bytes.items c.args.uri.now c.args.version _ c.args.changes.items (rw c.deref.ensures.value at c.in_ok-push_change.ensures.ok) version in
+    body_pushed c.args.bytes.now.items c.push_change.new.bytes.items c.args.uri.now c.args.version _
+    c.args.changes.items (rw c.deref.ensures.value at c.in_ok-push_change.ensures.ok) version in
     on_ok_weaker c.keep_within.result (λ same. same ∙ pushed) c.keep_within.ensures.kept
 
 pub returns-clause-within : goal.returns-clause-within
@@ -20,18 +21,27 @@ returns-clause-within c =
     let version : to_z w32 (of_z w32 c.args.version) ≡ c.args.version = to_z-of_z w32 c.args.version (search rules) in
     let body = change_body c.args.uri.now c.args.version (map edit_of c.args.changes.items) in
     let pushed : c.push_change.new.bytes.items ≡ c.args.bytes.now.items ++ body =
-    body_pushed c.args.bytes.now.items c.push_change.new.bytes.items c.args.uri.now c.args.version _ c.args.changes.items (rw c.deref.ensures.value at c.in_ok-push_change.ensures.ok) version in
-    let added : length c.push_change.new.bytes.items ≡ length c.args.bytes.now.items + length body = ap length pushed ∙ length-append c.args.bytes.now.items body in
-    on_ok_weaker c.keep_within.result (λ short. body_within c.args.limits.now body (omega (arith, added, short))) c.keep_within.ensures.within
+    body_pushed c.args.bytes.now.items c.push_change.new.bytes.items c.args.uri.now c.args.version _
+    c.args.changes.items (rw c.deref.ensures.value at c.in_ok-push_change.ensures.ok) version in
+    let added : length c.push_change.new.bytes.items ≡ length c.args.bytes.now.items + length body =
+    ap length pushed ∙ length-append c.args.bytes.now.items body in
+    on_ok_weaker c.keep_within.result (λ short. body_within c.args.limits.now body (omega (arith, added, short)))
+    c.keep_within.ensures.within
 
 pub returns-clause-error : goal.returns-clause-error
 returns-clause-error c =
     let version : to_z w32 (of_z w32 c.args.version) ≡ c.args.version = to_z-of_z w32 c.args.version (search rules) in
     let body = change_body c.args.uri.now c.args.version (map edit_of c.args.changes.items) in
     let pushed : c.push_change.new.bytes.items ≡ c.args.bytes.now.items ++ body =
-    body_pushed c.args.bytes.now.items c.push_change.new.bytes.items c.args.uri.now c.args.version _ c.args.changes.items (rw c.deref.ensures.value at c.in_ok-push_change.ensures.ok) version in
-    let added : length c.push_change.new.bytes.items ≡ length c.args.bytes.now.items + length body = ap length pushed ∙ length-append c.args.bytes.now.items body in
+    body_pushed c.args.bytes.now.items c.push_change.new.bytes.items c.args.uri.now c.args.version _
+    c.args.changes.items (rw c.deref.ensures.value at c.in_ok-push_change.ensures.ok) version in
+    let added : length c.push_change.new.bytes.items ≡ length c.args.bytes.now.items + length body =
+    ap length pushed ∙ length-append c.args.bytes.now.items body in
     IfErr-weaker c.keep_within.result _ _
     (λ fault is.
-    rw is.0 (encode_refused c.args.limits.now body (encode.BodyTooLong (length c.push_change.new.bytes.items - c.len-start.result)) (omega (arith, added, is.1), omega (arith, added))))
+    rw is.0 (encode_refused c.args.limits.now body
+    (encode.BodyTooLong (length c.push_change.new.bytes.items - c.len-start.result)) (
+      omega (arith, added, is.1),
+      omega (arith, added),
+    )))
     c.keep_within.ensures.error

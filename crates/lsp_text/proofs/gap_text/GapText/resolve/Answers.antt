@@ -5,10 +5,16 @@ use Rattle.lsp_text.proofs.Gaps.GapTextLemmas.{gap_utf8}
 use Rattle.lsp_text.proofs.gap_text.GapText.resolve.Goals as goal
 
 pub returns-in-Utf8-clause-utf8 : goal.returns-in-Utf8-clause-utf8
-returns-in-Utf8-clause-utf8 c = subst IsUtf8 c.self.view_is (gap_utf8 (without_gap c.self.inside.bytes) c.self.inside.starts.front c.self.inside.starts.back c.self.invariant)
+returns-in-Utf8-clause-utf8 c =
+    subst IsUtf8 c.self.view_is (gap_utf8 (without_gap c.self.inside.bytes) c.self.inside.starts.front
+    c.self.inside.starts.back c.self.invariant)
 
 pub returns-in-Utf16-clause-utf8 : goal.returns-in-Utf16-clause-utf8
-returns-in-Utf16-clause-utf8 c = subst IsUtf8 c.self.view_is (gap_utf8 (without_gap c.self.inside.bytes) c.self.inside.starts.front c.self.inside.starts.back c.self.invariant)
+returns-in-Utf16-clause-utf8 c =
+    subst IsUtf8 c.self.view_is (gap_utf8 (without_gap c.self.inside.bytes) c.self.inside.starts.front
+    c.self.inside.starts.back c.self.invariant)
 
 pub returns-in-Utf32-clause-utf8 : goal.returns-in-Utf32-clause-utf8
-returns-in-Utf32-clause-utf8 c = subst IsUtf8 c.self.view_is (gap_utf8 (without_gap c.self.inside.bytes) c.self.inside.starts.front c.self.inside.starts.back c.self.invariant)
+returns-in-Utf32-clause-utf8 c =
+    subst IsUtf8 c.self.view_is (gap_utf8 (without_gap c.self.inside.bytes) c.self.inside.starts.front
+    c.self.inside.starts.back c.self.invariant)

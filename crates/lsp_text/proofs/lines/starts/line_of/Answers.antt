@@ -12,7 +12,8 @@ loop-high-preserved-then-at-place g c =
       at_most = looked_low _ _ _ _ _ kept.same c.at.ensures.start c.if-at-place.true;
       above = kept.above;
       looks = λ (digits : ℕ) (few : length (g.S.Starts.starts c.args.starts.now) < 2 ^ digits).
-          looks_one _ _ _ _ _ c.loop-high-test.true (omega arith) (omega (arith, c.at.ensures.counted)) (kept.looks digits few);
+          looks_one _ _ _ _ _ c.loop-high-test.true (omega arith) (omega (arith, c.at.ensures.counted))
+          (kept.looks digits few);
     }
 
 pub loop-high-preserved : goal.loop-high-preserved
@@ -25,5 +26,6 @@ loop-high-preserved g c =
       at_most = kept.at_most;
       above = looked_high _ _ _ _ _ kept.same c.at.ensures.start c.if-at-place.false (g.met.S.Starts.are_starts _);
       looks = λ (digits : ℕ) (few : length (g.S.Starts.starts c.args.starts.now) < 2 ^ digits).
-          looks_one _ _ _ _ _ c.loop-high-test.true (omega arith) (omega (arith, c.at.ensures.counted)) (kept.looks digits few);
+          looks_one _ _ _ _ _ c.loop-high-test.true (omega arith) (omega (arith, c.at.ensures.counted))
+          (kept.looks digits few);
     }

@@ -11,7 +11,8 @@ invariant-loop-high g l =
       within : l.high ≤ length starts;
       at_most : slice_index starts l.low ≤ l.place;
       above : (k : ℕ) → l.high ≤ k → k < length starts → l.place < slice_index starts k;
-      looks : (digits : ℕ) → length starts < 2 ^ digits → LooksLeft (l.high - l.low) (g.S.Starts.looks l.starts) (g.S.Starts.looks l.fn.starts + digits);
+      looks : (digits : ℕ) → length starts < 2 ^ digits → LooksLeft (l.high - l.low) (g.S.Starts.looks l.starts)
+          (g.S.Starts.looks l.fn.starts + digits);
     }
 
 abbrev pub decreases-loop-high : goal.decreases-loop-high

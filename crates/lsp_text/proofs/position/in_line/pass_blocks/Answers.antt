@@ -6,6 +6,7 @@ pub loop-place-preserved : goal.loop-place-preserved
 loop-place-preserved g c = record {
   within = omega (arith, c.loop-place-test.true, c.loop-place.invariant.within);
   rest =
-      pass_block g.L.LeadUnits.lead_units c.args.bytes.now c.loop-place.place g.row.N c.loop-place.left c.from-units.result _ (omega (arith, c.loop-place-test.true, c.loop-place.invariant.within))
+      pass_block g.L.LeadUnits.lead_units c.args.bytes.now c.loop-place.place g.row.N c.loop-place.left
+      c.from-units.result _ (omega (arith, c.loop-place-test.true, c.loop-place.invariant.within))
       (c.from-units.ensures ∙ c.units_of_block.ensures) c.if-left-units.false c.loop-place.invariant.rest;
 }

@@ -3,19 +3,30 @@ use Rattle.lsp_text.proofs.TextLines.IndexesLemmas.{indexes_line, indexes_start,
 use Rattle.lsp_text.proofs.position.resolve.content.Goals as goal
 
 pub stop_before-requires-clause-some : goal.stop_before-requires-clause-some
-stop_before-requires-clause-some c = (indexes_next c.args.bytes.now c.args.starts.now c.args.line c.requires.utf8 c.requires.indexed (omega (arith, c.requires.line, c.if-next-starts.false))).some
+stop_before-requires-clause-some c =
+    (indexes_next c.args.bytes.now c.args.starts.now c.args.line c.requires.utf8 c.requires.indexed
+    (omega (arith, c.requires.line, c.if-next-starts.false))).some
 
 pub stop_before-requires-clause-within : goal.stop_before-requires-clause-within
-stop_before-requires-clause-within c = (indexes_next c.args.bytes.now c.args.starts.now c.args.line c.requires.utf8 c.requires.indexed (omega (arith, c.requires.line, c.if-next-starts.false))).within
+stop_before-requires-clause-within c =
+    (indexes_next c.args.bytes.now c.args.starts.now c.args.line c.requires.utf8 c.requires.indexed
+    (omega (arith, c.requires.line, c.if-next-starts.false))).within
 
 pub returns-then-next-starts-clause-start : goal.returns-then-next-starts-clause-start
-returns-then-next-starts-clause-start c = indexes_start c.args.bytes.now c.args.starts.now c.args.line c.requires.indexed (indexes_line c.args.bytes.now c.args.starts.now c.args.line c.requires.indexed c.requires.line)
+returns-then-next-starts-clause-start c =
+    indexes_start c.args.bytes.now c.args.starts.now c.args.line c.requires.indexed
+    (indexes_line c.args.bytes.now c.args.starts.now c.args.line c.requires.indexed c.requires.line)
 
 pub returns-then-next-starts-clause-stop : goal.returns-then-next-starts-clause-stop
-returns-then-next-starts-clause-stop c = indexes_last c.args.bytes.now c.args.starts.now c.args.line c.requires.utf8 c.requires.indexed c.if-next-starts.true
+returns-then-next-starts-clause-stop c = indexes_last c.args.bytes.now c.args.starts.now c.args.line c.requires.utf8
+    c.requires.indexed c.if-next-starts.true
 
 pub returns-else-next-starts-clause-start : goal.returns-else-next-starts-clause-start
-returns-else-next-starts-clause-start c = indexes_start c.args.bytes.now c.args.starts.now c.args.line c.requires.indexed (indexes_line c.args.bytes.now c.args.starts.now c.args.line c.requires.indexed c.requires.line)
+returns-else-next-starts-clause-start c =
+    indexes_start c.args.bytes.now c.args.starts.now c.args.line c.requires.indexed
+    (indexes_line c.args.bytes.now c.args.starts.now c.args.line c.requires.indexed c.requires.line)
 
 pub returns-else-next-starts-clause-stop : goal.returns-else-next-starts-clause-stop
-returns-else-next-starts-clause-stop c = c.stop_before.ensures ∙ (indexes_next c.args.bytes.now c.args.starts.now c.args.line c.requires.utf8 c.requires.indexed (omega (arith, c.requires.line, c.if-next-starts.false))).stop
+returns-else-next-starts-clause-stop c =
+    c.stop_before.ensures ∙ (indexes_next c.args.bytes.now c.args.starts.now c.args.line c.requires.utf8
+    c.requires.indexed (omega (arith, c.requires.line, c.if-next-starts.false))).stop

@@ -4,4 +4,6 @@ use Rattle.ordered_map.proofs.SlotLemmas.{count_keys}
 use Rattle.ordered_map.proofs.map.OrderedMap.len.Goals as goal
 
 pub returns : goal.returns
-returns g c = c.self.invariant.live_is ∙ (count_keys c.self.inside.slots.items ∙ ap (λ (m : Entries g.row.V.Denot). length m.entries) c.self.view_is)
+returns g c =
+    c.self.invariant.live_is
+    ∙ (count_keys c.self.inside.slots.items ∙ ap (λ (m : Entries g.row.V.Denot). length m.entries) c.self.view_is)

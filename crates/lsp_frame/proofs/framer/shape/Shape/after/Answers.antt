@@ -10,13 +10,19 @@ pub returns-in-Value-clause-next : goal.returns-in-Value-clause-next
 returns-in-Value-clause-next c = value_part c.args.self c.args.b c.in-Value.is ((c.if-is_value_byte.ensures).0 refl)
 
 pub returns-in_default-clause-none : goal.returns-in_default-clause-none
-returns-in_default-clause-none c = λ _. stops_at_start c.args.self c.args.b c.in-Start.is (λ h. false≢true (c.if-is_name_byte.ensures.1 h)) c.if-b-eq13.false
+returns-in_default-clause-none c =
+    λ _. stops_at_start c.args.self c.args.b c.in-Start.is (λ h. false≢true (c.if-is_name_byte.ensures.1 h))
+    c.if-b-eq13.false
 
 pub returns-in_default-2-clause-none : goal.returns-in_default-2-clause-none
-returns-in_default-2-clause-none c = λ _. stops_at_name c.args.self c.args.b c.in-Name.is (λ h. false≢true (c.if-is_name_byte-2.ensures.1 h)) c.if-b-eq58.false
+returns-in_default-2-clause-none c =
+    λ _. stops_at_name c.args.self c.args.b c.in-Name.is (λ h. false≢true (c.if-is_name_byte-2.ensures.1 h))
+    c.if-b-eq58.false
 
 pub returns-in_default-3-clause-none : goal.returns-in_default-3-clause-none
-returns-in_default-3-clause-none c = λ _. stops_at_value c.args.self c.args.b c.in-Value.is (λ h. false≢true (c.if-is_value_byte.ensures.1 h)) c.if-b-eq13-2.false
+returns-in_default-3-clause-none c =
+    λ _. stops_at_value c.args.self c.args.b c.in-Value.is (λ h. false≢true (c.if-is_value_byte.ensures.1 h))
+    c.if-b-eq13-2.false
 
 pub returns-in_default-4-clause-none : goal.returns-in_default-4-clause-none
 returns-in_default-4-clause-none c = λ _. stops_at_return c.args.self c.args.b c.in-Return.is c.if-b-eq10.false

@@ -15,5 +15,6 @@ returns-clause-ok c = λ more.
     let bytes = c.push_last.new.buffer.items in
     rw c.more.ensures
     (line_first explaining known s r (λ e. c.in_ok-noted.ensures.in_log (c.in_ok-noted.ensures.noted.verdict ∙ e)) bytes
-    (line_is known s r t session c.in_ok-noted.noted c.in_ok-noted.ensures.noted c.args.buffer.now.items bytes c.requires.empty c.in_ok-push_last.ensures)
+    (line_is known s r t session c.in_ok-noted.noted c.in_ok-noted.ensures.noted c.args.buffer.now.items bytes
+    c.requires.empty c.in_ok-push_last.ensures)
     t session c.accept_and_note.new.known c.in_ok-noted.ensures.known more)

@@ -9,8 +9,10 @@ pub returns-clause-ok : goal.returns-clause-ok
 returns-clause-ok c = λ more.
     part_ends (part_of c.args.self.now.part) (last_of c.args.self.now) c.args.self.now.session
     (record { head = c.args.head; raw = c.args._raw.now; body = c.args.body.now })
-    c.accept_and_keep.new.self (verdict_view c.in_ok-accept_and_keep.field-0) (option_map string_bytes c.accept_and_keep.new.kept)
-    c.in_ok-accept_and_keep.ensures.verdict c.in_ok-accept_and_keep.ensures.in_log c.in_ok-accept_and_keep.ensures.session
+    c.accept_and_keep.new.self (verdict_view c.in_ok-accept_and_keep.field-0)
+    (option_map string_bytes c.accept_and_keep.new.kept)
+    c.in_ok-accept_and_keep.ensures.verdict c.in_ok-accept_and_keep.ensures.in_log
+    c.in_ok-accept_and_keep.ensures.session
     c.in_ok-accept_and_keep.ensures.kept
     c.push_report.new.buffer.items c.in_ok-outcome.outcome
     (sym c.is_last.ensures ∙ c.if-not-is_last.false)

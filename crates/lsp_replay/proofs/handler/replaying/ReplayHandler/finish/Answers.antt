@@ -4,5 +4,6 @@ use Rattle.lsp_replay.proofs.handler.replaying.ReplayHandler.finish.Goals as goa
 
 pub returns-clause-ok : goal.returns-clause-ok
 returns-clause-ok c =
-    let part = report_part c.args.self.now.next c.args.self.now.session.server.table c.in-Some.document (search rules) in
+    let part = report_part c.args.self.now.next c.args.self.now.session.server.table c.in-Some.document
+    (search rules) in
     (rw (c.in_ok-push_document_line.ensures, c.requires) part.0, refl, part.1)

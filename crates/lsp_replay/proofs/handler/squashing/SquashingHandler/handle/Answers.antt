@@ -10,5 +10,6 @@ returns-in_err-write_read-clause-error c =
     let p = err_from_is_err_and c.from_residual-in_err-write_read.result c.from_residual-in_err-write_read.ensures.1 in
     rw (p.1, p.2)
     (step_failed c.args.self.now _ (record { head = c.args.head; raw = c.args.raw.now; body = c.args.body.now })
-    (ap (λ (s : Session). squashing_at s (run_of c.self.inside.texts.front.items c.self.inside.texts.singles.items c.self.inside.batches)) c.read.ensures.unchanged ∙ c.self.view_is)
+    (ap (λ (s : Session). squashing_at s (run_of c.self.inside.texts.front.items c.self.inside.texts.singles.items
+    c.self.inside.batches)) c.read.ensures.unchanged ∙ c.self.view_is)
     c.in_err-write_read.field-0.0 (c.in_err-write_read.ensures.error c.args.body.now c.in_ok-read.ensures.body))

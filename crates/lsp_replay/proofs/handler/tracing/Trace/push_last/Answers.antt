@@ -6,6 +6,9 @@ returns c =
     let document = c.document_after-document.ensures in
     on_ok c.push_words.result
     (last_is _ _ _ _ _ _ _ _ c.args.buffer.now.items _ _ _ _ _ _ _ _ _
-    c.in_ok-push_word.ensures c.in_ok-push_why.ensures c.in_ok-push_mention.ensures (rw c.deref.ensures.value at c.in_ok-push_noted.ensures) (rw document at c.in_ok-push_version.ensures) (rw c.deref-2.ensures.value at c.in_ok-push_canonical.ensures)
-    (rw (document, c.has_text-has_text.ensures) at c.in_ok-push_text.ensures) (rw c.has_body-has_body.ensures at c.in_ok-push_body.ensures))
+    c.in_ok-push_word.ensures c.in_ok-push_why.ensures c.in_ok-push_mention.ensures
+    (rw c.deref.ensures.value at c.in_ok-push_noted.ensures) (rw document at c.in_ok-push_version.ensures)
+    (rw c.deref-2.ensures.value at c.in_ok-push_canonical.ensures)
+    (rw (document, c.has_text-has_text.ensures) at c.in_ok-push_text.ensures)
+    (rw c.has_body-has_body.ensures at c.in_ok-push_body.ensures))
     c.push_words.ensures

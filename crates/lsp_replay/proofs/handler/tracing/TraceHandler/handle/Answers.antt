@@ -15,7 +15,9 @@ returns-clause-ok c = λ more.
     let session = c.in_ok-traced.ensures.session in
     let bytes = c.push_last.new.buffer.items in
     rw c.more.ensures
-    (line_first (tracing details) known s r (λ e. c.in_ok-traced.ensures.in_log (c.in_ok-traced.ensures.traced.noted.verdict ∙ e)) bytes
-    (line_is details known s r t session c.in_ok-traced.traced _ _ c.clear.ensures.items c.in_ok-traced.ensures.traced c.args.buffer.now.items c.accept_and_trace.new.buffer.items bytes
+    (line_first (tracing details) known s r
+    (λ e. c.in_ok-traced.ensures.in_log (c.in_ok-traced.ensures.traced.noted.verdict ∙ e)) bytes
+    (line_is details known s r t session c.in_ok-traced.traced _ _ c.clear.ensures.items c.in_ok-traced.ensures.traced
+    c.args.buffer.now.items c.accept_and_trace.new.buffer.items bytes
     c.requires.empty c.in_ok-traced.ensures.members c.in_ok-push_last.ensures)
     t session c.accept_and_trace.new.known c.in_ok-traced.ensures.known more)

@@ -6,5 +6,6 @@ use Rattle.lsp_store.proofs.store.document.units.counted.Given as goal
 abbrev pub invariant-loop-c : goal.invariant-loop-c
 invariant-loop-c l = record {
   utf8 : IsUtf8 (chars_rest l.c-iterator);
-  counted : l.count + sum_by (units_in l.encoding) (chars (chars_rest l.c-iterator)) ≡ sum_by (units_in l.encoding) (chars l.text);
+  counted : l.count + sum_by (units_in l.encoding) (chars (chars_rest l.c-iterator)) ≡ sum_by (units_in l.encoding)
+      (chars l.text);
 }

@@ -22,7 +22,8 @@ overflow_add-count c =
       arith,
       c.loop-offset.invariant.counted,
       c.counted-count.ensures,
-      chunk_counted (units_in c.args.encoding) text chunk c.loop-offset.offset c.requires.utf8 c.loop-offset.invariant.at c.chunk_to-chunk.ensures.part,
+      chunk_counted (units_in c.args.encoding) text chunk c.loop-offset.offset c.requires.utf8
+          c.loop-offset.invariant.at c.chunk_to-chunk.ensures.part,
       units_few c.args.encoding (take end text) (IsUtf8-take text end c.requires.utf8 c.chunk_to-chunk.ensures.next),
       length-take end text,
       c.chunk_to-chunk.ensures.within,
@@ -40,11 +41,14 @@ loop-offset-preserved c =
             arith,
             c.loop-offset.invariant.counted,
             c.counted-count.ensures,
-            chunk_counted (units_in c.args.encoding) text chunk c.loop-offset.offset c.requires.utf8 c.loop-offset.invariant.at c.chunk_to-chunk.ensures.part,
+            chunk_counted (units_in c.args.encoding) text chunk c.loop-offset.offset c.requires.utf8
+                c.loop-offset.invariant.at c.chunk_to-chunk.ensures.part,
           );
     }
 
 pub returns : goal.returns
 returns c =
-    let all : c.loop-offset.offset ≡ c.args.end = omega (arith, c.loop-offset.invariant.low, c.loop-offset-test.false) in
-    c.loop-offset.invariant.counted ∙ ap (λ (n : ℕ). sum_by (units_in c.args.encoding) (chars (take n c.args.text.now))) all
+    let all : c.loop-offset.offset ≡ c.args.end =
+    omega (arith, c.loop-offset.invariant.low, c.loop-offset-test.false) in
+    c.loop-offset.invariant.counted ∙ ap (λ (n : ℕ). sum_by (units_in c.args.encoding) (chars (take n c.args.text.now)))
+    all

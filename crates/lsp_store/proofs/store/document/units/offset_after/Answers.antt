@@ -9,5 +9,7 @@ pub returns : goal.returns
 returns c = λ offset.
     let units = units_in c.args.encoding in
     let text = chars c.args.text.now in
-    subst (λ (found : Option ℕ). (found ≡ Some offset) ↔ HasUnitsBefore units text offset c.args.count) (sym c.then_some.ensures)
-    (passed_found units (some_units c.args.encoding) text c.passed_in-offset.result.0 c.passed_in-offset.result.1 c.args.count c.passed_in-offset.ensures offset)
+    subst (λ (found : Option ℕ). (found ≡ Some offset) ↔ HasUnitsBefore units text offset c.args.count)
+    (sym c.then_some.ensures)
+    (passed_found units (some_units c.args.encoding) text c.passed_in-offset.result.0 c.passed_in-offset.result.1
+    c.args.count c.passed_in-offset.ensures offset)

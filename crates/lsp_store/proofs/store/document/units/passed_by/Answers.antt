@@ -12,16 +12,20 @@ returns-then-left-here c =
     let units = units_in c.args.encoding in
     let text = chars c.args.text.now in
     let l = c.loop-c in
-    let next = passed_next units text _ _ c.in-Some.c l.offset l.left c.args.count l.invariant.utf8 c.in-Some.ensures.steps.0 l.invariant.passed in
-    passed_before units text _ c.in-Some.c l.offset l.left c.args.count next (omega (arith, c.if-left-here.true, c.units-here.ensures))
+    let next = passed_next units text _ _ c.in-Some.c l.offset l.left c.args.count l.invariant.utf8
+    c.in-Some.ensures.steps.0 l.invariant.passed in
+    passed_before units text _ c.in-Some.c l.offset l.left c.args.count next
+    (omega (arith, c.if-left-here.true, c.units-here.ensures))
 
 pub overflow_add-offset : goal.overflow_add-offset
 overflow_add-offset c =
     let units = units_in c.args.encoding in
     let text = chars c.args.text.now in
     let l = c.loop-c in
-    let next = passed_next units text _ _ c.in-Some.c l.offset l.left c.args.count l.invariant.utf8 c.in-Some.ensures.steps.0 l.invariant.passed in
-    let more = passed_more units text _ c.in-Some.c _ _ l.offset l.left c.args.count c.len_utf8-offset.ensures.value c.units-here.ensures c.if-left-here.false next in
+    let next = passed_next units text _ _ c.in-Some.c l.offset l.left c.args.count l.invariant.utf8
+    c.in-Some.ensures.steps.0 l.invariant.passed in
+    let more = passed_more units text _ c.in-Some.c _ _ l.offset l.left c.args.count c.len_utf8-offset.ensures.value
+    c.units-here.ensures c.if-left-here.false next in
     omega (arith, passed_few units c.args.text.now _ _ _ c.args.count c.utf8.text more)
 
 pub loop-c-preserved : goal.loop-c-preserved
@@ -30,10 +34,12 @@ loop-c-preserved c =
     let text = chars c.args.text.now in
     let l = c.loop-c in
     let parts = c.in-Some.ensures.steps.0 in
-    let next = passed_next units text _ _ c.in-Some.c l.offset l.left c.args.count l.invariant.utf8 parts l.invariant.passed in
+    let next = passed_next units text _ _ c.in-Some.c l.offset l.left c.args.count l.invariant.utf8 parts
+    l.invariant.passed in
     record {
       utf8 = IsUtf8-past_char _ _ c.in-Some.c l.invariant.utf8 parts;
-      passed = passed_more units text _ c.in-Some.c _ _ l.offset l.left c.args.count c.len_utf8-offset.ensures.value c.units-here.ensures c.if-left-here.false next;
+      passed = passed_more units text _ c.in-Some.c _ _ l.offset l.left c.args.count c.len_utf8-offset.ensures.value
+          c.units-here.ensures c.if-left-here.false next;
     }
 
 pub returns : goal.returns
@@ -41,4 +47,6 @@ returns c =
     let units = units_in c.args.encoding in
     let text = chars c.args.text.now in
     let l = c.loop-c in
-    passed_whole units text l.offset l.left c.args.count (subst (λ rest. HasPassed units text rest l.offset l.left c.args.count) (chars_none _ c.in-None.ensures.steps.0.0) l.invariant.passed)
+    passed_whole units text l.offset l.left c.args.count
+    (subst (λ rest. HasPassed units text rest l.offset l.left c.args.count) (chars_none _ c.in-None.ensures.steps.0.0)
+    l.invariant.passed)

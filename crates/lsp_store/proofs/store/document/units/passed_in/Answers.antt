@@ -14,16 +14,33 @@ loop-offset-init c = record {
 
 pub overflow_add-offset : goal.overflow_add-offset
 overflow_add-offset c =
-    omega (arith, chunk_few (units_in c.args.encoding) c.args.text.now c.chunk_from-chunk.result.now c.loop-offset.offset c.loop-offset.left c.passed_by-passed.result.0 c.passed_by-passed.result.1 c.args.count c.len-len.ensures.utf8 c.loop-offset.invariant.at c.chunk_from-chunk.ensures.next c.chunk_from-chunk.ensures.part c.loop-offset.invariant.passed c.passed_by-passed.ensures, c.chunk_from-chunk.ensures.next.0, c.len-len.ensures.size)
+    omega (
+      arith,
+      chunk_few (units_in c.args.encoding) c.args.text.now c.chunk_from-chunk.result.now c.loop-offset.offset
+          c.loop-offset.left c.passed_by-passed.result.0 c.passed_by-passed.result.1 c.args.count c.len-len.ensures.utf8
+          c.loop-offset.invariant.at c.chunk_from-chunk.ensures.next c.chunk_from-chunk.ensures.part
+          c.loop-offset.invariant.passed c.passed_by-passed.ensures,
+      c.chunk_from-chunk.ensures.next.0,
+      c.len-len.ensures.size,
+    )
 
 pub returns-then-passed-size : goal.returns-then-passed-size
 returns-then-passed-size c =
-    chunk_stops (units_in c.args.encoding) c.args.text.now c.chunk_from-chunk.result.now c.loop-offset.offset c.loop-offset.left c.passed_by-passed.result.0 c.passed_by-passed.result.1 c.args.count c.len-len.ensures.utf8 c.loop-offset.invariant.at c.chunk_from-chunk.ensures.next c.chunk_from-chunk.ensures.part c.loop-offset.invariant.passed c.passed_by-passed.ensures c.if-passed-size.true
+    chunk_stops (units_in c.args.encoding) c.args.text.now c.chunk_from-chunk.result.now c.loop-offset.offset
+    c.loop-offset.left c.passed_by-passed.result.0 c.passed_by-passed.result.1 c.args.count c.len-len.ensures.utf8
+    c.loop-offset.invariant.at c.chunk_from-chunk.ensures.next c.chunk_from-chunk.ensures.part
+    c.loop-offset.invariant.passed c.passed_by-passed.ensures c.if-passed-size.true
 
 pub loop-offset-preserved : goal.loop-offset-preserved
 loop-offset-preserved c = record {
-  at = chunk_next (units_in c.args.encoding) c.args.text.now c.chunk_from-chunk.result.now c.loop-offset.offset c.loop-offset.left c.passed_by-passed.result.0 c.passed_by-passed.result.1 c.args.count c.len-len.ensures.utf8 c.loop-offset.invariant.at c.chunk_from-chunk.ensures.next c.chunk_from-chunk.ensures.part c.loop-offset.invariant.passed c.passed_by-passed.ensures c.if-passed-size.false;
-  passed = chunk_passed (units_in c.args.encoding) c.args.text.now c.chunk_from-chunk.result.now c.loop-offset.offset c.loop-offset.left c.passed_by-passed.result.0 c.passed_by-passed.result.1 c.args.count c.len-len.ensures.utf8 c.loop-offset.invariant.at c.chunk_from-chunk.ensures.next c.chunk_from-chunk.ensures.part c.loop-offset.invariant.passed c.passed_by-passed.ensures c.if-passed-size.false;
+  at = chunk_next (units_in c.args.encoding) c.args.text.now c.chunk_from-chunk.result.now c.loop-offset.offset
+      c.loop-offset.left c.passed_by-passed.result.0 c.passed_by-passed.result.1 c.args.count c.len-len.ensures.utf8
+      c.loop-offset.invariant.at c.chunk_from-chunk.ensures.next c.chunk_from-chunk.ensures.part
+      c.loop-offset.invariant.passed c.passed_by-passed.ensures c.if-passed-size.false;
+  passed = chunk_passed (units_in c.args.encoding) c.args.text.now c.chunk_from-chunk.result.now c.loop-offset.offset
+      c.loop-offset.left c.passed_by-passed.result.0 c.passed_by-passed.result.1 c.args.count c.len-len.ensures.utf8
+      c.loop-offset.invariant.at c.chunk_from-chunk.ensures.next c.chunk_from-chunk.ensures.part
+      c.loop-offset.invariant.passed c.passed_by-passed.ensures c.if-passed-size.false;
 }
 
 pub loop-offset-smaller : goal.loop-offset-smaller
@@ -31,11 +48,15 @@ loop-offset-smaller c =
     let some = c.chunk_from-chunk.ensures.some (omega (arith, c.loop-offset-test.true, c.len-len.ensures.len)) in
     omega (
       arith,
-      chunk_whole (units_in c.args.encoding) c.args.text.now c.chunk_from-chunk.result.now c.loop-offset.offset c.loop-offset.left c.passed_by-passed.result.0 c.passed_by-passed.result.1 c.args.count c.len-len.ensures.utf8 c.loop-offset.invariant.at c.chunk_from-chunk.ensures.next c.chunk_from-chunk.ensures.part c.loop-offset.invariant.passed c.passed_by-passed.ensures c.if-passed-size.false,
+      chunk_whole (units_in c.args.encoding) c.args.text.now c.chunk_from-chunk.result.now c.loop-offset.offset
+          c.loop-offset.left c.passed_by-passed.result.0 c.passed_by-passed.result.1 c.args.count c.len-len.ensures.utf8
+          c.loop-offset.invariant.at c.chunk_from-chunk.ensures.next c.chunk_from-chunk.ensures.part
+          c.loop-offset.invariant.passed c.passed_by-passed.ensures c.if-passed-size.false,
       some,
       c.loop-offset-test.true,
     )
 
 pub returns : goal.returns
 returns c =
-    passed_end (units_in c.args.encoding) c.args.text.now c.loop-offset.offset c.loop-offset.left c.args.count (omega (arith, c.loop-offset-test.false, c.len-len.ensures.len)) c.loop-offset.invariant.passed
+    passed_end (units_in c.args.encoding) c.args.text.now c.loop-offset.offset c.loop-offset.left c.args.count
+    (omega (arith, c.loop-offset-test.false, c.len-len.ensures.len)) c.loop-offset.invariant.passed

@@ -18,12 +18,15 @@ returns-in_err-canonical-clause-error c =
     let p = err_from_is_err_and c.from_residual-in_err-canonical.result c.from_residual-in_err-canonical.ensures.1 in
     rw (p.1, p.2) (λ uri.
     let may = rw version at (c.in_ok-may_change.ensures.may uri (units_in c.args.encoding)) in
-    rw may (text_told c.args.limits.now c.args.self.now.text _ _ (rw c.max_text-max_text.ensures.value at c.in_err-canonical.ensures.error)))
+    rw may (text_told c.args.limits.now c.args.self.now.text _ _
+    (rw c.max_text-max_text.ensures.value at c.in_err-canonical.ensures.error)))
 
 pub returns-clause-accepted : goal.returns-clause-accepted
 returns-clause-accepted c uri =
     let version : to_z w32 (of_z w32 c.args.version) ≡ c.args.version = to_z-of_z w32 c.args.version (search rules) in
-    (rw version at (c.in_ok-may_change.ensures.may uri (units_in c.args.encoding))) ∙ meant_within c.args.limits.now c.args.self.now.text _ c.in_ok-canonical.ensures.batch.items c.in_ok-canonical.ensures.batch.means (omega (arith, c.in_ok-canonical.ensures.batch.within, c.max_text-max_text.ensures.value))
+    (rw version at (c.in_ok-may_change.ensures.may uri (units_in c.args.encoding))) ∙ meant_within c.args.limits.now
+    c.args.self.now.text _ c.in_ok-canonical.ensures.batch.items c.in_ok-canonical.ensures.batch.means
+    (omega (arith, c.in_ok-canonical.ensures.batch.within, c.max_text-max_text.ensures.value))
 
 pub returns-in_err-may_change-clause-memory : goal.returns-in_err-may_change-clause-memory
 returns-in_err-may_change-clause-memory c = λ e.

@@ -8,16 +8,27 @@ use Rattle.lsp_store.proofs.store.stored.Stored.may_change.Goals.{then-changes-m
 
 pub returns-then-is_stale-clause-error : goal.returns-then-is_stale-clause-error
 returns-then-is_stale-clause-error c units uri =
-    stale_refused c.args.limits.now units (entry_under uri c.args.self.now) c.args.version _ _ (map edit_of c.args.changes.now) (to_z-of_z w32 c.args.version (search rules)) (to_z-of_z w32 c.args.self.now.version (search rules)) (sym c.is_stale.ensures ∙ c.if-is_stale.true)
+    stale_refused c.args.limits.now units (entry_under uri c.args.self.now) c.args.version _ _
+    (map edit_of c.args.changes.now) (to_z-of_z w32 c.args.version (search rules))
+    (to_z-of_z w32 c.args.self.now.version (search rules)) (sym c.is_stale.ensures ∙ c.if-is_stale.true)
 
 pub returns-then-changes-max_changes-clause-error : goal.returns-then-changes-max_changes-clause-error
 returns-then-changes-max_changes-clause-error c units uri =
     elim c.then-changes-max_changes.branch [
-      | then-changes-max_changes-via-then-changes-max_changes w ↦ many_refused c.args.limits.now c.args.changes.now units (entry_under uri c.args.self.now) _ _ _ (to_z-of_z w32 c.args.version (search rules)) refl (sym c.is_stale.ensures ∙ c.if-is_stale.false) (omega (arith, w.if-changes-max_changes.true, c.max_changes.ensures.value))
-      | then-changes-max_changes-via-else-changes-max_changes+then-not-fits w ↦ long_refused c.args.limits.now c.args.changes.now units (entry_under uri c.args.self.now) _ _ _ (to_z-of_z w32 c.args.version (search rules)) refl (sym c.is_stale.ensures ∙ c.if-is_stale.false) _ w.fits.ensures w.if-not-fits.true
+      | then-changes-max_changes-via-then-changes-max_changes w ↦ many_refused c.args.limits.now c.args.changes.now
+          units (entry_under uri c.args.self.now) _ _ _ (to_z-of_z w32 c.args.version (search rules)) refl
+          (sym c.is_stale.ensures ∙ c.if-is_stale.false) (omega (
+            arith,
+            w.if-changes-max_changes.true,
+            c.max_changes.ensures.value,
+          ))
+      | then-changes-max_changes-via-else-changes-max_changes+then-not-fits w ↦ long_refused c.args.limits.now
+          c.args.changes.now units (entry_under uri c.args.self.now) _ _ _ (to_z-of_z w32 c.args.version (search rules))
+          refl (sym c.is_stale.ensures ∙ c.if-is_stale.false) _ w.fits.ensures w.if-not-fits.true
     ]
 
 pub returns-clause-may : goal.returns-clause-may
 returns-clause-may c uri units =
-    fit_accepted c.args.limits.now c.args.changes.now units (entry_under uri c.args.self.now) _ _ _ (to_z-of_z w32 c.args.version (search rules)) refl (sym c.is_stale.ensures ∙ c.if-is_stale.false)
+    fit_accepted c.args.limits.now c.args.changes.now units (entry_under uri c.args.self.now) _ _ _
+    (to_z-of_z w32 c.args.version (search rules)) refl (sym c.is_stale.ensures ∙ c.if-is_stale.false)
     (omega (arith, c.if-changes-max_changes.false, c.max_changes.ensures.value)) (c.fits.ensures.0 c.if-not-fits.false)

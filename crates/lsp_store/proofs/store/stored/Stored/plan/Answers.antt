@@ -14,13 +14,19 @@ returns-in_err-may_change-clause-error c =
 pub returns-in-Ok-clause-accepted : goal.returns-in-Ok-clause-accepted
 returns-in-Ok-clause-accepted c = λ uri.
     let version : to_z w32 (of_z w32 c.args.version) ≡ c.args.version = to_z-of_z w32 c.args.version (search rules) in
-    (rw version at (c.in_ok-may_change.ensures.may uri (units_in c.args.encoding))) ∙ (meaning_accepted c.args.limits.now c.args.self.now.text _ _ (rw c.max_text-max_len.ensures.value at c.in-Ok.ensures.ok.is)).0
+    (rw version at (c.in_ok-may_change.ensures.may uri (units_in c.args.encoding)))
+    ∙ (meaning_accepted c.args.limits.now c.args.self.now.text _ _
+    (rw c.max_text-max_len.ensures.value at c.in-Ok.ensures.ok.is)).0
 
 pub returns-in-Err-clause-error : goal.returns-in-Err-clause-error
 returns-in-Err-clause-error c = λ uri.
     let version : to_z w32 (of_z w32 c.args.version) ≡ c.args.version = to_z-of_z w32 c.args.version (search rules) in
     let may = rw version at (c.in_ok-may_change.ensures.may uri (units_in c.args.encoding)) in
-    rw (c.from.ensures, may) (text_told c.args.limits.now c.args.self.now.text _ _ (rw c.max_text-max_len.ensures.value at c.in-Err.ensures.error))
+    rw (
+      c.from.ensures,
+      may,
+    ) (text_told c.args.limits.now c.args.self.now.text _ _
+    (rw c.max_text-max_len.ensures.value at c.in-Err.ensures.error))
 
 pub returns-in-Err-clause-memory : goal.returns-in-Err-clause-memory
 returns-in-Err-clause-memory c = λ e uri.

@@ -14,6 +14,9 @@ returns-then-stop-self c =
 pub returns-else-stop-self : goal.returns-else-stop-self
 returns-else-stop-self c =
     let low = length-take-le c.self.inside.low c.self.inside.buffer.items (omega (arith, c.self.invariant)) in
-    let front : c.self.inside.low ≡ length c.args.self.now.front = omega (arith, low, ap (λ (g : GapData). length g.front) c.self.view_is) in
-    ap (λ (xs : List ℕ). take (c.args.stop - c.self.inside.low - (c.args.start - c.self.inside.low)) (drop (c.args.start - c.self.inside.low) xs)) c.back.ensures
-    ∙ part_back c.args.self.now.front c.args.self.now.back c.self.inside.low c.args.start c.args.stop front (omega (arith, front, c.requires.whole (omega (arith, front, c.if-stop-self.false)))) c.requires.order
+    let front : c.self.inside.low ≡ length c.args.self.now.front =
+    omega (arith, low, ap (λ (g : GapData). length g.front) c.self.view_is) in
+    ap (λ (xs : List ℕ). take (c.args.stop - c.self.inside.low - (c.args.start - c.self.inside.low))
+    (drop (c.args.start - c.self.inside.low) xs)) c.back.ensures
+    ∙ part_back c.args.self.now.front c.args.self.now.back c.self.inside.low c.args.start c.args.stop front
+    (omega (arith, front, c.requires.whole (omega (arith, front, c.if-stop-self.false)))) c.requires.order

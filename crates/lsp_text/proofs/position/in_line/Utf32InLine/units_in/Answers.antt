@@ -6,4 +6,5 @@ use Rattle.lsp_text.proofs.Counting.LeadLemmas.{units_of_text, utf32_first}
 use Rattle.lsp_text.proofs.position.in_line.Utf32InLine.units_in.Goals as goal
 
 pub returns : goal.returns
-returns c = c.units_of_bytes.ensures ∙ units_of_text lead_units_utf32 (units_in Utf32) utf32_first c.args.line.now c.requires.utf8
+returns c = c.units_of_bytes.ensures ∙ units_of_text lead_units_utf32 (units_in Utf32) utf32_first c.args.line.now
+    c.requires.utf8
