@@ -2,21 +2,19 @@
 //! definitions have it. Its clauses are those of `compose` and `Pieces`, with which tests compare
 //! it.
 
-ghost use Rattle.std.specs.Prelude.{◌≡◌, ◌+◌, ◌++◌, ◌≤◌, ◌<◌, ℕ, IfErr, IfOk, OnErr, OnOk, Ok, Some, true, MatchResult, IsCharBoundary, List, [], map, length, take, drop, string_bytes, string_len, sum_by, encode_utf8_all};
+ghost use Rattle.std.specs.Prelude.{◌≡◌, ◌+◌, ◌++◌, ◌≤◌, ◌<◌, ℕ, IfErr, IfOk, OnErr, OnOk, Ok, Some, MatchResult, List, map, length, string_bytes, string_len, sum_by};
 ghost use Rattle.std.specs.Str.{chars};
-ghost use Rattle.lsp_text.specs.LineStarts.{Indexes};
-ghost use Rattle.lsp_text.specs.TextLines.{numbers_from};
 ghost use Rattle.lsp_text.specs.Units.{units_in};
-ghost use Rattle.lsp_edit.specs.Items.{Item as SpecItem, Old as OldItem, New as NewItem, character_of as spec_character_of, plain as plain_items, text_of as spec_text_of};
-ghost use Rattle.lsp_edit.specs.Batch.{Edit, after_change, after_changes, changed_in, meaning};
-ghost use Rattle.lsp_edit.specs.Canonical.{canonical as spec_canonical, is_changed};
+ghost use Rattle.lsp_edit.specs.Items.{Item as SpecItem, plain as plain_items};
+ghost use Rattle.lsp_edit.specs.Batch.{Edit, after_change, changed_in, meaning};
+ghost use Rattle.lsp_edit.specs.Canonical.{canonical as spec_canonical};
 ghost use Rattle.lsp_edit.specs.Compose.{then_items as spec_then_items, item_through as spec_item_through};
 ghost use Rattle.lsp_edit.specs.Edited.{Applied, Means, both_counts, edit_of, edited_bytes, edited_text};
 ghost use Rattle.lsp_edit.specs.Faults.{IsFaultOfChanges, IsFaultOfChange};
-ghost use Rattle.lsp_edit.specs.Keeps.{Keeps};
-ghost use Rattle.lsp_edit.specs.laws.Batches.{HasExactEnds, IsCanonical, KeepsPairs, RangesStay};
+ghost use Rattle.lsp_edit.specs.laws.Batches.{IsCanonical, KeepsPairs, RangesStay};
 ghost use Rattle.lsp_edit.specs.Plain.{item_of, items_in_order};
-ghost use Rattle.lsp_edit.specs.inside.Plain.{change_at, gap_at};
+
+mod items;
 
 use crate::change::{Change, MAX_NEW_TEXT};
 use crate::composed::MAX_OLD_TEXT;
@@ -24,6 +22,9 @@ use crate::ends::ends;
 use crate::fault::EditFault;
 use crate::old_text::OldText;
 use crate::pieces::MAX_TEXT;
+use crate::plain::items::{
+    all_new, characters, encoded, gaps_written, index_of, numbered, put_between, text_of,
+};
 use lsp_text::{Encoding, Lines, Range};
 use std::alloc::{AllocError, Global};
 use std::marker::Model;
@@ -249,194 +250,4 @@ pub fn compose<'a>(
         plain.apply(encoding, change)?;
     }
     Ok(plain)
-}
-
-/// Returns the characters of a text.
-fn characters(alloc: Global, text: &str) -> Result<Vec<char>, AllocError>
-    ensures { IfOk result (λ characters. characters.items ≡ chars text.now) }
-{
-    text.chars().collect(alloc)
-}
-
-/// Returns the text of characters.
-fn encoded(alloc: Global, characters: &[char]) -> Result<String, AllocError>
-    ensures { IfOk result (λ text. string_bytes text ≡ encode_utf8_all characters.now) }
-{
-    let mut text = String::new(alloc);
-    for character in characters {
-        text.push(*character)?;
-    }
-    Ok(text)
-}
-
-/// Returns the character of an item.
-fn character_of(old: &[char], item: Item) -> char
-    ensures { result ≡ spec_character_of old.now (item_of item) }
-{
-    match item {
-        Item::Old(index) => { if index < old.len() { old[index] } else { '\0' } }
-        Item::New(character) => character,
-    }
-}
-
-/// Returns the characters of items.
-fn text_of(alloc: Global, old: &[char], items: &[Item]) -> Result<Vec<char>, AllocError>
-    ensures { IfOk result (λ text. text.items ≡ spec_text_of old.now (items_in_order items.now)) }
-{
-    let mut text = Vec::new(alloc);
-    for item in items {
-        text.push(character_of(old, *item))?;
-    }
-    Ok(text)
-}
-
-/// Returns the items of a text before any change.
-fn numbered(alloc: Global, count: usize) -> Result<Vec<Item>, AllocError>
-    ensures { IfOk result
-        (λ items. items_in_order items.items ≡ map OldItem (numbers_from 0 count)) }
-{
-    let mut items = Vec::new(alloc);
-    for index in 0..count {
-        items.push(Item::Old(index))?;
-    }
-    Ok(items)
-}
-
-/// Appends new characters.
-fn push_new(items: &mut Vec<Item>, text: &[char]) -> Result<(), AllocError>
-    ensures { OnOk result
-        (items_in_order items.new.items ≡ items_in_order items.old.items ++ map NewItem text.now) }
-{
-    for character in text {
-        items.push(Item::New(*character))?;
-    }
-    Ok(())
-}
-
-/// Returns the items of a new text alone.
-fn all_new(alloc: Global, text: &[char]) -> Result<Vec<Item>, AllocError>
-    ensures { IfOk result (λ items. items_in_order items.items ≡ map NewItem text.now) }
-{
-    let mut items = Vec::new(alloc);
-    push_new(&mut items, text)?;
-    Ok(items)
-}
-
-/// Returns items with those between two indexes replaced by new characters.
-fn put_between(
-    alloc: Global,
-    items: &[Item],
-    start: usize,
-    stop: usize,
-    text: &[char],
-) -> Result<Vec<Item>, AllocError>
-    requires order { start ≤ stop }
-    requires within { stop ≤ length items.now }
-    ensures { IfOk result (λ after. items_in_order after.items
-        ≡ take start (items_in_order items.now)
-        ++ (map NewItem text.now ++ drop stop (items_in_order items.now))) }
-{
-    let mut after = Vec::from_slice(alloc, &items[..start])?;
-    push_new(&mut after, text)?;
-    after.extend_from_slice(&items[stop..])?;
-    Ok(after)
-}
-
-/// Returns the index of a byte offset: how many characters begin before it.
-fn index_of(alloc: Global, text: &str, place: usize) -> Result<usize, AllocError>
-    requires { IsCharBoundary text.now place }
-    ensures { IfOk result (λ index. index ≡ length (chars (take place text.now))) }
-{
-    let front = characters(alloc, &text[..place])?;
-    Ok(front.len())
-}
-
-/// Returns the byte offset of an index: how many bytes come before it.
-fn place_of(alloc: Global, old: &[char], index: usize) -> Result<usize, AllocError>
-    requires { index ≤ length old.now }
-    ensures { IfOk result (λ place. place ≡ length (encode_utf8_all (take index old.now))) }
-{
-    let front = encoded(alloc, &old[..index])?;
-    Ok(front.len())
-}
-
-/// Appends the change of a gap, if the gap is changed.
-fn put_gap(
-    changes: &mut Vec<Change>,
-    before: &str,
-    lines: &Lines,
-    encoding: Encoding,
-    old: &[char],
-    low: usize,
-    high: usize,
-    text: &[char],
-) -> Result<(), AllocError>
-    requires indexed { Indexes lines.now before.now }
-    requires old { old.now ≡ chars before.now }
-    requires ends { is_changed (gap_at low high text.now) ≡ true →
-        HasExactEnds (chars before.now) (gap_at low high text.now) }
-    ensures { OnOk result (map edit_of changes.new.items ≡ map edit_of changes.old.items
-        ++ change_at (units_in encoding) (chars before.now) (gap_at low high text.now)) }
-{
-    if low < high || !text.is_empty() {
-        let alloc = *changes.allocator();
-        let start = lines.position(before, encoding, place_of(alloc, old, low)?);
-        let stop = lines.position(before, encoding, place_of(alloc, old, high)?);
-        let range = Some(Range { start, stop });
-        let text = encoded(alloc, text)?;
-        changes.push(Change { range, text })?;
-    }
-    Ok(())
-}
-
-/// Returns the changes of the changed gaps, from the last to the first.
-fn gaps_written(
-    alloc: Global,
-    before: &str,
-    lines: &Lines,
-    encoding: Encoding,
-    old: &[char],
-    items: &[Item],
-) -> Result<Vec<Change>, AllocError>
-    requires indexed { Indexes lines.now before.now }
-    requires old { old.now ≡ chars before.now }
-    requires keeps { Keeps (chars before.now) 0 (items_in_order items.now) }
-    ensures { IfOk result
-        (λ changes. map edit_of changes.items
-        ≡ spec_canonical (units_in encoding) (chars before.now) (items_in_order items.now)) }
-{
-    let mut changes = Vec::new(alloc);
-    let mut low = 0;
-    let mut text = Vec::new(alloc);
-    for item in items {
-        match *item {
-            Item::Old(index) => {
-                put_gap(
-                    &mut changes,
-                    before,
-                    lines,
-                    encoding,
-                    old,
-                    low,
-                    index,
-                    &text,
-                )?;
-                low = index + 1;
-                text = Vec::new(alloc);
-            }
-            Item::New(character) => text.push(character)?,
-        }
-    }
-    put_gap(
-        &mut changes,
-        before,
-        lines,
-        encoding,
-        old,
-        low,
-        old.len(),
-        &text,
-    )?;
-    changes.reverse();
-    Ok(changes)
 }

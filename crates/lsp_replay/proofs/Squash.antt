@@ -7,3 +7,5 @@ pub mod SquashedLemmas
 pub mod SquashedLogLemmas
 pub mod SquashingLemmas
 pub mod SquashLawLemmas
+pub mod BegunLemmas
+pub mod LongerLemmas

@@ -12,7 +12,7 @@ use Rattle.lspsync.specs.CommandLine.{Choices, IsProgram, detail_rules, encoding
 use Rattle.lspsync.specs.Help.{IsPage, own_rules, rules_of_limits}
 use Rattle.lspsync.specs.inside.Options.{AddsRules, IsCommand, page_shape, shape_by, top_app}
 use Rattle.lspsync.specs.declared.command_line.help.Page.{Page}
-use Rattle.lspsync.specs.declared.command_line.Values.{Values}
+use Rattle.lspsync.specs.declared.command_line.options.Values.{Values}
 
 abbrev longer : List Rule → App → App
 longer rules = on_top (λ s. record s { rules = s.rules ++ rules })

@@ -25,7 +25,9 @@ use Rattle.lsp_replay.proofs.Records.ChangeLemmas.{IsAccepted, IsOtherKind, IsCh
 use Rattle.lsp_replay.proofs.Records.JudgeLemmas.{judged_held}
 use Rattle.lsp_replay.proofs.Canonical.NormalisedLemmas.{canonical_record, went_on, version_is}
 use Rattle.lsp_replay.proofs.Records.NumberedLemmas.{IsAlike, alike_self, judged_alike}
-use Rattle.lsp_replay.proofs.Squash.PendingLemmas.{IsPending, IsBegunRun, IsLongerRun, behind_some, begun_run, longer_run, none_after, none_ended, same_server, some_ended}
+use Rattle.lsp_replay.proofs.Squash.PendingLemmas.{IsPending, behind_some, none_after, none_ended, some_ended}
+use Rattle.lsp_replay.proofs.Squash.LongerLemmas.{IsLongerRun, longer_run}
+use Rattle.lsp_replay.proofs.Squash.BegunLemmas.{IsBegunRun, begun_run, same_server}
 use Rattle.lsp_replay.proofs.Squash.SquashingLemmas.{step_other}
 use Rattle.lsp_replay.proofs.Squash.SquashLawLemmas.{IsApart, IsAny, IsEnded, IsSquashedAs, NonEmpty, at_end, begins_next, first_line, goes_on_next, others_next, report_on, total}
 use Rattle.lsp_replay.proofs.Records.StateLemmas.{IsHeldState}

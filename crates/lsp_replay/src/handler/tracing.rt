@@ -1,31 +1,32 @@
 //! `trace`: a line of JSON for each record of a log.
 
 ghost use Rattle.std.specs.Prelude.{◌≡◌, ◌&&◌, ◌++◌, refl, OnOk, codes, decimal, false, option_map, string_bytes};
-ghost use Rattle.std.specs.Fmt.{signed_decimal};
 ghost use Rattle.lsp_message.specs.Message.{reading};
 ghost use Rattle.lsp_message.specs.Seen.{change_view};
 ghost use Rattle.lsp_server.specs.Incoming.{incoming_of};
 ghost use Rattle.lsp_server.specs.Seen.{incoming_view};
 ghost use Rattle.lsp_replay.specs.Session.{opened};
-ghost use Rattle.lsp_replay.specs.Commands.{change_in, verdict_word};
+ghost use Rattle.lsp_replay.specs.Commands.{change_in};
 ghost use Rattle.lsp_replay.specs.Lines.{lines_in, nothing_known};
-ghost use Rattle.lsp_replay.specs.Trace.{body_json, document_after, is_changed, member, notes_json, one_line, reason_json, text_json, tracing};
-ghost use Rattle.lsp_replay.specs.Trace.{version_json};
-ghost use Rattle.lsp_replay.specs.inside.Tracing.{canonical_json, members_by};
+ghost use Rattle.lsp_replay.specs.Trace.{document_after, is_changed, member, notes_json, reason_json, tracing};
+ghost use Rattle.lsp_replay.specs.inside.Tracing.{members_by};
 ghost use Rattle.lsp_replay.specs.inside.Verdicts.{verdict_view};
 
+mod values;
+
 use crate::commands::Details;
-use crate::handler::checking::push_verdict;
 use crate::handler::noted::push_notes;
 use crate::handler::reasons::push_reason;
+use crate::handler::tracing::values::{
+    push_body, push_canonical, push_text, push_version, push_word,
+};
 use crate::handler::{Given, Handler, Output};
-use crate::members::{push_json_string, push_number, push_signed, push_words};
+use crate::members::{push_number, push_words};
 use crate::notes::Note;
 use crate::outcome::Outcome;
 use crate::session::counting::is_refused;
 use crate::session::known::Known;
 use crate::session::tracing::Traced;
-use crate::session::writing::Appended;
 use crate::session::{Session, Verdict};
 use lsp_log::Head;
 use lsp_message::ChangeParams;
@@ -193,16 +194,6 @@ pub fn change_in(incoming: &Incoming) -> Option<&ChangeParams>
     }
 }
 
-/// Writes the word of `check`.
-fn push_word(buffer: &mut Vec<u8>, verdict: &Verdict) -> Result<(), AllocError>
-    ensures { OnOk result (buffer.new.items ≡ buffer.old.items ++ codes ",\"word\":\""
-        ++ verdict_word (verdict_view verdict.now) ++ codes "\"") }
-{
-    buffer.extend_from_slice(b",\"word\":\"")?;
-    push_verdict(buffer, verdict)?;
-    buffer.extend_from_slice(b"\"")
-}
-
 /// Writes which record opened, closed or refused the document last before, if there is one to look
 /// at.
 fn push_mention(buffer: &mut Vec<u8>, last: Option<u64>) -> Result<(), AllocError>
@@ -228,96 +219,4 @@ fn push_noted(buffer: &mut Vec<u8>, notes: &[Note]) -> Result<(), AllocError>
     buffer.extend_from_slice(b"[\"")?;
     push_notes(buffer, "\",\"", notes)?;
     buffer.extend_from_slice(b"\"]")
-}
-
-/// Writes the version of an open document.
-fn push_version(buffer: &mut Vec<u8>, document: &Option<Document<'_>>) -> Result<(), AllocError>
-    ensures { OnOk result (buffer.new.items ≡ buffer.old.items
-        ++ member (codes ",\"version\":") (version_json document.now)) }
-{
-    match document {
-        Some(document) => push_current(buffer, document.version()),
-        None => Ok(()),
-    }
-}
-
-/// Writes the member `version`.
-fn push_current(buffer: &mut Vec<u8>, version: i32) -> Result<(), AllocError>
-    ensures { OnOk result (buffer.new.items ≡ buffer.old.items
-        ++ codes ",\"version\":" ++ signed_decimal version) }
-{
-    buffer.extend_from_slice(b",\"version\":")?;
-    push_signed(buffer, i64::from(version))
-}
-
-/// Writes the canonical message, if its body was appended.
-fn push_canonical(
-    buffer: &mut Vec<u8>,
-    appended: Option<Appended>,
-    canonical: &[u8],
-) -> Result<(), AllocError>
-    ensures { OnOk result (buffer.new.items ≡ buffer.old.items
-        ++ member (codes ",\"canonical\":") (canonical_json appended canonical.now)) }
-{
-    match appended {
-        Some(Appended::Body) => push_message(buffer, canonical),
-        Some(Appended::TooLong) | None => Ok(()),
-    }
-}
-
-/// Writes the member `canonical`.
-fn push_message(buffer: &mut Vec<u8>, canonical: &[u8]) -> Result<(), AllocError>
-    ensures { OnOk result (buffer.new.items ≡ buffer.old.items
-        ++ codes ",\"canonical\":" ++ canonical.now) }
-{
-    buffer.extend_from_slice(b",\"canonical\":")?;
-    buffer.extend_from_slice(canonical)
-}
-
-/// Writes the text of an open document, if it is asked for.
-fn push_text(
-    alloc: Global,
-    buffer: &mut Vec<u8>,
-    is_asked: bool,
-    document: &Option<Document<'_>>,
-) -> Result<(), AllocError>
-    ensures { OnOk result (buffer.new.items ≡ buffer.old.items
-        ++ member (codes ",\"text\":") (text_json is_asked document.now)) }
-{
-    if !is_asked {
-        return Ok(());
-    }
-    let Some(document) = document else {
-        return Ok(());
-    };
-    let text = document.text().to_string(alloc)?;
-    buffer.extend_from_slice(b",\"text\":")?;
-    push_json_string(alloc, buffer, &text)
-}
-
-/// Writes a body, if it is asked for.
-fn push_body(buffer: &mut Vec<u8>, is_asked: bool, body: &[u8]) -> Result<(), AllocError>
-    ensures { OnOk result (buffer.new.items ≡ buffer.old.items
-        ++ member (codes ",\"body\":") (body_json is_asked body.now)) }
-{
-    if !is_asked {
-        return Ok(());
-    }
-    buffer.extend_from_slice(b",\"body\":")?;
-    push_one_line(buffer, body)
-}
-
-/// Writes bytes without their line feeds and carriage returns.
-fn push_one_line(buffer: &mut Vec<u8>, bytes: &[u8]) -> Result<(), AllocError>
-    ensures { OnOk result (buffer.new.items ≡ buffer.old.items ++ one_line bytes.now) }
-{
-    let mut next = 0;
-    'bytes: while next < bytes.len() {
-        let byte = bytes[next];
-        if byte != b'\n' && byte != b'\r' {
-            buffer.push(byte)?;
-        }
-        next += 1;
-    }
-    Ok(())
 }

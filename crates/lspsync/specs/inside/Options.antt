@@ -7,7 +7,7 @@ use Rattle.clap.specs.declared.builder.command.Command.TheViews.{out-Command as 
 use Rattle.lspsync.specs.CommandLine.{Choices, encoding_rule}
 use Rattle.lspsync.specs.Help.{own_rules, rules_of_limits}
 use Rattle.lspsync.specs.declared.command_line.help.Page.{Page}
-use Rattle.lspsync.specs.declared.command_line.Values.{Values}
+use Rattle.lspsync.specs.declared.command_line.options.Values.{Values}
 
 -- `new` is `old` with these options at its end.
 pub record AddsRules (old : Command) (rules : List Rule) (new : Command) : Type 0 where

@@ -1,0 +1,52 @@
+use Rattle.std.proofs.Common.{ℕ, List, ◌+◌, ◌++◌, length, map, ap, ap₂, ◌∙◌, arith, reverse}
+use Rattle.std.specs.Str.{chars}
+use Rattle.lsp_text.specs.Units.{units_in}
+use Rattle.lsp_edit.specs.Items.{Old, New}
+use Rattle.lsp_edit.specs.Plain.{item_of, items_in_order}
+use Rattle.lsp_edit.specs.inside.Plain.{gap_at, change_at}
+use Rattle.lsp_edit.specs.Edited.{edit_of}
+use Rattle.lsp_edit.proofs.Batches.PlainLemmas.{write_begins, write_new, write_old, write_end, item_rest, item_none}
+use Rattle.lsp_edit.proofs.Canonical.WalkLemmas.{walk_turned}
+use Rattle.lsp_edit.proofs.plain.items.gaps_written.Goals as goal
+use Rattle.lsp_edit.proofs.plain.items.gaps_written.Goals.{in-Old+in_ok-put_gap-in-Old, in-New+in_ok-push-in-New}
+
+pub loop-item-init : goal.loop-item-init
+loop-item-init c = rw (
+  c.new-changes.ensures.items,
+  c.new-text.ensures.items,
+) (write_begins (units_in c.args.encoding) (chars c.args.before.now) (items_in_order c.args.items.now) c.requires.keeps)
+
+pub loop-item-preserved : goal.loop-item-preserved
+loop-item-preserved c =
+    elim c.match-item.branch [
+      | in-Old+in_ok-put_gap-in-Old w ↦
+          rw (
+            w.changes-is,
+            w.low-is,
+            w.text-is,
+            w.new-text-in-Old.ensures.items,
+            w.in_ok-put_gap-in-Old.ensures,
+            w.deref.ensures.value,
+          )
+          (write_old (units_in c.args.encoding) (chars c.args.before.now) _ _ _ _ _ c.loop-item.invariant w.in-Old.index
+          _
+          (item_rest c.args.items.now c.loop-item.item-index _ (Old w.in-Old.index) c.loop-item-test.true
+          (ap item_of w.in-Old.is))
+          (w.in-Old.index + 1) (omega arith))
+      | in-New+in_ok-push-in-New w ↦
+          rw (w.changes-is, w.low-is, w.text-is, w.in_ok-push-in-New.ensures.items)
+          (write_new (units_in c.args.encoding) (chars c.args.before.now) _ _ _ _ _ c.loop-item.invariant
+          w.in-New.character _
+          (item_rest c.args.items.now c.loop-item.item-index _ (New w.in-New.character) c.loop-item-test.true
+          (ap item_of w.in-New.is)))
+    ]
+
+pub returns : goal.returns
+returns c =
+    rw c.reverse.ensures.items
+    (walk_turned c.put_gap-2.new.changes.items
+    ∙ ap reverse (c.in_ok-put_gap.ensures
+    ∙ (ap₂ (λ (n : ℕ) (text : List ℕ). map edit_of c.loop-item.changes.items ++ change_at (units_in c.args.encoding)
+    (chars c.args.before.now) (gap_at c.loop-item.low n text)) (ap length c.requires.old) c.deref-2.ensures.value
+    ∙ write_end (units_in c.args.encoding) (chars c.args.before.now) _ _ _ _ _ c.loop-item.invariant
+    (item_none c.args.items.now c.loop-item.item-index c.loop-item-test.false))))

@@ -1,0 +1,20 @@
+use Rattle.std.proofs.Common.{drop, map}
+use Rattle.std.specs.Str.{chars}
+use Rattle.lsp_text.specs.Units.{units_in}
+use Rattle.lsp_edit.specs.Canonical.{gaps}
+use Rattle.lsp_edit.specs.Edited.{edit_of}
+use Rattle.lsp_edit.specs.Plain.{items_in_order}
+use Rattle.lsp_edit.proofs.Canonical.WalkLemmas.{changes_of}
+use Rattle.lsp_edit.proofs.Batches.PlainLemmas.{Writes}
+use Rattle.lsp_edit.proofs.plain.items.gaps_written.Given as goal
+
+abbrev pub invariant-loop-item : goal.invariant-loop-item
+invariant-loop-item l =
+    Writes
+    (units_in l.encoding)
+    (chars l.before)
+    (changes_of (units_in l.encoding) (chars l.before) (gaps (chars l.before) (items_in_order l.items)))
+    (map edit_of l.changes.items)
+    l.low
+    l.text.items
+    (items_in_order (drop l.item-index l.items))

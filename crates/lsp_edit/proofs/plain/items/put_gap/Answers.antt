@@ -1,0 +1,50 @@
+use Rattle.std.proofs.Common.{ℕ, List, ◌≡◌, ◌<◌, ◌≤◌, ◌⊎◌, ◌==◌, false, length, take, inl, inr, sym, ap, ◌∙◌, refl, arith, encode_utf8_all, ⊎_elim}
+use Rattle.std.specs.Str.{chars}
+use Rattle.std.proofs.lemmas.Bool.{cases_lt, eqb-false}
+use Rattle.lsp_text.specs.Units.{units_in}
+use Rattle.lsp_edit.specs.laws.Batches.{HasExactEnds}
+use Rattle.lsp_edit.specs.inside.Plain.{gap_at}
+use Rattle.lsp_edit.proofs.Batches.PlainLemmas.{gap_some, gap_one, end_place}
+use Rattle.lsp_edit.proofs.plain.items.put_gap.Goals as goal
+use Rattle.lsp_edit.proofs.plain.items.put_gap.Goals.{then-low-high-via-then-low-high, then-low-high-via-else-low-high+then-not-is_empty}
+
+some_left : (text : List ℕ) → false ≡ (length text == 0) → 0 < length text
+some_left text e =
+    ⊎_elim
+    (λ (l : 0 < length text). l)
+    (λ (l : length text ≤ 0). absurd (eqb-false (length text) 0 (sym e) (omega arith)))
+    (cases_lt 0 (length text))
+
+pub position-stop-requires-clause-place : goal.position-stop-requires-clause-place
+position-stop-requires-clause-place c =
+    let changed : (c.args.low < c.args.high) ⊎ (0 < length c.args.text.now)
+    = elim c.then-low-high.branch [
+      | then-low-high-via-then-low-high w ↦ inl w.if-low-high.true
+      | then-low-high-via-else-low-high+then-not-is_empty w ↦ inr (some_left c.args.text.now w.if-not-is_empty.ensures)
+    ] in
+    let ends : HasExactEnds (chars c.args.before.now) (gap_at c.args.low c.args.high c.args.text.now) =
+    c.requires.ends (gap_some (units_in c.args.encoding) (chars c.args.before.now) c.args.low c.args.high
+    c.args.text.now changed) in
+    end_place (chars c.args.before.now) c.args.high c.in_ok-place_of-2.field-0 (omega (arith, ends.within))
+    ends.high_whole (c.in_ok-place_of-2.ensures ∙ ap (λ (cs : List ℕ). length (encode_utf8_all (take c.args.high cs)))
+    c.requires.old)
+
+pub returns-in_ok-push : goal.returns-in_ok-push
+returns-in_ok-push c =
+    let changed : (c.args.low < c.args.high) ⊎ (0 < length c.args.text.now)
+    = elim c.then-low-high.branch [
+      | then-low-high-via-then-low-high w ↦ inl w.if-low-high.true
+      | then-low-high-via-else-low-high+then-not-is_empty w ↦ inr (some_left c.args.text.now w.if-not-is_empty.ensures)
+    ] in
+    let ends : HasExactEnds (chars c.args.before.now) (gap_at c.args.low c.args.high c.args.text.now) =
+    c.requires.ends (gap_some (units_in c.args.encoding) (chars c.args.before.now) c.args.low c.args.high
+    c.args.text.now changed) in
+    rw c.in_ok-push.ensures.items
+    (gap_one (units_in c.args.encoding) (chars c.args.before.now) c.args.low c.args.high c.args.text.now _ _
+    c.position-start.result c.position-stop.result changed refl c.in_ok-text.ensures
+    (c.position-start.ensures.exact c.args.low (omega (arith, ends.order, ends.within))
+    (sym (c.in_ok-place_of.ensures ∙ ap (λ (cs : List ℕ). length (encode_utf8_all (take c.args.low cs)))
+    c.requires.old)))
+    (c.position-stop.ensures.exact c.args.high (omega (arith, ends.within))
+    (sym (c.in_ok-place_of-2.ensures ∙ ap (λ (cs : List ℕ). length (encode_utf8_all (take c.args.high cs)))
+    c.requires.old))))

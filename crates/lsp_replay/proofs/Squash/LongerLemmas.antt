@@ -1,0 +1,175 @@
+-- A change that goes on with the open run.
+use Rattle.std.proofs.Common.{◌≡◌, ℕ, ◌+◌, ◌≤◌, Bool, true, false, List, [], ◌∷◌, ◌++◌, length, Option, Some, None, refl, sym, ap, ap₂, ◌∙◌, subst, append_assoc, append-nil, bytes_eq}
+use Rattle.lsp_frame.specs.Frame.{frame}
+use Rattle.lsp_frame.specs.Limits.{LimitsData, AreInRange}
+use Rattle.lsp_message.specs.Params.{ChangeData}
+use Rattle.lsp_store.specs.Table.{entry_at}
+use Rattle.lsp_server.specs.Step.{ServerData, session_encoding}
+use Rattle.lsp_log.specs.declared.record.Version.{Version}
+use Rattle.lsp_log.specs.declared.record.Side.TheVariants.{Client}
+use Rattle.lsp_log.specs.Log.{Record, IsRecord, together, record_bytes, mark_of}
+use Rattle.lsp_log.proofs.LogLemmas.{are_push, together_push}
+use Rattle.std.proofs.lemmas.Slice.Eq.{bytes_eq-Decides}
+use Rattle.lsp_replay.proofs.Squash.SingleLemmas.{IsSingle, is_single, single_record}
+use Rattle.lsp_replay.specs.RunOutput.{written_first}
+use Rattle.lsp_replay.specs.Commands.{run_output_in, replaying, front_of, line_if, canonical_change_body}
+use Rattle.lsp_replay.specs.inside.Joining.{server_after}
+use Rattle.lsp_replay.specs.Session.{Session, judge}
+use Rattle.lsp_replay.specs.Squashed.{Run, joined_by, longer, squash_step, squashed_in, end_bytes}
+use Rattle.lsp_replay.proofs.Records.ChangeLemmas.{IsAccepted, IsDone, is_done, proper_change, session_after}
+use Rattle.lsp_replay.proofs.Records.NumberedLemmas.{IsAlike, alike_both, numbered}
+use Rattle.lsp_replay.proofs.Squash.OpenRunLemmas.{IsOpenFrom, goes_on_from, same_encoding, same_text}
+use Rattle.lsp_replay.proofs.Squash.SquashLawLemmas.{NonEmpty, first_line, report_on, step_on, together_split}
+use Rattle.lsp_replay.proofs.Records.StateLemmas.{IsHeldState}
+use Rattle.lsp_replay.proofs.Squash.PendingLemmas.{IsPending, behind_some, front_is, longer_step, not_bad}
+use Rattle.lsp_replay.proofs.Squash.BegunLemmas.{after_out, as_accepted, same_server}
+
+pub record IsLongerRun (max_body at : ℕ) (version : Version) (due : Bool) (s : Session) (run : Run) (r : Record)
+    (t : Session) (before : Option Run) : Type 0 where
+  pub next : Run
+  pub writes : squash_step s (Some run) r (judge s r) ≡ record { out = []; end = None; run = Some next }
+  pub pending : IsPending max_body at version due (judge s r).session next t before
+
+module _ (limits : LimitsData) (ranges : AreInRange limits) (at : ℕ) (version : Version) (due : Bool) (s : Session)
+    (run : Run) (t : Session) (before : Option Run) (r : Record) (p : ChangeData)
+    (open_run : IsPending limits.max_body at version due s run t before) (of_version : r.head.version ≡ version)
+    (same : bytes_eq p.uri run.squash.uri ≡ true) (received : IsHeldState limits s.server)
+    (a : IsAccepted s r p) (fits : length (canonical_change_body s.server p) ≤ s.server.config.limits.max_body)
+    (not_due : r.head.line_due ≡ false) where
+  abbrev last : Session
+  last = open_run.last
+
+  abbrev place : ℕ
+  place = at + length (together version open_run.ss [])
+
+  equal : last.server ≡ s.server
+  equal = same_server s last open_run.last_like
+
+  another : IsSingle limits.max_body place version false last p (single_record place last r p)
+  another =
+      is_single limits ranges place version false last r p (subst (IsHeldState limits) (sym equal) received)
+      (as_accepted s last r p open_run.last_like a)
+      (subst (λ (server : ServerData). length (canonical_change_body server p) ≤ server.config.limits.max_body)
+      (sym equal) fits) of_version not_due
+
+  abbrev more_q : Record
+  more_q = single_record place last r p
+
+  done_here : IsDone s r p
+  done_here = is_done s r p a
+
+  done_last : IsDone last more_q another.again
+  done_last = is_done last more_q another.again another.accepted
+
+  uri_is : p.uri ≡ run.squash.uri
+  uri_is = (bytes_eq-Decides p.uri run.squash.uri).0 same
+
+  abbrev next_run : Run
+  next_run = longer run p (front_of r.head ++ frame (canonical_change_body s.server p))
+
+  gives_here : squash_step s (Some run) r (judge s r) ≡ record { out = []; end = None; run = Some next_run }
+  gives_here = longer_step s (Some run) r p a done_here fits run refl same
+
+  front_here : front_of r.head ≡ mark_of version Client
+  front_here = front_is s (Some run) r p a done_here fits version of_version
+      ∙ ap (λ b. line_if b ++ mark_of version Client) not_due
+
+  front_last : front_of more_q.head ≡ mark_of version Client
+  front_last =
+      front_is last (Some run) more_q another.again another.accepted done_last another.within version of_version
+      ∙ ap (λ b. line_if b ++ mark_of version Client) not_due
+
+  joins_same : joined_by another.again run.squash ≡ joined_by p run.squash
+  joins_same =
+      another.joins run.squash (same_encoding t.server run.squash s.server open_run.from
+      ∙ ap session_encoding (sym equal))
+      (λ entry found. same_text t.server run.squash s.server open_run.from p.uri entry uri_is
+      (ap (λ (server : ServerData). entry_at server.table p.uri) (sym equal) ∙ found))
+
+  gives_last : squash_step last (Some run) more_q (judge last more_q) ≡ record {
+    out = [];
+    end = None;
+    run = Some next_run;
+  }
+  gives_last =
+      longer_step last (Some run) more_q another.again another.accepted done_last another.within run refl
+      (ap (λ u. bytes_eq u run.squash.uri) another.same_uri ∙ same)
+      ∙ (λ i. record {
+        out = [];
+        end = None;
+        run = Some (record run { singles = run.singles ++ single_is i; squash = joins_same i });
+      })
+    where
+      single_is : front_of more_q.head ++ frame (canonical_change_body last.server another.again) ≡ front_of r.head
+          ++ frame (canonical_change_body s.server p)
+      single_is = ap₂ (λ (f b : List ℕ). f ++ frame b) (front_last ∙ sym front_here)
+          (another.own ∙ ap (λ (server : ServerData). canonical_change_body server p) equal)
+
+  next_is : server_after s.server p ≡ (judge s r).session.server
+  next_is = sym (ap (λ (u : Session). u.server) done_here.leaves.2)
+
+  push_some : (rs : List Record) (q : Record) → NonEmpty (rs ++ q ∷ [])
+  push_some [] q = tt
+  push_some (x ∷ rs) q = tt
+
+  same_line : (rs : List Record) (q : Record) → NonEmpty rs → first_line due (rs ++ q ∷ []) ≡ first_line due rs
+  same_line [] q some = absurd some
+  same_line (x ∷ rs) q some = refl
+
+  pushed : run.singles ++ (front_of r.head ++ frame (canonical_change_body s.server p))
+      ≡ first_line due (open_run.ss ++ more_q ∷ []) ++ together version (open_run.ss ++ more_q ∷ []) []
+  pushed =
+      ap₂ (λ (x y : List ℕ). x ++ y) open_run.singles (ap₂ (λ (f b : List ℕ). f ++ frame b) front_here
+      (ap (λ (server : ServerData). canonical_change_body server p) (sym equal)))
+      ∙ append_assoc (first_line due open_run.ss) (together version open_run.ss [])
+      (mark_of version Client ++ frame (canonical_change_body last.server p))
+      ∙ ap₂ (λ (x y : List ℕ). x ++ y) (sym (same_line open_run.ss more_q open_run.some))
+      (ap (λ side. together version open_run.ss []
+      ++ (mark_of version side ++ frame (canonical_change_body last.server p))) (sym a.side)
+      ∙ sym (together_split version open_run.ss (record_bytes version more_q))
+      ∙ ap (together version open_run.ss) (sym (append-nil (record_bytes version more_q)))
+      ∙ sym (together_push version open_run.ss more_q []))
+
+  like_on : IsAlike (record t { server = (judge s r).session.server }) (judge s r).session
+  like_on = (
+    done_here.leaves.0,
+    done_here.leaves.1,
+    done_here.leaves.2
+        ∙ ap (λ (u : Session). numbered done_here.leaves.0 done_here.leaves.1 (record u {
+          server = server_after s.server p;
+        })) open_run.like.2
+        ∙ ap (λ server. numbered done_here.leaves.0 done_here.leaves.1 (record t { server = server })) next_is,
+  )
+
+  pub longer_run : IsLongerRun limits.max_body at version due s run r t before
+  longer_run = record {
+    next = next_run;
+    writes = gives_here;
+    pending = record {
+      from = subst (IsOpenFrom t.server next_run.squash) next_is
+          (goes_on_from t.server run.squash s.server open_run.from p same (proper_change r p a.asks) a.may);
+      running = open_run.running;
+      waits = open_run.waits;
+      like = like_on;
+      apart = open_run.apart;
+      front = open_run.front;
+      ss = open_run.ss ++ more_q ∷ [];
+      some = push_some open_run.ss more_q;
+      are = are_push limits.max_body version at due open_run.ss more_q open_run.are
+          (subst (λ b. IsRecord limits.max_body version place b more_q)
+          (sym (behind_some due open_run.ss open_run.some)) another.is);
+      singles = pushed;
+      last = (judge last more_q).session;
+      last_like =
+          alike_both (session_after s p) (judge s r).session (judge last more_q).session done_here.leaves
+          (after_out s last p another.again (judge last more_q).session open_run.last_like
+          (another.leaves ∙ ap (λ (server : ServerData). server_after server p) equal) done_last.leaves);
+      run_output = λ more.
+          ap (squashed_in t before) (append_assoc open_run.ss (more_q ∷ []) more) ∙ open_run.run_output (more_q ∷ more)
+          ∙ ap (written_first (end_bytes before)) (step_on last (Some run) more_q more [] (Some next_run) gives_last);
+      replay = λ more.
+          ap (run_output_in replaying t) (append_assoc open_run.ss (more_q ∷ []) more) ∙ open_run.replay (more_q ∷ more)
+          ∙ report_on last more_q more (not_bad last (Some run) more_q another.again another.accepted done_last
+          another.within);
+    };
+  }

@@ -1,0 +1,27 @@
+use Rattle.std.specs.Prelude.{ℕ, ◌≡◌, ◌≤◌, ◌-◌, true, List, Option, length, drop}
+use Rattle.lsp_stream.specs.Turns.{Spends, StaysWell, StaysFlushed}
+use Rattle.lsp_log.specs.Log.{LogRules, Record}
+use Rattle.lsp_log.specs.Splitting.{IsReady}
+use Rattle.lsp_replay.specs.RunOutput.{RunOutput}
+use Rattle.lsp_replay.specs.inside.Progress.{IsProgress}
+use Rattle.lsp_replay.proofs.engine.records.take_piece.Given as goal
+
+abbrev pub invariant-bytes : goal.invariant-bytes
+invariant-bytes g l = record {
+  within : l.at ≤ length l.piece;
+  ready : IsReady l.splitter;
+  version : l.splitter.version ≡ l.fn.splitter.version;
+  progress : (log_rules : LogRules) (run_output : List Record → RunOutput) (received : Option (List ℕ)) (input : List ℕ)
+      →
+      IsProgress log_rules run_output received input l.piece l.fn.splitter (g.H.Handler.run_output l.fn.handler)
+      (g.W.Sink.seen l.fn.writer).written →
+      IsProgress log_rules run_output received input (drop l.at l.piece) l.splitter (g.H.Handler.run_output l.handler)
+      (g.W.Sink.seen l.writer).written;
+  well : StaysWell (g.W.Sink.seen l.fn.writer).failed (g.W.Sink.seen l.writer).failed;
+  flushed : g.H.Handler.FLUSHES ≡ true → StaysFlushed (g.W.Sink.seen l.fn.writer).flushed
+      (g.W.Sink.seen l.writer).flushed;
+  spent : Spends (g.W.Sink.seen l.fn.writer).calls (g.W.Sink.seen l.writer).calls l.fn.turns.left l.turns.left;
+}
+
+abbrev pub decreases-bytes : goal.decreases-bytes
+decreases-bytes g l = length l.piece - l.at

@@ -1,0 +1,268 @@
+//! The program as `clap` sees it: its commands and their options. Each function adds one option, so
+//! each is proved alone.
+
+ghost use Rattle.std.specs.Prelude.{◌≡◌, ◌∷◌, [], codes, true, false};
+ghost use Rattle.std.specs.Prelude.{IfOk, map};
+ghost use Rattle.clap.specs.Words.{app_of, rule_of, with_subcommand};
+ghost use Rattle.clap.specs.declared.builder.value_parser.ValueParser.TheVariants.{Names};
+ghost use Rattle.lspsync.specs.CommandLine.{IsProgram, encoding_rule, flag_rule, limit_rules};
+ghost use Rattle.lspsync.specs.CommandLine.{option_rule, part_rules, sync_rule, writing_rules};
+ghost use Rattle.lspsync.specs.CommandLine.{at_rule, detail_rules, explain_rule, uri_rule};
+ghost use Rattle.lspsync.specs.Help.{own_rules, rule_of_limit, rules_of_limits};
+ghost use Rattle.lspsync.specs.inside.Options.{AddsRules, IsCommand, shape_by, top_app};
+
+use crate::command_line::help::{
+    DetailHelp, Limit, LimitOptions, OwnHelp, Page, PartHelp, WritingHelp,
+};
+use clap::builder::ValueParser;
+use clap::{Arg, ArgAction, Command};
+use lsp_replay::{Details, Part};
+use lsp_server::ChangeForm;
+use std::alloc::{AllocError, Global};
+
+/// The names that options take, and the options that set limits.
+#[derive(Clone, Copy, Debug)]
+struct Values<'a> {
+    encodings: &'a [&'a str],
+    kinds: &'a [&'a str],
+    limits: &'a LimitOptions,
+}
+
+static ENCODINGS: [&str; 3] = ["utf-8", "utf-16", "utf-32"];
+
+static KINDS: [&str; 2] = ["full", "incremental"];
+
+fn encodings() -> &'static [&'static str]
+    ensures { map (λ name. name.now) result.now
+        ≡ codes "utf-8" ∷ codes "utf-16" ∷ codes "utf-32" ∷ [] }
+{
+    ENCODINGS.as_slice()
+}
+
+fn kinds() -> &'static [&'static str]
+    ensures { map (λ name. name.now) result.now ≡ codes "full" ∷ codes "incremental" ∷ [] }
+{
+    KINDS.as_slice()
+}
+
+pub(crate) fn program<'a>(
+    alloc: Global,
+    limits: &'a LimitOptions,
+) -> Result<Command<'a>, AllocError>
+    ensures { rules_of_limits limits.entry.now ≡ limit_rules →
+        IfOk result (λ program. IsProgram (app_of program)) }
+{
+    let values = Values {
+        encodings: encodings(),
+        kinds: kinds(),
+        limits,
+    };
+    let program = with_command(alloc, top(alloc), help::serve(), values)?;
+    let program = with_command(alloc, program, help::check(), values)?;
+    let program = with_command(alloc, program, help::trace(), values)?;
+    let program = with_command(alloc, program, help::replay(), values)?;
+    let program = with_command(alloc, program, help::normalise(), values)?;
+    with_command(alloc, program, help::convert(), values)
+}
+
+/// The program without its commands.
+fn top<'a>(alloc: Global) -> Command<'a>
+    ensures { app_of result ≡ top_app }
+{
+    Command::new(alloc, "lspsync")
+        .about(help::about())
+        .after_help(help::notes())
+        .subcommand_required(true)
+}
+
+fn with_command<'a>(
+    alloc: Global,
+    program: Command<'a>,
+    page: Page,
+    values: Values<'a>,
+) -> Result<Command<'a>, AllocError>
+    ensures { IfOk result (λ new. app_of new
+        ≡ with_subcommand (app_of program.entry) (shape_by page values.entry)) }
+{
+    program.subcommand(command(alloc, page, values)?)
+}
+
+/// Makes a command with its options.
+fn command<'a>(alloc: Global, page: Page, values: Values<'a>) -> Result<Command<'a>, AllocError>
+    ensures { IfOk result (IsCommand page values.entry) }
+{
+    let command = Command::new(alloc, page.name)
+        .about(page.about)
+        .after_help(page.example);
+    let command = with_encoding(alloc, command, page.encoding, values.encodings)?;
+    let command = with_own(alloc, command, page.own, values.kinds)?;
+    with_limits(alloc, command, values.limits)
+}
+
+fn with_encoding<'a>(
+    alloc: Global,
+    command: Command<'a>,
+    help: &'a str,
+    encodings: &'a [&'a str],
+) -> Result<Command<'a>, AllocError>
+    ensures { IfOk result (AddsRules command.entry (encoding_rule encodings.entry ∷ [])) }
+{
+    command.arg(choice(alloc, "encoding", encodings, "utf-16").help(help))
+}
+
+/// Adds the options that the command has beside those of all.
+fn with_own<'a>(
+    alloc: Global,
+    command: Command<'a>,
+    own: OwnHelp,
+    kinds: &'a [&'a str],
+) -> Result<Command<'a>, AllocError>
+    ensures { IfOk result (AddsRules command.entry (own_rules kinds.entry own)) }
+{
+    match own {
+        OwnHelp::Nothing => Ok(command),
+        OwnHelp::ChangeForm(help) => with_sync(alloc, command, help, kinds),
+        OwnHelp::Explain(help) => with_explain(alloc, command, help),
+        OwnHelp::Details(help) => with_details(alloc, command, help),
+        OwnHelp::Part(help) => with_part(alloc, command, help),
+        OwnHelp::Writing(help) => with_writing(alloc, command, help),
+    }
+}
+
+/// Adds `--sync`.
+fn with_sync<'a>(
+    alloc: Global,
+    command: Command<'a>,
+    help: &'a str,
+    kinds: &'a [&'a str],
+) -> Result<Command<'a>, AllocError>
+    ensures { IfOk result (AddsRules command.entry (sync_rule kinds.entry ∷ [])) }
+{
+    command.arg(choice(alloc, "sync", kinds, "incremental").help(help))
+}
+
+/// Adds `--documents` and `--squash`.
+fn with_writing<'a>(
+    alloc: Global,
+    command: Command<'a>,
+    help: WritingHelp,
+) -> Result<Command<'a>, AllocError>
+    ensures { IfOk result (AddsRules command.entry writing_rules) }
+{
+    command
+        .arg(flag(alloc, "documents", help.documents))?
+        .arg(flag(alloc, "squash", help.squash))
+}
+
+/// Adds `--at` and `--uri`.
+fn with_part<'a>(
+    alloc: Global,
+    command: Command<'a>,
+    help: PartHelp,
+) -> Result<Command<'a>, AllocError>
+    ensures { IfOk result (AddsRules command.entry part_rules) }
+{
+    command
+        .arg(at_option(alloc, help.at))?
+        .arg(uri_option(alloc, help.uri))
+}
+
+/// Adds `--explain`.
+fn with_explain<'a>(
+    alloc: Global,
+    command: Command<'a>,
+    help: &'a str,
+) -> Result<Command<'a>, AllocError>
+    ensures { IfOk result (AddsRules command.entry (explain_rule ∷ [])) }
+{
+    command.arg(flag(alloc, "explain", help))
+}
+
+/// Adds `--texts` and `--bodies`.
+fn with_details<'a>(
+    alloc: Global,
+    command: Command<'a>,
+    help: DetailHelp,
+) -> Result<Command<'a>, AllocError>
+    ensures { IfOk result (AddsRules command.entry detail_rules) }
+{
+    command
+        .arg(flag(alloc, "texts", help.texts))?
+        .arg(flag(alloc, "bodies", help.bodies))
+}
+
+/// Adds the options that set limits, and `--lenient`.
+fn with_limits<'a>(
+    alloc: Global,
+    command: Command<'a>,
+    limits: &'a LimitOptions,
+) -> Result<Command<'a>, AllocError>
+    ensures { IfOk result (AddsRules command.entry (rules_of_limits limits.entry.now)) }
+{
+    command
+        .arg(number(alloc, &limits.body))?
+        .arg(number(alloc, &limits.text))?
+        .arg(number(alloc, &limits.docs))?
+        .arg(number(alloc, &limits.changes))?
+        .arg(flag(alloc, "lenient", limits.lenient))
+}
+
+/// An option with one of these names.
+fn choice<'a>(alloc: Global, name: &'a str, names: &'a [&'a str], default: &'a str) -> Arg<'a>
+    ensures rule { rule_of result
+        ≡ option_rule name.entry.now (Names names.entry) default.entry.now }
+    ensures global { result.global ≡ false }
+{
+    Arg::new(alloc, name)
+        .long(name)
+        .value_name("NAME")
+        .value_parser(names)
+        .default_value(default)
+}
+
+/// `--at`: a record's number, from 1.
+fn at_option<'a>(alloc: Global, help: &'a str) -> Arg<'a>
+    ensures rule { rule_of result ≡ at_rule }
+    ensures global { result.global ≡ false }
+{
+    Arg::new(alloc, "at")
+        .long("at")
+        .value_name("N")
+        .value_parser(ValueParser::unsigned(1, u64::MAX))
+        .help(help)
+}
+
+/// `--uri`: any text.
+fn uri_option<'a>(alloc: Global, help: &'a str) -> Arg<'a>
+    ensures rule { rule_of result ≡ uri_rule }
+    ensures global { result.global ≡ false }
+{
+    Arg::new(alloc, "uri")
+        .long("uri")
+        .value_name("URI")
+        .help(help)
+}
+
+/// An option without a value.
+fn flag<'a>(alloc: Global, name: &'a str, help: &'a str) -> Arg<'a>
+    ensures rule { rule_of result ≡ flag_rule name.entry.now }
+    ensures global { result.global ≡ false }
+{
+    Arg::new(alloc, name)
+        .long(name)
+        .action(ArgAction::SetTrue)
+        .help(help)
+}
+
+/// An option with a number in a range.
+fn number<'a>(alloc: Global, limit: &'a Limit) -> Arg<'a>
+    ensures rule { rule_of result ≡ rule_of_limit limit.entry.now }
+    ensures global { result.global ≡ false }
+{
+    Arg::new(alloc, limit.name)
+        .long(limit.name)
+        .value_name("N")
+        .value_parser(ValueParser::unsigned(limit.least as u64, limit.greatest as u64))
+        .default_value(limit.default)
+        .help(limit.help)
+}
