@@ -1,3 +1,3 @@
 pub mod Blocks
-pub mod Reads
+pub mod Queries
 pub mod Changes

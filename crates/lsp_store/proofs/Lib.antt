@@ -2,4 +2,4 @@ pub mod LawLemmas
 pub mod SquashLemmas
 pub mod Messages
 pub mod Tables
-pub mod Reads
+pub mod Queries

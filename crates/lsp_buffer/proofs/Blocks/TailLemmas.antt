@@ -13,7 +13,7 @@ use Rattle.lsp_text.specs.Units.{units_in}
 use Rattle.lsp_buffer.specs.Blocks.{AreBlocks, AreHeads, IsBuffer, ends_of, head_after, heads_from, sums_from}
 use Rattle.lsp_buffer.specs.inside.Seams.{WereHeads, WereSums, row_of, heads_end}
 use Rattle.lsp_buffer.proofs.Blocks.SumLemmas.{length-sums, sums_starts}
-use Rattle.lsp_buffer.proofs.Reads.HeadLemmas.{AreTexts, blocks_texts, IsLine, end_low, heads_apart, heads_at, heads_high, heads_move, heads_append, length-heads}
+use Rattle.lsp_buffer.proofs.Queries.HeadLemmas.{AreTexts, blocks_texts, IsLine, end_low, heads_apart, heads_at, heads_high, heads_move, heads_append, length-heads}
 
 -- The line at the end of blocks.
 abbrev pub line_end : ℕ → List (List ℕ) → ℕ

@@ -11,7 +11,7 @@ use Rattle.lsp_buffer.specs.Blocks.{EndsClear, AreBlocks, IsBuffer, ends_of, sum
 use Rattle.lsp_buffer.specs.inside.Cuts.{AreFull}
 use Rattle.lsp_buffer.proofs.Blocks.BlockLemmas.{split, full_length, joined_blocks, blocks_some}
 use Rattle.lsp_buffer.proofs.Blocks.BufferLemmas.{starts_count, next_start, starts_sum, lines_sum}
-use Rattle.lsp_buffer.proofs.Reads.FoundLemmas.{IsPlaceFound, found_place, blocks_ends, chunk_boundary}
+use Rattle.lsp_buffer.proofs.Queries.FoundLemmas.{IsPlaceFound, found_place, blocks_ends, chunk_boundary}
 use Rattle.lsp_buffer.proofs.Changes.ChangeLemmas.{replaced_parts, back_ends, sums_three}
 
 sum_three : (f : List ℕ → ℕ) (front fresh rest : List (List ℕ)) → sum (map f (front ++ (fresh ++ rest)))

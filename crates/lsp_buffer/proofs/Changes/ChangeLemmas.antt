@@ -7,7 +7,7 @@ use Rattle.lsp_buffer.specs.Blocks.{EndsClear, sums_from}
 use Rattle.lsp_buffer.proofs.Blocks.SumLemmas.{length-sums, sums_append}
 use Rattle.lsp_buffer.proofs.Blocks.BlockLemmas.{ends_tail, ends_join}
 use Rattle.lsp_buffer.proofs.Blocks.PartLemmas.{take_three, drop_three, boundary_in}
-use Rattle.lsp_buffer.proofs.Reads.FoundLemmas.{IsPlaceFound}
+use Rattle.lsp_buffer.proofs.Queries.FoundLemmas.{IsPlaceFound}
 
 assoc : (a b c : List ℕ) → a ++ b ++ c ≡ a ++ (b ++ c)
 assoc a b c = simp append_assoc

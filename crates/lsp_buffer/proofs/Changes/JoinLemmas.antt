@@ -7,7 +7,7 @@ use Rattle.lsp_text.specs.Starts.{IsLineOf as IsBlockOf}
 use Rattle.lsp_text.proofs.Positions.BoundaryLemmas.{boundary_from}
 use Rattle.lsp_buffer.specs.Blocks.{IsBuffer}
 use Rattle.lsp_buffer.proofs.Blocks.BufferLemmas.{starts_count, start_is, next_start, utf8_all}
-use Rattle.lsp_buffer.proofs.Reads.FoundLemmas.{IsPlaceFound, found_place, chunk_boundary}
+use Rattle.lsp_buffer.proofs.Queries.FoundLemmas.{IsPlaceFound, found_place, chunk_boundary}
 use Rattle.lsp_buffer.proofs.Blocks.PartLemmas.{boundary_in, drop_three, place_outer, place_last}
 
 pub record IsJoin (blocks : List (List ℕ)) (starts lines : List ℕ) (last : ℕ) (block : List ℕ)

@@ -12,7 +12,7 @@ use Rattle.lsp_buffer.specs.inside.Cuts.{AreFull}
 use Rattle.lsp_buffer.proofs.Blocks.SumLemmas.{length-sums, sums_append, sums_put, sums_low}
 use Rattle.lsp_buffer.proofs.Blocks.BlockLemmas.{IsSplit, split, full_length, joined_blocks, blocks_some}
 use Rattle.lsp_buffer.proofs.Blocks.BufferLemmas.{starts_count, next_start}
-use Rattle.lsp_buffer.proofs.Reads.FoundLemmas.{IsPlaceFound, found_place, blocks_ends, chunk_boundary, ends_low}
+use Rattle.lsp_buffer.proofs.Queries.FoundLemmas.{IsPlaceFound, found_place, blocks_ends, chunk_boundary, ends_low}
 use Rattle.lsp_buffer.proofs.Changes.ChangeLemmas.{replaced_parts, back_ends}
 
 sums_high : (first : ℕ) (numbers : List ℕ) (k : ℕ) → k < length numbers → get_or (sums_from first numbers) k 0 ≤ first

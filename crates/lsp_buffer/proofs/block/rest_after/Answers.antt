@@ -1,4 +1,4 @@
-use Rattle.lsp_buffer.proofs.Reads.ReadLemmas.{not_front}
+use Rattle.lsp_buffer.proofs.Queries.ReadLemmas.{not_front}
 use Rattle.lsp_buffer.proofs.block.rest_after.Goals as goal
 
 pub returns-else-eq-clause-none : goal.returns-else-eq-clause-none

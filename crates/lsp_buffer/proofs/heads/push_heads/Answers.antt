@@ -4,7 +4,7 @@ use Rattle.std.proofs.lemmas.List.{length-append}
 use Rattle.lsp_text.specs.Units.{units_in}
 use Rattle.lsp_buffer.specs.Blocks.{head_after}
 use Rattle.lsp_buffer.proofs.Blocks.CutLemmas.{concat_more}
-use Rattle.lsp_buffer.proofs.Reads.HeadLemmas.{concat_low, end_more, heads_more}
+use Rattle.lsp_buffer.proofs.Queries.HeadLemmas.{concat_low, end_more, heads_more}
 use Rattle.lsp_buffer.proofs.heads.push_heads.Goals as goal
 
 pub head_after-next-requires : goal.head_after-next-requires

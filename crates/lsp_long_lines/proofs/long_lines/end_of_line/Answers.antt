@@ -5,7 +5,7 @@ use Rattle.lsp_text.specs.Text.{place_of}
 use Rattle.lsp_text.specs.TextLines.{line_stop}
 use Rattle.lsp_text.specs.LineStarts.{IsPlace}
 use Rattle.lsp_text.proofs.TextLines.ContentLemmas.{stop_within}
-use Rattle.lsp_buffer.proofs.Reads.ContentsLemmas.{value_of}
+use Rattle.lsp_buffer.proofs.Queries.ContentsLemmas.{value_of}
 use Rattle.lsp_long_lines.proofs.LineEndLemmas.{denoted-past_end}
 use Rattle.lsp_long_lines.proofs.long_lines.end_of_line.Goals as goal
 

@@ -6,7 +6,7 @@ use Rattle.lsp_text.specs.LineStarts.{IsPlace}
 use Rattle.lsp_text.specs.Units.{units_in}
 use Rattle.lsp_buffer.specs.Blocks.{head_of}
 use Rattle.lsp_buffer.proofs.Blocks.FeedLemmas.{feed_head, end_place, end_at}
-use Rattle.lsp_buffer.proofs.Reads.HeadLemmas.{head_low}
+use Rattle.lsp_buffer.proofs.Queries.HeadLemmas.{head_low}
 use Rattle.lsp_buffer.proofs.block.Block.head.Goals as goal
 
 pub returns-then-bytes-end-eq10-clause-head : goal.returns-then-bytes-end-eq10-clause-head

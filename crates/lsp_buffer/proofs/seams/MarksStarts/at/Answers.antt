@@ -1,5 +1,5 @@
 use Rattle.std.proofs.Common.{◌<◌, length, sym, ◌∙◌, arith}
-use Rattle.lsp_buffer.proofs.Reads.MarkLemmas.{length-marks, marks_at}
+use Rattle.lsp_buffer.proofs.Queries.MarkLemmas.{length-marks, marks_at}
 use Rattle.lsp_buffer.proofs.seams.MarksStarts.at.Goals as goal
 
 pub mark_at-requires-clause-line : goal.mark_at-requires-clause-line

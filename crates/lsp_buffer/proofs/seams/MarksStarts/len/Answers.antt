@@ -1,5 +1,5 @@
 use Rattle.std.proofs.Common.{sym}
-use Rattle.lsp_buffer.proofs.Reads.MarkLemmas.{length-marks}
+use Rattle.lsp_buffer.proofs.Queries.MarkLemmas.{length-marks}
 use Rattle.lsp_buffer.proofs.seams.MarksStarts.len.Goals as goal
 
 pub returns : goal.returns

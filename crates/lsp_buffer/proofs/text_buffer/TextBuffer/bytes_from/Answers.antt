@@ -2,7 +2,7 @@ use Rattle.std.proofs.Common.{◌+◌, ◌∙◌, take, drop, length, arith, sym
 use Rattle.std.specs.List.{concat}
 use Rattle.lsp_text.specs.Starts.{AreStarts}
 use Rattle.lsp_buffer.proofs.Blocks.BufferLemmas.{starts_count, starts_are_starts}
-use Rattle.lsp_buffer.proofs.Reads.FoundLemmas.{chunk_is, found_place, found_within}
+use Rattle.lsp_buffer.proofs.Queries.FoundLemmas.{chunk_is, found_place, found_within}
 use Rattle.lsp_buffer.proofs.text_buffer.TextBuffer.bytes_from.Goals as goal
 
 pub block_of-index-requires : goal.block_of-index-requires

@@ -1,4 +1,4 @@
-use Rattle.lsp_buffer.proofs.Reads.FoundLemmas.{bytes_utf8}
+use Rattle.lsp_buffer.proofs.Queries.FoundLemmas.{bytes_utf8}
 use Rattle.lsp_buffer.proofs.text_buffer.TextBuffer.clone_in.Goals as goal
 
 pub returns-clause-utf8 : goal.returns-clause-utf8

@@ -1,6 +1,6 @@
 use Rattle.std.proofs.Common.{arith}
 use Rattle.std.proofs.lemmas.List.{length-drop}
-use Rattle.lsp_buffer.proofs.Reads.CopyLemmas.{IsEnd, copied_few, copied_more, copied_some, none_copied}
+use Rattle.lsp_buffer.proofs.Queries.CopyLemmas.{IsEnd, copied_few, copied_more, copied_some, none_copied}
 use Rattle.lsp_buffer.proofs.text_buffer.TextBuffer.copy_to.Goals as goal
 
 pub loop-copied-init : goal.loop-copied-init

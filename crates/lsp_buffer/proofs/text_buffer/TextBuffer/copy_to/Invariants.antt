@@ -1,5 +1,5 @@
 use Rattle.std.proofs.Common.{◌-◌}
-use Rattle.lsp_buffer.proofs.Reads.CopyLemmas.{IsCopied}
+use Rattle.lsp_buffer.proofs.Queries.CopyLemmas.{IsCopied}
 use Rattle.lsp_buffer.proofs.text_buffer.TextBuffer.copy_to.Given as goal
 
 abbrev pub invariant-loop-copied : goal.invariant-loop-copied

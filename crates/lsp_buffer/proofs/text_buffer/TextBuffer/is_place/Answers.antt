@@ -2,8 +2,8 @@ use Rattle.std.proofs.Common.{◌+◌, take, drop, length, arith, sym, ap, subst
 use Rattle.std.specs.List.{concat}
 use Rattle.lsp_text.specs.Starts.{AreStarts}
 use Rattle.lsp_buffer.proofs.Blocks.BufferLemmas.{starts_count, starts_are_starts}
-use Rattle.lsp_buffer.proofs.Reads.FoundLemmas.{found_place, bytes_utf8}
-use Rattle.lsp_buffer.proofs.Reads.ReadLemmas.{place_tested, place_is_boundary}
+use Rattle.lsp_buffer.proofs.Queries.FoundLemmas.{found_place, bytes_utf8}
+use Rattle.lsp_buffer.proofs.Queries.ReadLemmas.{place_tested, place_is_boundary}
 use Rattle.lsp_buffer.proofs.text_buffer.TextBuffer.is_place.Goals as goal
 
 pub block_of-index-requires : goal.block_of-index-requires

@@ -1,6 +1,6 @@
 use Rattle.std.proofs.Common.{◌≡◌, ◌+◌, ◌-◌, ◌∙◌, length, arith, ap}
 use Rattle.lsp_buffer.proofs.Blocks.BufferLemmas.{some, starts_count}
-use Rattle.lsp_buffer.proofs.Reads.FoundLemmas.{last_length, bytes_utf8, bytes_size}
+use Rattle.lsp_buffer.proofs.Queries.FoundLemmas.{last_length, bytes_utf8, bytes_size}
 use Rattle.lsp_buffer.proofs.text_buffer.TextBuffer.len.Goals as goal
 
 pub index-requires : goal.index-requires

@@ -1,7 +1,7 @@
 use Rattle.std.proofs.Common.{◌≤◌, arith}
 use Rattle.std.specs.Str.{chars}
 use Rattle.lsp_text.specs.TextLines.{line_ends}
-use Rattle.lsp_buffer.proofs.Reads.ContentsLemmas.{content_is}
+use Rattle.lsp_buffer.proofs.Queries.ContentsLemmas.{content_is}
 use Rattle.lsp_buffer.proofs.text_buffer.TextBuffer.line.Goals as goal
 
 pub returns-clause-content : goal.returns-clause-content

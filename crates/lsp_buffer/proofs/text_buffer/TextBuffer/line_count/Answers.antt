@@ -1,6 +1,6 @@
 use Rattle.std.proofs.Common.{◌≡◌, ◌+◌, ◌-◌, length, arith}
 use Rattle.lsp_buffer.proofs.Blocks.BufferLemmas.{some, lines_count}
-use Rattle.lsp_buffer.proofs.Reads.FoundLemmas.{last_lines, bytes_utf8, bytes_size, ends_low}
+use Rattle.lsp_buffer.proofs.Queries.FoundLemmas.{last_lines, bytes_utf8, bytes_size, ends_low}
 use Rattle.lsp_buffer.proofs.text_buffer.TextBuffer.line_count.Goals as goal
 
 pub index-requires : goal.index-requires

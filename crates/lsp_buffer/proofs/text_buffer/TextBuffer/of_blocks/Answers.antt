@@ -1,7 +1,7 @@
 use Rattle.std.proofs.Common.{ℕ, List, length, map, sum, arith, ap}
 use Rattle.lsp_buffer.specs.Blocks.{ends_of}
 use Rattle.lsp_buffer.proofs.Blocks.BlockLemmas.{full_length}
-use Rattle.lsp_buffer.proofs.Reads.FoundLemmas.{blocks_ends}
+use Rattle.lsp_buffer.proofs.Queries.FoundLemmas.{blocks_ends}
 use Rattle.lsp_buffer.proofs.text_buffer.TextBuffer.of_blocks.Goals as goal
 
 pub push_starts-requires : goal.push_starts-requires

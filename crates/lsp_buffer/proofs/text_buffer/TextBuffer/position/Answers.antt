@@ -6,7 +6,7 @@ use Rattle.lsp_text.specs.Units.{units_in}
 use Rattle.lsp_text.proofs.Positions.ExactLemmas.{exact_resolves}
 use Rattle.lsp_buffer.specs.inside.Seams.{row_of}
 use Rattle.lsp_buffer.proofs.Blocks.BufferLemmas.{starts_count, lines_count, starts_are_starts}
-use Rattle.lsp_buffer.proofs.Reads.FoundLemmas.{found_place, line_at_index, head_read, heads_count, place_inner, exact_found, exact_low, bytes_utf8, bytes_size, units_some}
+use Rattle.lsp_buffer.proofs.Queries.FoundLemmas.{found_place, line_at_index, head_read, heads_count, place_inner, exact_found, exact_low, bytes_utf8, bytes_size, units_some}
 use Rattle.lsp_buffer.proofs.text_buffer.TextBuffer.position.Goals as goal
 
 pub block_of-index-requires : goal.block_of-index-requires

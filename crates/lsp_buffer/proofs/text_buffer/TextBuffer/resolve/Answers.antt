@@ -10,8 +10,8 @@ use Rattle.lsp_text.specs.Units.{units_in}
 use Rattle.lsp_text.proofs.Positions.ResolveLemmas.{denoted_place, denoted_boundary}
 use Rattle.lsp_buffer.specs.inside.Seams.{AreMarks, mark, row_of}
 use Rattle.lsp_buffer.proofs.Blocks.BufferLemmas.{starts_count, lines_count}
-use Rattle.lsp_buffer.proofs.Reads.FoundLemmas.{found_shown, shown_within, heads_count, resolved_found, bytes_utf8, bytes_size}
-use Rattle.lsp_buffer.proofs.Reads.MarkLemmas.{marks_are}
+use Rattle.lsp_buffer.proofs.Queries.FoundLemmas.{found_shown, shown_within, heads_count, resolved_found, bytes_utf8, bytes_size}
+use Rattle.lsp_buffer.proofs.Queries.MarkLemmas.{marks_are}
 use Rattle.lsp_buffer.proofs.text_buffer.TextBuffer.resolve.Goals as goal
 
 same_default : (xs : List ℕ) (i : ℕ) → i < length xs → get_or xs i 0 ≡ get_or xs i (get_or xs i 0)

@@ -2,7 +2,7 @@ use Rattle.std.proofs.Common.{◌≡◌, ◌+◌, ◌-◌, ◌++◌, ◌∙◌, 
 use Rattle.std.specs.List.{concat}
 use Rattle.lsp_text.specs.Starts.{AreStarts}
 use Rattle.lsp_buffer.proofs.Blocks.BufferLemmas.{starts_count, starts_are_starts}
-use Rattle.lsp_buffer.proofs.Reads.FoundLemmas.{found_place, chunk_boundary}
+use Rattle.lsp_buffer.proofs.Queries.FoundLemmas.{found_place, chunk_boundary}
 use Rattle.lsp_buffer.proofs.Changes.JoinLemmas.{IsJoin, joined_same, next_boundary, next_later}
 use Rattle.lsp_buffer.proofs.text_buffer.change.replace_joined.Goals as goal
 

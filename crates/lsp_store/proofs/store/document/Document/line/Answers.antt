@@ -2,7 +2,7 @@ use Rattle.std.proofs.Common.{ℕ, List, IfSome, subst}
 use Rattle.std.specs.declared.ops.Range.{Range}
 use Rattle.std.proofs.lemmas.Option.{IfSome_then}
 use Rattle.lsp_buffer.specs.Contents.{IsContentOf}
-use Rattle.lsp_store.proofs.Reads.LineContentLemmas.{content_is, slice_is}
+use Rattle.lsp_store.proofs.Queries.LineContentLemmas.{content_is, slice_is}
 use Rattle.lsp_store.proofs.store.document.Document.line.Goals as goal
 
 pub returns-clause-content : goal.returns-clause-content

@@ -2,8 +2,8 @@ use Rattle.std.proofs.Common.{ℕ, ◌≡◌, ◌+◌, ◌∙◌, ap, arith, cha
 use Rattle.std.proofs.lemmas.List.{length-take}
 use Rattle.std.proofs.lemmas.Str.{IsCharBoundary-start, IsUtf8-take, chars-nil}
 use Rattle.lsp_text.specs.Units.{units_in}
-use Rattle.lsp_store.proofs.Reads.UnitsBeforeLemmas.{units_few}
-use Rattle.lsp_store.proofs.Reads.UnitsPassedLemmas.{chunk_counted}
+use Rattle.lsp_store.proofs.Queries.UnitsBeforeLemmas.{units_few}
+use Rattle.lsp_store.proofs.Queries.UnitsPassedLemmas.{chunk_counted}
 use Rattle.lsp_store.proofs.store.document.units.counted_to.Goals as goal
 
 pub loop-offset-init : goal.loop-offset-init

@@ -2,7 +2,7 @@ use Rattle.std.proofs.Common.{ℕ, ◌≡◌, ◌↔◌, Option, Some, subst, sy
 use Rattle.std.specs.Str.{chars}
 use Rattle.lsp_text.specs.Units.{units_in}
 use Rattle.lsp_store.specs.UnitsBefore.{HasUnitsBefore}
-use Rattle.lsp_store.proofs.Reads.UnitsBeforeLemmas.{passed_found, some_units}
+use Rattle.lsp_store.proofs.Queries.UnitsBeforeLemmas.{passed_found, some_units}
 use Rattle.lsp_store.proofs.store.document.units.offset_after.Goals as goal
 
 pub returns : goal.returns

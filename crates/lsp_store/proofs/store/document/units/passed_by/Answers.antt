@@ -3,8 +3,8 @@ use Rattle.std.proofs.lemmas.Str.{IsUtf8-past_char}
 use Rattle.std.specs.Str.{chars}
 use Rattle.lsp_text.specs.Units.{units_in}
 use Rattle.lsp_store.specs.inside.UnitsPassed.{HasPassed}
-use Rattle.lsp_store.proofs.Reads.UnitsBeforeLemmas.{chars_none, passed_few, passed_more, passed_next}
-use Rattle.lsp_store.proofs.Reads.UnitsPassedLemmas.{passed_before, passed_whole}
+use Rattle.lsp_store.proofs.Queries.UnitsBeforeLemmas.{chars_none, passed_few, passed_more, passed_next}
+use Rattle.lsp_store.proofs.Queries.UnitsPassedLemmas.{passed_before, passed_whole}
 use Rattle.lsp_store.proofs.store.document.units.passed_by.Goals as goal
 
 pub returns-then-left-here : goal.returns-then-left-here

@@ -2,8 +2,8 @@ use Rattle.std.proofs.Common.{arith}
 use Rattle.std.proofs.lemmas.Str.{IsCharBoundary-start}
 use Rattle.std.specs.Str.{chars}
 use Rattle.lsp_text.specs.Units.{units_in}
-use Rattle.lsp_store.proofs.Reads.UnitsBeforeLemmas.{passed_none}
-use Rattle.lsp_store.proofs.Reads.UnitsPassedLemmas.{chunk_few, chunk_next, chunk_passed, chunk_stops, chunk_whole, passed_end}
+use Rattle.lsp_store.proofs.Queries.UnitsBeforeLemmas.{passed_none}
+use Rattle.lsp_store.proofs.Queries.UnitsPassedLemmas.{chunk_few, chunk_next, chunk_passed, chunk_stops, chunk_whole, passed_end}
 use Rattle.lsp_store.proofs.store.document.units.passed_in.Goals as goal
 
 pub loop-offset-init : goal.loop-offset-init

@@ -3,7 +3,7 @@ use Rattle.std.proofs.lemmas.Bool.{false≢true}
 use Rattle.std.specs.Str.{chars}
 use Rattle.lsp_text.specs.Units.{units_in}
 use Rattle.lsp_store.specs.UnitsBefore.{HasUnitsBefore}
-use Rattle.lsp_store.proofs.Reads.UnitsBeforeLemmas.{before_has, none_before, none_is, only_count}
+use Rattle.lsp_store.proofs.Queries.UnitsBeforeLemmas.{before_has, none_before, none_is, only_count}
 use Rattle.lsp_store.proofs.store.document.units.units_before.Goals as goal
 
 pub returns-then-not-is_char_boundary : goal.returns-then-not-is_char_boundary

@@ -20,8 +20,8 @@ use Rattle.lsp_text.proofs.Positions.PlaceLemmas.{place_one}
 use Rattle.lsp_text.proofs.PlainLemmas.{units_total}
 use Rattle.lsp_buffer.specs.Blocks.{IsBuffer, IsTextBuffer, AreBlocks, carried, ends_of, head_of, head_after}
 use Rattle.lsp_buffer.specs.inside.Seams.{IsAtOrAfter, IsBefore, heads_end, mark, marks_of, position_after, position_from}
-use Rattle.lsp_buffer.proofs.Reads.HeadLemmas.{blocks_texts, length-heads, heads_at, heads_high, head_full, end_append}
-use Rattle.lsp_buffer.proofs.Reads.MarkLemmas.{marks_at, length-marks, at_or_after, before_from, before_after}
+use Rattle.lsp_buffer.proofs.Queries.HeadLemmas.{blocks_texts, length-heads, heads_at, heads_high, head_full, end_append}
+use Rattle.lsp_buffer.proofs.Queries.MarkLemmas.{marks_at, length-marks, at_or_after, before_from, before_after}
 use Rattle.std.proofs.lemmas.List.Sums.{sum_by-cons}
 use Rattle.lsp_buffer.proofs.Blocks.PartLemmas.{AreThree, resolved_three, inner_index, exact_three, boundary_in, drop_three, ends_three}
 use Rattle.lsp_buffer.proofs.Blocks.BufferLemmas.{starts_count, lines_count, parts, three, start_is, line_is, next_line, none_after, place_inside, last_none, utf8_all, whole_length}

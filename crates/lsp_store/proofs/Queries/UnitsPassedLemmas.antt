@@ -7,7 +7,7 @@ use Rattle.std.proofs.lemmas.List.Sums.{sum_by-append}
 use Rattle.std.proofs.lemmas.Str.{IsUtf8-between, IsUtf8-take, chars-append, chars-nil, encodes-append, encodes-chars, length-encode}
 use Rattle.lsp_text.specs.laws.Units.{utf8_bounds}
 use Rattle.lsp_store.specs.inside.UnitsPassed.{HasPassed, IsPassed, IsTooFew}
-use Rattle.lsp_store.proofs.Reads.UnitsBeforeLemmas.{passed_few}
+use Rattle.lsp_store.proofs.Queries.UnitsBeforeLemmas.{passed_few}
 
 -- The units before the end of a chunk are those before it and its own.
 pub chunk_counted : (units : ℕ → ℕ) (text chunk : List ℕ) (offset : ℕ) → IsUtf8 text → IsCharBoundary text offset

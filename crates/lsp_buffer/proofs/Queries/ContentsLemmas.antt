@@ -18,7 +18,7 @@ use Rattle.lsp_text.proofs.Positions.PlaceLemmas.{place_boundary, place_rises}
 use Rattle.lsp_text.proofs.PlainLemmas.{units_total}
 use Rattle.lsp_text.proofs.Positions.PositionLemmas.{exact_denotes}
 use Rattle.lsp_buffer.specs.Contents.{IsContentOf}
-use Rattle.lsp_buffer.proofs.Reads.FoundLemmas.{units_some}
+use Rattle.lsp_buffer.proofs.Queries.FoundLemmas.{units_some}
 
 no_units : (units : ℕ → ℕ) (text : List ℕ) (k : ℕ) → units_between units text k k ≡ 0
 no_units units text k = ap (λ n. sum_by units (take n (drop k text))) (let e : k - k ≡ 0 = omega arith in e)

@@ -10,7 +10,7 @@ use Rattle.std.proofs.lemmas.Slice.Eq.{bytes_eq-Decides}
 use Rattle.lsp_text.specs.LineStarts.{IsPlace}
 use Rattle.lsp_text.proofs.Positions.BoundaryLemmas.{boundary_from}
 use Rattle.lsp_buffer.proofs.Blocks.CutLemmas.{concat_more}
-use Rattle.lsp_buffer.proofs.Reads.FoundLemmas.{IsPlaceFound, place_inner}
+use Rattle.lsp_buffer.proofs.Queries.FoundLemmas.{IsPlaceFound, place_inner}
 use Rattle.lsp_buffer.proofs.Blocks.PartLemmas.{boundary_in, byte_in, place_outer, place_last}
 
 module _ (bytes front block rest : List ℕ) (place from : ℕ)

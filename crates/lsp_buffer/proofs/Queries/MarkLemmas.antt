@@ -11,7 +11,7 @@ use Rattle.lsp_buffer.specs.Blocks.{AreBlocks, IsTextBuffer, carried, ends_of, h
 use Rattle.lsp_buffer.specs.inside.Seams.{AreMarks, IsAtOrAfter, IsBefore, mark, marks_of, position_after}
 use Rattle.lsp_buffer.proofs.Blocks.SumLemmas.{length-sums}
 use Rattle.lsp_buffer.proofs.Blocks.BlockLemmas.{blocks_some}
-use Rattle.lsp_buffer.proofs.Reads.HeadLemmas.{AreTexts, blocks_texts, after_low, length-heads}
+use Rattle.lsp_buffer.proofs.Queries.HeadLemmas.{AreTexts, blocks_texts, after_low, length-heads}
 use Rattle.lsp_buffer.proofs.Blocks.PartLemmas.{carried_low}
 
 pub length-marks : (lines heads : List ℕ) → length lines ≡ length heads → length (marks_of lines heads) ≡ length lines
