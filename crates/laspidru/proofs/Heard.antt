@@ -57,7 +57,7 @@ waits old new piece body code taken before after fed is whole rest same =
     inl (
       rest,
       record {
-        took = inr (refl, body, record { fed = fed_well old.stream new.stream piece code taken is fed; is = whole });
+        took = inr (refl, (body, record { fed = fed_well old.stream new.stream piece code taken is fed; is = whole }));
         answer = same;
       },
     )
@@ -146,7 +146,7 @@ unheard old new piece body code taken before after fed is whole rest same =
     inl (
       rest,
       record {
-        took = inr (refl, body, record { fed = fed_well old.stream new.stream piece code taken is fed; is = whole });
+        took = inr (refl, (body, record { fed = fed_well old.stream new.stream piece code taken is fed; is = whole }));
         answer = same;
       },
     )
