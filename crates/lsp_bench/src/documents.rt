@@ -65,7 +65,7 @@ fn time_calls<R: Runtime>(
     Ok(())
 }
 
-/// A store with the document.
+/// Returns a store with the document.
 fn opened_store(alloc: Global, size: usize) -> Option<Store> {
     let document = opened(alloc, size).ok()?;
     let mut store = Store::new(alloc, Limits::default());
@@ -89,7 +89,7 @@ fn open_in_store(store: &mut Store, document: OpenParams) -> bool {
 const ANSWER: &[u8] =
     br#"{"id":1,"jsonrpc":"2.0","result":{"capabilities":{"textDocumentSync":2}}}"#;
 
-/// A client in whose session the document is open.
+/// Returns a client in whose session the document is open.
 fn opened_client(alloc: Global, size: usize) -> Option<Client> {
     let document = opened(alloc, size).ok()?;
     let mut client = Client::new(alloc, Limits::default(), Offers::new(false, false));
@@ -172,7 +172,7 @@ fn message_len(store: &Store, version: i32, change: &[Change]) -> Option<usize> 
     }
 }
 
-/// How many documents are open after the change.
+/// Returns how many documents are open after the change.
 fn changed(store: &mut Store, version: i32, change: &[Change]) -> Option<usize> {
     match store.change(URI, version, Encoding::Utf16, change) {
         Ok(()) => Some(store.len()),
@@ -180,7 +180,7 @@ fn changed(store: &mut Store, version: i32, change: &[Change]) -> Option<usize> 
     }
 }
 
-/// How many bytes the client sends.
+/// Returns how many bytes the client sends.
 fn edited(client: &mut Client, version: i32, change: &[Change]) -> Option<usize> {
     match client.edit(URI, version, change) {
         Ok(frame) => Some(frame.len()),

@@ -51,7 +51,7 @@ fn time_frames<R: Runtime + AllocGlobal>(rt: &R, size: usize, bytes: &[u8]) -> i
     Ok(())
 }
 
-/// A stream of frames whose bodies have this length, of about so many megabytes.
+/// Returns a stream of frames whose bodies have this length, of about so many megabytes.
 fn made_stream(alloc: Global, body: usize, megabytes: u16) -> Result<Vec<u8>, AllocError> {
     let text = vec![in alloc; b'x'; body]?;
     let one = frame(alloc, &text)?;
@@ -87,7 +87,7 @@ struct Copying<'a> {
 }
 
 impl Work for Copying<'_> {
-    /// How many bytes were copied.
+    /// Returns how many bytes were copied.
     fn once(&mut self) -> Option<usize> {
         copied(self.alloc, self.bytes).ok()
     }
@@ -113,7 +113,7 @@ struct Framing<'a> {
 }
 
 impl Work for Framing<'_> {
-    /// How many bytes the bodies had.
+    /// Returns how many bytes the bodies had.
     fn once(&mut self) -> Option<usize> {
         let mut reader = Reader::new(self.alloc, false)?;
         for piece in self.bytes.chunks(self.piece.max(1)) {

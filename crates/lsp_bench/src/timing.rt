@@ -38,7 +38,7 @@ pub fn time<R: Runtime, W: Work>(rt: &R, row: Row<'_>, work: &mut W) -> io::Resu
     report(rt, row, sum, least.as_nanos())
 }
 
-/// What work resulted in, or an error if a call of it failed.
+/// Returns what work resulted in, or an error if a call of it failed.
 pub fn done<T>(value: Option<T>) -> io::Result<T> {
     match value {
         Some(value) => Ok(value),

@@ -53,12 +53,12 @@ fn fails(
     Ok(ran(alloc, words, input)?.is(5, output, line))
 }
 
-/// A run of the program over streams that never fail.
+/// Runs the program over streams that never fail.
 fn ran(alloc: Global, words: &[&str], input: &[u8]) -> Result<Answer, AllocError> {
     stopped(alloc, words, input, &[], &[])
 }
 
-/// A run of the program over streams whose first calls end as these scripts say.
+/// Runs the program over streams whose first calls end as these scripts say.
 fn stopped(
     alloc: Global,
     words: &[&str],

@@ -192,7 +192,7 @@ impl Squashing {
         }
     }
 
-    /// The outcome at the end of the input.
+    /// Returns the outcome at the end of the input.
     pub(super) fn outcome(&self) -> Outcome
         ensures { result ≡ outcome_of self.now.session }
     {

@@ -68,12 +68,12 @@ pub struct Limit {
     pub help: &'static str,
 }
 
-/// The text above the list of commands.
+/// Returns the text above the list of commands.
 pub fn about() -> &'static str {
     PROGRAM
 }
 
-/// The text below the list of commands.
+/// Returns the text below the list of commands.
 pub fn notes() -> &'static str {
     NOTES
 }
@@ -138,7 +138,7 @@ pub fn convert() -> Page
     log_page("convert", CONVERT, CONVERT_EXAMPLE)
 }
 
-/// The page of a command that reads a log.
+/// Returns the page of a command that reads a log.
 fn log_page(name: &'static str, about: &'static str, example: &'static str) -> Page
     ensures { IsPage result name.now (λ _. []) }
 {
@@ -162,7 +162,7 @@ pub struct LimitOptions {
     pub lenient: &'static str,
 }
 
-/// The options that all commands have. Their defaults are those of `Limits::default()`.
+/// Returns the options that all commands have. Their defaults are those of `Limits::default()`.
 pub fn limits() -> &'static LimitOptions
     ensures { rules_of_limits result.now ≡ limit_rules }
 {
@@ -211,7 +211,7 @@ start this, and it is recorded:
   tee session.log | some-server
 
 Exit status: 0 all is well, 1 a record counts as refused (`lspsync check --help`), 2 the command line
-is wrong, 3 log_rules or writing failed, 4 out of memory, 5 the log is faulty. From 3 on a line on standard
+is wrong, 3 reading or writing failed, 4 out of memory, 5 the log is faulty. From 3 on a line on standard
 error says what, and for 5 where: `lspsync: truncated at 505` is byte 505 of the input.
 
 `lspsync COMMAND --help` has the options of a command and an example to paste.

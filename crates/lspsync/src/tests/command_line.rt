@@ -88,7 +88,7 @@ static ENDS: [(&str, &str, &str); 5] = [
     ("--encoding", "utf-8", "--encoding=utf-32"),
 ];
 
-/// The status of a call with these words and no input.
+/// Returns the status of a call with these words and no input.
 fn status_of(alloc: Global, words: &[&str]) -> Result<u8, AllocError> {
     Ok(ran(alloc, words, b"")?.status)
 }
@@ -186,7 +186,7 @@ fn has_all(text: &str, words: &[&str]) -> bool {
     true
 }
 
-/// The text that a call for help prints.
+/// Returns the text that a call for help prints.
 fn help(alloc: Global, words: &[&str]) -> Result<Vec<u8>, Fail> {
     let answer = ran(alloc, words, b"")?;
     if answer.status != 0 || !answer.errors.is_empty() {

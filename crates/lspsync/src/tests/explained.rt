@@ -9,8 +9,8 @@ use std::test::Fail;
 const EMPTY: &str =
     r#"{"jsonrpc":"2.0","method":"textDocument/didChange","params":{"contentChanges":[],"textDocument":{"uri":"file:///a","version":2}}}"#;
 
-/// The line at the end, where nothing was refused, where something was noted, and where something was
-/// refused.
+/// The line at the end, where nothing was refused, where something was noted, and where something
+/// was refused.
 const COMPARE: &str =
     "Nothing was refused. Compare `lspsync replay --uri URI` with the editor's text.\n";
 

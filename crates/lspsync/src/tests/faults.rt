@@ -125,7 +125,7 @@ fn a_faulty_input_is_reported_with_its_place(rt: HostRuntime) -> Result<(), Fail
     Ok(())
 }
 
-/// How many of so many first bytes of a log are complete records.
+/// Returns how many of so many first bytes of a log are complete records.
 fn whole_len(len: usize) -> usize {
     if len < 172 {
         0
@@ -159,7 +159,7 @@ fn a_cut_log_is_reported_with_its_length(rt: HostRuntime) -> Result<(), Fail> {
     Ok(())
 }
 
-/// A log in which the text `abc` is replaced by so many letters.
+/// Returns a log in which the text `abc` is replaced by so many letters.
 fn long_log(alloc: Global, letters: usize) -> Result<Vec<u8>, Fail> {
     let text = "x".repeat(alloc, letters)?;
     let change = format!(in alloc;
@@ -168,7 +168,7 @@ fn long_log(alloc: Global, letters: usize) -> Result<Vec<u8>, Fail> {
     Ok(log(alloc, &[INITIALIZE, OPEN, change.as_str()])?)
 }
 
-/// The run that normalises such a log.
+/// Returns the run that normalises such a log.
 fn long_answer(alloc: Global, letters: usize) -> Result<Answer, Fail> {
     let words = ["lspsync", "normalise", "--max-body", "4096"];
     let input = long_log(alloc, letters)?;

@@ -60,8 +60,8 @@ fn a_whole_session_ends_at_exit(rt: HostRuntime) -> Result<(), Fail> {
     Ok(())
 }
 
-/// A third message after `initialize` and the opening of `abc`, and the text and the version that it
-/// leaves where the limits are lenient.
+/// A third message after `initialize` and the opening of `abc`, and the text and the version that
+/// it leaves where the limits are lenient.
 static LENIENT: [(&str, &str, i32); 4] = [
     (OPEN, "abc", 1),
     (
@@ -223,7 +223,7 @@ static ENCODINGS: [(&str, u32, u8); 5] = [
     ("--encoding=utf-32", 1, 0),
 ];
 
-/// A log in which a letter is put in at a character.
+/// Returns a log in which a letter is put in at a character.
 fn log_with_change_at(alloc: Global, character: u32) -> Result<Vec<u8>, AllocError> {
     let change = format!(in alloc;
         r#"{{"jsonrpc":"2.0","method":"textDocument/didChange","params":{{"contentChanges":[{{"range":{{"end":{{"character":{character},"line":0}},"start":{{"character":{character},"line":0}}}},"text":"b"}}],"textDocument":{{"uri":"file:///a","version":2}}}}}}"#

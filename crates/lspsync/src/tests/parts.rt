@@ -80,7 +80,7 @@ fn a_part_of_a_log_is_replayed(rt: HostRuntime) -> Result<(), Fail> {
     Ok(())
 }
 
-/// A log whose second `didOpen` is refused, and which is cut short after it.
+/// Returns a log whose second `didOpen` is refused, and which is cut short after it.
 fn cut_log(alloc: Global) -> Result<Vec<u8>, AllocError> {
     let mut input = log(alloc, &[INITIALIZE, OPEN, OPEN])?;
     input.extend_from_slice(b"Content-Length: 2\r\n\r\n[")?;

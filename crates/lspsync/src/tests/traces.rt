@@ -154,7 +154,8 @@ fn bodies_are_written_on_one_line(rt: HostRuntime) -> Result<(), Fail> {
 const STALE: &str =
     r#"{"jsonrpc":"2.0","method":"textDocument/didChange","params":{"contentChanges":[],"textDocument":{"uri":"file:///a","version":1}}}"#;
 
-/// The end of the line of each record of a log, which says what the last record on its document was.
+/// The end of the line of each record of a log, which says what the last record on its document
+/// was.
 static LASTS: [(&str, &str); 8] = [
     (INITIALIZE, "\"word\":\"reply\"}"),
     (STALE, "\"reason\":\"the document is not open\"}"),
