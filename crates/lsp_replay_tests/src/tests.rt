@@ -347,7 +347,7 @@ impl End {
 #[derive(Clone, Copy)]
 struct Row(Command, Bytes, End, Bytes, usize);
 
-/// Has the engine this result and output, however its calls end?
+/// Returns whether the engine has this result and output, however its calls end.
 fn has_result(alloc: Global, row: &Row, calls: Calls) -> Result<bool, Fail> {
     let Row(command, input, end, output, flushes) = row;
     let input = input.get(alloc)?;
@@ -356,7 +356,7 @@ fn has_result(alloc: Global, row: &Row, calls: Calls) -> Result<bool, Fail> {
     Ok(run.answer == end.answer() && run.output == output && run.flushes == *flushes)
 }
 
-/// Do all rows hold?
+/// Returns whether all rows hold.
 fn all_give(alloc: Global, rows: &[Row]) -> Result<bool, Fail> {
     for row in rows {
         if !has_result(alloc, row, SMOOTH)? {
@@ -366,7 +366,7 @@ fn all_give(alloc: Global, rows: &[Row]) -> Result<bool, Fail> {
     Ok(true)
 }
 
-/// Have the bytes these lengths?
+/// Returns whether the bytes have these lengths.
 fn have_lengths(alloc: Global, rows: &[(Bytes, usize)]) -> Result<bool, Fail> {
     for (bytes, len) in rows {
         if bytes.get(alloc)?.len() != *len {

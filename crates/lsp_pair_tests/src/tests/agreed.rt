@@ -90,7 +90,7 @@ fn edits_in(encoding: Encoding) -> &'static [Row] {
     }
 }
 
-/// Is the document opened in this encoding, and edited?
+/// Returns whether the document is opened in this encoding, and edited.
 fn agrees(pair: &mut Pair, alloc: Global, wanted: Encoding) -> Result<bool, AllocError> {
     if wrong_row(pair, alloc, OPENED)?.is_some() {
         return Ok(false);

@@ -64,8 +64,8 @@ fn changed_log(alloc: Global, body: &str) -> Result<Vec<u8>, AllocError> {
     Ok(input)
 }
 
-/// Is this the output of `normalise` for the input: the first 340 bytes, and a frame of the
-/// canonical body?
+/// Returns whether this is the output of `normalise` for the input: the first 340 bytes, and a
+/// frame of the canonical body.
 fn is_canonical(run: &Report, input: &[u8], length: Option<usize>) -> bool {
     match length {
         Some(length) => {
@@ -77,7 +77,7 @@ fn is_canonical(run: &Report, input: &[u8], length: Option<usize>) -> bool {
     }
 }
 
-/// Does `normalise` write the same again, with the same result?
+/// Returns whether `normalise` writes the same again, with the same result.
 fn is_written_again(alloc: Global, run: &Report) -> Result<bool, Fail> {
     let again = run_with(alloc, Command::Normalise, &run.output, settings()?, SMOOTH)?;
     Ok(again.output == run.output && again.answer == run.answer)

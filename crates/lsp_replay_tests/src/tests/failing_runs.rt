@@ -126,7 +126,8 @@ impl<'a> Runs<'a> {
         self.output.len().saturating_add(self.case.flushes.len())
     }
 
-    /// Is the run as wanted if the reader returns single bytes, and is interrupted before each?
+    /// Returns whether the run is as wanted if the reader returns single bytes, and is interrupted
+    /// before each.
     pub fn reads_slowly(&self) -> Result<bool, Fail> {
         let reads = self.reads() as u64;
         let single = Wanted {
@@ -148,7 +149,7 @@ impl<'a> Runs<'a> {
         self.meets(calls, double)
     }
 
-    /// Is the run as wanted if the read of this number fails?
+    /// Returns whether the run is as wanted if the read of this number fails.
     fn fails_at_read(&self, script: &[Call], number: usize) -> Result<bool, Fail> {
         let calls = Calls {
             reads: script,
@@ -173,7 +174,8 @@ impl<'a> Runs<'a> {
         Ok(true)
     }
 
-    /// Is the run as wanted if the writer takes single bytes, and is interrupted before each?
+    /// Returns whether the run is as wanted if the writer takes single bytes, and is interrupted
+    /// before each.
     pub fn writes_slowly(&self) -> Result<bool, Fail> {
         let twice = interrupted(self.alloc, self.writes())?;
         let calls = Calls {
@@ -198,7 +200,8 @@ impl<'a> Runs<'a> {
         flushed
     }
 
-    /// Is the run as wanted if the writer's call of this number fails, or takes nothing?
+    /// Returns whether the run is as wanted if the writer's call of this number fails, or takes
+    /// nothing.
     fn fails_at_write(&self, script: &[Call], number: usize) -> Result<bool, Fail> {
         let calls = Calls {
             writes: script,
@@ -227,7 +230,7 @@ impl<'a> Runs<'a> {
         Ok(true)
     }
 
-    /// Does a run with so many allowed calls make these?
+    /// Returns whether a run with so many allowed calls makes these.
     fn stops_after(&self, turns: usize, made: [usize; 3], answer: Answer) -> Result<bool, Fail> {
         let [reads, writes, flushes] = made;
         let calls = Calls {

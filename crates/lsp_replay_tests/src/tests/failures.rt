@@ -234,7 +234,7 @@ fn output_is_written_and_flushed_before_the_next_read(rt: HostRuntime) -> Result
     Ok(())
 }
 
-/// Is this the result of the session, and are so many bytes of its replies written?
+/// Returns whether this is the result of the session, and so many bytes of its replies are written.
 fn serves(alloc: Global, calls: Calls, answer: Answer, written: usize) -> Result<bool, Fail> {
     for case in &SERVED {
         if !Runs::new(alloc, case)?.meets(calls, expected(answer, written))? {

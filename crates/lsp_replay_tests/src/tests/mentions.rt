@@ -20,7 +20,7 @@ fn many(alloc: Global, again: u32) -> Result<Vec<u8>, AllocError> {
     Ok(bytes)
 }
 
-/// Does the last line of such a log end so?
+/// Returns whether the last line of such a log ends so.
 fn ends_so(alloc: Global, again: u32, end: &str) -> Result<bool, Fail> {
     let run = run_with(
         alloc,

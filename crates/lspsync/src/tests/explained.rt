@@ -55,7 +55,7 @@ static ROWS: [Row; 5] = [
     ),
 ];
 
-/// Is this written of the row's log?
+/// Returns whether this is written of the row's log.
 fn is_written(alloc: Global, row: &Row) -> Result<bool, AllocError> {
     let Row(bodies, status, lines, last) = row;
     let input = log(alloc, bodies)?;

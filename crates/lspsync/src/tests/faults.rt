@@ -37,13 +37,13 @@ static REPORTS: [(EngineFault, u8, &str); 8] = [
     ),
 ];
 
-/// Is a fault reported with this status, in this line?
+/// Returns whether a fault is reported with this status, in this line.
 fn is_reported(alloc: Global, fault: EngineFault, status: u8, line: &str) -> bool {
     let mut errors = Vec::new(alloc);
     report(fault, &mut errors).status == status && errors.as_slice() == line.as_bytes()
 }
 
-/// Are words that can't be read refused with this status, in this line?
+/// Returns whether words that can't be read are refused with this status, in this line.
 fn is_refused(alloc: Global, kind: ErrorKind, status: u8, line: &str) -> bool {
     let mut errors = Vec::new(alloc);
     refuse(kind, &mut errors).status == status && errors.as_slice() == line.as_bytes()
@@ -136,8 +136,8 @@ fn whole_len(len: usize) -> usize {
     }
 }
 
-/// Is a log that is cut after so many bytes written as far as its records are complete, and the cut
-/// reported?
+/// Returns whether a log that is cut after so many bytes is written as far as its records are
+/// complete, and the cut reported.
 fn is_cut(alloc: Global, input: &[u8], len: usize) -> Result<bool, AllocError> {
     let (Some(cut), Some(whole)) = (input.get(..len), input.get(..whole_len(len))) else {
         return Ok(false);

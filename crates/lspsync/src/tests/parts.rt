@@ -56,7 +56,8 @@ static ROWS: [(&[&str], u8, &str, &str); 11] = [
     ),
 ];
 
-/// Has a run with these words this status, this output and this line on standard error?
+/// Returns whether a run with these words has this status, this output and this line on standard
+/// error.
 fn ends_with(
     alloc: Global,
     words: &[&str],

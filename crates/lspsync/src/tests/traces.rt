@@ -56,7 +56,7 @@ static REASONS: [(&str, &str); 12] = [
     ("\"method\":\"exit\",", "`exit` came without `shutdown`\""),
 ];
 
-/// Has the third message this line?
+/// Returns whether the third message has this line.
 fn is_explained(
     alloc: Global,
     row: &(&str, &str, &str),
@@ -170,7 +170,7 @@ static LASTS: [(&str, &str); 8] = [
     (STALE, "\"reason\":\"the document is not open\",\"last\":7}"),
 ];
 
-/// Do the lines of an output end so, one after another?
+/// Returns whether the lines of an output end so, one after another.
 fn ends_so(output: &[u8]) -> bool {
     let Ok(text) = str::from_utf8(output) else {
         return false;
