@@ -76,7 +76,7 @@ impl Settings {
         }
     }
 
-    /// Returns whether the changes of a run are written as one message.
+    /// Returns whether the changes of a series are written as one message.
     fn joins_runs(&self) -> bool
         ensures { result ≡ self.now.squash }
     {
@@ -221,19 +221,19 @@ pub fn convert<R: Source, W: Sink>(
 /// Writes a log in which each accepted change is its canonical message, and everything else is as
 /// it was, byte for byte. The status is 1 if something was refused, else 0.
 ///
-/// With `squash` accepted changes of one document, with no other record between them, are a run. A
-/// run is written once it has ended: as the one canonical message of all its batches, under the
-/// last version. If that message has more than `max_changes` changes, or its body is over the
+/// With `squash` accepted changes of one document, with no other record between them, are a series.
+/// A series is written once it has ended: as the one canonical message of all its batches, under
+/// the last version. If that message has more than `max_changes` changes, or its body is over the
 /// limit, each change is written as without squash.
 ///
 /// # Errors
 /// [`EngineFault::BodyTooLong`] at an accepted change whose canonical body is over the limit,
-/// [`EngineFault::BadLog`], and those of [`serve`]. After a fault a run that hasn't ended isn't
+/// [`EngineFault::BadLog`], and those of [`serve`]. After a fault a series that hasn't ended isn't
 /// written.
 ///
 /// # Costs
-/// Those of [`serve`]. With `squash` a run of k changes costs some k log k more. It keeps the run's
-/// old text, its canonical messages, and its batches together.
+/// Those of [`serve`]. With `squash` a series of k changes costs some k log k more. It keeps the
+/// series' old text, its canonical messages, and its batches together.
 pub fn normalise<R: Source, W: Sink>(
     alloc: Global,
     reader: &mut R,

@@ -2,7 +2,7 @@
 //!
 //! - `planning`: changes, each of which is planned once.
 //! - `writing`: the canonical bodies of accepted changes.
-//! - `joining`: the open run of accepted changes.
+//! - `joining`: the open series of accepted changes.
 //! - `selecting`: the records that stay where others are left out.
 //! - `results`: the result of `initialize`.
 //! - `counting`: what counts as refused.
