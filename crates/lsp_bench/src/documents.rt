@@ -1,6 +1,5 @@
 //! Keystrokes in open documents: in a store, written as canonical messages, as edits of a client,
-//! and beside them `replace_range` on a text
-//! whose line starts are kept.
+//! and beside them `replace_range` on a text whose line starts are kept.
 
 use crate::text::{Plain, URI, keystrokes, lines_of, opened};
 use crate::timing::{Row, Work, done, time};

@@ -1,6 +1,5 @@
 //! Streams of frames, made and read again, beside a plain copy of each; and what each command of
-//! the program does at least: takes a log apart
-//! into its frames, and parses the body of each.
+//! the program does at least: takes a log apart into its frames, and parses the body of each.
 
 use crate::timing::{Row, Work, done, time};
 use lsp_frame::{Framer, Limits, frame};
