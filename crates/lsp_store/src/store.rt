@@ -157,8 +157,8 @@ impl Store {
     }
 
     /// Opens a document after all others, even one that was open before (LSP 3.17,
-    /// DidOpenTextDocument). Any version is accepted. Within lenient limits ([`Limits::lenient`]) it
-    /// replaces an open document of its URI.
+    /// DidOpenTextDocument). Any version is accepted. Within lenient limits ([`Limits::lenient`])
+    /// it replaces an open document of its URI.
     ///
     /// Refuses, in this order, with [`StoreFault::AlreadyOpen`], [`StoreFault::TooManyDocuments`]
     /// and, where the text has more than `max_text` bytes, [`StoreFault::TextTooLong`]; and with

@@ -81,7 +81,7 @@ static PREFERRED: &[(Encoding, bool, Encoding)] = &[
     (Encoding::Utf32, false, Encoding::Utf16),
 ];
 
-/// The rows of a session in this encoding, once the document is open.
+/// Returns the rows of a session in this encoding, once the document is open.
 fn edits_in(encoding: Encoding) -> &'static [Row] {
     match encoding {
         Encoding::Utf8 => IN_UTF8,

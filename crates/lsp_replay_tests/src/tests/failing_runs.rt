@@ -19,7 +19,7 @@ pub struct Case {
 }
 
 impl Case {
-    /// How many bytes are written once so many were read.
+    /// Returns how many bytes are written once so many were read.
     fn written_at(&self, read: usize) -> usize {
         let mut written = 0;
         for (bytes, output) in self.records {
@@ -30,7 +30,7 @@ impl Case {
         written
     }
 
-    /// How many bytes are written after so many writes.
+    /// Returns how many bytes are written after so many writes.
     fn written_by(&self, writes: usize, all: usize) -> usize {
         match writes.checked_sub(1) {
             None => 0,
@@ -109,19 +109,19 @@ impl<'a> Runs<'a> {
         Ok(wanted.is_met(&run, &self.output))
     }
 
-    /// The run to its end.
+    /// Returns what is wanted of the run to its end.
     fn whole(&self) -> Wanted {
         expected(self.case.end.answer(), self.output.len())
     }
 
-    /// How many reads of one byte it makes: one for each byte, and one that comes to the end.
-    /// `serve` has no such read, since it ends at the exit.
+    /// Returns how many reads of one byte it makes: one for each byte, and one that comes to the
+    /// end. `serve` has no such read, since it ends at the exit.
     fn reads(&self) -> usize {
         let more = usize::from(self.case.command != Command::Serve);
         self.input.len().saturating_add(more)
     }
 
-    /// How many calls of the writer it makes that write one byte or flush.
+    /// Returns how many calls of the writer it makes that write one byte or flush.
     fn writes(&self) -> usize {
         self.output.len().saturating_add(self.case.flushes.len())
     }
@@ -189,7 +189,7 @@ impl<'a> Runs<'a> {
         self.meets(calls, double)
     }
 
-    /// How many of the writer's first calls flush.
+    /// Returns how many of the writer's first calls flush.
     fn flushed_before(&self, number: usize) -> usize {
         let mut flushed = 0usize;
         for flush in self.case.flushes {
@@ -262,7 +262,7 @@ impl<'a> Runs<'a> {
     }
 }
 
-/// The counts of reads, writes and flushes with one call more.
+/// Returns the counts of reads, writes and flushes with one call more.
 fn one_more(made: [usize; 3], call: u8) -> [usize; 3] {
     let [reads, writes, flushes] = made;
     match call {
@@ -272,7 +272,7 @@ fn one_more(made: [usize; 3], call: u8) -> [usize; 3] {
     }
 }
 
-/// A script in which each call is interrupted, and then moves one byte.
+/// Returns a script in which each call is interrupted, and then moves one byte.
 fn interrupted(alloc: Global, calls: usize) -> Result<Vec<Call>, AllocError> {
     let mut script = Vec::new(alloc);
     for _ in 0..calls {
@@ -289,7 +289,7 @@ fn set(script: &mut [Call], number: usize, ending: Call) {
     }
 }
 
-/// A script in which each call moves one byte.
+/// Returns a script in which each call moves one byte.
 fn script(alloc: Global, calls: usize) -> Result<Vec<Call>, AllocError> {
     let mut script = Vec::new(alloc);
     for _ in 0..calls {

@@ -261,8 +261,8 @@ fn a_reader_and_a_writer_that_stop(rt: HostRuntime) -> Result<(), Fail> {
     Ok(())
 }
 
-/// A request that is none, again and again: each is answered, and the answer flushed, before the
-/// next is read.
+/// Returns whether each of a series of requests that are none is answered, and the answer flushed,
+/// before the next is read.
 fn is_answered_at_once(alloc: Global) -> Result<bool, Fail> {
     let bodies = ["[]"; 20];
     let endless = log(alloc, &bodies)?;

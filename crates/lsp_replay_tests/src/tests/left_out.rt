@@ -210,7 +210,7 @@ fn is_replayed(alloc: Global, row: &Row) -> Result<bool, Fail> {
     Ok(before.output == after.output && status_of(&before) == status_of(&after))
 }
 
-/// The status, if the run ended without a fault.
+/// Returns the status, if the run ended without a fault.
 fn status_of(report: &Report) -> Option<u8> {
     match report.answer {
         Ok(outcome) => Some(outcome.status),

@@ -81,7 +81,7 @@ fn joined(alloc: Global, notes: &[&str], between: &str) -> Result<String, AllocE
     Ok(words)
 }
 
-/// The end of what `check` with reasons writes of a third message with these notes.
+/// Returns the end of what `check` with reasons writes of a third message with these notes.
 fn explained(alloc: Global, notes: &[&str]) -> Result<String, AllocError> {
     if notes.is_empty() {
         return format!(in alloc; "\n3 changed\n{COMPARE}");
@@ -90,7 +90,7 @@ fn explained(alloc: Global, notes: &[&str]) -> Result<String, AllocError> {
     format!(in alloc; "\n3 changed of \"file:///a\": {words}\n{SEE}")
 }
 
-/// What `trace` writes of them between the word and the version.
+/// Returns what `trace` writes of them between the word and the version.
 fn traced(alloc: Global, notes: &[&str]) -> Result<String, AllocError> {
     if notes.is_empty() {
         return format!(in alloc; "\"word\":\"changed\",\"version\":2,\"canonical\"");

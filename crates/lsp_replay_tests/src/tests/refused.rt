@@ -54,7 +54,7 @@ impl Wanted {
             && self.begins_with(&run.output)
     }
 
-    /// The input, and how often the heap refused memory until it was built.
+    /// Returns the input, and how often the heap refused memory until it was built.
     fn input(&self, alloc: Global) -> Result<(Vec<u8>, u32), AllocError> {
         match self.input.get(alloc) {
             Ok(input) => Ok((input, 0)),

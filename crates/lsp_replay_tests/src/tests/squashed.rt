@@ -278,8 +278,8 @@ fn narrow() -> Result<Settings, Fail> {
     })
 }
 
-/// A change that inserts so many letters at the front. It is canonical, and its body has 214 bytes
-/// more than the letters.
+/// Returns a change that inserts so many letters at the front. It is canonical, and its body has
+/// 214 bytes more than the letters.
 fn put_letters(alloc: Global, count: usize, version: i32) -> Result<String, AllocError> {
     let mut put = String::from_str(
         alloc,

@@ -287,7 +287,7 @@ fn is_checked(answer: Answer, bad: Option<u64>) -> bool {
     }
 }
 
-/// The input up to the record that can't be in a log.
+/// Returns the input up to the record that can't be in a log.
 fn good_part(input: &[u8], bad: Option<u64>) -> &[u8] {
     match bad {
         None => input,

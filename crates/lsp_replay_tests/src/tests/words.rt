@@ -75,7 +75,7 @@ static WORDS: [(&str, &str); 27] = [
     (EXIT, "exit 0"),
 ];
 
-/// The frames of the bodies.
+/// Returns the frames of the bodies.
 fn frames(alloc: Global, rows: &[(&str, &str)]) -> Result<Vec<u8>, AllocError> {
     let mut bytes = Vec::new(alloc);
     for (body, _) in rows {
