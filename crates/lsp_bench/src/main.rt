@@ -9,6 +9,9 @@
 //! - `lsp_bench closing` opens and closes 65,536 documents.
 //! - `lsp_bench pairs` makes a million keystrokes in five rounds through both ends of a session.
 //! - `lsp_bench parse` frames and parses what standard input has, and prints how much that was.
+//!
+//! `timing` times work and prints its row, `text` makes texts and keystrokes. Each other module has
+//! the work of one layer.
 #![tactic(auto)]
 
 mod closing;
