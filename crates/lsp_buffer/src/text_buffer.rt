@@ -284,8 +284,8 @@ impl TextBuffer {
         Ok(text)
     }
 
-    /// Appends the bytes from `start` to `end` to a string. Fails only if it is out of memory. Costs
-    /// a binary search for each block of the range, and its bytes.
+    /// Appends the bytes from `start` to `end` to a string. Fails only if it is out of memory.
+    /// Costs a binary search for each block of the range, and its bytes.
     pub fn push_range(&self, out: &mut String, start: usize, end: usize) -> Result<(), AllocError>
         requires order { start ≤ end }
         requires at_start { IsCharBoundary self.now start }
@@ -319,8 +319,8 @@ impl TextBuffer {
         are_text(&self.blocks, text.as_bytes())
     }
 
-    /// Returns the bytes from an offset on, up to the end of their block. There are none only at the
-    /// end of the text. Costs a binary search over the blocks.
+    /// Returns the bytes from an offset on, up to the end of their block. There are none only at
+    /// the end of the text. Costs a binary search over the blocks.
     fn bytes_from(&self, offset: usize) -> &[u8]
         requires { offset ≤ length self.now }
         ensures part { result.now ≡ take (length result.now) (drop offset self.now) }

@@ -67,8 +67,8 @@ impl From<AllocError> for TextFault {
     }
 }
 
-/// A text in blocks with their lines, so that a change costs its block. Clauses see the bytes of the
-/// text.
+/// A text in blocks with their lines, so that a change costs its block. Clauses see the bytes of
+/// the text.
 #[derive(Debug, Drop)]
 pub struct IndexedText {
     text: TextBuffer,
@@ -185,8 +185,8 @@ impl IndexedText {
     /// memory. The text is unchanged then.
     ///
     /// One change with a range costs its two positions, its block, and an addition for each later
-    /// block. Any other batch costs that for each change, and a copy of the text if its first change
-    /// doesn't replace all.
+    /// block. Any other batch costs that for each change, and a copy of the text if its first
+    /// change doesn't replace all.
     pub fn change(
         &mut self,
         encoding: Encoding,

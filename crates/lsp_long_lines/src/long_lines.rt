@@ -36,7 +36,8 @@ pub fn long_lines(
     Ok(ranges)
 }
 
-/// The range of a line that is over the limit, up to the line's end; `None` if the line isn't long.
+/// Returns the range of a line that is over the limit, up to the line's end; `None` if the line
+/// isn't long.
 fn excess(text: &TextBuffer, encoding: Encoding, line: u32) -> Option<Range>
     requires { line ≤ line_ends (chars text.now) }
     ensures long { is_some result ≡ is_long (units_in encoding) (chars text.now) line }
@@ -56,7 +57,7 @@ fn excess(text: &TextBuffer, encoding: Encoding, line: u32) -> Option<Range>
     Some(Range { start, stop })
 }
 
-/// The exact position of the end of a line's content.
+/// Returns the exact position of the end of a line's content.
 fn end_of_line(text: &TextBuffer, encoding: Encoding, line: u32) -> Position
     requires { line ≤ line_ends (chars text.now) }
     ensures { result ≡ line_end (units_in encoding) (chars text.now) line }

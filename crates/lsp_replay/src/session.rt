@@ -2,7 +2,7 @@
 //!
 //! - `planning`: changes, each of which is planned once.
 //! - `writing`: the canonical bodies of accepted changes.
-//! - `joining`: the open run of accepted changes.
+//! - `joining`: the open series of accepted changes.
 //! - `selecting`: the records that stay where others are left out.
 //! - `results`: the result of `initialize`.
 //! - `counting`: what counts as refused.
@@ -102,35 +102,35 @@ impl Session {
         }
     }
 
-    /// How many records were judged.
+    /// Returns how many records were judged.
     pub fn records(&self) -> u64
         ensures { result ≡ self.now.records }
     {
         self.records
     }
 
-    /// The server as it is now.
+    /// Returns the server as it is now.
     pub fn server(&self) -> &Server
         ensures { result.now ≡ self.now.server }
     {
         &self.server
     }
 
-    /// How many bodies were handled.
+    /// Returns how many bodies were handled.
     pub fn messages(&self) -> u64
         ensures { result ≡ self.now.messages }
     {
         self.messages
     }
 
-    /// How many of them were refused.
+    /// Returns how many of them were refused.
     pub fn refusals(&self) -> u64
         ensures { result ≡ self.now.refusals }
     {
         self.refusals
     }
 
-    /// The outcome of a log command at the end of the input.
+    /// Returns the outcome of a log command at the end of the input.
     pub fn outcome(&self) -> Outcome
         ensures { result ≡ outcome_of self.now }
     {
@@ -249,7 +249,8 @@ impl Session {
         Ok(Verdict::Answered(answer))
     }
 
-    /// Is it a change that comes before the result of `initialize`, which says its encoding?
+    /// Returns whether it is a change that comes before the result of `initialize`, which says its
+    /// encoding.
     fn is_early(&self, incoming: &Incoming) -> bool
         ensures { result ≡ is_early self.now (incoming_view incoming.now) }
     {

@@ -38,7 +38,7 @@ impl From<AllocError> for RunFault {
 }
 
 impl From<EngineFault> for RunFault {
-    /// The fault of help, or of the last flush: nothing is read there.
+    /// Returns the fault of help, or of the last flush: nothing is read there.
     fn from(fault: EngineFault) -> RunFault {
         match fault {
             EngineFault::NoMemory => RunFault::NoMemory,
@@ -132,7 +132,7 @@ fn write_documents<W: Write>(
     Ok(())
 }
 
-/// A document as one line of JSON.
+/// Returns a document as one line of JSON.
 fn document_line(alloc: Global, document: &Document<'_>) -> Result<Vec<u8>, AllocError> {
     let mut line = Vec::new(alloc);
     let (uri, language) = (document.uri(), document.language());

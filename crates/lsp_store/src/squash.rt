@@ -118,7 +118,7 @@ impl Squash {
     ///
     /// Refuses with [`StoreFault::TooManyChanges`] where that batch has more than `max_changes`
     /// changes, then with [`StoreFault::BodyTooLong`]; and with [`StoreFault::NoMemory`]. Costs a
-    /// walk over the spans of each delta, and the message's bytes.
+    /// walk over the spans of its layers, and the message's bytes.
     pub fn message(&self) -> Result<Vec<u8>, StoreFault>
         ensures ok { IfOk result (λ bytes. bytes.items ≡ squash_frame self.now) }
         ensures accepted { OnOk result (squash_refusal self.now ≡ None) }

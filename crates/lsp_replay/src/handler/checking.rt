@@ -137,7 +137,7 @@ fn code_word(code: Option<ErrorCode>) -> &'static str
     }
 }
 
-/// The code of a refusal, as docs/PROTOCOL.md lists them.
+/// Returns the code of a refusal, as docs/PROTOCOL.md lists them.
 fn label(refusal: Refusal) -> &'static str
     ensures { result.now ≡ label refusal }
 {

@@ -171,7 +171,7 @@ fn push_advice(buffer: &mut Vec<u8>, refusals: u64, known: &Known) -> Result<(),
     push_words(buffer, advice_if_strict(known.is_strict()))
 }
 
-/// What to do first, after so many refusals.
+/// Returns what to do first, after so many refusals.
 fn first_advice(refusals: u64, suspicious: bool) -> &'static str
     ensures { result.now ≡ first_advice refusals suspicious }
 {
@@ -185,7 +185,7 @@ fn first_advice(refusals: u64, suspicious: bool) -> &'static str
     }
 }
 
-/// What to try where something was refused with S1 or S5.
+/// Returns what to try where something was refused with S1 or S5.
 fn advice_if_strict(strict: bool) -> &'static str
     ensures { result.now ≡ advice_if_strict strict }
 {

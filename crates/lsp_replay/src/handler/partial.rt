@@ -44,7 +44,7 @@ impl ReplayPart {
         }
     }
 
-    /// Was the last record the part's last one?
+    /// Returns whether the last record was the part's last one.
     fn is_last(&self) -> bool
         ensures { result ≡ is_last self.now.part.at self.now.session.records }
     {

@@ -38,14 +38,15 @@ impl Serve {
         }
     }
 
-    /// The outcome of an input that ends without `exit`.
+    /// Returns the outcome of an input that ends without `exit`.
     fn without_exit(&self) -> Outcome
         ensures { result ≡ serving.outcome self.now.session }
     {
         self.outcome(1)
     }
 
-    /// The outcome with which a record ends the run, if it does: `exit` does, with its status.
+    /// Returns the outcome with which a record ends the run, if it does: `exit` does, with its
+    /// status.
     fn end(&self, verdict: &Verdict) -> Option<Outcome>
         ensures { (serve_output self.now.session (verdict_view verdict.now)).end
             ≡ option_map Ok result }

@@ -51,8 +51,8 @@ impl Session {
         Verdict::Recorded
     }
 
-    /// Returns whether ranges are asked for after a record. `ranged`: were they before? Only the
-    /// result of `initialize` is read.
+    /// Returns whether ranges are asked for after a record. `ranged` says whether they were before.
+    /// Only the result of `initialize` is read.
     pub fn ranged_after(&self, ranged: bool, head: Head, body: &[u8]) -> Result<bool, AllocError>
         ensures { IfOk result
             (λ after. after ≡ ranged_after ranged self.now head.side body.now) }
@@ -90,7 +90,7 @@ pub(super) fn copied(id: &Id) -> Result<Id, AllocError>
     }
 }
 
-/// Are two ids equal?
+/// Returns whether two ids are equal.
 pub(super) fn same_id(id: &Id, other: &Id) -> bool
     ensures { result ≡ same_id (id_view id.now) (id_view other.now) }
 {

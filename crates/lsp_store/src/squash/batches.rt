@@ -91,8 +91,8 @@ impl Batches {
     /// document stays as it is.
     ///
     /// Fails only where memory runs out, and then nothing changes. Costs what the batch costs to
-    /// apply, without a move of the text, and a share in the joins of earlier batches. There k
-    /// changes cost some k log k steps on spans.
+    /// resolve and to compose, and a share in the joins of earlier batches. There k changes cost
+    /// some k log k steps on spans.
     pub fn add(
         &mut self,
         document: &Document<'_>,
