@@ -15,7 +15,8 @@ use lsp_text::{Encoding, InsideCharacter, Lines, Position};
 use std::alloc::{AllocError, Global};
 use std::marker::Model;
 
-/// Some whole lines of a text, with their starts. Clauses see their bytes.
+/// A part of a text, with the lines of that part alone. It may begin and end inside a line of the
+/// text. Clauses see its bytes.
 #[derive(Debug, Drop)]
 pub struct Block {
     text: String,
