@@ -15,8 +15,8 @@ use lsp_text::{Encoding, InsideCharacter, Lines, Position};
 use std::alloc::{AllocError, Global};
 use std::marker::Model;
 
-/// A part of a text, with the starts of its lines. It may begin and end inside a line. Clauses see
-/// its bytes.
+/// A part of a text, with the lines of that part alone. It may begin and end inside a line of the
+/// text. Clauses see its bytes.
 #[derive(Debug, Drop)]
 pub struct Block {
     text: String,

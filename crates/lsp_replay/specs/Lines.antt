@@ -27,25 +27,27 @@ uri_of side m = None
 
 -- ---- what is known of the records before one
 
+-- What is known of them.
 pub record Known : Type 0 where
   -- the documents that were opened, closed or refused last
   pub mentions : List Mention
   -- did the server ask for ranges?
   pub ranged : Bool
-  -- has a record notes?
+  -- does one of them have notes?
   pub suspicious : Bool
-  -- is one refused with S1 or S5, which lenient limits never do?
+  -- is one of them refused with S1 or S5, which lenient limits never do?
   pub strict : Bool
 
 -- Before the first record.
 abbrev pub nothing_known : Known
 nothing_known = record { mentions = []; ranged = false; suspicious = false; strict = false }
 
+-- Are there notes?
 abbrev pub has_notes : List Note → Bool
 has_notes [] = false
 has_notes (note ∷ notes) = true
 
--- Is it refused with S1 or S5?
+-- Is a record refused with S1 or S5?
 abbrev pub is_strict : Verdict → Bool
 is_strict (answered (refused (Store AlreadyOpen))) = true
 is_strict (answered (refused (Store (StaleVersion current)))) = true

@@ -75,12 +75,12 @@ count_if counts count = if counts then one_more count else count
 
 -- ---- a client's record
 
--- No `initialize` was accepted yet.
+-- No `initialize` was accepted yet, and no `exit` came.
 abbrev pub is_new : Phase → Bool
 is_new New = true
 is_new phase = false
 
--- `initialize` was accepted, and no `shutdown` came.
+-- `initialize` was accepted, and neither `shutdown` nor `exit` came.
 abbrev pub is_running : Phase → Bool
 is_running Running = true
 is_running phase = false
