@@ -56,8 +56,7 @@ impl Squash {
     /// Starts at a document before any batch, within limits. Later changes of the document have no
     /// effect on it.
     ///
-    /// Fails only where memory runs out. Costs two copies of the text and its lines, and no search
-    /// through it.
+    /// Fails only where memory runs out. Costs two steps for each block of the text.
     pub fn start(
         alloc: Global,
         limits: Limits,

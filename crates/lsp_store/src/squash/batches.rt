@@ -57,8 +57,7 @@ impl Model for Batches {
 impl Batches {
     /// Starts at a document before any batch, within limits.
     ///
-    /// Fails only where memory runs out. Costs a copy of the text and its lines, and no search
-    /// through it.
+    /// Fails only where memory runs out. Costs a step for each block of the text.
     pub fn start(
         alloc: Global,
         limits: Limits,
