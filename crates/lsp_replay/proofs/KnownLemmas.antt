@@ -22,13 +22,14 @@ use Rattle.lsp_replay.specs.Lines.{Known, LineView, known_after, line_output, li
 use Rattle.lsp_replay.specs.Mentions.{is_mention, last_for}
 use Rattle.lsp_replay.specs.Notes.{notes_if, notes_of, notes_on, ranged_after}
 use Rattle.lsp_replay.specs.Run.{IsEngineRun}
-use Rattle.lsp_replay.specs.Session.{Session, Verdict, recorded, bad, hear_for, is_change, judge, judge_at, judge_from}
+use Rattle.lsp_replay.specs.Session.{Session, Verdict, recorded, bad, encoding_for, judge_server, is_change, judge, judge_from}
 use Rattle.lsp_replay.specs.inside.Bodies.{BodyData, body_read}
 use Rattle.lsp_replay.specs.inside.Engine.{IsLoopRun}
 use Rattle.lsp_replay.specs.inside.Known.{IsAbout, IsLearned, IsNoted, is_change_read, known_by, uri_read}
 use Rattle.lsp_replay.specs.inside.Noting.{notes_on_read}
+use Rattle.lsp_replay.specs.inside.Session.{judge_at}
 use Rattle.lsp_replay.specs.inside.Verdicts.{verdict_view}
-use Rattle.lsp_replay.proofs.Canonical.CanonicalLogLemmas.{heard_for}
+use Rattle.lsp_replay.proofs.Canonical.CanonicalLogLemmas.{heard_as}
 use Rattle.lsp_replay.proofs.Reports.PartLemmas.{unless_not}
 use Rattle.lsp_replay.proofs.Runs.RunReportLemmas.{Grows, NoneCut, grows_on, run_of_course, settled_on}
 
@@ -67,18 +68,20 @@ module _ (s : Session) (body : List ℕ) where
       (judge_from s version side body).verdict ≡ is_mention (is_change asked) (judge_from s version side body).verdict
   mention_at version Client = refl
   mention_at version Server =
-      let heard = heard_for s s.expected body in
-      no_mention false (hear_for s s.expected body).verdict heard
-      ∙ sym (no_mention (is_change asked) (hear_for s s.expected body).verdict heard)
+      let announced = encoding_for s.expected (reading body) in
+      let heard = heard_as s announced in
+      no_mention false (judge_server s announced).verdict heard
+      ∙ sym (no_mention (is_change asked) (judge_server s announced).verdict heard)
 
   notes_at : (ranged : Bool) (version : Version) (side : Side)
       → notes_if (notes_on_read s.server ranged (reading body) (body_read version side body))
       (judge_from s version side body).verdict ≡ notes_of s ranged body (judge_from s version side body).verdict
   notes_at ranged version Client = refl
   notes_at ranged version Server =
-      let heard = heard_for s s.expected body in
-      no_notes [] (hear_for s s.expected body).verdict heard
-      ∙ sym (no_notes (notes_on s.server ranged (reading body) asked) (hear_for s s.expected body).verdict heard)
+      let announced = encoding_for s.expected (reading body) in
+      let heard = heard_as s announced in
+      no_notes [] (judge_server s announced).verdict heard
+      ∙ sym (no_notes (notes_on s.server ranged (reading body) asked) (judge_server s announced).verdict heard)
 
 -- ---- a record, by what was read of it, what it is about, and the verdict
 

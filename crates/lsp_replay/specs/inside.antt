@@ -14,6 +14,7 @@ pub mod Engine
 pub mod Run
 pub mod Reads
 pub mod RunOutput
+pub mod Session
 pub mod Squashed
 pub mod Tracing
 pub mod Commands

@@ -16,7 +16,7 @@ use Rattle.lsp_replay.specs.Documents.{Kept, Selection, after_kept, after_left_o
 use Rattle.lsp_replay.specs.Commands.{RecordOutput, canonical_of_record, continue_with, ends, front_of, normalising, run_output_in, unless_bad, writes, written}
 use Rattle.lsp_replay.specs.Run.{IsEngineRun}
 use Rattle.lsp_replay.specs.RunOutput.{RunOutput, stopped, written_first}
-use Rattle.lsp_replay.specs.Session.{Session, Verdict, answered, bad, judge, judge_at, recorded}
+use Rattle.lsp_replay.specs.Session.{Session, Verdict, answered, bad, judge, recorded}
 use Rattle.lsp_replay.specs.Squashed.{Run, Squashing, Step, faulty, squash_step, squashed_in}
 use Rattle.lsp_replay.specs.inside.Bodies.{BodyData, body_read}
 use Rattle.lsp_replay.specs.inside.Documents.{each_of_kept, squashed_of_kept}
@@ -24,6 +24,7 @@ use Rattle.lsp_replay.specs.inside.Engine.{IsLoopRun}
 use Rattle.lsp_replay.specs.inside.Commands.{each_output}
 use Rattle.lsp_replay.specs.inside.Reads.{IsKept, IsLeftOut, stays_read, waiting_read}
 use Rattle.lsp_replay.specs.inside.RunOutput.{IsRecordFault, after}
+use Rattle.lsp_replay.specs.inside.Session.{judge_at}
 use Rattle.lsp_replay.specs.inside.Squashed.{IsSquashStep, step_at}
 use Rattle.lsp_replay.proofs.Stay.KeptLogLemmas.{kept_false, kept_true}
 use Rattle.lsp_replay.proofs.Reports.PartLemmas.{unless_not}
