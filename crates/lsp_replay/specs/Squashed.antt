@@ -1,6 +1,6 @@
 -- `normalise` with squash: accepted changes of one document, with no other record between them, are
 -- written as one message.
-use Rattle.std.specs.Prelude.{ℕ, Bool, ◌++◌, if◌then◌else◌, nat_lt, length, map, List, [], ◌∷◌, Option, Some, None, Result, Err}
+use Rattle.std.specs.Prelude.{ℕ, Bool, ◌++◌, if◌then◌else◌, nat_lt, length, map, List, [], Option, Some, None, Result, Err}
 use Rattle.std.specs.Str.{bytes_eq}
 use Rattle.lsp_frame.specs.Frame.{frame}
 use Rattle.lsp_message.specs.Message.{reading}
@@ -16,8 +16,8 @@ use Rattle.lsp_stream.specs.declared.fault.EngineFault.{EngineFault}
 use Rattle.lsp_stream.specs.declared.fault.EngineFault.TheVariants.{BadLog, BodyTooLong}
 use Rattle.lsp_log.specs.Log.{Record}
 use Rattle.lsp_replay.specs.RunOutput.{RunOutput}
-use Rattle.lsp_replay.specs.Commands.{continue_with, front_of, change_in, canonical_change_body, line_if, log_config, canonical_log}
-use Rattle.lsp_replay.specs.Session.{Session, Verdict, answered, bad, Judged, judge, opened, outcome_of}
+use Rattle.lsp_replay.specs.Commands.{View, output_in, front_of, change_in, canonical_change_body, line_if, log_config, canonical_log}
+use Rattle.lsp_replay.specs.Session.{Session, Verdict, answered, bad, Judged, opened, outcome_of}
 
 -- ---- a run: accepted changes of one document, one after another
 
@@ -117,29 +117,20 @@ squash_step s run r j
 
 -- ---- all records
 
--- The end of the input ends the open run. A log of version 2 without records is its line.
-abbrev pub squashed_in : Session → Option Run → List Record → RunOutput
-squashed_in s run []
-    = record {
-      out = [];
-      stop = None;
-      last = λ line_due. end_bytes run ++ line_if line_due;
-      outcome = outcome_of s;
-    }
-squashed_in s run (r ∷ rs) =
-    continue_with (squash_step s run r (judge s r)).out (squash_step s run r (judge s r)).end
-    (squashed_in (judge s r).session (squash_step s run r (judge s r)).run rs)
+-- The state is the open run. The end of the input ends it. A log of version 2 without records is
+-- its line.
+abbrev pub squashing : View (Option Run)
+squashing = record {
+  record_output = λ run s r j.
+      record { out = (squash_step s run r j).out; end = (squash_step s run r j).end };
+  next = λ run s r j. (squash_step s run r j).run;
+  end_output = λ run s line_due. end_bytes run ++ line_if line_due;
+  outcome = λ run s. outcome_of s;
+}
 
 -- The output of `normalise` with squash.
 abbrev pub squashed : Settings → List Record → RunOutput
-squashed settings = squashed_in (opened (log_config settings)) None
-
--- ---- how far a log is squashed
-
--- The session, and the open run.
-pub record Squashing : Type 0 where
-  pub session : Session
-  pub run : Option Run
+squashed settings = output_in squashing None (opened (log_config settings))
 
 -- ---- `normalise`, with squash and without
 

@@ -4,6 +4,7 @@ pub mod Joining
 pub mod Explained
 pub mod Kept
 pub mod Known
+pub mod Lines
 pub mod Mentions
 pub mod Noting
 pub mod Parts

@@ -19,7 +19,8 @@ use Rattle.lsp_stream.specs.Ports.{one_more}
 use Rattle.lsp_log.specs.Log.{Record, IsRecord, AreRecords, together, record_bytes, line_of, version_line, is_line_due}
 use Rattle.lsp_replay.specs.RunOutput.{RunOutput, written_first}
 use Rattle.lsp_replay.specs.Session.{Session, Verdict, answered, recorded, bad, Judged, judged, judge, judge_from, judge_client, counted, opened}
-use Rattle.lsp_replay.specs.Commands.{RecordOutput, writes, unless_bad, run_output_in, replaying, converting, line_if, line_before, reply_record, log_config, converted}
+use Rattle.lsp_replay.specs.Commands.{RecordOutput, writes, unless_bad, replaying, converting, line_if, line_before, reply_record, log_config, converted}
+use Rattle.lsp_replay.specs.inside.Commands.{run_output_in}
 use Rattle.lsp_replay.specs.laws.Written.{IsReplyWithin, AreRepliesWithin, ConvertedLaw, all_of}
 use Rattle.lsp_replay.proofs.Records.AskedLemmas.{asked_proper}
 use Rattle.lsp_replay.proofs.Canonical.NormalisedLemmas.{command_output, went_on, Passes, passes}

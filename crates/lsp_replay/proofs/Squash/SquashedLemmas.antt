@@ -10,10 +10,12 @@ use Rattle.lsp_replay.specs.declared.outcome.Outcome.{Outcome}
 use Rattle.lsp_stream.specs.declared.fault.EngineFault.{EngineFault}
 use Rattle.lsp_log.specs.Log.{Record}
 use Rattle.lsp_replay.specs.RunOutput.{RunOutput}
-use Rattle.lsp_replay.specs.Commands.{RecordOutput, change_in, run_output_in, front_of, continue_with, log_config, canonical_change_body, canonical_if, normalising, unless_bad, written}
+use Rattle.lsp_replay.specs.Commands.{RecordOutput, change_in, front_of, continue_with, log_config, canonical_change_body, canonical_if, normalising, unless_bad, written}
+use Rattle.lsp_replay.specs.inside.Commands.{run_output_in}
 use Rattle.lsp_replay.specs.Session.{Session, Verdict, answered, recorded, bad, judge, opened}
 use Rattle.lsp_replay.specs.laws.Written.{StopsAlike}
-use Rattle.lsp_replay.specs.Squashed.{Run, change_output, squash_step, squashed_in, step_if}
+use Rattle.lsp_replay.specs.Squashed.{Run, change_output, squash_step, step_if}
+use Rattle.lsp_replay.specs.inside.Squashed.{squashed_in}
 
 abbrev single : ServerData → Record → List ℕ → Option ChangeData → Verdict → RecordOutput
 single server r front change v =

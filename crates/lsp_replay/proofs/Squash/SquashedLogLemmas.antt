@@ -17,10 +17,12 @@ use Rattle.lsp_replay.specs.declared.commands.Settings.{Settings}
 use Rattle.lsp_replay.specs.declared.outcome.Outcome.{Outcome}
 use Rattle.lsp_stream.specs.declared.fault.EngineFault.{EngineFault}
 use Rattle.lsp_replay.specs.RunOutput.{RunOutput}
-use Rattle.lsp_replay.specs.Commands.{change_in, run_output_in, front_of, continue_with, line_if, canonical_if, log_config, replaying, report}
+use Rattle.lsp_replay.specs.Commands.{change_in, front_of, continue_with, line_if, canonical_if, log_config, replaying, report}
+use Rattle.lsp_replay.specs.inside.Commands.{run_output_in}
 use Rattle.lsp_replay.specs.laws.Written.{SquashedLaw, IsSquashed, LeavesAlike, all_of}
 use Rattle.lsp_replay.specs.Session.{Session, answered, bad, judge, opened}
-use Rattle.lsp_replay.specs.Squashed.{Run, Step, squash_step, squashed_in, squashed, end_bytes, other_step}
+use Rattle.lsp_replay.specs.Squashed.{Run, Step, squash_step, squashed, end_bytes, other_step}
+use Rattle.lsp_replay.specs.inside.Squashed.{squashed_in}
 use Rattle.lsp_replay.proofs.Records.ChangeLemmas.{IsAccepted, IsOtherKind, IsChangeKind, kind_of, not_bad_of, was_accepted}
 use Rattle.lsp_replay.proofs.Records.JudgeLemmas.{judged_held}
 use Rattle.lsp_replay.proofs.Canonical.NormalisedLemmas.{canonical_record, went_on, version_is}

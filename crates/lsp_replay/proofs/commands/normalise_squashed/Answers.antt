@@ -1,8 +1,9 @@
-use Rattle.std.proofs.Common.{refl}
+use Rattle.std.proofs.Common.{false, refl}
 use Rattle.std.specs.Prelude.{None}
 use Rattle.lsp_replay.specs.Session.{opened}
 use Rattle.lsp_replay.specs.Commands.{log_config}
-use Rattle.lsp_replay.proofs.Runs.RunReportLemmas.{run_of_squashed}
+use Rattle.lsp_replay.specs.Squashed.{squashing}
+use Rattle.lsp_replay.proofs.Runs.RunReportLemmas.{run_of}
 use Rattle.lsp_replay.proofs.Runs.WroteLemmas.{wrote_squashed}
 use Rattle.lsp_replay.proofs.commands.normalise_squashed.Goals as goal
 
@@ -11,8 +12,8 @@ returns-clause-run g c =
     let run_output = rw c.config.ensures.value at c.new-squashing.ensures in
     let run = rw (c.rules-rules.ensures, run_output) at c.run_engine.ensures.run in
     let whole = rw (c.rules-rules.ensures, run_output) at c.run_engine.ensures.whole in
-    run_of_squashed c.run_engine.ensures.first c.run_engine.ensures.version (opened (log_config c.args.settings)) None
-    run (λ _. whole (λ _. refl))
+    run_of c.run_engine.ensures.first c.run_engine.ensures.version squashing None (opened (log_config c.args.settings))
+    false run (λ _. whole (λ _. refl))
 
 pub returns-clause-squashed : goal.returns-clause-squashed
 returns-clause-squashed g c =
