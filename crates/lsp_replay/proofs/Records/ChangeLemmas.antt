@@ -19,7 +19,7 @@ use Rattle.lsp_frame.specs.Frame.{frame}
 use Rattle.lsp_replay.specs.Commands.{change_in, canonical_if, canonical_change_body}
 use Rattle.lsp_replay.specs.inside.Joining.{refusal_of, server_after}
 use Rattle.lsp_replay.specs.Session.{Session, Verdict, answered, recorded, bad, Judged, judge, judge_from, judge_client, counted, encoding_for}
-use Rattle.lsp_replay.specs.Squashed.{Run, faulty, change_output, step_if}
+use Rattle.lsp_replay.specs.inside.Squashed.{Run, change_output, faulty, step_if}
 use Rattle.lsp_replay.proofs.Records.AskedLemmas.{IsProperAsked, IsProperIncoming, asked_proper}
 use Rattle.lsp_replay.proofs.Squash.JoiningLemmas.{running_accepted}
 use Rattle.lsp_replay.proofs.Records.JudgeLemmas.{asks_change}

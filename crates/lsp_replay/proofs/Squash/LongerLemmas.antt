@@ -16,8 +16,7 @@ use Rattle.lsp_replay.specs.Commands.{replaying, front_of, line_if, canonical_ch
 use Rattle.lsp_replay.specs.inside.Commands.{run_output_in}
 use Rattle.lsp_replay.specs.inside.Joining.{server_after}
 use Rattle.lsp_replay.specs.Session.{Session, judge}
-use Rattle.lsp_replay.specs.Squashed.{Run, joined_by, longer, squash_step, end_bytes}
-use Rattle.lsp_replay.specs.inside.Squashed.{squashed_in}
+use Rattle.lsp_replay.specs.inside.Squashed.{Run, end_bytes, joined_by, longer, squash_step, squashed_in}
 use Rattle.lsp_replay.proofs.Records.ChangeLemmas.{IsAccepted, IsDone, is_done, proper_change, session_after}
 use Rattle.lsp_replay.proofs.Records.NumberedLemmas.{IsAlike, alike_both, numbered}
 use Rattle.lsp_replay.proofs.Squash.OpenRunLemmas.{IsOpenFrom, goes_on_from, same_encoding, same_text}

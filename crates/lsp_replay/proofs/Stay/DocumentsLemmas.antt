@@ -17,7 +17,6 @@ use Rattle.lsp_replay.specs.Commands.{RecordOutput, canonical_of_record, continu
 use Rattle.lsp_replay.specs.Run.{IsEngineRun}
 use Rattle.lsp_replay.specs.RunOutput.{RunOutput, stopped, written_first}
 use Rattle.lsp_replay.specs.Session.{Session, Verdict, answered, bad, judge, recorded}
-use Rattle.lsp_replay.specs.Squashed.{Run, Step, faulty, squash_step, squashing}
 use Rattle.lsp_replay.specs.inside.Bodies.{BodyData, body_read}
 use Rattle.lsp_replay.specs.inside.Documents.{each_of_kept, squashed_of_kept}
 use Rattle.lsp_replay.specs.inside.Engine.{IsLoopRun}
@@ -25,7 +24,7 @@ use Rattle.lsp_replay.specs.inside.Commands.{each_output, run_output_in}
 use Rattle.lsp_replay.specs.inside.Reads.{IsKept, IsLeftOut, stays_read, waiting_read}
 use Rattle.lsp_replay.specs.inside.RunOutput.{IsRecordFault, after}
 use Rattle.lsp_replay.specs.inside.Session.{judge_at}
-use Rattle.lsp_replay.specs.inside.Squashed.{IsSquashStep, Squashing, squashed_in, step_at}
+use Rattle.lsp_replay.specs.inside.Squashed.{IsSquashStep, Run, Squashing, Step, faulty, squash_step, squashed_in, squash_view, step_at}
 use Rattle.lsp_replay.proofs.Stay.KeptLogLemmas.{kept_false, kept_true}
 use Rattle.lsp_replay.proofs.Reports.PartLemmas.{unless_not}
 use Rattle.lsp_replay.proofs.Runs.RunReportLemmas.{Grows, GrowsAll, NoneCut, Settles, grows, run_of_course, settled}
@@ -408,5 +407,5 @@ pub run_of_squashed_kept : FirstLaw → VersionLaw → (q : Squashing) (c : Sele
     }) max_turns before after result
 run_of_squashed_kept first version q c run whole =
     run_of_course first version (squashed_of_kept q c) (kept_settles q.session c (squashed_in q.session q.run)
-    (settled squashing q.run q.session) (squash_even q.session q.run))
-    (kept_grows q.session c (squashed_in q.session q.run) (grows squashing q.run q.session)) false run whole
+    (settled squash_view q.run q.session) (squash_even q.session q.run))
+    (kept_grows q.session c (squashed_in q.session q.run) (grows squash_view q.run q.session)) false run whole

@@ -21,8 +21,7 @@ use Rattle.lsp_replay.specs.inside.Commands.{run_output_in}
 use Rattle.lsp_replay.specs.inside.Joining.{IsChange}
 use Rattle.lsp_replay.specs.RunOutput.{RunOutput}
 use Rattle.lsp_replay.specs.Session.{Session, Verdict, answered, bad, judge, recorded}
-use Rattle.lsp_replay.specs.Squashed.{Run, Step, squash_step}
-use Rattle.lsp_replay.specs.inside.Squashed.{squashed_in}
+use Rattle.lsp_replay.specs.inside.Squashed.{Run, Step, squash_step, squashed_in}
 use Rattle.lsp_replay.proofs.Records.ChangeLemmas.{IsChangeKind, IsOtherKind, kind_of}
 use Rattle.lsp_replay.proofs.Stay.LeftOutLemmas.{IsHarmless, harmless, stays_alike}
 use Rattle.lsp_replay.proofs.Canonical.NormalisedLemmas.{went_on}

@@ -4,10 +4,9 @@
 ghost use Rattle.std.specs.Prelude.{◌≡◌, ◌++◌, ◌⊎◌, ℕ, List, [], refl, IfOk, IfErr, OnOk, None, Some, false};
 ghost use Rattle.lsp_replay.specs.Session.{opened, outcome_of};
 ghost use Rattle.lsp_replay.specs.Commands.{front_of};
-ghost use Rattle.lsp_replay.specs.Squashed.{end_bytes, faulty};
 ghost use Rattle.lsp_replay.specs.inside.Reads.{IsReadOf, IsSelection};
 ghost use Rattle.lsp_replay.specs.inside.RunOutput.{IsRecordFault};
-ghost use Rattle.lsp_replay.specs.inside.Squashed.{IsSquashStep, run_of, squashed_in, step_at};
+ghost use Rattle.lsp_replay.specs.inside.Squashed.{IsSquashStep, end_bytes, faulty, run_of, squashed_in, step_at};
 
 use crate::handler::front::{push_front, push_line};
 use crate::handler::{Given, Handler, Output};
