@@ -9,8 +9,8 @@ use Rattle.lsp_log.specs.Log.{Record}
 use Rattle.lsp_replay.specs.declared.commands.Settings.{Settings}
 use Rattle.lsp_replay.specs.declared.notes.Note.{Note}
 use Rattle.lsp_replay.specs.RunOutput.{RunOutput}
-use Rattle.lsp_replay.specs.Commands.{as_log, change_in, log_config, verdict_word}
-use Rattle.lsp_replay.specs.Lines.{Known, LineView, lines_in, nothing_known, uri_of}
+use Rattle.lsp_replay.specs.Commands.{as_log, change_in, log_config, output_in, verdict_word}
+use Rattle.lsp_replay.specs.Lines.{Known, LineView, lines, nothing_known, uri_of}
 use Rattle.lsp_replay.specs.Mentions.{last_for}
 use Rattle.lsp_replay.specs.Notes.{notes_of, notes_words}
 use Rattle.lsp_replay.specs.Reasons.{reason_words}
@@ -83,7 +83,7 @@ explaining = record {
 
 -- The output of `check --explain`.
 abbrev pub explained : Settings → List Record → RunOutput
-explained settings = lines_in explaining nothing_known (opened (log_config settings))
+explained settings = output_in (lines explaining) nothing_known (opened (log_config settings))
 
 -- `check --explain` reads logs of both versions.
 abbrev pub explain_engine : Settings → Engine

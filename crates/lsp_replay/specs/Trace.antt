@@ -17,8 +17,8 @@ use Rattle.lsp_replay.specs.declared.commands.Settings.{Settings}
 use Rattle.lsp_replay.specs.declared.commands.traced.Details.{Details}
 use Rattle.lsp_replay.specs.declared.notes.Note.{Note}
 use Rattle.lsp_replay.specs.RunOutput.{RunOutput}
-use Rattle.lsp_replay.specs.Commands.{as_log, canonical_of_record, change_in, log_config, verdict_word}
-use Rattle.lsp_replay.specs.Lines.{Known, LineView, lines_in, nothing_known, uri_of}
+use Rattle.lsp_replay.specs.Commands.{as_log, canonical_of_record, change_in, log_config, output_in, verdict_word}
+use Rattle.lsp_replay.specs.Lines.{Known, LineView, lines, nothing_known, uri_of}
 use Rattle.lsp_replay.specs.Mentions.{last_for}
 use Rattle.lsp_replay.specs.Notes.{notes_of, notes_words}
 use Rattle.lsp_replay.specs.Reasons.{reason_words}
@@ -171,7 +171,8 @@ tracing details = record {
 
 -- The output of `trace`.
 abbrev pub traced : Settings → Details → List Record → RunOutput
-traced settings details = lines_in (tracing details) nothing_known (opened (log_config settings))
+traced settings details =
+    output_in (lines (tracing details)) nothing_known (opened (log_config settings))
 
 -- `trace` reads logs of both versions.
 abbrev pub trace_engine : Settings → Details → Engine

@@ -14,8 +14,9 @@
 ghost use Rattle.std.specs.Prelude.{◌≡◌, ◌≢◌, ◌⊎◌, IfErr, IfOk, OnErr, OnOk, MatchOption, Some, None};
 ghost use Rattle.lsp_message.specs.Seen.{change_view, id_view};
 ghost use Rattle.lsp_server.specs.Seen.{incoming_view};
-ghost use Rattle.lsp_replay.specs.Session.{bad, counted, opened, judge_at, judge_incoming, is_early, expected_after, outcome_of};
+ghost use Rattle.lsp_replay.specs.Session.{bad, counted, opened, judge_client, is_early, expected_after, outcome_of};
 ghost use Rattle.lsp_replay.specs.inside.Bodies.{IsReceived, body_read, body_view, canonical_read, judge_read};
+ghost use Rattle.lsp_replay.specs.inside.Session.{judge_at};
 ghost use Rattle.lsp_replay.specs.inside.Verdicts.{verdict_view};
 
 pub(crate) mod counting;
@@ -226,11 +227,11 @@ impl Session {
     fn answer(&mut self, version: Version, incoming: Incoming) -> Result<Verdict, AllocError>
         ensures verdict { IfOk result
             (λ v. verdict_view v
-            ≡ (judge_incoming self.old version (incoming_view incoming)).verdict) }
+            ≡ (judge_client self.old version (incoming_view incoming)).verdict) }
         ensures session { OnOk result
-            (self.new ≡ (judge_incoming self.old version (incoming_view incoming)).session) }
+            (self.new ≡ (judge_client self.old version (incoming_view incoming)).session) }
         ensures memory { OnErr result
-            ((judge_incoming self.old version (incoming_view incoming)).verdict ≢ bad) }
+            ((judge_client self.old version (incoming_view incoming)).verdict ≢ bad) }
     {
         if self.server.phase() == Phase::Ended || self.is_early(&incoming) {
             return Ok(Verdict::Bad);

@@ -7,8 +7,8 @@ ghost use Rattle.lsp_log.specs.Log.{Record};
 ghost use Rattle.lsp_replay.specs.RunOutput.{RunOutput};
 ghost use Rattle.lsp_replay.specs.Session.{opened, outcome_of};
 ghost use Rattle.lsp_replay.specs.Commands.{report_from};
-ghost use Rattle.lsp_replay.specs.Parts.{is_last, last_text, part_bytes, part_of, part_outcome, replayed_in};
-ghost use Rattle.lsp_replay.specs.inside.Parts.{last_of};
+ghost use Rattle.lsp_replay.specs.Parts.{is_last, last_text, part_bytes, part_of, part_outcome};
+ghost use Rattle.lsp_replay.specs.inside.Parts.{last_of, replayed_in};
 
 use crate::commands::Part;
 use crate::handler::replaying::push_document_line;

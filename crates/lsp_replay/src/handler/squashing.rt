@@ -4,10 +4,9 @@
 ghost use Rattle.std.specs.Prelude.{◌≡◌, ◌++◌, ◌⊎◌, ℕ, List, [], refl, IfOk, IfErr, OnOk, None, Some, false};
 ghost use Rattle.lsp_replay.specs.Session.{opened, outcome_of};
 ghost use Rattle.lsp_replay.specs.Commands.{front_of};
-ghost use Rattle.lsp_replay.specs.Squashed.{squashed_in, end_bytes, faulty};
 ghost use Rattle.lsp_replay.specs.inside.Reads.{IsReadOf, IsSelection};
 ghost use Rattle.lsp_replay.specs.inside.RunOutput.{IsRecordFault};
-ghost use Rattle.lsp_replay.specs.inside.Squashed.{IsSquashStep, run_of, step_at};
+ghost use Rattle.lsp_replay.specs.inside.Squashed.{IsSquashStep, end_bytes, faulty, run_of, squashed_in, step_at};
 
 use crate::handler::front::{push_front, push_line};
 use crate::handler::{Given, Handler, Output};
@@ -98,7 +97,7 @@ pub struct Squashing {
 }
 
 impl Model for Squashing {
-    ghost use Rattle.lsp_replay.specs.Squashed as spec;
+    ghost use Rattle.lsp_replay.specs.inside.Squashed as spec;
     ghost use Rattle.lsp_replay.specs.inside.Squashed.{run_of};
     ghost use Rattle.lsp_replay.specs.inside.Joining.{MayBeOpenIn};
 

@@ -7,10 +7,11 @@ ghost use Rattle.lsp_message.specs.Seen.{id_view};
 ghost use Rattle.lsp_server.specs.Incoming.{incoming_of};
 ghost use Rattle.lsp_server.specs.Seen.{incoming_view};
 ghost use Rattle.lsp_stream.specs.Ports as ports;
-ghost use Rattle.lsp_replay.specs.Session.{bad, is_change, judge_at};
+ghost use Rattle.lsp_replay.specs.Session.{bad, is_change};
 ghost use Rattle.lsp_replay.specs.Lines.{known_after, uri_of};
 ghost use Rattle.lsp_replay.specs.Trace.{first_members, id_json, id_of, is_json, member, method_of, side_word};
 ghost use Rattle.lsp_replay.specs.inside.Bodies.{body_read, body_view};
+ghost use Rattle.lsp_replay.specs.inside.Session.{judge_at};
 ghost use Rattle.lsp_replay.specs.inside.Tracing.{IsTraced};
 ghost use Rattle.lsp_replay.specs.inside.Verdicts.{verdict_view};
 
