@@ -165,17 +165,24 @@ impl Work for Document<'_> {
 }
 
 fn message_len(store: &Store, version: i32, change: &[Change]) -> Option<usize> {
-    let message = store.canonical_message(URI, version, Encoding::Utf16, change);
-    Some(message.ok()?.len())
+    match store.canonical_message(URI, version, Encoding::Utf16, change) {
+        Ok(message) => Some(message.len()),
+        Err(_) => None,
+    }
 }
 
 /// Returns how many documents are open after the change.
 fn changed(store: &mut Store, version: i32, change: &[Change]) -> Option<usize> {
-    store.change(URI, version, Encoding::Utf16, change).ok()?;
-    Some(store.len())
+    match store.change(URI, version, Encoding::Utf16, change) {
+        Ok(()) => Some(store.len()),
+        Err(_) => None,
+    }
 }
 
 /// Returns how many bytes the client sends.
 fn edited(client: &mut Client, version: i32, change: &[Change]) -> Option<usize> {
-    Some(client.edit(URI, version, change).ok()?.len())
+    match client.edit(URI, version, change) {
+        Ok(frame) => Some(frame.len()),
+        Err(_) => None,
+    }
 }

@@ -139,7 +139,9 @@ pub struct Reader {
 impl Reader {
     /// Takes bodies of the greatest length.
     fn new(alloc: Global, parses: bool) -> Option<Self> {
-        let limits = Limits::new(Limits::GREATEST_BODY, 0, 1, 1).ok()?;
+        let Ok(limits) = Limits::new(Limits::GREATEST_BODY, 0, 1, 1) else {
+            return None;
+        };
         Some(Reader {
             alloc,
             framer: Framer::new(alloc, limits),
@@ -157,7 +159,9 @@ impl Reader {
             if rest.is_empty() {
                 break;
             }
-            let taken = self.framer.feed(rest).ok()?;
+            let Ok(taken) = self.framer.feed(rest) else {
+                return None;
+            };
             rest = &rest[taken..];
             if let Some(body) = self.framer.body() {
                 self.frames = self.frames.wrapping_add(1);
@@ -174,7 +178,10 @@ impl Reader {
 
 /// Parses a body, and drops at once what was read. There is no result if it is no JSON.
 pub fn is_object(alloc: Global, body: &[u8]) -> Option<bool> {
-    Some(Value::from_slice(alloc, body).ok()?.is_object())
+    let Ok(value) = Value::from_slice(alloc, body) else {
+        return None;
+    };
+    Some(value.is_object())
 }
 
 /// Reads to the end, and parses each frame's body as soon as the frame is whole.

@@ -99,7 +99,9 @@ impl Work for Indexing<'_> {
         if self.text.len() > MAX_TEXT {
             return None;
         }
-        let lines = Lines::new(self.alloc, self.text).ok()?;
+        let Ok(lines) = Lines::new(self.alloc, self.text) else {
+            return None;
+        };
         Some(self.text.len().max(lines.count()))
     }
 }
