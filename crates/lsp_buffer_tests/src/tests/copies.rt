@@ -61,7 +61,7 @@ fn is_copied(alloc: Global, count: usize, turns: u32) -> Result<bool, AllocError
 }
 
 /// How many parts a text has, and how many changes it and its copy are put through at a time.
-static TEXTS: [(usize, u32); 4] = [(0, 9), (3, 12), (700, 12), (6_000, 15)];
+static TEXTS: [(usize, u32); 4] = [(0, 4), (3, 5), (700, 5), (3_000, 6)];
 
 #[test]
 fn a_text_and_its_copy_change_apart(rt: HostRuntime) -> Result<(), Fail> {
@@ -81,7 +81,7 @@ fn is_copied_in_one_piece(alloc: Global, text: String) -> Result<bool, AllocErro
     let mut both = Pair { buffer, plain };
     let mut copy = copy_of(alloc, &both)?;
     let mut seed = 7;
-    are_apart(alloc, &mut copy, &mut both, &mut seed, 9)
+    are_apart(alloc, &mut copy, &mut both, &mut seed, 5)
 }
 
 #[test]
