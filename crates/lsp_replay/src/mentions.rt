@@ -9,7 +9,7 @@ use std::alloc::{AllocError, Global};
 use std::marker::Model;
 
 /// How many documents are kept.
-pub const MENTIONS: usize = 64;
+const MENTIONS: usize = 64;
 
 /// A document, and the number of the record that opened, closed or refused it last.
 #[derive(Drop)]
