@@ -165,24 +165,17 @@ impl Work for Document<'_> {
 }
 
 fn message_len(store: &Store, version: i32, change: &[Change]) -> Option<usize> {
-    match store.canonical_message(URI, version, Encoding::Utf16, change) {
-        Ok(message) => Some(message.len()),
-        Err(_) => None,
-    }
+    let message = store.canonical_message(URI, version, Encoding::Utf16, change);
+    Some(message.ok()?.len())
 }
 
 /// Returns how many documents are open after the change.
 fn changed(store: &mut Store, version: i32, change: &[Change]) -> Option<usize> {
-    match store.change(URI, version, Encoding::Utf16, change) {
-        Ok(()) => Some(store.len()),
-        Err(_) => None,
-    }
+    store.change(URI, version, Encoding::Utf16, change).ok()?;
+    Some(store.len())
 }
 
 /// Returns how many bytes the client sends.
 fn edited(client: &mut Client, version: i32, change: &[Change]) -> Option<usize> {
-    match client.edit(URI, version, change) {
-        Ok(frame) => Some(frame.len()),
-        Err(_) => None,
-    }
+    Some(client.edit(URI, version, change).ok()?.len())
 }

@@ -113,10 +113,8 @@ fn canonical_len(text: &IndexedText, changes: &[Change]) -> Option<usize> {
     if text.len() > MAX_OLD_TEXT || !fits(changes) {
         return None;
     }
-    let Ok(batch) = text.canonical(Encoding::Utf16, changes, MAX_OLD_TEXT) else {
-        return None;
-    };
-    Some(batch.len())
+    let batch = text.canonical(Encoding::Utf16, changes, MAX_OLD_TEXT);
+    Some(batch.ok()?.len())
 }
 
 /// Returns how many bytes and lines the text has that the batch leaves.

@@ -139,9 +139,7 @@ pub struct Reader {
 impl Reader {
     /// Takes bodies of the greatest length.
     fn new(alloc: Global, parses: bool) -> Option<Self> {
-        let Ok(limits) = Limits::new(Limits::GREATEST_BODY, 0, 1, 1) else {
-            return None;
-        };
+        let limits = Limits::new(Limits::GREATEST_BODY, 0, 1, 1).ok()?;
         Some(Reader {
             alloc,
             framer: Framer::new(alloc, limits),
@@ -159,9 +157,7 @@ impl Reader {
             if rest.is_empty() {
                 break;
             }
-            let Ok(taken) = self.framer.feed(rest) else {
-                return None;
-            };
+            let taken = self.framer.feed(rest).ok()?;
             rest = &rest[taken..];
             if let Some(body) = self.framer.body() {
                 self.frames = self.frames.wrapping_add(1);
@@ -178,10 +174,7 @@ impl Reader {
 
 /// Parses a body, and drops at once what was read. There is no result if it is no JSON.
 pub fn is_object(alloc: Global, body: &[u8]) -> Option<bool> {
-    let Ok(value) = Value::from_slice(alloc, body) else {
-        return None;
-    };
-    Some(value.is_object())
+    Some(Value::from_slice(alloc, body).ok()?.is_object())
 }
 
 /// Reads to the end, and parses each frame's body as soon as the frame is whole.

@@ -99,9 +99,7 @@ impl Work for Indexing<'_> {
         if self.text.len() > MAX_TEXT {
             return None;
         }
-        let Ok(lines) = Lines::new(self.alloc, self.text) else {
-            return None;
-        };
+        let lines = Lines::new(self.alloc, self.text).ok()?;
         Some(self.text.len().max(lines.count()))
     }
 }

@@ -192,10 +192,7 @@ fn edit(pair: &mut Pair, change: ChangeParams) -> Option<bool> {
 }
 
 fn deliver(pair: &mut Pair) -> Option<bool> {
-    match pair.step(&Event::ToServer) {
-        Ok(happened) => Some(happened == CHANGED),
-        Err(_) => None,
-    }
+    Some(pair.step(&Event::ToServer).ok()? == CHANGED)
 }
 
 /// Passes a message to the server. Returns whether the server's text was changed.
@@ -205,8 +202,6 @@ fn handle(alloc: Global, server: &mut Server, message: Outgoing) -> Option<bool>
 }
 
 fn is_changed(server: &mut Server, body: &[u8]) -> Option<bool> {
-    match server.handle(body) {
-        Ok(answer) => Some(matches!(answer, Answer::Changed)),
-        Err(_) => None,
-    }
+    let answer = server.handle(body).ok()?;
+    Some(matches!(answer, Answer::Changed))
 }

@@ -87,10 +87,9 @@ fn server_limits(options: &ArgMatches<'_>) -> Option<Limits> {
 
 /// Returns the number of the first option, or else that of the second.
 fn either(options: &ArgMatches<'_>, first: &str, second: &str) -> Option<usize> {
-    match options.get_one::<usize>(first) {
-        Some(number) => Some(number),
-        None => options.get_one::<usize>(second),
-    }
+    options
+        .get_one::<usize>(first)
+        .or(options.get_one::<usize>(second))
 }
 
 static ENCODINGS: [&str; 3] = ["utf-8", "utf-16", "utf-32"];

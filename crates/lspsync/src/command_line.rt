@@ -1,4 +1,7 @@
 //! The program's command line.
+//!
+//! `options` is the program as `clap` sees it, `help` has the pages of help, and `texts` what the
+//! commands' pages say.
 
 ghost use Rattle.std.specs.Prelude.{◌≡◌, ◌≢◌, codes, true, false};
 ghost use Rattle.std.specs.Prelude.{IfOk, IfSome, IsSome, ℕ, map};
@@ -8,6 +11,7 @@ ghost use Rattle.lsp_frame.specs.Limits.{LimitsData};
 
 mod help;
 mod options;
+mod texts;
 
 use crate::command_line::options::program;
 use clap::{ArgMatches, Error};

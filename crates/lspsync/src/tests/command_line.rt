@@ -209,6 +209,27 @@ fn help_names_each_command(rt: HostRuntime) -> Result<(), Fail> {
     Ok(())
 }
 
+/// What help says of each exit status.
+static STATUSES: [&str; 6] = [
+    "0 all is well",
+    "1 a record counts as refused",
+    "2 the command line",
+    "3 reading or writing failed",
+    "4 out of memory",
+    "5 the log is faulty",
+];
+
+fn names_statuses(alloc: Global) -> Result<bool, Fail> {
+    let output = help(alloc, &["lspsync", "--help"])?;
+    Ok(has_all(str::from_utf8(&output)?, &STATUSES))
+}
+
+#[test]
+fn help_names_each_exit_status(rt: HostRuntime) -> Result<(), Fail> {
+    assert!(rt; names_statuses(rt.alloc())?);
+    Ok(())
+}
+
 static OPTIONS: [&str; 6] = [
     "--encoding",
     "--max-body",
