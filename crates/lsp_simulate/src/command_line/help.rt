@@ -147,7 +147,7 @@ For each a line is written, with its number and what happened. At the end come t
 messages that wait for the server and for the client, and the documents of both ends.
 
 Exit status: 0 all events were made, 2 the command line is wrong or the ends don't fit together,
-3 log_rules or writing failed, 4 out of memory, 5 a line is no event.
+3 reading or writing failed, 4 out of memory, 5 a line is no event.
 
 Example, messages that arrive late:
   ./lsp_simulate < examples/late-delivery.events";

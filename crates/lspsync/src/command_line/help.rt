@@ -211,7 +211,7 @@ start this, and it is recorded:
   tee session.log | some-server
 
 Exit status: 0 all is well, 1 a record counts as refused (`lspsync check --help`), 2 the command line
-is wrong, 3 log_rules or writing failed, 4 out of memory, 5 the log is faulty. From 3 on a line on standard
+is wrong, 3 reading or writing failed, 4 out of memory, 5 the log is faulty. From 3 on a line on standard
 error says what, and for 5 where: `lspsync: truncated at 505` is byte 505 of the input.
 
 `lspsync COMMAND --help` has the options of a command and an example to paste.
