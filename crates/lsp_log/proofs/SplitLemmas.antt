@@ -1,5 +1,5 @@
 -- A splitter on its way through a log.
-use Rattle.std.proofs.Common.{◌≡◌, ℕ, ◌+◌, ◌-◌, ◌≤◌, ◌^◌, Bool, true, false, List, [], ◌∷◌, ◌++◌, length, take, drop, Option, Some, None, refl, sym, ◌∙◌, ap, subst, arith, append_assoc, inl, inr, ◌⊎◌}
+use Rattle.std.proofs.Common.{◌≡◌, ℕ, ◌+◌, ◌-◌, ◌<◌, ◌≤◌, ◌^◌, Bool, true, false, List, [], ◌∷◌, ◌++◌, length, take, drop, Option, Some, None, refl, sym, ◌∙◌, ap, subst, arith, append_assoc, inl, inr, ◌⊎◌}
 use Rattle.std.specs.Prelude.{min, not, is_some}
 use Rattle.std.proofs.lemmas.List.{length-append, take-append-drop}
 use Rattle.lsp_frame.specs.Frame.{IsFrameOf}
@@ -7,6 +7,7 @@ use Rattle.lsp_frame.specs.Header.{header_of, lines_bytes}
 use Rattle.lsp_frame.specs.Faults.{place_after, IsDecided}
 use Rattle.lsp_frame.specs.Stream.{FramerData, IsFrame, IsPart, HoldsOne, IsFeedFault, IsStreamFault, released}
 use Rattle.lsp_stream.specs.Faults.{engine_fault}
+use Rattle.lsp_stream.specs.declared.fault.EngineFault.TheVariants as engine
 use Rattle.lsp_frame.specs.declared.fault.FrameFault.{FrameFault}
 use Rattle.lsp_frame.specs.declared.fault.FrameFault.TheVariants as fault_of
 use Rattle.lsp_frame.proofs.StreamLemmas.{nothing_part}
@@ -140,6 +141,39 @@ pub feed_fault : (log_rules : LogRules) (input piece : List ℕ) (records : List
 feed_fault log_rules input piece records s n fault some why sound at =
     let known : KnownSide s.side = known_side s.side some in
     split_fault log_rules input piece records s known.side n fault known.is why sound at
+
+-- Where the framer is out of memory it is as it was.
+no_memory : (f n : FramerData) (piece : List ℕ) (fault : FrameFault) → IsFeedFault f n piece fault
+    → engine_fault fault ≡ engine.NoMemory → n ≡ f
+no_memory f n piece (fault_of.BadHeader place) why is =
+    let bad : engine.Frame (fault_of.BadHeader place) ≡ engine.NoMemory = is in cc
+no_memory f n piece (fault_of.HeaderTooLong place) why is =
+    let bad : engine.Frame (fault_of.HeaderTooLong place) ≡ engine.NoMemory = is in cc
+no_memory f n piece (fault_of.MissingLength place) why is =
+    let bad : engine.Frame (fault_of.MissingLength place) ≡ engine.NoMemory = is in cc
+no_memory f n piece (fault_of.RepeatedHeader place) why is =
+    let bad : engine.Frame (fault_of.RepeatedHeader place) ≡ engine.NoMemory = is in cc
+no_memory f n piece (fault_of.BadLength place) why is =
+    let bad : engine.Frame (fault_of.BadLength place) ≡ engine.NoMemory = is in cc
+no_memory f n piece (fault_of.BodyTooLong place) why is =
+    let bad : engine.Frame (fault_of.BodyTooLong place) ≡ engine.NoMemory = is in cc
+no_memory f n piece (fault_of.BadCharset place) why is =
+    let bad : engine.Frame (fault_of.BadCharset place) ≡ engine.NoMemory = is in cc
+no_memory f n piece fault_of.Failed why is = let bad : engine.Frame fault_of.Failed ≡ engine.NoMemory = is in cc
+no_memory f n piece fault_of.NoMemory why is = why.1
+
+some_bytes : (piece : List ℕ) → (length piece ≡ 0 → ⊥) → 0 < length piece
+some_bytes [] some = absurd (some refl)
+some_bytes (b ∷ bs) some = omega arith
+
+pub feed_memory : (s : Splitter) (n : FramerData) (piece : List ℕ) (fault : FrameFault) → (s.side ≡ None → ⊥)
+    → IsFeedFault s.framer n piece fault → (length piece ≡ 0 → ⊥) → engine_fault fault ≡ engine.NoMemory
+    → (record s { framer = n } ≡ s) × (s.side ≡ None → ⊥) × (0 < length piece)
+feed_memory s n piece fault some why bytes is = (
+  ap (λ (g : FramerData). record s { framer = g }) (no_memory s.framer n piece fault why is),
+  some,
+  some_bytes piece bytes,
+)
 
 -- A mark was taken.
 two_between : (version : Version) → IsSide version None → version ≡ Two

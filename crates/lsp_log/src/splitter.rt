@@ -1,6 +1,6 @@
 //! The records of a log that comes in pieces.
 
-ghost use Rattle.std.specs.Prelude.{◌≡◌, ◌↔◌, ◌<◌, ◌≤◌, ◌++◌, ◌∷◌, [], ℕ, List, None, true, false, length, drop, IfOk, IfErr, OnOk, MatchOption};
+ghost use Rattle.std.specs.Prelude.{◌≡◌, ◌≢◌, ◌↔◌, ◌<◌, ◌≤◌, ◌++◌, ◌∷◌, [], ℕ, List, None, true, false, length, drop, Err, IfOk, IfErr, OnOk, MatchOption};
 ghost use Rattle.lsp_frame.specs.Frame.{IsFrameOf};
 ghost use Rattle.lsp_frame.specs.Stream.{IsFrame};
 ghost use Rattle.lsp_log.specs.Log.{LogRules, Record, mark_of};
@@ -50,7 +50,7 @@ impl Splitter {
     ///
     /// # Errors
     /// [`EngineFault::Frame`] at a faulty frame, [`EngineFault::BadLog`] at a byte that is no mark,
-    /// [`EngineFault::NoMemory`].
+    /// [`EngineFault::NoMemory`], which changes nothing.
     pub fn feed(&mut self, piece: &[u8]) -> Result<usize, EngineFault>
         requires { IsReady self.old }
         ensures taken { IfOk result (λ k. k ≤ length piece.now) }
@@ -66,6 +66,9 @@ impl Splitter {
             (λ fault. (log_rules : LogRules) (input : List ℕ) (records : List Record) →
             IsAfter log_rules input piece.now records self.old →
             IsSplitFault log_rules.max_body input (log_at self.old records piece.now) fault) }
+        // Out of memory changes nothing. A mark takes none, nor does an empty piece.
+        ensures memory { result ≡ Err EngineFault.NoMemory → (self.new ≡ self.old)
+            × (self.old.side ≢ None) × (0 < length piece.now) }
     {
         if self.side.is_none() {
             return self.take_mark(piece);
@@ -90,6 +93,7 @@ impl Splitter {
             (λ fault. (log_rules : LogRules) (input : List ℕ) (records : List Record) →
             IsAfter log_rules input piece.now records self.old →
             IsSplitFault log_rules.max_body input (log_at self.old records piece.now) fault) }
+        ensures memory { result ≢ Err EngineFault.NoMemory }
     {
         let Some(mark) = piece.first() else {
             return Ok(0);

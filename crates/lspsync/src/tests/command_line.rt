@@ -196,13 +196,21 @@ fn help(alloc: Global, words: &[&str]) -> Result<Vec<u8>, Fail> {
     Ok(answer.output)
 }
 
+/// What help says of each status that reports a fault of a run.
+static STATUSES: [&str; 3] = [
+    "3 reading or writing failed",
+    "4 out of memory",
+    "5 the log is faulty",
+];
+
 fn names_each(alloc: Global, words: &[&str]) -> Result<bool, Fail> {
     let output = help(alloc, words)?;
-    Ok(has_all(str::from_utf8(&output)?, &COMMANDS))
+    let text = str::from_utf8(&output)?;
+    Ok(has_all(text, &COMMANDS) && has_all(text, &STATUSES))
 }
 
 #[test]
-fn help_names_each_command(rt: HostRuntime) -> Result<(), Fail> {
+fn help_names_each_command_and_status(rt: HostRuntime) -> Result<(), Fail> {
     for words in &HELP {
         assert!(rt; names_each(rt.alloc(), words)?, "at {words:?}");
     }
