@@ -3,7 +3,8 @@
 
 ghost use Rattle.std.specs.Prelude.{◌≡◌, ◌≢◌, Err, IfErr, IfOk, None, Ok, OnErr, OnOk, Some, option_map};
 ghost use Rattle.serde_json.specs.View.{view};
-ghost use Rattle.lsp_message.specs.Message.{message, reading};
+ghost use Rattle.lsp_message.specs.Message.{reading};
+ghost use Rattle.lsp_message.specs.Message as spec;
 ghost use Rattle.lsp_message.specs.Seen.{id_view, message_view};
 ghost use Rattle.lsp_replay.specs.Notes.{ranged_after, ranged_by};
 ghost use Rattle.lsp_replay.specs.Session.{encoding_for, encoding_in, judge_server, result_for, same_id};
@@ -132,7 +133,7 @@ pub fn message_of(outcome: Result<Message, ReadFault>) -> Result<Option<Message>
 /// Returns the result in a successful response to the request with this id.
 fn result_in(id: &Id, message: Message) -> Option<Value>
     ensures { option_map view result
-        ≡ result_for (id_view id.now) (message (message_view message)) }
+        ≡ result_for (id_view id.now) (spec.message (message_view message)) }
 {
     let Message::Response { id: other, outcome } = message else {
         return None;
