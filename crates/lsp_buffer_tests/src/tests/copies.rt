@@ -107,21 +107,21 @@ static CHANGES: [Change; 6] = [
 
 /// A text in three blocks and its copy, with the bytes of both.
 #[derive(Drop)]
-struct Copied {
+struct Shared {
     buffer: TextBuffer,
     copy: TextBuffer,
     plain: String,
 }
 
 /// Copies a text of 700 lines of sixteen bytes.
-fn copied(alloc: Global) -> Result<Copied, AllocError> {
+fn copied(alloc: Global) -> Result<Shared, AllocError> {
     let plain = "0123456789\u{E9}ab\r\n".repeat(alloc, 700)?;
     if plain.len() > MOST {
         return Err(AllocError);
     }
     let buffer = TextBuffer::from_str(alloc, &plain)?;
     let copy = buffer.clone_in(alloc)?;
-    Ok(Copied {
+    Ok(Shared {
         buffer,
         copy,
         plain,
@@ -129,7 +129,7 @@ fn copied(alloc: Global) -> Result<Copied, AllocError> {
 }
 
 /// Does the same, and again if it is out of memory, which is counted.
-fn copied_again(alloc: Global, refused: &mut usize) -> Result<Copied, AllocError> {
+fn copied_again(alloc: Global, refused: &mut usize) -> Result<Shared, AllocError> {
     match copied(alloc) {
         Ok(both) => Ok(both),
         Err(_) => {
@@ -150,7 +150,7 @@ fn put(copy: &mut TextBuffer, (start, end, new): Change) -> Result<bool, AllocEr
 }
 
 /// Changes the copy, and again if it is out of memory. It is as it was then.
-fn put_again(both: &mut Copied, change: Change, refused: &mut usize) -> Result<bool, AllocError> {
+fn put_again(both: &mut Shared, change: Change, refused: &mut usize) -> Result<bool, AllocError> {
     match put(&mut both.copy, change) {
         Ok(is_put) => Ok(is_put),
         Err(_) => {
@@ -161,7 +161,7 @@ fn put_again(both: &mut Copied, change: Change, refused: &mut usize) -> Result<b
 }
 
 /// Returns whether the copy is what a string is after a change, and the text is as it was.
-fn is_put(alloc: Global, both: &Copied, (start, end, new): Change) -> Result<bool, AllocError> {
+fn is_put(alloc: Global, both: &Shared, (start, end, new): Change) -> Result<bool, AllocError> {
     let mut wanted = String::from_str(alloc, &both.plain)?;
     if start > end || !wanted.is_char_boundary(start) || !wanted.is_char_boundary(end) {
         return Ok(false);
@@ -173,7 +173,7 @@ fn is_put(alloc: Global, both: &Copied, (start, end, new): Change) -> Result<boo
 /// Does the same, and again if it is out of memory.
 fn is_put_again(
     alloc: Global,
-    both: &Copied,
+    both: &Shared,
     change: Change,
     refused: &mut usize,
 ) -> Result<bool, AllocError> {
