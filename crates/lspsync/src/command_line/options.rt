@@ -12,7 +12,7 @@ ghost use Rattle.lspsync.specs.Help.{own_rules, rule_of_limit, rules_of_limits};
 ghost use Rattle.lspsync.specs.inside.Options.{AddsRules, IsCommand, shape_by, top_app};
 
 use crate::command_line::help::{
-    DetailHelp, Limit, LimitOptions, OwnHelp, Page, PartHelp, WritingHelp,
+    self, DetailHelp, Limit, LimitOptions, OwnHelp, Page, PartHelp, WritingHelp,
 };
 use clap::builder::ValueParser;
 use clap::{Arg, ArgAction, Command};
