@@ -1,11 +1,11 @@
 -- The lexemes of the parts of a change in its usual layout.
-use Rattle.std.proofs.Common.{◌≡◌, ℕ, List, [], ◌∷◌, ◌++◌, take, drop, length, get_or, Bool, true, false, Option, Some, None, ◌≤◌, ◌<◌, refl, sym, ap, ap₂, ◌∙◌, arith, codes, ◌==◌, ◌⊎◌, inl, inr, get_or-take, length-take-le, take-append-drop}
+use Rattle.std.proofs.Common.{◌≡◌, ℕ, List, [], ◌∷◌, ◌++◌, take, drop, length, get_or, true, false, Option, Some, None, ◌≤◌, ◌<◌, refl, sym, ap, ap₂, ◌∙◌, arith, codes, ◌==◌, ◌⊎◌, inl, inr, get_or-take, length-take-le, take-append-drop}
 use Rattle.std.proofs.lemmas.Bool.{or_cases, eqb-true}
 use Rattle.std.specs.Prelude.{◌||◌, IfSome, not}
 use Rattle.json.specs.Token.{begin_object, end_object, begin_array, end_array, string, number}
 use Rattle.json.specs.Text.{content, plain}
 use Rattle.json.specs.Word.{ends_word}
-use Rattle.json.specs.Lex.{Lexeme, token, comma, colon, string_token, lex, between, in_string}
+use Rattle.json.specs.Lex.{token, comma, string_token, lex, between}
 use Rattle.json.specs.Run.{is_stop}
 use Rattle.json.specs.Print.{IsNumber, escape}
 use Rattle.json.proofs.Printed.Strings.{content-escape, lex-escape}

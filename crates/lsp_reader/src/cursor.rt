@@ -3,7 +3,7 @@
 //! A call returns `None` where the text goes on otherwise. The text may be JSON all the same, and
 //! is then read by its tokens.
 
-ghost use Rattle.std.specs.Prelude.{◌≡◌, ◌∷◌, ◌++◌, ◌<◌, ◌≤◌, [], length, take, Some, IfSome, IsTrue, true};
+ghost use Rattle.std.specs.Prelude.{◌≡◌, ◌∷◌, ◌++◌, ◌<◌, ◌≤◌, [], length, take, IfSome, IsTrue, true};
 ghost use Rattle.json.specs.Print.{escape};
 ghost use Rattle.json.specs.Run.{is_stop};
 ghost use Rattle.json.specs.Token.{string};

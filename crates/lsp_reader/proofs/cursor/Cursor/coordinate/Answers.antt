@@ -1,4 +1,4 @@
-use Rattle.std.proofs.Common.{refl, sym, ◌∙◌}
+use Rattle.std.proofs.Common.{sym, ◌∙◌}
 use Rattle.serde_json.specs.Data.{unsigned}
 use Rattle.lsp_reader.proofs.Lexemes.{if_some_by}
 use Rattle.lsp_reader.proofs.cursor.Cursor.coordinate.Goals as goal
