@@ -3,7 +3,7 @@ use Rattle.std.proofs.Common.{◌≡◌, ℕ, List, [], ◌∷◌, ◌++◌, tak
 use Rattle.std.proofs.lemmas.Bool.{or_cases, eqb-true}
 use Rattle.std.specs.Prelude.{◌||◌, IfSome, not}
 use Rattle.json.specs.Token.{begin_object, end_object, begin_array, end_array, string, number}
-use Rattle.json.specs.Text.{content, plain}
+use Rattle.json.specs.Text.{content}
 use Rattle.json.specs.Word.{ends_word}
 use Rattle.json.specs.Lex.{token, comma, string_token, lex, between}
 use Rattle.json.specs.Run.{is_stop}

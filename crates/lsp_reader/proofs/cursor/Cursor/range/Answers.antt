@@ -8,8 +8,9 @@ returns c =
     record {
       digits = record { start = start.digits; stop = stop.digits };
       is = record { start = start.is; stop = stop.is };
-      lexemes = range_read c.args.self.now.rest.now c.take.new.self.rest.now c.take-2.new.self.rest.now c.position.new.self.rest.now c.take-3.new.self.rest.now
-          c.take-4.new.self.rest.now c.position-2.new.self.rest.now c.take-5.new.self.rest.now start.digits stop.digits
-          c.in_ok-take.ensures c.in_ok-take-2.ensures start.lexemes c.in_ok-take-3.ensures
-          c.in_ok-take-4.ensures stop.lexemes c.in_ok-take-5.ensures;
+      lexemes = range_read c.args.self.now.rest.now c.take.new.self.rest.now c.take-2.new.self.rest.now
+          c.position.new.self.rest.now c.take-3.new.self.rest.now c.take-4.new.self.rest.now
+          c.position-2.new.self.rest.now c.take-5.new.self.rest.now start.digits stop.digits c.in_ok-take.ensures
+          c.in_ok-take-2.ensures start.lexemes c.in_ok-take-3.ensures c.in_ok-take-4.ensures stop.lexemes
+          c.in_ok-take-5.ensures;
     }
