@@ -1,7 +1,7 @@
 //! A `textDocument/didChange` of one change in its usual layout, read by its bytes.
 //!
-//! What editors send at each keystroke has the members in one order. Blanks between them may be
-//! there or not. A body of any other layout is left to the reader of tokens.
+//! What editors send at each keystroke has the members in one order. Spaces and line feeds between
+//! them may be there or not. A body of any other layout is left to the reader of tokens.
 
 ghost use Rattle.std.specs.Prelude.{◌≡◌, Some, IfOk, IfSome};
 ghost use Rattle.json.specs.Lex.{lex, between};
