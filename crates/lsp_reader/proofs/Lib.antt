@@ -5,3 +5,5 @@ pub mod Puts
 pub mod Growing
 pub mod Messages
 pub mod Digits
+pub mod Lexemes
+pub mod Keystrokes

@@ -2,3 +2,4 @@
 pub mod Reading
 pub mod Scalars
 pub mod Members
+pub mod Lexemes

@@ -11,6 +11,7 @@ ghost use Rattle.lsp_reader.specs.Incoming.{incoming_of, incoming_by, request_of
 ghost use Rattle.lsp_reader.specs.Seen.{incoming_view};
 
 use crate::fault::Fault;
+use crate::keystroke::read_keystroke;
 use crate::message::read_message_members;
 use crate::opening::{Opening, open_object};
 use json::{Reader, Scratch};
@@ -156,8 +157,21 @@ fn unread_body(fault: ReadFault) -> Result<Incoming, AllocError>
     }
 }
 
-/// Reads a text by its tokens; `None` where it has to be read as a tree.
+/// Reads a text, a keystroke by its bytes; `None` where it has to be read as a tree.
 fn read_text(alloc: Global, text: &str, scratch: &mut Scratch) -> Result<Option<Incoming>, Fault>
+    ensures ok { IfOk result (λ r. IfSome r (λ m. (d : Data) × (read_value text.now ≡ Some d)
+        × (incoming_view m ≡ incoming_of (message_of d)))) }
+    ensures error { result ≡ Err Fault.NotJson → read_value text.now ≡ None }
+{
+    let found = read_keystroke(alloc, text)?;
+    if found.is_some() {
+        return Ok(found);
+    }
+    read_tokens(alloc, text, scratch)
+}
+
+/// Reads a text by its tokens; `None` where it has to be read as a tree.
+fn read_tokens(alloc: Global, text: &str, scratch: &mut Scratch) -> Result<Option<Incoming>, Fault>
     ensures ok { IfOk result (λ r. IfSome r (λ m. (d : Data) × (read_value text.now ≡ Some d)
         × (incoming_view m ≡ incoming_of (message_of d)))) }
     ensures error { result ≡ Err Fault.NotJson → read_value text.now ≡ None }

@@ -16,6 +16,8 @@
 //! - `incoming`: what a body asks, its parameters read.
 //! - `message`, `params`, `document`, `changes`, `change`, `range`, `position`: the objects of the
 //!   protocol, each with the members that are kept of it.
+//! - `keystroke`: a `didChange` in its usual layout, read by its bytes; `cursor`: what is left of a
+//!   text.
 //! - `scalar`: a member of which a text or a whole number is kept.
 //! - `number`: which numbers are in range.
 //! - `opening`: the first token of an object.
@@ -25,9 +27,11 @@
 
 mod change;
 mod changes;
+mod cursor;
 mod document;
 mod fault;
 mod incoming;
+mod keystroke;
 mod message;
 mod number;
 mod opening;

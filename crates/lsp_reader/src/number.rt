@@ -81,7 +81,7 @@ impl Number {
 
 /// Reads up to 19 digits as a number; `None` for any other text.
 #[inline(always)]
-fn short_natural(bytes: &[u8]) -> Option<u64>
+pub(crate) fn short_natural(bytes: &[u8]) -> Option<u64>
     ensures { IfSome result (λ n. number_of bytes.now ≡ Some (unsigned n)) }
 {
     let mut value = 0u64;

@@ -3,6 +3,7 @@
 mod bodies;
 mod both_ways;
 mod generated;
+mod layouts;
 mod refused;
 
 use lsp_message::{ReadFault, read};

@@ -17,7 +17,11 @@ static MESSAGES: [&str; 8] = [
 ];
 
 /// Returns whether each first part of a body is read alike both ways.
-fn is_same_cut(alloc: Global, body: &str, scratch: &mut Scratch) -> Result<bool, AllocError> {
+pub(super) fn is_same_cut(
+    alloc: Global,
+    body: &str,
+    scratch: &mut Scratch,
+) -> Result<bool, AllocError> {
     for end in 0..=body.len() {
         let beginning = body.as_bytes().get(..end).unwrap_or_default();
         if !is_same(alloc, beginning, scratch)? {

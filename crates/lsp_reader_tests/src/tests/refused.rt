@@ -32,9 +32,10 @@ fn is_read(
     ))
 }
 
-static BODIES: [&str; 3] = [
+static BODIES: [&str; 4] = [
     r#"{"jsonrpc":"2.0","method":"textDocument/didOpen","params":{"textDocument":{"languageId":"l","text":"\u0041","uri":"u","version":1}}}"#,
     r#"{"jsonrpc":"2.0","method":"textDocument/didChange","params":{"contentChanges":[{"text":"a"},{"range":null,"text":"b"}],"textDocument":{"uri":"u","version":2}}}"#,
+    r#"{"jsonrpc":"2.0","method":"textDocument/didChange","params":{"textDocument":{"uri":"u","version":2},"contentChanges":[{"range":{"start":{"line":0,"character":1},"end":{"line":0,"character":1}},"text":"a"}]}}"#,
     r#"{"jsonrpc":"2.0","method":"textDocument/didClose","params":{"textDocument":{"uri":"u"}}}"#,
 ];
 

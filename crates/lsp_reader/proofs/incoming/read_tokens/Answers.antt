@@ -6,7 +6,7 @@ use Rattle.serde_json.specs.Data.{object}
 use Rattle.lsp_reader.specs.inside.Reading.{value_at}
 use Rattle.lsp_reader.proofs.Openings.{opened_object, opened_otherwise}
 use Rattle.lsp_reader.proofs.Messages.{if_some_weaker, text_read, text_and_more, text_refused}
-use Rattle.lsp_reader.proofs.incoming.read_text.Goals as goal
+use Rattle.lsp_reader.proofs.incoming.read_tokens.Goals as goal
 
 pub returns-in-None-clause-ok : goal.returns-in-None-clause-ok
 returns-in-None-clause-ok c =
