@@ -1,18 +1,21 @@
 // Asks a library the vectors of single messages, and counts the right answers by group: node run.js [FILE]
-// `library` is what is asked: put a function of yours there. It returns the text that is left, throws where yours refuses, and
-// returns null if it can't be asked. Status 1 says that it differs where LSP 3.17 decides.
+// `library` is what is asked: put a function of yours there. It gets a vector and returns the text that is left, throws where yours
+// refuses, and returns null if it can't be asked. Status 1 says that it differs where LSP 3.17 decides.
 'use strict';
 const fs = require('fs');
 const path = require('path');
 
-function laspidru(vector) {
-  if (vector.encoding !== 'utf-16') return null;
+/** Loads the binding once: that it isn't there is no answer to a vector. */
+function laspidru() {
   const { TextDocument } = require('../bindings/node');
-  const document = TextDocument.create('file:///a', 'plaintext', 1, vector.text);
-  return TextDocument.update(document, vector.changes, 2).getText();
+  return ({ encoding, text, changes }) => {
+    if (encoding !== 'utf-16') return null;
+    const document = TextDocument.create('file:///a', 'plaintext', 1, text);
+    return TextDocument.update(document, changes, 2).getText();
+  };
 }
 
-const library = laspidru; // the line to replace
+const library = laspidru(); // the line to replace
 
 function verdict(vector) {
   let text;

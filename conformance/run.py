@@ -46,4 +46,7 @@ def run(library, files=(), say=print):
 
 
 if __name__ == "__main__":
+    if "--help" in sys.argv[1:]:
+        print(__doc__)
+        sys.exit(0)
     sys.exit(1 if run(LIBRARY, sys.argv[1:]) else 0)

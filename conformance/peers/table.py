@@ -10,6 +10,7 @@ import importlib
 import json
 import os
 import re
+import subprocess
 import sys
 
 TOP = os.path.dirname(os.path.dirname(os.path.abspath(__file__)))
@@ -67,13 +68,18 @@ def share(rows):
 
 
 def main():
+    if "--help" in sys.argv[1:]:
+        print(__doc__)
+        return
     names = [word for word in sys.argv[1:] if not word.startswith("-")] or PEERS
     peers = []
     for name in names:
         try:
             peers.append(importlib.import_module("peers." + name))
-        except (ImportError, OSError) as why:
+        except (ImportError, OSError, subprocess.SubprocessError) as why:
             print(f"{name} isn't asked: {why}", file=sys.stderr)
+    if not peers:
+        sys.exit("table.py: none of the peers is installed")
     asked = {peer.TITLE: ask(peer) for peer in peers}
     print(f"Asked on {datetime.date.today()}.\n")
     everything = {name: vector for found in asked.values() for name, (vector, _, _) in found.items()}

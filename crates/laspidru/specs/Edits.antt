@@ -60,6 +60,7 @@ pub record EditsAsked : Type 0 where
   pub replacements : List Replacement
   pub text : List ℕ
 
+-- The text edits that were passed, on a text.
 abbrev pub edits_on : Encoding → List Edit → List ℕ → List ℕ → EditsAsked
 edits_on encoding edits texts text =
     record { encoding = encoding; replacements = replacements_of edits texts; text = text }

@@ -51,6 +51,7 @@ abbrev pub frame_unless : Option Refusal → List ℕ → Result (List ℕ) Refu
 frame_unless (Some refusal) frame = Err refusal
 frame_unless None frame = Ok frame
 
+-- The frame of the canonical message that is asked for, or why it is refused.
 abbrev pub message_of : MessageAsked → Result (List ℕ) Refusal
 message_of asked =
     let units = units_in asked.encoding in

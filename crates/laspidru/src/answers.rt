@@ -113,7 +113,7 @@ pub(crate) fn config_of(settings: &Settings) -> Result<Config, u32>
     })
 }
 
-/// The number of an error reply.
+/// Returns the number of an error reply.
 fn error_of(code: Option<ErrorCode>) -> i32
     ensures { result ≡ error_number code }
 {
@@ -123,7 +123,7 @@ fn error_of(code: Option<ErrorCode>) -> i32
     }
 }
 
-/// The code for why the store refuses a command.
+/// Returns the code for why the store refuses a command.
 pub(crate) fn store_code_of(fault: StoreFault) -> u32
     ensures { result ≡ store_code fault }
 {
@@ -140,7 +140,7 @@ pub(crate) fn store_code_of(fault: StoreFault) -> u32
     }
 }
 
-/// The code for why a notification is refused.
+/// Returns the code for why a notification is refused.
 fn reason_of(refusal: Refusal) -> u32
     ensures { result ≡ refusal_code refusal }
 {
@@ -150,7 +150,7 @@ fn reason_of(refusal: Refusal) -> u32
     }
 }
 
-/// An answer with only a kind.
+/// Returns an answer with only a kind.
 pub(crate) fn plain(kind: u32) -> Answer
     ensures { result ≡ plain_out kind }
 {
@@ -163,7 +163,7 @@ pub(crate) fn plain(kind: u32) -> Answer
     }
 }
 
-/// An answer for C.
+/// Returns an answer for C.
 pub(crate) fn answer_of(answer: &lsp_server::Answer) -> Answer
     ensures { result ≡ answer_out (answer_view answer.now) }
 {

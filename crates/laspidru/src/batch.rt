@@ -126,7 +126,7 @@ pub extern "C" fn laspidru_batch_len(alloc: Global, batch: &mut Handle, out: &mu
     code
 }
 
-/// A position for C.
+/// Returns a position for C.
 fn place_of(position: Position) -> Place
     ensures { position_at result ≡ position }
 {
@@ -136,7 +136,7 @@ fn place_of(position: Position) -> Place
     }
 }
 
-/// A change for C. One of the whole text has positions of zeros.
+/// Returns a change for C. One of the whole text has positions of zeros.
 fn edit_of_change(change: &Change) -> Edit
     ensures { IsEdit result change.now }
 {

@@ -16,7 +16,7 @@ use lsp_edit::{Change, EditFault, MAX_NEW_TEXT, Side, TextFault};
 use lsp_text::{Encoding, Position, Range};
 use std::alloc::{AllocError, Global};
 
-/// The encoding of a number: 8, 16 or 32.
+/// Returns the encoding of a number: 8, 16 or 32.
 pub(crate) fn encoding_of(number: u32) -> Option<Encoding>
     ensures { result ≡ encoding_numbered number }
 {
@@ -28,7 +28,7 @@ pub(crate) fn encoding_of(number: u32) -> Option<Encoding>
     }
 }
 
-/// A position of C.
+/// Returns a position of C.
 pub(crate) fn position_of(place: Place) -> Position
     ensures { result ≡ position_at place }
 {
@@ -55,7 +55,7 @@ pub(crate) fn refusal_of(edits: &[Edit], texts: &[u8]) -> Option<u32>
     None
 }
 
-/// Have the texts of edits together at most [`MAX_NEW_TEXT`] bytes?
+/// Returns whether the texts of edits have at most [`MAX_NEW_TEXT`] bytes together.
 pub(crate) fn fits(edits: &[Edit]) -> bool
     ensures { IsTrue result ↔ (len_of edits.now ≤ MAX_NEW_TEXT) }
 {
@@ -69,7 +69,7 @@ pub(crate) fn fits(edits: &[Edit]) -> bool
     true
 }
 
-/// An edit with its text.
+/// Returns an edit with its text.
 fn change_of(alloc: Global, edit: Edit, own: &[u8]) -> Result<Change, AllocError>
     requires { is_utf8 own.now ≡ true }
     ensures ok { IfOk result (λ change. edit_of change ≡ edit_with edit own.now) }
@@ -88,7 +88,7 @@ fn change_of(alloc: Global, edit: Edit, own: &[u8]) -> Result<Change, AllocError
     Ok(Change { range, text })
 }
 
-/// The changes of a batch, each with its part of the texts.
+/// Returns the changes of a batch, each with its part of the texts.
 pub(crate) fn changes_of(
     alloc: Global,
     edits: &[Edit],

@@ -181,7 +181,7 @@ pub extern "C" fn laspidru_document_size(alloc: Global, handle: &mut Handle, out
     code
 }
 
-/// The byte offsets at which a line starts and ends, if the text has the line.
+/// Returns the byte offsets at which a line starts and ends, if the text has the line.
 fn line_of(text: &TextBuffer, line: u32) -> Option<Line>
     ensures some { IfSome result (λ found. IsLine line found text.now) }
     ensures there { OnSome result (line ≤ line_ends (chars text.now)) }
@@ -288,8 +288,8 @@ fn object_offset(object: &Object, encoding: Encoding, position: Place, out: &mut
 
 /// Returns the byte offset that a position denotes (LSP 3.17, Position). After the last line that
 /// is the end of the text, after a line's last character the end of the line. Codes, in this order:
-/// BAD_ENCODING, EMPTY, OTHER_KIND, INSIDE_CHARACTER. Costs the line up to the character, in UTF-8
-/// nothing.
+/// BAD_ENCODING, EMPTY, OTHER_KIND, INSIDE_CHARACTER. Costs a search among the text's blocks, and
+/// the line's text in its block up to the character; in UTF-8 the search alone.
 #[unsafe(no_mangle)]
 pub extern "C" fn laspidru_document_offset(
     alloc: Global,
@@ -338,7 +338,8 @@ fn object_position(object: &Object, encoding: Encoding, offset: usize, out: &mut
 
 /// Returns the exact position of a byte offset. Codes, in this order: BAD_ENCODING, EMPTY,
 /// OTHER_KIND; INSIDE_CHARACTER, also for an offset between CR and LF or past the end. Costs a
-/// search among the lines, and the line up to the offset.
+/// search among the text's blocks and one among a block's lines, and the line's text in the block
+/// up to the offset.
 #[unsafe(no_mangle)]
 pub extern "C" fn laspidru_document_position(
     alloc: Global,

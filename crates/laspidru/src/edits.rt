@@ -23,7 +23,7 @@ use lsp_edit::{Change, IndexedText, MAX_OLD_TEXT, Side, TextEdit, TextEditFault,
 use lsp_text::{Encoding, Range};
 use std::alloc::{AllocError, Global};
 
-/// The range of an edit. One of the whole text ends after its last line.
+/// Returns the range of an edit. One of the whole text ends after its last line.
 fn range_of(is_whole: bool, start: Place, end: Place) -> Range
     ensures { result ≡ range_or is_whole start end }
 {
@@ -46,7 +46,7 @@ fn range_of(is_whole: bool, start: Place, end: Place) -> Range
     }
 }
 
-/// An edit with its text.
+/// Returns an edit with its text.
 fn text_edit_of(alloc: Global, edit: Edit, own: &[u8]) -> Result<TextEdit, AllocError>
     requires { is_utf8 own.now ≡ true }
     ensures { IfOk result (λ passed. replacement_of passed ≡ replacement_with edit own.now) }
@@ -57,7 +57,7 @@ fn text_edit_of(alloc: Global, edit: Edit, own: &[u8]) -> Result<TextEdit, Alloc
     Ok(TextEdit { range, new_text })
 }
 
-/// The text edits, each with its part of the texts.
+/// Returns the text edits, each with its part of the texts.
 pub(crate) fn text_edits_of(
     alloc: Global,
     edits: &[Edit],
@@ -77,7 +77,7 @@ pub(crate) fn text_edits_of(
     Ok(passed)
 }
 
-/// The code of a fault. A fault of an edit is written to `out`, another leaves it as it is.
+/// Returns the code of a fault. A fault of an edit is written to `out`, another leaves it as it is.
 pub(crate) fn report_edits(fault: TextEditFault, out: &mut EditsFault) -> u32
     ensures report { IsEditsReport fault result out.new }
     ensures unchanged { IsUnlessFaulty result (out.new ≡ out.old) }
@@ -98,7 +98,7 @@ pub(crate) fn report_edits(fault: TextEditFault, out: &mut EditsFault) -> u32
     code
 }
 
-/// The canonical batch of what edits mean on a text, or the code of their fault.
+/// Returns the canonical batch of what edits mean on a text, or the code of their fault.
 fn batch_of(
     alloc: Global,
     document: &IndexedText,
@@ -252,8 +252,8 @@ fn object_apply_edits(
 }
 
 /// Makes text edits, or none of them (LSP 3.17, TextEdit[]). All their ranges count in the text as
-/// it is. Codes are those of [`laspidru_document_batch_of_edits`] without IN_USE, and TOO_LONG where
-/// the text that would be left is too long. Costs that call and [`IndexedText::change`].
+/// it is. Codes are those of [`laspidru_document_batch_of_edits`] without IN_USE, and TOO_LONG
+/// where the text that would be left is too long. Costs that call and [`IndexedText::change`].
 #[unsafe(no_mangle)]
 pub extern "C" fn laspidru_document_apply_edits(
     alloc: Global,

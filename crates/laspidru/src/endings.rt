@@ -67,7 +67,7 @@ pub(crate) fn log_settings_of(settings: &LogSettings) -> Result<Settings, u32>
     })
 }
 
-/// The ending of a command that came to an outcome.
+/// Returns the ending of a command that came to an outcome.
 fn outcome_ending(output_len: usize, outcome: Outcome) -> Ending
     ensures { result ≡ outcome_out output_len outcome }
 {
@@ -81,7 +81,7 @@ fn outcome_ending(output_len: usize, outcome: Outcome) -> Ending
     }
 }
 
-/// The ending of a command at a fault.
+/// Returns the ending of a command at a fault.
 fn fault_ending(output_len: usize, place: u64) -> Ending
     ensures { result ≡ fault_out output_len place }
 {
@@ -95,7 +95,7 @@ fn fault_ending(output_len: usize, place: u64) -> Ending
     }
 }
 
-/// The ending of a command at a faulty frame.
+/// Returns the ending of a command at a faulty frame.
 fn frame_ending(output_len: usize, fault: FrameFault) -> Ending
     ensures { result ≡ frame_out output_len fault }
 {

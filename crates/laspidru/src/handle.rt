@@ -27,7 +27,7 @@ impl Model for Handle {
 }
 
 impl Handle {
-    /// An empty handle.
+    /// Returns an empty handle.
     fn empty(alloc: Global) -> Self
         ensures { result.value ≡ None }
     {
@@ -38,7 +38,7 @@ impl Handle {
         }
     }
 
-    /// A handle with an object.
+    /// Returns a handle with an object.
     fn of_raw(raw: RawBox<Object, Global>) -> Self
         ensures { result.value ≡ Some raw.value }
     {
@@ -70,7 +70,7 @@ impl Handle {
         )
     }
 
-    /// The object of a full handle.
+    /// Returns the object of a full handle.
     fn into_raw(self) -> RawBox<Object, Global>
         requires { IsSome self.value }
         ensures { self.value ≡ Some result.value }

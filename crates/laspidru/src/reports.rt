@@ -19,8 +19,8 @@ use lsp_store::StoreFault;
 use lsp_text::Encoding;
 use std::alloc::Global;
 
-/// The set-up of a client: its limits, which may be lenient, and the encodings that it offers beside
-/// UTF-16.
+/// The set-up of a client: its limits, which may be lenient, and the encodings that it offers
+/// beside UTF-16.
 #[repr(C)]
 #[derive(Clone, Copy, Debug, PartialEq, Eq)]
 pub struct ClientSettings {
@@ -55,7 +55,7 @@ pub enum Call {
     Exit,
 }
 
-/// The code of a refused call.
+/// Returns the code of a refused call.
 pub(crate) fn call_code_of(fault: ClientFault) -> u32
     ensures { result ≡ call_code fault }
 {
@@ -66,8 +66,8 @@ pub(crate) fn call_code_of(fault: ClientFault) -> u32
     }
 }
 
-/// The code of a refusal of the documents. A faulty change is written to `out`; else it stays as it
-/// is.
+/// Returns the code of a refusal of the documents. A faulty change is written to `out`; else it
+/// stays as it is.
 pub(crate) fn report_store(fault: StoreFault, out: &mut Fault) -> u32
     ensures code { result ≡ store_code fault }
     ensures report { IsStoreReport fault out.new }
@@ -93,7 +93,7 @@ pub(crate) fn report_store(fault: StoreFault, out: &mut Fault) -> u32
     }
 }
 
-/// The code of a refused call. A faulty change is written to `out`; else it stays as it is.
+/// Returns the code of a refused call. A faulty change is written to `out`; else it stays as it is.
 pub(crate) fn report_call(fault: ClientFault, out: &mut Fault) -> u32
     ensures code { result ≡ call_code fault }
     ensures report { IsCallReport fault out.new }
@@ -126,7 +126,7 @@ pub(crate) fn keep_frame(
     }
 }
 
-/// The reason why a session can't continue, as a code.
+/// Returns the reason why a session can't continue, as a code.
 fn reason_code(reason: Reason) -> u32
     ensures { result ≡ reason_number reason }
 {
@@ -138,7 +138,7 @@ fn reason_code(reason: Reason) -> u32
     }
 }
 
-/// The result of a delivery for C.
+/// Returns the result of a delivery for C.
 pub(crate) fn delivered_answer(delivered: &Delivered) -> Answer
     ensures { result ≡ delivered_out (delivered_view delivered.now) }
 {
@@ -156,7 +156,7 @@ pub(crate) fn delivered_answer(delivered: &Delivered) -> Answer
     }
 }
 
-/// The frame that a delivery sends; no bytes if it sends none.
+/// Returns the frame that a delivery sends; no bytes if it sends none.
 pub(crate) fn frame_of(alloc: Global, delivered: Delivered) -> Vec<u8>
     ensures { result.items ≡ frame_out (delivered_view delivered) }
 {
@@ -166,7 +166,7 @@ pub(crate) fn frame_of(alloc: Global, delivered: Delivered) -> Vec<u8>
     }
 }
 
-/// The number of a phase, and the code for why the session failed.
+/// Returns the number of a phase, and the code for why the session failed.
 pub(crate) fn phase_of(phase: Phase) -> (u32, u32)
     ensures phase { result.0 ≡ phase_number phase }
     ensures reason { result.1 ≡ phase_reason phase }
@@ -182,7 +182,7 @@ pub(crate) fn phase_of(phase: Phase) -> (u32, u32)
     }
 }
 
-/// The number of an encoding; 0 of none.
+/// Returns the number of an encoding; 0 of none.
 pub(crate) fn number_of(encoding: Option<Encoding>) -> u32
     ensures { result ≡ encoding_number encoding }
 {

@@ -59,7 +59,7 @@ pub extern "C" fn laspidru_server_new(
     OK
 }
 
-/// The bytes of a reply; none of another answer.
+/// Returns the bytes of a reply; none of another answer.
 pub(crate) fn reply_of(alloc: Global, answer: lsp_server::Answer) -> Vec<u8>
     ensures { result.items ≡ reply_out (answer_view answer) }
 {

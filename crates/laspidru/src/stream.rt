@@ -28,7 +28,7 @@ impl Model for Stream {
 }
 
 impl Stream {
-    /// A stream at its start.
+    /// Returns a stream at its start.
     pub(crate) fn new(alloc: Global, limits: Limits) -> Stream
         ensures { result ≡ stream_of limits }
     {

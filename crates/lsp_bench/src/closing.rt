@@ -76,7 +76,7 @@ impl Work for Closing {
 
 /// Returns a store in which each of these documents is open.
 fn opened(alloc: Global, uris: &[String]) -> Option<Store> {
-    let limits = Limits::new(1_000, 1_000, Limits::GREATEST_DOCS, 1).ok()?;
+    let limits = Limits::new(Limits::LEAST_BODY, 1_000, Limits::GREATEST_DOCS, 1).ok()?;
     let mut store = Store::new(alloc, limits);
     for uri in uris {
         open(&mut store, alloc, uri)?;

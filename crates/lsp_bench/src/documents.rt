@@ -1,6 +1,5 @@
 //! Keystrokes in open documents: in a store, written as canonical messages, as edits of a client,
-//! and beside them `replace_range` on a text
-//! whose line starts are kept.
+//! and beside them `replace_range` on a text whose line starts are kept.
 
 use crate::text::{Plain, URI, keystrokes, lines_of, opened};
 use crate::timing::{Row, Work, done, time};
@@ -65,7 +64,7 @@ fn time_calls<R: Runtime>(
     Ok(())
 }
 
-/// A store with the document.
+/// Returns a store with the document.
 fn opened_store(alloc: Global, size: usize) -> Option<Store> {
     let document = opened(alloc, size).ok()?;
     let mut store = Store::new(alloc, Limits::default());
@@ -89,7 +88,7 @@ fn open_in_store(store: &mut Store, document: OpenParams) -> bool {
 const ANSWER: &[u8] =
     br#"{"id":1,"jsonrpc":"2.0","result":{"capabilities":{"textDocumentSync":2}}}"#;
 
-/// A client in whose session the document is open.
+/// Returns a client in whose session the document is open.
 fn opened_client(alloc: Global, size: usize) -> Option<Client> {
     let document = opened(alloc, size).ok()?;
     let mut client = Client::new(alloc, Limits::default(), Offers::new(false, false));
@@ -166,24 +165,17 @@ impl Work for Document<'_> {
 }
 
 fn message_len(store: &Store, version: i32, change: &[Change]) -> Option<usize> {
-    match store.canonical_message(URI, version, Encoding::Utf16, change) {
-        Ok(message) => Some(message.len()),
-        Err(_) => None,
-    }
+    let message = store.canonical_message(URI, version, Encoding::Utf16, change);
+    Some(message.ok()?.len())
 }
 
-/// How many documents are open after the change.
+/// Returns how many documents are open after the change.
 fn changed(store: &mut Store, version: i32, change: &[Change]) -> Option<usize> {
-    match store.change(URI, version, Encoding::Utf16, change) {
-        Ok(()) => Some(store.len()),
-        Err(_) => None,
-    }
+    store.change(URI, version, Encoding::Utf16, change).ok()?;
+    Some(store.len())
 }
 
-/// How many bytes the client sends.
+/// Returns how many bytes the client sends.
 fn edited(client: &mut Client, version: i32, change: &[Change]) -> Option<usize> {
-    match client.edit(URI, version, change) {
-        Ok(frame) => Some(frame.len()),
-        Err(_) => None,
-    }
+    Some(client.edit(URI, version, change).ok()?.len())
 }

@@ -71,7 +71,7 @@ fn time_calls<R: Runtime + AllocGlobal>(
     Ok(())
 }
 
-/// There is no text if it is too long, or memory runs out.
+/// Returns a made text in blocks; none if it is too long, or memory runs out.
 fn indexed(alloc: Global, size: usize) -> Option<IndexedText> {
     let text = made_text(alloc, size).ok()?;
     if text.len() > MAX_TEXT {
@@ -108,18 +108,16 @@ impl Work for Batch<'_> {
     }
 }
 
-/// How many changes the canonical batch has.
+/// Returns how many changes the canonical batch has.
 fn canonical_len(text: &IndexedText, changes: &[Change]) -> Option<usize> {
     if text.len() > MAX_OLD_TEXT || !fits(changes) {
         return None;
     }
-    let Ok(batch) = text.canonical(Encoding::Utf16, changes, MAX_OLD_TEXT) else {
-        return None;
-    };
-    Some(batch.len())
+    let batch = text.canonical(Encoding::Utf16, changes, MAX_OLD_TEXT);
+    Some(batch.ok()?.len())
 }
 
-/// How many bytes and lines the text has that the batch leaves.
+/// Returns how many bytes and lines the text has that the batch leaves.
 fn text_len(alloc: Global, text: &IndexedText, changes: &[Change]) -> Option<usize> {
     if text.len() > MAX_OLD_TEXT || !fits(changes) {
         return None;

@@ -1,6 +1,5 @@
 //! Streams of frames, made and read again, beside a plain copy of each; and what each command of
-//! the program does at least: takes a log apart
-//! into its frames, and parses the body of each.
+//! the program does at least: takes a log apart into its frames, and parses the body of each.
 
 use crate::timing::{Row, Work, done, time};
 use lsp_frame::{Framer, Limits, frame};
@@ -51,7 +50,7 @@ fn time_frames<R: Runtime + AllocGlobal>(rt: &R, size: usize, bytes: &[u8]) -> i
     Ok(())
 }
 
-/// A stream of frames whose bodies have this length, of about so many megabytes.
+/// Returns a stream of frames whose bodies have this length, of about so many megabytes.
 fn made_stream(alloc: Global, body: usize, megabytes: u16) -> Result<Vec<u8>, AllocError> {
     let text = vec![in alloc; b'x'; body]?;
     let one = frame(alloc, &text)?;
@@ -87,7 +86,7 @@ struct Copying<'a> {
 }
 
 impl Work for Copying<'_> {
-    /// How many bytes were copied.
+    /// Returns how many bytes were copied.
     fn once(&mut self) -> Option<usize> {
         copied(self.alloc, self.bytes).ok()
     }
@@ -113,7 +112,7 @@ struct Framing<'a> {
 }
 
 impl Work for Framing<'_> {
-    /// How many bytes the bodies had.
+    /// Returns how many bytes the bodies had.
     fn once(&mut self) -> Option<usize> {
         let mut reader = Reader::new(self.alloc, false)?;
         for piece in self.bytes.chunks(self.piece.max(1)) {
@@ -140,9 +139,7 @@ pub struct Reader {
 impl Reader {
     /// Takes bodies of the greatest length.
     fn new(alloc: Global, parses: bool) -> Option<Self> {
-        let Ok(limits) = Limits::new(Limits::GREATEST_BODY, 0, 1, 1) else {
-            return None;
-        };
+        let limits = Limits::new(Limits::GREATEST_BODY, 0, 1, 1).ok()?;
         Some(Reader {
             alloc,
             framer: Framer::new(alloc, limits),
@@ -160,9 +157,7 @@ impl Reader {
             if rest.is_empty() {
                 break;
             }
-            let Ok(taken) = self.framer.feed(rest) else {
-                return None;
-            };
+            let taken = self.framer.feed(rest).ok()?;
             rest = &rest[taken..];
             if let Some(body) = self.framer.body() {
                 self.frames = self.frames.wrapping_add(1);
@@ -179,10 +174,7 @@ impl Reader {
 
 /// Parses a body, and drops at once what was read. There is no result if it is no JSON.
 pub fn is_object(alloc: Global, body: &[u8]) -> Option<bool> {
-    let Ok(value) = Value::from_slice(alloc, body) else {
-        return None;
-    };
-    Some(value.is_object())
+    Some(Value::from_slice(alloc, body).ok()?.is_object())
 }
 
 /// Reads to the end, and parses each frame's body as soon as the frame is whole.

@@ -94,19 +94,17 @@ struct Indexing<'a> {
 }
 
 impl Work for Indexing<'_> {
-    /// How many bytes were searched.
+    /// Returns how many bytes were searched.
     fn once(&mut self) -> Option<usize> {
         if self.text.len() > MAX_TEXT {
             return None;
         }
-        let Ok(lines) = Lines::new(self.alloc, self.text) else {
-            return None;
-        };
+        let lines = Lines::new(self.alloc, self.text).ok()?;
         Some(self.text.len().max(lines.count()))
     }
 }
 
-/// There is none if it is too long, or memory runs out.
+/// Returns the text of a case; none if it is too long, or memory runs out.
 fn case_text(alloc: Global, case: &Case) -> Option<IndexedText> {
     let text = repeated_part(alloc, case).ok()?;
     if text.len() > MAX_TEXT {
@@ -176,7 +174,7 @@ struct Looking<'a> {
 }
 
 impl Looking<'_> {
-    /// The next position. Columns differ by whole characters in each encoding.
+    /// Returns the next position. Columns differ by whole characters in each encoding.
     fn next(&mut self) -> Position {
         self.turn = self.turn.wrapping_add(1);
         Position {
@@ -187,7 +185,7 @@ impl Looking<'_> {
 }
 
 impl Work for Looking<'_> {
-    /// The place, or the character of its position.
+    /// Returns the byte offset, or the character of its position.
     fn once(&mut self) -> Option<usize> {
         let position = self.next();
         let text = self.text.text();

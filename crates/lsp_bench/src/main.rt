@@ -1,14 +1,17 @@
 //! Times the layers on made input: sums of what was done go to standard output, and the times to
-//! standard error.
+//! standard error. bench/README.md has what was measured.
 //!
-//! `lsp_bench MB` frames streams and indexes a text of that many megabytes, 1 where no number is
-//! given, looks up positions, reads and writes
-//! messages, and makes a few keystrokes in documents and through both ends of a session. `lsp_bench
-//! edits` composes batches of changes, and
-//! `lsp_bench documents` makes a thousand keystrokes in each document. `lsp_bench closing` opens and
-//! closes 65,536 documents. `lsp_bench pairs` makes a
-//! million keystrokes in five rounds through both ends of a session.
-//! `lsp_bench parse` frames and parses what standard input has, and prints how much that was.
+//! - `lsp_bench MB` frames streams and indexes a text of that many megabytes, 1 where no number is
+//!   given, looks up positions, reads and writes messages, and makes a few keystrokes in documents
+//!   and through both ends of a session.
+//! - `lsp_bench edits` composes batches of changes.
+//! - `lsp_bench documents` makes a thousand keystrokes in each document.
+//! - `lsp_bench closing` opens and closes 65,536 documents.
+//! - `lsp_bench pairs` makes a million keystrokes in five rounds through both ends of a session.
+//! - `lsp_bench parse` frames and parses what standard input has, and prints how much that was.
+//!
+//! `timing` times work and prints its row, `text` makes texts and keystrokes. Each other module has
+//! the work of one layer.
 #![tactic(auto)]
 
 mod closing;

@@ -116,7 +116,7 @@ impl Work for Passing<'_> {
     }
 }
 
-/// The params of a notification, if it has any.
+/// Returns the params of a notification, if it has any.
 fn params_in(alloc: Global, body: &[u8]) -> Option<Value> {
     match read(alloc, body) {
         Ok(Message::Notification { params, .. }) => params,
@@ -124,22 +124,22 @@ fn params_in(alloc: Global, body: &[u8]) -> Option<Value> {
     }
 }
 
-/// How many entries the change has.
+/// Returns how many entries the change has.
 fn changes_in(alloc: Global, params: Option<Value>) -> Option<usize> {
     Some(params_change(alloc, params).ok()?.changes.len())
 }
 
-/// How many bytes the text has that is opened.
+/// Returns how many bytes the text has that is opened.
 fn text_in(alloc: Global, params: Option<Value>) -> Option<usize> {
     Some(params_open(alloc, params).ok()?.text.len())
 }
 
-/// The body of a message.
+/// Returns the body of a message.
 pub fn written(alloc: Global, message: &Outgoing) -> Result<Vec<u8>, AllocError> {
     write(alloc, message)
 }
 
-/// A change of so many entries, each of which puts one character in.
+/// Returns a change of so many entries, each of which puts one character in.
 fn change(alloc: Global, entries: u32) -> Result<Outgoing, AllocError> {
     let changes = keystrokes(alloc, entries, 2, 1_000)?;
     Ok(Outgoing::DidChange(changed(alloc, 1_234, changes)?))

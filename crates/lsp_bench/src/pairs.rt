@@ -63,7 +63,7 @@ fn config() -> Config {
     }
 }
 
-/// A pair in which both ends have the document.
+/// Returns a pair in which both ends have the document.
 fn opened_pair(alloc: Global) -> Option<Pair> {
     let document = opened(alloc, SIZE).ok()?;
     let mut pair = new_pair(alloc)?;
@@ -111,7 +111,7 @@ fn open(pair: &mut Pair, document: OpenParams) -> bool {
     step(pair, event) && step(pair, Event::ToServer)
 }
 
-/// A server that has the document.
+/// Returns a server that has the document.
 fn opened_server(alloc: Global) -> Option<Server> {
     let document = opened(alloc, SIZE).ok()?;
     let mut server = Server::new(alloc, config());
@@ -148,7 +148,7 @@ impl Ends {
 }
 
 impl Work for Ends {
-    /// 1 if the server's text was changed, else 0.
+    /// Returns 1 if the server's text was changed, else 0.
     fn once(&mut self) -> Option<usize> {
         let turn = self.turn;
         self.turn = turn.wrapping_add(1);
@@ -161,7 +161,7 @@ impl Work for Ends {
     }
 }
 
-/// The keystroke of a turn, alone in a batch.
+/// Returns the keystroke of a turn, alone in a batch.
 fn change(alloc: Global, turn: u32) -> Result<ChangeParams, AllocError> {
     let version = i32::try_from(turn).unwrap_or(i32::MAX).saturating_add(2);
     changed(alloc, version, batch(alloc, turn)?)
@@ -173,7 +173,7 @@ fn batch(alloc: Global, turn: u32) -> Result<Vec<Change>, AllocError> {
     Ok(changes)
 }
 
-/// An edit of the client, and its delivery. The result says whether the server's text was changed.
+/// Makes an edit of the client, and its delivery. Returns whether the server's text was changed.
 fn edit(pair: &mut Pair, change: ChangeParams) -> Option<bool> {
     let ChangeParams {
         uri,
@@ -192,21 +192,16 @@ fn edit(pair: &mut Pair, change: ChangeParams) -> Option<bool> {
 }
 
 fn deliver(pair: &mut Pair) -> Option<bool> {
-    match pair.step(&Event::ToServer) {
-        Ok(happened) => Some(happened == CHANGED),
-        Err(_) => None,
-    }
+    Some(pair.step(&Event::ToServer).ok()? == CHANGED)
 }
 
-/// A message that the server handles. The result says whether its text was changed.
+/// Passes a message to the server. Returns whether the server's text was changed.
 fn handle(alloc: Global, server: &mut Server, message: Outgoing) -> Option<bool> {
     let body = written(alloc, &message).ok()?;
     is_changed(server, &body)
 }
 
 fn is_changed(server: &mut Server, body: &[u8]) -> Option<bool> {
-    match server.handle(body) {
-        Ok(answer) => Some(matches!(answer, Answer::Changed)),
-        Err(_) => None,
-    }
+    let answer = server.handle(body).ok()?;
+    Some(matches!(answer, Answer::Changed))
 }

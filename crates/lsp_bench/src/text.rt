@@ -15,7 +15,7 @@ const LINE: &str = "    let answer = question.map(|x| x+1);\n";
 /// Where in its line a letter is put in.
 const COLUMN: u32 = 8;
 
-/// So many bytes of equal lines.
+/// Returns so many bytes of equal lines.
 pub fn made_text(alloc: Global, size: usize) -> Result<String, AllocError> {
     let mut text = String::with_capacity(alloc, size.saturating_add(LINE.len()))?;
     for _ in 0..lines_of(size) {
@@ -24,7 +24,7 @@ pub fn made_text(alloc: Global, size: usize) -> Result<String, AllocError> {
     Ok(text)
 }
 
-/// The document with a text of so many bytes, as it is opened.
+/// Returns the document with a text of so many bytes, as it is opened.
 pub fn opened(alloc: Global, size: usize) -> Result<OpenParams, AllocError> {
     let text = made_text(alloc, size)?;
     let uri = String::from_str(alloc, URI)?;
@@ -36,7 +36,7 @@ pub fn opened(alloc: Global, size: usize) -> Result<OpenParams, AllocError> {
     })
 }
 
-/// A batch of changes of the document.
+/// Returns a batch of changes of the document.
 pub fn changed(
     alloc: Global,
     version: i32,
@@ -49,12 +49,12 @@ pub fn changed(
     })
 }
 
-/// How many lines a text of so many bytes has.
+/// Returns how many lines a text of so many bytes has.
 pub fn lines_of(size: usize) -> usize {
     size / LINE.len()
 }
 
-/// The line of a keystroke in a text of so many lines, from its middle on.
+/// Returns the line of a keystroke in a text of so many lines, from its middle on.
 fn line_at(turn: u32, lines: usize) -> usize {
     (turn as usize / 2)
         .wrapping_mul(7_919)
@@ -62,8 +62,8 @@ fn line_at(turn: u32, lines: usize) -> usize {
         % lines.max(1)
 }
 
-/// A keystroke of a text of so many lines: a letter is put in on an even turn, and taken out again
-/// on the next.
+/// Returns a keystroke of a text of so many lines: a letter is put in on an even turn, and taken
+/// out again on the next.
 pub fn keystroke(alloc: Global, turn: u32, lines: usize) -> Result<Change, AllocError> {
     let line = u32::try_from(line_at(turn, lines)).unwrap_or(u32::MAX);
     if turn % 2 == 0 {
@@ -73,7 +73,7 @@ pub fn keystroke(alloc: Global, turn: u32, lines: usize) -> Result<Change, Alloc
     }
 }
 
-/// A change of what a line has from where letters are put in to this column.
+/// Returns a change of what a line has from where letters are put in to this column.
 fn change(alloc: Global, line: u32, stop: u32, text: &str) -> Result<Change, AllocError> {
     let range = Range {
         start: Position {
@@ -91,7 +91,8 @@ fn change(alloc: Global, line: u32, stop: u32, text: &str) -> Result<Change, All
     })
 }
 
-/// So many keystrokes, with so many turns from each to the next: with two each puts a letter in.
+/// Returns so many keystrokes, with so many turns from each to the next: with two each puts a
+/// letter in.
 pub fn keystrokes(
     alloc: Global,
     count: u32,

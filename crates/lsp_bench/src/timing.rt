@@ -25,8 +25,8 @@ pub struct Row<'a> {
 }
 
 /// Times work. The sum of a round goes to standard output. The time of doing the work once goes to
-/// standard error, with what is added to
-/// the sum in a microsecond: megabytes a second, if the work results in a number of bytes.
+/// standard error, with what is added to the sum in a microsecond: megabytes a second, if the work
+/// results in a number of bytes.
 pub fn time<R: Runtime, W: Work>(rt: &R, row: Row<'_>, work: &mut W) -> io::Result<()> {
     let mut least = Duration::MAX;
     let mut sum: usize = 0;
@@ -38,7 +38,7 @@ pub fn time<R: Runtime, W: Work>(rt: &R, row: Row<'_>, work: &mut W) -> io::Resu
     report(rt, row, sum, least.as_nanos())
 }
 
-/// What work resulted in, or an error if a call of it failed.
+/// Returns what work resulted in, or an error if a call of it failed.
 pub fn done<T>(value: Option<T>) -> io::Result<T> {
     match value {
         Some(value) => Ok(value),

@@ -1,6 +1,5 @@
 -- A text in blocks. Each but the last ends with a character that isn't a carriage return, so no
--- CRLF
--- is in two of them.
+-- CRLF is in two of them.
 use Rattle.std.specs.Prelude.{ℕ, zero, suc, ◌≡◌, ◌≢◌, ◌+◌, ◌-◌, ◌<◌, ◌≤◌, true, List, [], ◌∷◌, length, map, slice_index}
 use Rattle.std.specs.List.{concat}
 use Rattle.std.specs.Str.{is_utf8, chars}

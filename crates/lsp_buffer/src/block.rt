@@ -1,36 +1,35 @@
-//! A block of a text, with its lines.
+//! A block of a text, which copies of the text share.
 ghost use Rattle.std.specs.Prelude.{◌≡◌, ◌≢◌, ◌+◌, ◌-◌, ◌≤◌, ◌↔◌, ◌++◌, IsTrue, IfOk, IfNone, IfSome, OnOk, OnErr, Some, List, ℕ, length, option_map, string_bytes, string_len};
 ghost use Rattle.std.specs.List.{concat, replace_range};
 ghost use Rattle.std.specs.Result.{result_ok};
 ghost use Rattle.std.specs.Str.{IsCharBoundary, IsUtf8, chars};
 ghost use Rattle.lsp_text.specs.Text.{place_of};
 ghost use Rattle.lsp_text.specs.TextLines.{line_ends};
-ghost use Rattle.lsp_text.specs.LineStarts.{IsPlace};
+ghost use Rattle.lsp_text.specs.LineStarts.{Indexes, IsPlace};
 ghost use Rattle.lsp_text.specs.Units.{units_in};
 ghost use Rattle.lsp_text.specs.Positions.{exact_position, denoted};
 ghost use Rattle.lsp_buffer.specs.Blocks.{head_of, head_after};
 
-use crate::in_place::put_in_place;
+use crate::leaf::Leaf;
 use lsp_text::{Encoding, InsideCharacter, Lines, Position};
 use std::alloc::{AllocError, Global};
 use std::marker::Model;
+use std::sync::Arc;
 
-/// Some whole lines of a text, with their starts. Clauses see their bytes.
+/// A part of a text, with the lines of that part alone. It may begin and end inside a line of the
+/// text. Copies of the text share it, until one of them changes it. Clauses see its bytes.
 #[derive(Debug, Drop)]
 pub struct Block {
-    text: String,
-    lines: Lines,
+    leaf: Arc<Leaf>,
 }
 
 impl Model for Block {
-    ghost use Rattle.std.specs.Prelude.{ℕ, List, string_bytes};
-    ghost use Rattle.lsp_text.specs.LineStarts.{Indexes};
+    ghost use Rattle.std.specs.Prelude.{ℕ, List};
+    ghost use Rattle.std.specs.Arc.{arc_value};
 
     ghost Value = { List ℕ };
 
-    ghost view = { λ block. string_bytes block.text };
-
-    ghost invariant = { λ block. Indexes block.lines (string_bytes block.text) };
+    ghost view = { λ block. arc_value block.leaf };
 }
 
 impl Block {
@@ -39,8 +38,8 @@ impl Block {
         requires { string_len text ≤ 2147483648 }
         ensures { IfOk result (λ block. block ≡ string_bytes text) }
     {
-        let lines = Lines::new(alloc, &text)?;
-        Ok(Block { text, lines })
+        let leaf = Arc::new(alloc, Leaf::new(alloc, text)?)?;
+        Ok(Block { leaf })
     }
 
     /// Copies a text and finds its lines. Fails only if it is out of memory.
@@ -48,39 +47,44 @@ impl Block {
         requires { length text.now ≤ 2147483648 }
         ensures { IfOk result (λ block. block ≡ text.now) }
     {
-        let lines = Lines::new(alloc, text)?;
-        let text = String::from_str(alloc, text)?;
-        Ok(Block { text, lines })
+        Block::new(alloc, String::from_str(alloc, text)?)
     }
 
-    /// Returns a copy. Fails only if it is out of memory.
-    pub fn clone_in(&self, alloc: Global) -> Result<Self, AllocError>
-        ensures { IfOk result (λ copy. copy ≡ self.now) }
+    /// Returns the same block, which both share. Costs nothing of its text, and fails only if so
+    /// many share it that they can't be counted.
+    pub fn share(&self) -> Result<Self, AllocError>
+        ensures { IfOk result (λ block. block ≡ self.now) }
     {
-        let lines = self.lines.clone_in(alloc)?;
-        let text = String::from_str(alloc, &self.text)?;
-        Ok(Block { text, lines })
+        let leaf = Arc::try_clone(&self.leaf)?;
+        Ok(Block { leaf })
     }
 
     /// Returns the text.
     pub fn text(&self) -> &str
         ensures { result.now ≡ self.now }
     {
-        &self.text
+        self.leaf.text()
+    }
+
+    /// Returns its lines.
+    fn lines(&self) -> &Lines
+        ensures { Indexes result.now self.now }
+    {
+        self.leaf.lines()
     }
 
     /// Returns how many bytes it has.
     pub fn len(&self) -> usize
         ensures { result ≡ length self.now }
     {
-        self.text.len()
+        self.text().len()
     }
 
     /// Returns how many line ends it has.
     pub fn ends(&self) -> usize
         ensures { result ≡ line_ends (chars self.now) }
     {
-        self.lines.count() - 1
+        self.lines().count() - 1
     }
 
     /// Returns the byte offset that a position denotes in the block alone.
@@ -88,7 +92,7 @@ impl Block {
         ensures { result_ok result ≡ option_map (place_of (chars self.now))
             (denoted (units_in encoding) (chars self.now) position) }
     {
-        self.lines.resolve(&self.text, encoding, position)
+        self.lines().resolve(self.text(), encoding, position)
     }
 
     /// Returns the exact position of a byte offset in the block alone.
@@ -97,7 +101,7 @@ impl Block {
         ensures { (k : ℕ) → k ≤ length (chars self.now) → place_of (chars self.now) k ≡ offset
             → result ≡ exact_position (units_in encoding) (chars self.now) k }
     {
-        self.lines.position(&self.text, encoding, offset)
+        self.lines().position(self.text(), encoding, offset)
     }
 
     /// Returns the units from the start of its last line to its end.
@@ -105,7 +109,7 @@ impl Block {
         ensures head { result ≡ head_of (units_in encoding) self.now }
         ensures few { result ≤ length self.now }
     {
-        let bytes = self.text.as_bytes();
+        let bytes = self.text().as_bytes();
         let end = bytes.len();
         if end > 0 && bytes[end - 1] == b'\n' {
             return 0;
@@ -129,7 +133,7 @@ impl Block {
     pub fn is_char_boundary(&self, offset: usize) -> bool
         ensures { IsTrue result ↔ IsCharBoundary self.now offset }
     {
-        self.text.is_char_boundary(offset)
+        self.text().is_char_boundary(offset)
     }
 
     /// Returns whether a position can denote a byte offset in the block alone.
@@ -137,10 +141,12 @@ impl Block {
         ensures place { IsTrue result ↔ IsPlace (chars self.now) offset }
         ensures boundary { IsTrue result → IsCharBoundary self.now offset }
     {
-        self.lines.is_place(&self.text, offset)
+        self.lines().is_place(self.text(), offset)
     }
 
     /// Replaces the bytes from `start` to `end`. Out of memory changes nothing.
+    ///
+    /// If another text shares the block, this one has a copy of it first: the other stays as it is.
     pub fn replace_range(&mut self, start: usize, end: usize, new: &str) -> Result<(), AllocError>
         requires order { start ≤ end }
         requires at_start { IsCharBoundary self.old start }
@@ -149,7 +155,7 @@ impl Block {
         ensures changed { OnOk result (self.new ≡ replace_range self.old start end new.now) }
         ensures unchanged { OnErr result (self.new ≡ self.old) }
     {
-        put_in_place(&mut self.text, &mut self.lines, start, end, new)
+        Arc::make_mut(&mut self.leaf)?.replace_range(start, end, new)
     }
 }
 
@@ -162,15 +168,15 @@ pub struct BlockSplice<'a> {
     pub fresh: &'a [Block],
 }
 
-/// Copies some blocks. Fails only if it is out of memory.
-pub fn copied_blocks(alloc: Global, blocks: &[Block]) -> Result<Vec<Block>, AllocError>
-    ensures { IfOk result (λ copies. copies.items ≡ blocks.now) }
+/// Returns the same blocks, which both share. Fails only if it is out of memory.
+pub fn shared_blocks(alloc: Global, blocks: &[Block]) -> Result<Vec<Block>, AllocError>
+    ensures { IfOk result (λ shared. shared.items ≡ blocks.now) }
 {
-    let mut copies = Vec::with_capacity(alloc, blocks.len())?;
+    let mut shared = Vec::with_capacity(alloc, blocks.len())?;
     for block in blocks {
-        copies.push(block.clone_in(alloc)?)?;
+        shared.push(block.share()?)?;
     }
-    Ok(copies)
+    Ok(shared)
 }
 
 /// Returns the bytes after some others, if these come first.

@@ -14,7 +14,7 @@ ghost use Rattle.lsp_buffer.specs.Blocks.{AreBlocks};
 
 pub(crate) mod change;
 
-use crate::block::{Block, are_text, copied_blocks};
+use crate::block::{Block, are_text, shared_blocks};
 use crate::cut::blocks_of;
 use crate::heads::Heads;
 use crate::seams::{block_at, position_after, position_from};
@@ -95,13 +95,13 @@ impl TextBuffer {
         })
     }
 
-    /// Returns a copy. Fails only if it is out of memory. Linear in the text, but no line is
-    /// searched for again.
+    /// Returns a copy, which shares its blocks with this text. Fails only if it is out of memory.
+    /// Costs a step for each block: a block is copied once one of both changes it.
     pub fn clone_in(&self, alloc: Global) -> Result<Self, AllocError>
         ensures copy { IfOk result (λ copy. copy ≡ self.now) }
         ensures utf8 { OnOk result (IsUtf8 self.now) }
     {
-        let blocks = copied_blocks(alloc, &self.blocks)?;
+        let blocks = shared_blocks(alloc, &self.blocks)?;
         let starts = Vec::from_slice(alloc, &self.starts)?;
         let lines = Vec::from_slice(alloc, &self.lines)?;
         let heads = self.heads.clone_in(alloc)?;
@@ -284,8 +284,8 @@ impl TextBuffer {
         Ok(text)
     }
 
-    /// Appends the bytes from `start` to `end` to a string. Fails only if it is out of memory. Costs
-    /// a binary search for each block of the range, and its bytes.
+    /// Appends the bytes from `start` to `end` to a string. Fails only if it is out of memory.
+    /// Costs a binary search for each block of the range, and its bytes.
     pub fn push_range(&self, out: &mut String, start: usize, end: usize) -> Result<(), AllocError>
         requires order { start ≤ end }
         requires at_start { IsCharBoundary self.now start }
@@ -319,8 +319,8 @@ impl TextBuffer {
         are_text(&self.blocks, text.as_bytes())
     }
 
-    /// Returns the bytes from an offset on, up to the end of their block. There are none only at the
-    /// end of the text. Costs a binary search over the blocks.
+    /// Returns the bytes from an offset on, up to the end of their block. There are none only at
+    /// the end of the text. Costs a binary search over the blocks.
     fn bytes_from(&self, offset: usize) -> &[u8]
         requires { offset ≤ length self.now }
         ensures part { result.now ≡ take (length result.now) (drop offset self.now) }

@@ -4,6 +4,7 @@ ghost use Rattle.std.specs.Prelude.{string_bytes};
 ghost use Rattle.lsp_text.specs.LineStarts.{Indexes};
 
 mod changes;
+mod copies;
 mod long_lines;
 mod reads;
 

@@ -50,9 +50,8 @@ pub record Applied (units : ℕ → ℕ) (edited : PlainData) (change : Edit) (n
   pub counted : next.changes ≡ next_number edited.changes
 
 -- What is true of the fields of pieces. The spans are parts of the old text and of new texts, and
--- no
--- two neighbours touch. They keep each CRLF of it whole, and there are at most two more of them for
--- each change.
+-- no two neighbours touch. They keep each CRLF of it whole, and there are at most two more of them
+-- for each change.
 pub record ArePieces (before : List ℕ) (parts : List Part) (len changes : ℕ) : Type 0 where
   pub utf8 : is_utf8 before ≡ true
   pub are : AreParts before parts

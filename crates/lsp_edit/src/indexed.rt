@@ -67,8 +67,8 @@ impl From<AllocError> for TextFault {
     }
 }
 
-/// A text in blocks with their lines, so that a change costs its block. Clauses see the bytes of the
-/// text.
+/// A text in blocks with their lines, so that a change costs its block. Clauses see the bytes of
+/// the text.
 #[derive(Debug, Drop)]
 pub struct IndexedText {
     text: TextBuffer,
@@ -120,8 +120,8 @@ impl IndexedText {
         OldText::in_blocks(&self.text)
     }
 
-    /// Copies the text and its lines. Fails only if it is out of memory. Costs the copies, and no
-    /// search through the text.
+    /// Returns a copy, which shares its blocks with this text. Fails only if it is out of memory.
+    /// Costs a step for each block: a block is copied once one of both changes it.
     pub fn clone_in(&self, alloc: Global) -> Result<Self, AllocError>
         ensures copy { IfOk result (λ copy. copy ≡ self.now) }
         ensures utf8 { OnOk result (IsUtf8 self.now) }
@@ -185,8 +185,8 @@ impl IndexedText {
     /// memory. The text is unchanged then.
     ///
     /// One change with a range costs its two positions, its block, and an addition for each later
-    /// block. Any other batch costs that for each change, and a copy of the text if its first change
-    /// doesn't replace all.
+    /// block. Any other batch costs that for each change, and [`IndexedText::clone_in`] if its first
+    /// change doesn't replace all.
     pub fn change(
         &mut self,
         encoding: Encoding,

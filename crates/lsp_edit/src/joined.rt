@@ -78,8 +78,8 @@ impl Joined {
         Ok(Self::begin(alloc, before))
     }
 
-    /// Makes a text before any batch; the text is copied, with its lines. Fails only if it is out
-    /// of memory. Costs the copies, and no search through the text.
+    /// Makes a text before any batch, as a copy of this one. Fails only if it is out of memory.
+    /// Costs what [`IndexedText::clone_in`] costs.
     pub fn over(alloc: Global, text: &IndexedText) -> Result<Self, AllocError>
         ensures joined { IfOk result (λ joined.
             joined ≡ record { before = text.now; items = plain (chars text.now) }) }

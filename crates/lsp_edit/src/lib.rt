@@ -3,7 +3,8 @@
 //!
 //! - `indexed`: `IndexedText`, a text in blocks, which a server changes batch by batch. `draft`
 //!   applies a batch to a copy. `ends` has the byte offsets of a range.
-//! - `old_text`: `OldText`, the text before any change, as one string or in blocks.
+//! - `old_text`: `OldText`, the text before any change, as one string or in blocks. `form` is which
+//!   of the two, `indexed_str` one string with its lines, `kept_lines` whose lines these are.
 //! - `pieces`: `Pieces`, what became of an old text, in spans of it and of the changes' texts. Its
 //!   parts are `spans`, `span`, `row`, `replace`, `through` and `current` (the text that later
 //!   changes meet).

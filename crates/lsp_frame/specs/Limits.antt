@@ -2,8 +2,7 @@
 use Rattle.std.specs.Prelude.{ℕ, ◌≤◌, Bool, false, ◌||◌, nat_lt, if◌then◌else◌, Option, Some, None}
 
 -- The four limits: bytes of a body, bytes of a text, open documents, changes of one message.
--- Lenient
--- ones also take a change whatever its version, and a second opening of an open document.
+-- Lenient ones also take a change whatever its version, and a second opening of an open document.
 pub record LimitsData : Type 0 where
   pub max_body : ℕ
   pub max_text : ℕ

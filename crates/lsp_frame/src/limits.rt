@@ -65,8 +65,8 @@ impl Default for Limits {
 
     ghost is_default = { λ limits. limits ≡ default_limits };
 
-    /// 16,777,216 bytes (16 MiB) of a body, as many of a text, 1,024 documents, 65,536 changes. They
-    /// are strict.
+    /// 16,777,216 bytes (16 MiB) of a body, as many of a text, 1,024 documents, 65,536 changes.
+    /// They are strict.
     fn default() -> Limits {
         Limits {
             max_body: Self::DEFAULT_BODY,

@@ -66,7 +66,7 @@ pub fn read_opening<R: Source>(
     }
 }
 
-/// May an input that begins with these bytes be of either version?
+/// Returns whether an input that begins with these bytes may be of either version.
 fn is_undecided(bytes: &[u8], versions: bool, ended: bool) -> bool
     ensures yes { result ≡ true → IsLineFront bytes.now }
     ensures no { result ≡ false → versions ≡ true → IsLineFront bytes.now → ended ≡ true }
@@ -76,14 +76,14 @@ fn is_undecided(bytes: &[u8], versions: bool, ended: bool) -> bool
     versions && !ended && may_be_line(bytes)
 }
 
-/// Are these some first bytes of the line of version 2, and not all?
+/// Returns whether these are some first bytes of the line of version 2, and not all.
 fn may_be_line(bytes: &[u8]) -> bool
     ensures { result ≡ true ↔ IsLineFront bytes.now }
 {
     bytes.len() < VERSION_LINE.len() && VERSION_LINE.starts_with(bytes)
 }
 
-/// The version of an input that begins with these bytes, as far as they decide it.
+/// Returns the version of an input that begins with these bytes, as far as they decide it.
 fn version_of(bytes: &[u8], versions: bool) -> Version
     ensures { IsVersion versions result bytes.now }
 {

@@ -14,7 +14,7 @@ pub enum Version {
 pub const VERSION_LINE: &[u8] = b"lsp-session-log 2\n";
 
 impl Version {
-    /// The bytes before the first record in a log of this version.
+    /// Returns the bytes before the first record in a log of this version.
     pub fn line(self) -> &'static [u8]
         ensures { result.now ≡ line_of self }
     {
@@ -24,7 +24,7 @@ impl Version {
         }
     }
 
-    /// Does a log of this version begin with a line?
+    /// Returns whether a log of this version begins with a line.
     pub fn has_line(self) -> bool
         ensures { result ≡ is_line_due self [] }
     {
@@ -40,7 +40,7 @@ pub enum Side {
 }
 
 impl Side {
-    /// Who wrote a record with this mark of version 2. `None` if no record has it.
+    /// Returns who wrote a record with this mark of version 2. `None` if no record has it.
     pub fn of_mark(mark: u8) -> Option<Side>
         ensures { MatchOption result ((mark ≢ 62) × (mark ≢ 60))
             (λ side. mark_of Version.Two side ≡ mark ∷ []) }
@@ -63,6 +63,6 @@ pub struct Head {
     /// The byte offset of the record in the input: of its mark in version 2, else of its frame. It
     /// stays at the greatest value of a `u64`.
     pub place: u64,
-    /// Is it the first record of a version 2 log, to whose output the log's line belongs?
+    /// Whether it is the first record of a version 2 log, to whose output the log's line belongs.
     pub line_due: bool,
 }

@@ -108,7 +108,7 @@ impl Splitter {
         }
     }
 
-    /// The frame of the buffered record, once it is complete: all its bytes, and its body.
+    /// Returns the frame of the buffered record, once it is complete: all its bytes, and its body.
     pub fn frame(&self) -> Option<(&[u8], &[u8])>
         ensures { MatchOption result
             (self.now.framer.failed ≡ false →
@@ -144,7 +144,7 @@ impl Splitter {
         }
     }
 
-    /// Is no byte of a record buffered?
+    /// Returns whether no byte of a record is buffered.
     pub fn at_rest(&self) -> bool
         requires { IsReady self.now }
         ensures { result ≡ true ↔ buffered_of self.now ≡ [] }
@@ -155,7 +155,7 @@ impl Splitter {
         }
     }
 
-    /// Does the line of a version 2 log belong to the next output?
+    /// Returns whether the line of a version 2 log belongs to the next output.
     pub fn line_due(&self) -> bool
         ensures { result ≡ self.now.line_due }
     {
@@ -175,7 +175,7 @@ impl Splitter {
     }
 }
 
-/// Who wrote the next record, as far as that is known without a mark.
+/// Returns who wrote the next record, as far as that is known without a mark.
 fn first_side(version: Version) -> Option<Side>
     ensures side { IsSide version result }
     ensures none { mark_part version result ≡ [] }
@@ -186,7 +186,7 @@ fn first_side(version: Version) -> Option<Side>
     }
 }
 
-/// The length of a mark.
+/// Returns the length of a mark.
 fn mark_len(version: Version) -> u64
     ensures { (side : Side) → result ≡ length (mark_of version side) }
 {

@@ -1,5 +1,5 @@
--- The end of a line's content, and the long lines before a line.
-use Rattle.std.proofs.Common.{◌≡◌, ℕ, zero, suc, ◌+◌, ◌≤◌, ◌<◌, Bool, true, false, cond, List, [], ◌∷◌, ◌++◌, length, map, filter, Some, refl, sym, ap, ◌∙◌, subst, arith, add-one, le-ltb, lt-ltb}
+-- The end of a line's content, and what is over the limit in the lines before a line.
+use Rattle.std.proofs.Common.{◌≡◌, ℕ, zero, suc, ◌+◌, ◌≤◌, ◌<◌, Bool, true, false, cond, List, [], ◌∷◌, ◌++◌, length, map, filter, Some, sym, ap, ◌∙◌, subst, arith, le-ltb, lt-ltb}
 use Rattle.std.specs.Str.{chars, IsUtf8}
 use Rattle.std.proofs.lemmas.List.{append-nil, map-append}
 use Rattle.std.proofs.lemmas.List.Elements.{filter-append}
@@ -9,11 +9,11 @@ use Rattle.lsp_text.specs.declared.position.Position.{Position}
 use Rattle.lsp_text.specs.declared.position.Range.{Range}
 use Rattle.lsp_text.specs.TextLines.{line_at, line_ends, line_start, line_stop, numbers_from}
 use Rattle.lsp_text.specs.Units.{units_in, units_between}
-use Rattle.lsp_text.specs.Positions.{exact_position, denoted}
+use Rattle.lsp_text.specs.Positions.{denoted}
 use Rattle.lsp_text.proofs.TextLines.LineLemmas.{in_content_line, line_has_stop}
 use Rattle.lsp_text.proofs.Positions.PastLemmas.{past_line}
 use Rattle.lsp_text.proofs.PlainLemmas.{units_total}
-use Rattle.lsp_long_lines.specs.LongLines.{is_long, line_end}
+use Rattle.lsp_long_lines.specs.LongLines.{is_long, line_end, over_limit}
 
 -- The greatest character denotes the end of each line.
 pub denoted-past_end : (encoding : Encoding) (bytes : List ℕ) (line : ℕ) → IsUtf8 bytes → length bytes ≤ 2147483648
@@ -68,43 +68,40 @@ numbers_from-more count =
     let next : count + 1 ≡ suc count = omega arith in
     ap (numbers_from 0) next ∙ numbers_from-suc 0 count ∙ ap (λ (k : ℕ). numbers_from 0 count ++ k ∷ []) plain
 
--- The ends of the long lines among the first ones.
-abbrev pub ends_before : (ℕ → ℕ) → List ℕ → ℕ → List Position
-ends_before units text count = map (line_end units text) (filter (is_long units text) (numbers_from 0 count))
+-- What is over the limit in the long lines among the first ones.
+abbrev pub ranges_before : (ℕ → ℕ) → List ℕ → ℕ → List Range
+ranges_before units text count = map (over_limit units text) (filter (is_long units text) (numbers_from 0 count))
 
 -- One line more, which is the last of these if it is long.
-ends_before-more : (units : ℕ → ℕ) (text : List ℕ) (line : ℕ) (long : Bool) → long ≡ is_long units text line →
-    ends_before units text (line + 1) ≡ ends_before units text line ++ map (line_end units text)
+ranges_before-more : (units : ℕ → ℕ) (text : List ℕ) (line : ℕ) (long : Bool) → long ≡ is_long units text line →
+    ranges_before units text (line + 1) ≡ ranges_before units text line ++ map (over_limit units text)
     (cond long (line ∷ []) [])
-ends_before-more units text line long is =
+ranges_before-more units text line long is =
     let test = is_long units text in
     let earlier = filter test (numbers_from 0 line) in
     let last : filter test (line ∷ []) ≡ cond long (line ∷ []) [] = ap (λ (b : Bool). cond b (line ∷ []) []) (sym is) in
-    ap (map (line_end units text))
+    ap (map (over_limit units text))
     (ap (filter test) (numbers_from-more line) ∙ filter-append test (numbers_from 0 line) (line ∷ [])
     ∙ ap (λ (ks : List ℕ). earlier ++ ks) last)
-    ∙ map-append (line_end units text) earlier (cond long (line ∷ []) [])
+    ∙ map-append (over_limit units text) earlier (cond long (line ∷ []) [])
 
-abbrev pub stops : List Range → List Position
-stops ranges = map (λ (range : Range). range.stop) ranges
-
-pub stops-long : (units : ℕ → ℕ) (bytes shown : List ℕ) (line : ℕ) (ranges : List Range) (range : Range) → shown ≡ bytes
-    → true ≡ is_long units (chars shown) line →
-    range.stop ≡ line_end units (chars shown) line → stops ranges ≡ ends_before units (chars bytes) line
-    → stops (ranges ++ range ∷ []) ≡ ends_before units (chars bytes) (line + 1)
-stops-long units bytes shown line ranges range same long end before =
+pub ranges-long : (units : ℕ → ℕ) (bytes shown : List ℕ) (line : ℕ) (ranges : List Range) (range : Range)
+    → shown ≡ bytes → true ≡ is_long units (chars shown) line →
+    range ≡ over_limit units (chars shown) line → ranges ≡ ranges_before units (chars bytes) line
+    → ranges ++ range ∷ [] ≡ ranges_before units (chars bytes) (line + 1)
+ranges-long units bytes shown line ranges range same long over before =
     let text = chars bytes in
     let here : true ≡ is_long units text line = subst (λ (b : List ℕ). true ≡ is_long units (chars b) line) same long in
-    let at : range.stop ≡ line_end units text line = subst (λ (b : List ℕ). range.stop ≡ line_end units (chars b) line)
-    same end in
-    map-append (λ (r : Range). r.stop) ranges (range ∷ []) ∙ ap (λ (ps : List Position). ps ++ range.stop ∷ []) before
-    ∙ ap (λ (p : Position). ends_before units text line ++ p ∷ []) at ∙ sym (ends_before-more units text line true here)
+    let at : range ≡ over_limit units text line = subst (λ (b : List ℕ). range ≡ over_limit units (chars b) line)
+    same over in
+    ap (λ (rs : List Range). rs ++ range ∷ []) before
+    ∙ ap (λ (r : Range). ranges_before units text line ++ r ∷ []) at ∙ sym (ranges_before-more units text line true here)
 
-pub stops-short : (units : ℕ → ℕ) (bytes shown : List ℕ) (line : ℕ) (ranges : List Range) → shown ≡ bytes
+pub ranges-short : (units : ℕ → ℕ) (bytes shown : List ℕ) (line : ℕ) (ranges : List Range) → shown ≡ bytes
     → false ≡ is_long units (chars shown) line →
-    stops ranges ≡ ends_before units (chars bytes) line → stops ranges ≡ ends_before units (chars bytes) (line + 1)
-stops-short units bytes shown line ranges same short before =
+    ranges ≡ ranges_before units (chars bytes) line → ranges ≡ ranges_before units (chars bytes) (line + 1)
+ranges-short units bytes shown line ranges same short before =
     let text = chars bytes in
     let here : false ≡ is_long units text line = subst (λ (b : List ℕ). false ≡ is_long units (chars b) line) same
     short in
-    before ∙ sym (append-nil (ends_before units text line)) ∙ sym (ends_before-more units text line false here)
+    before ∙ sym (append-nil (ranges_before units text line)) ∙ sym (ranges_before-more units text line false here)

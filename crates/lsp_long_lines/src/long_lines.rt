@@ -4,7 +4,8 @@ ghost use Rattle.std.specs.Prelude.{◌≡◌, ◌≤◌, IfOk, IfSome, is_some,
 ghost use Rattle.std.specs.Str.{chars};
 ghost use Rattle.lsp_text.specs.TextLines.{line_ends};
 ghost use Rattle.lsp_text.specs.Units.{units_in};
-ghost use Rattle.lsp_long_lines.specs.LongLines.{is_long, line_end, long_lines as long_lines_of};
+ghost use Rattle.lsp_long_lines.specs.LongLines.{is_long, long_lines as long_lines_of};
+ghost use Rattle.lsp_long_lines.specs.LongLines.{line_end, over_limit};
 
 use lsp_buffer::TextBuffer;
 use lsp_store::Document;
@@ -21,10 +22,10 @@ pub fn long_lines(
     document: &Document<'_>,
     encoding: Encoding,
 ) -> Result<Vec<Range>, AllocError>
-    // There is a range for each long line and no other, in their order, up to the line's end.
+    // There is a range for each long line and no other, in their order: what is over the limit.
     ensures { let units = units_in encoding in let text = chars document.now.text in
-        IfOk result (λ ranges. map (λ range. range.stop) ranges.items
-        ≡ map (line_end units text) (long_lines_of units text)) }
+        IfOk result (λ ranges. ranges.items
+        ≡ map (over_limit units text) (long_lines_of units text)) }
 {
     let text = document.text();
     let mut ranges = Vec::new(alloc);
@@ -36,27 +37,27 @@ pub fn long_lines(
     Ok(ranges)
 }
 
-/// The range of a line that is over the limit, up to the line's end; `None` if the line isn't long.
+/// Returns the range of a line that is over the limit; `None` if the line isn't long.
 fn excess(text: &TextBuffer, encoding: Encoding, line: u32) -> Option<Range>
     requires { line ≤ line_ends (chars text.now) }
     ensures long { is_some result ≡ is_long (units_in encoding) (chars text.now) line }
-    ensures stop { IfSome result (λ range.
-        range.stop ≡ line_end (units_in encoding) (chars text.now) line) }
+    ensures range { IfSome result (λ range.
+        range ≡ over_limit (units_in encoding) (chars text.now) line) }
 {
     let stop = end_of_line(text, encoding, line);
     if stop.character <= LIMIT {
         return None;
     }
     // The limit may lie inside a character: then that character is over it.
-    let start = (0..=LIMIT)
-        .rev()
-        .map(|character| Position { line, character })
-        .find(|start| text.resolve(encoding, *start).is_ok())
-        .unwrap_or(stop);
+    let character = LIMIT;
+    let mut start = Position { line, character };
+    while text.resolve(encoding, start).is_err() {
+        start.character -= 1;
+    }
     Some(Range { start, stop })
 }
 
-/// The exact position of the end of a line's content.
+/// Returns the exact position of the end of a line's content.
 fn end_of_line(text: &TextBuffer, encoding: Encoding, line: u32) -> Position
     requires { line ≤ line_ends (chars text.now) }
     ensures { result ≡ line_end (units_in encoding) (chars text.now) line }

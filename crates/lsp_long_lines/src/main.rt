@@ -70,7 +70,8 @@ fn answer<W: Write>(
     Ok(None)
 }
 
-/// The URI of the document that a notification opens, changes or closes; empty for another message.
+/// Returns the URI of the document that a notification opens, changes or closes; empty for another
+/// message.
 fn document_of(incoming: &Incoming) -> &str {
     match incoming {
         Incoming::DidOpen(Some(params)) => &params.uri,
@@ -80,8 +81,8 @@ fn document_of(incoming: &Incoming) -> &str {
     }
 }
 
-/// The frame that publishes a document's diagnostics (LSP 3.17, PublishDiagnostics Notification).
-/// There are none if the document is closed.
+/// Returns the frame that publishes a document's diagnostics (LSP 3.17, PublishDiagnostics
+/// Notification). There are none if the document is closed.
 fn diagnostics(alloc: Global, server: &Server, uri: &str) -> Result<Vec<u8>, AllocError> {
     let mut found = Vec::new(alloc);
     if let (Some(document), Some(encoding)) = (server.store().get(uri), server.encoding()) {
@@ -97,7 +98,7 @@ fn diagnostics(alloc: Global, server: &Server, uri: &str) -> Result<Vec<u8>, All
     frame(alloc, &notification.to_vec(alloc)?)
 }
 
-/// A warning over a range.
+/// Returns a warning over a range.
 fn diagnostic(alloc: Global, range: Range) -> Result<Value, AllocError> {
     let start = json!(in alloc; {"line": range.start.line, "character": range.start.character})?;
     let end = json!(in alloc; {"line": range.stop.line, "character": range.stop.character})?;

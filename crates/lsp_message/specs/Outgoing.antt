@@ -85,12 +85,13 @@ document_text p =
     ++ codes ",\"uri\":" ++ quoted p.uri ++ codes ",\"version\":" ++ signed_decimal p.version
     ++ codes "}"
 
--- A `Position`, and a `Range`.
+-- A `Position`.
 abbrev pub position_text : Position → List ℕ
 position_text p =
     codes "{\"character\":" ++ decimal p.character ++ codes ",\"line\":" ++ decimal p.line
     ++ codes "}"
 
+-- A `Range`.
 abbrev pub range_text : Range → List ℕ
 range_text r =
     codes "{\"end\":" ++ position_text r.stop ++ codes ",\"start\":" ++ position_text r.start

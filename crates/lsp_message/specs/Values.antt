@@ -4,8 +4,8 @@ use Rattle.std.specs.Option.{option_map_or}
 use Rattle.serde_json.specs.Data.{Data, Items, Members}
 use Rattle.serde_json.specs.Find.{get, as_null, as_number, as_str, as_array, as_object, as_i64, as_u64}
 
--- The next step of what was found, if something was found.
 infixl 10 ◌>>=◌
+-- The next step of what was found, if something was found.
 abbrev pub ◌>>=◌ : {A B : Type 0} → Option A → (A → Option B) → Option B
 found >>= next = option_and_then next found
 

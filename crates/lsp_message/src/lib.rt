@@ -5,7 +5,8 @@
 //! - `params`: the typed parameters of the document messages.
 //! - `agreement`: what a client offers and what a server announces.
 //! - `outgoing`: the messages that are written, and the errors of replies.
-//! - `writer`: the canonical body of each of them, and its frame.
+//! - `writer`: the canonical body of each of them, and its frame. `lifecycle` has the messages of a
+//!   session's lifecycle and the replies, `documents` those on documents.
 //! - `members`: the members of a JSON object, moved out of it.
 //! - `laws`: what holds of bodies and messages by their definitions.
 #![tactic(auto)]

@@ -52,8 +52,7 @@ IsCallStep old (Ok sending) happened new =
 IsCallStep old (Err fault) happened new = (happened ≡ Refused fault) × (new ≡ old)
 
 -- The server, which has not ended, handles the first frame of its queue, and its reply comes last
--- in
--- the other.
+-- in the other.
 pub record IsServerStep (old : PairData) (first : List ℕ) (rest : List (List ℕ))
     (happened : Happened) (new : PairData) : Type 0 where
   pub body : List ℕ

@@ -96,7 +96,7 @@ pub(super) fn ends_have(pair: &Pair, client: Open, server: Open) -> bool {
     has(pair.client().store(), client) && has(pair.server().store(), server)
 }
 
-/// Makes the step of a row. Did happen what is wanted?
+/// Makes the step of a row. Returns whether what is wanted happened.
 fn is_row(pair: &mut Pair, alloc: Global, row: &Row) -> Result<bool, AllocError> {
     let given = event(alloc, row.0)?;
     let happened = pair.step(&given)?;

@@ -59,12 +59,12 @@ fn read_case(alloc: Global, line: &[u8]) -> Result<Case> {
     })
 }
 
-/// The old text of a case.
+/// Returns the old text of a case.
 fn text_in(value: &Value) -> Option<&str> {
     value.get("text")?.as_str()
 }
 
-/// The positions of a case.
+/// Returns the positions of a case.
 fn positions_in(alloc: Global, value: &Value) -> Result<Vec<Position>> {
     let mut positions = Vec::new(alloc);
     if let Some(list) = list_in(value) {

@@ -11,7 +11,7 @@ abbrev pub allowed_turns : ℕ
 allowed_turns = 1099511627776
 
 -- The last flush, and what it answered. After one that succeeded all that was written is flushed.
--- Else the writer failed at it, or each flush that was allowed was made and interrupted.
+-- Else the writer failed at it, or each flush that was allowed was made.
 abbrev pub IsFlushed : WriterState → WriterState → Result (Unit {0}) EngineFault → Type 0
 IsFlushed before after (Ok _) = (after.flushed ≡ true) × (after.failed ≡ false)
     × Rose before.calls after.calls

@@ -1,36 +1,31 @@
 -- What is returned of a record and known after it, and the output of `trace` and `check --explain` from the record on.
-use Rattle.std.proofs.Common.{◌≡◌, ◌≢◌, ℕ, Bool, false, List, [], ◌∷◌, ◌++◌, option_map, string_bytes, Some, None, refl, sym, ap, ap₂, ◌∙◌, inl, inr, IfOk, OnOk}
+use Rattle.std.proofs.Common.{◌≡◌, ◌≢◌, ℕ, Bool, false, List, [], ◌∷◌, option_map, string_bytes, refl, sym, ap, ap₂, ◌∙◌, inl, inr, IfOk, OnOk}
 use Rattle.std.specs.Prelude.{◌⊎◌, Result, Ok, Err}
 use Rattle.lsp_message.specs.Message.{reading}
 use Rattle.lsp_server.specs.Incoming.{IncomingData, incoming_of}
-use Rattle.lsp_stream.specs.declared.fault.EngineFault.{EngineFault}
-use Rattle.lsp_stream.specs.Ports.{Ports}
 use Rattle.lsp_log.specs.declared.record.Head.{Head}
 use Rattle.lsp_log.specs.declared.record.Side.{Side}
 use Rattle.lsp_log.specs.declared.record.Side.TheVariants.{Client, Server}
 use Rattle.lsp_log.specs.declared.record.Version.{Version}
-use Rattle.lsp_log.specs.laws.Logs.{FirstLaw, VersionLaw}
-use Rattle.lsp_log.specs.Log.{LogRules, Record}
+use Rattle.lsp_log.specs.Log.{Record}
 use Rattle.lsp_replay.specs.declared.notes.Note.{Note}
-use Rattle.lsp_replay.specs.declared.outcome.Outcome.{Outcome}
 use Rattle.lsp_replay.specs.declared.session.Verdict as declared
 use Rattle.lsp_replay.specs.declared.session.known.About.{About}
 use Rattle.lsp_replay.specs.declared.session.known.Noted.{Noted}
 use Rattle.lsp_replay.specs.RunOutput.{written_first}
 use Rattle.lsp_replay.specs.Commands.{RecordOutput, continue_with, writes}
-use Rattle.lsp_replay.specs.Lines.{Known, LineView, known_after, line_output, lines_in, uri_of}
+use Rattle.lsp_replay.specs.Lines.{Known, LineView, known_after, uri_of}
+use Rattle.lsp_replay.specs.inside.Lines.{lines_in}
 use Rattle.lsp_replay.specs.Mentions.{is_mention, last_for}
 use Rattle.lsp_replay.specs.Notes.{notes_if, notes_of, notes_on, ranged_after}
-use Rattle.lsp_replay.specs.Run.{IsEngineRun}
-use Rattle.lsp_replay.specs.Session.{Session, Verdict, recorded, bad, hear_for, is_change, judge, judge_at, judge_from}
+use Rattle.lsp_replay.specs.Session.{Session, Verdict, recorded, bad, encoding_for, judge_server, is_change, judge, judge_from}
 use Rattle.lsp_replay.specs.inside.Bodies.{BodyData, body_read}
-use Rattle.lsp_replay.specs.inside.Engine.{IsLoopRun}
 use Rattle.lsp_replay.specs.inside.Known.{IsAbout, IsLearned, IsNoted, is_change_read, known_by, uri_read}
 use Rattle.lsp_replay.specs.inside.Noting.{notes_on_read}
+use Rattle.lsp_replay.specs.inside.Session.{judge_at}
 use Rattle.lsp_replay.specs.inside.Verdicts.{verdict_view}
-use Rattle.lsp_replay.proofs.Canonical.CanonicalLogLemmas.{heard_for}
+use Rattle.lsp_replay.proofs.Canonical.CanonicalLogLemmas.{heard_as}
 use Rattle.lsp_replay.proofs.Reports.PartLemmas.{unless_not}
-use Rattle.lsp_replay.proofs.Runs.RunReportLemmas.{Grows, NoneCut, grows_on, run_of_course, settled_on}
 
 -- ---- results
 
@@ -67,18 +62,20 @@ module _ (s : Session) (body : List ℕ) where
       (judge_from s version side body).verdict ≡ is_mention (is_change asked) (judge_from s version side body).verdict
   mention_at version Client = refl
   mention_at version Server =
-      let heard = heard_for s s.expected body in
-      no_mention false (hear_for s s.expected body).verdict heard
-      ∙ sym (no_mention (is_change asked) (hear_for s s.expected body).verdict heard)
+      let announced = encoding_for s.expected (reading body) in
+      let heard = heard_as s announced in
+      no_mention false (judge_server s announced).verdict heard
+      ∙ sym (no_mention (is_change asked) (judge_server s announced).verdict heard)
 
   notes_at : (ranged : Bool) (version : Version) (side : Side)
       → notes_if (notes_on_read s.server ranged (reading body) (body_read version side body))
       (judge_from s version side body).verdict ≡ notes_of s ranged body (judge_from s version side body).verdict
   notes_at ranged version Client = refl
   notes_at ranged version Server =
-      let heard = heard_for s s.expected body in
-      no_notes [] (hear_for s s.expected body).verdict heard
-      ∙ sym (no_notes (notes_on s.server ranged (reading body) asked) (hear_for s s.expected body).verdict heard)
+      let announced = encoding_for s.expected (reading body) in
+      let heard = heard_as s announced in
+      no_notes [] (judge_server s announced).verdict heard
+      ∙ sym (no_notes (notes_on s.server ranged (reading body) asked) (judge_server s announced).verdict heard)
 
 -- ---- a record, by what was read of it, what it is about, and the verdict
 
@@ -133,39 +130,3 @@ module _ (view : LineView) (known : Known) (s : Session) (r : Record) where
       ∙ ap (λ (u : Session). written_first line (lines_in view next u more)) (sym session)
       ∙ ap (λ (k : Known). written_first line (lines_in view k t more)) (sym kept_is)
       ∙ ap (λ (b : List ℕ). written_first b (lines_in view kept t more)) (sym is)
-
--- ---- all records
-
-lines_settled : (view : LineView) (known : Known) (s : Session) (rs more : List Record)
-    (answer : Result Outcome EngineFault) → (lines_in view known s rs).stop ≡ Some answer
-    → lines_in view known s (rs ++ more) ≡ lines_in view known s rs
-lines_settled view known s [] more answer e = absurd (let wrong : None ≡ Some answer = e in cc)
-lines_settled view known s (r ∷ rs) more answer e =
-    let given = line_output view known s r (judge s r) in
-    let next = known_after known s r.head r.body (judge s r) in
-    settled_on given.out given.end (lines_in view next (judge s r).session rs)
-    (lines_in view next (judge s r).session (rs ++ more)) answer e
-    (lines_settled view next (judge s r).session rs more answer)
-
-lines_grow : (view : LineView) (known : Known) (s : Session) (rs more : List Record)
-    → Grows (lines_in view known s rs) (lines_in view known s (rs ++ more))
-unfolding Grows
-lines_grow view known s [] more = ((lines_in view known s more).out, refl)
-lines_grow view known s (r ∷ rs) more =
-    let given = line_output view known s r (judge s r) in
-    let next = known_after known s r.head r.body (judge s r) in
-    grows_on given.out given.end _ _ (lines_grow view next (judge s r).session rs more)
-
-pub run_of_lines : FirstLaw → VersionLaw → (view : LineView) (known : Known) (s : Session) {log_rules : LogRules}
-    {max_turns : ℕ} {before after : Ports} {result : Result Outcome EngineFault}
-    → IsLoopRun log_rules (lines_in view known s) false max_turns before after result
-    → NoneCut false log_rules (lines_in view known s) before after result
-    → IsEngineRun (record {
-      log_rules = log_rules;
-      run_output = lines_in view known s;
-      flushes = false;
-      in_parts = false;
-    }) max_turns before after result
-run_of_lines first version view known s run whole =
-    run_of_course first version (lines_in view known s) (lines_settled view known s) (lines_grow view known s) false run
-    whole

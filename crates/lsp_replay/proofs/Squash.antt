@@ -2,6 +2,7 @@
 pub mod JoiningLemmas
 pub mod OpenRunLemmas
 pub mod PendingLemmas
+pub mod SeriesLemmas
 pub mod SingleLemmas
 pub mod SquashedLemmas
 pub mod SquashedLogLemmas

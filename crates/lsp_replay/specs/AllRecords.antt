@@ -58,47 +58,46 @@ pub record ShortAtEnd (run_output : List Record → RunOutput) (unflushed : Bool
   pub continues : (run_output all.records).stop ≡ None
   pub wrote : AppendsShort unflushed received_old received_new (all_of run_output all)
 
--- No turn was left and one more call was needed. Either more was to be written, or what was
--- written was to be passed on. Or all of it was, the input has no fault so far, and more was to be
--- read.
-abbrev pub IsShort : LogRules → (List Record → RunOutput) → PortState → List ℕ → Option (List ℕ) →
-    Option (List ℕ) → Log → Type 0
-IsShort log_rules run_output state input received_old received_new all =
-    AppendsShort state.unflushed received_old received_new (run_output all.records).out
-    ⊎ (((state.ended ≡ true) × ShortAtEnd run_output state.unflushed received_old received_new all)
-    ⊎ ((state.ended_before ≡ false → state.ended ≡ false) × IsUnfinished log_rules input all
-    × Passed run_output received_old received_new all))
+-- An engine that reads by `log_rules` has read `input`, whose records are `all`. The reader and the
+-- writer report `state`, and the writer has had `received_old` before and has `received_new` now.
+module _ (log_rules : LogRules) (run_output : List Record → RunOutput) (state : PortState)
+    (input : List ℕ) (received_old received_new : Option (List ℕ)) (all : Log) where
+  -- No turn was left and one more call was needed. Either more was to be written, or what was
+  -- written was to be passed on. Or all of it was, the input has no fault so far, and more was to
+  -- be read.
+  abbrev pub IsShort : Type 0
+  IsShort =
+      AppendsShort state.unflushed received_old received_new (run_output all.records).out
+      ⊎ (((state.ended ≡ true)
+      × ShortAtEnd run_output state.unflushed received_old received_new all)
+      ⊎ ((state.ended_before ≡ false → state.ended ≡ false) × IsUnfinished log_rules input all
+      × Passed run_output received_old received_new all))
 
--- What each fault says of the input and of the output.
-abbrev pub IsFaultReported : LogRules → (List Record → RunOutput) → PortState → List ℕ →
-    Option (List ℕ) → Option (List ℕ) → Log → EngineFault → Type 0
-IsFaultReported log_rules run_output state input received_old received_new all Read
-    = IsUnfinished log_rules input all × Passed run_output received_old received_new all
-IsFaultReported log_rules run_output state input received_old received_new all Write
-    = IsFirstPart run_output state.ended received_old received_new all
-IsFaultReported log_rules run_output state input received_old received_new all (Frame fault) =
-    IsMalformed log_rules.max_body input fault all × Passed run_output received_old received_new all
-IsFaultReported log_rules run_output state input received_old received_new all (Truncated place) =
-    (state.ended ≡ true) × (place ≡ place_after 0 (length input)) × IsCut log_rules.max_body all
-    × Passed run_output received_old received_new all
-IsFaultReported log_rules run_output state input received_old received_new all (BodyTooLong place)
-    = EndedBy run_output received_old received_new (Err (BodyTooLong place)) all
-IsFaultReported log_rules run_output state input received_old received_new all NoMemory
-    = IsFirstPart run_output state.ended received_old received_new all
-IsFaultReported log_rules run_output state input received_old received_new all TooManyTurns
-    = IsShort log_rules run_output state input received_old received_new all
-IsFaultReported log_rules run_output state input received_old received_new all (BadLog place) =
-    EndedBy run_output received_old received_new (Err (BadLog place)) all
-    ⊎ (IsBadMark input place all × Passed run_output received_old received_new all)
+  -- What each fault says of the input and of the output.
+  abbrev pub IsFaultReported : EngineFault → Type 0
+  IsFaultReported Read =
+      IsUnfinished log_rules input all × Passed run_output received_old received_new all
+  IsFaultReported Write = IsFirstPart run_output state.ended received_old received_new all
+  IsFaultReported (Frame fault) =
+      IsMalformed log_rules.max_body input fault all
+      × Passed run_output received_old received_new all
+  IsFaultReported (Truncated place) =
+      (state.ended ≡ true) × (place ≡ place_after 0 (length input))
+      × IsCut log_rules.max_body all × Passed run_output received_old received_new all
+  IsFaultReported (BodyTooLong place) =
+      EndedBy run_output received_old received_new (Err (BodyTooLong place)) all
+  IsFaultReported NoMemory = IsFirstPart run_output state.ended received_old received_new all
+  IsFaultReported TooManyTurns = IsShort
+  IsFaultReported (BadLog place) =
+      EndedBy run_output received_old received_new (Err (BadLog place)) all
+      ⊎ (IsBadMark input place all × Passed run_output received_old received_new all)
 
--- What each result says of the input and of the output.
-abbrev pub IsRunReport : LogRules → (List Record → RunOutput) → PortState → List ℕ →
-    Option (List ℕ) → Option (List ℕ) → Log → Result Outcome EngineFault → Type 0
-IsRunReport log_rules run_output state input received_old received_new all (Ok outcome) =
-    EndedBy run_output received_old received_new (Ok outcome) all
-    ⊎ ((state.ended ≡ true) × PassedEnd run_output received_old received_new outcome all)
-IsRunReport log_rules run_output state input received_old received_new all (Err fault)
-    = IsFaultReported log_rules run_output state input received_old received_new all fault
+  -- What each result says of the input and of the output.
+  abbrev pub IsRunReport : Result Outcome EngineFault → Type 0
+  IsRunReport (Ok outcome) =
+      EndedBy run_output received_old received_new (Ok outcome) all
+      ⊎ ((state.ended ≡ true) × PassedEnd run_output received_old received_new outcome all)
+  IsRunReport (Err fault) = IsFaultReported fault
 
 -- An engine ran. Whatever records are all that are complete in the bytes that it read, they decide
 -- its output and its result. An input of version 2, where that is refused, has no such records.

@@ -31,7 +31,7 @@ use Rattle.lsp_server.specs.declared.config.ChangeForm.TheVariants.{Incremental}
 use Rattle.lsp_replay.specs.declared.commands.Settings.{Settings}
 use Rattle.lsp_replay.specs.Session.{Session, opened, Verdict, answered, recorded, bad, Judged, judge, outcome_of}
 
--- ---- every engine judges the records by a session
+-- ---- every engine judges the records by a session; most have no state but that
 
 -- The output of a record, and the result with which it ends the run, if it does.
 pub record RecordOutput : Type 0 where
@@ -51,20 +51,28 @@ abbrev pub continue_with : List ℕ → Option (Result Outcome EngineFault) → 
 continue_with out None c = written_first out c
 continue_with out (Some answer) c = stopped out answer
 
--- How an engine reads a log. `record_output` is a record's output, from the session before it and
--- the judgement of it. `end_output` is the output at the end, `outcome` the outcome then.
-pub record View : Type 0 where
-  pub record_output : Session → Record → Judged → RecordOutput
-  pub end_output : Session → Bool → List ℕ
-  pub outcome : Session → Outcome
+-- How an engine reads a log, with a state of its own. `record_output` is a record's output, from
+-- the state and the session before it and the judgement of it, `next` the state after it.
+-- `end_output` is the output at the end, `outcome` the outcome then.
+pub record View (State : Type 0) : Type 0 where
+  pub record_output : State → Session → Record → Judged → RecordOutput
+  pub next : State → Session → Record → Judged → State
+  pub end_output : State → Session → Bool → List ℕ
+  pub outcome : State → Session → Outcome
 
 -- The output of an engine for records that a session judges one after another.
-abbrev pub run_output_in : View → Session → List Record → RunOutput
-run_output_in view s []
-    = record { out = []; stop = None; last = view.end_output s; outcome = view.outcome s }
-run_output_in view s (r ∷ rs) =
-    continue_with (view.record_output s r (judge s r)).out (view.record_output s r (judge s r)).end
-    (run_output_in view (judge s r).session rs)
+abbrev pub output_in : {State : Type 0} → View State → State → Session → List Record → RunOutput
+output_in view state s []
+    = record {
+      out = [];
+      stop = None;
+      last = view.end_output state s;
+      outcome = view.outcome state s;
+    }
+output_in view state s (r ∷ rs) =
+    continue_with (view.record_output state s r (judge s r)).out
+    (view.record_output state s r (judge s r)).end
+    (output_in view (view.next state s r (judge s r)) (judge s r).session rs)
 
 -- A record that can't be in a log ends the run of a log command, at the record's first byte.
 abbrev pub unless_bad : Record → Verdict → RecordOutput → RecordOutput
@@ -86,11 +94,12 @@ serve_output s (answered answer) = served s answer
 serve_output s verdict = writes []
 
 -- If the input ends without `exit`, the status is 1.
-abbrev pub serving : View
+abbrev pub serving : View (Unit {0})
 serving = record {
-  record_output = λ s r j. serve_output j.session j.verdict;
-  end_output = λ s line_due. [];
-  outcome = λ s. record (outcome_of s) { status = 1 };
+  record_output = λ _ s r j. serve_output j.session j.verdict;
+  next = λ _ s r j. tt;
+  end_output = λ _ s line_due. [];
+  outcome = λ _ s. record (outcome_of s) { status = 1 };
 }
 
 -- ---- `check`: a line for each record, its number and a word
@@ -147,11 +156,13 @@ abbrev pub check_line : ℕ → Verdict → List ℕ
 check_line n verdict = decimal n ++ codes " " ++ verdict_word verdict ++ codes "\n"
 
 -- `check` writes a line for each record, and nothing at the end.
-abbrev pub checking : View
+abbrev pub checking : View (Unit {0})
 checking = record {
-  record_output = λ s r j. unless_bad r j.verdict (writes (check_line j.session.records j.verdict));
-  end_output = λ s line_due. [];
-  outcome = outcome_of;
+  record_output = λ _ s r j.
+      unless_bad r j.verdict (writes (check_line j.session.records j.verdict));
+  next = λ _ s r j. tt;
+  end_output = λ _ s line_due. [];
+  outcome = λ _ s. outcome_of s;
 }
 
 -- ---- `replay`: at the end a line for each open document, in order of opening
@@ -165,15 +176,16 @@ abbrev pub report_from : ℕ → List DocumentItem → List ℕ
 report_from index table = flat_map document_line (drop index table)
 
 -- `replay` writes nothing for a record, and at the end the documents' lines from an index on.
-abbrev pub replaying_from : ℕ → View
+abbrev pub replaying_from : ℕ → View (Unit {0})
 replaying_from index = record {
-  record_output = λ s r j. unless_bad r j.verdict (writes []);
-  end_output = λ s line_due. report_from index s.server.table;
-  outcome = outcome_of;
+  record_output = λ _ s r j. unless_bad r j.verdict (writes []);
+  next = λ _ s r j. tt;
+  end_output = λ _ s line_due. report_from index s.server.table;
+  outcome = λ _ s. outcome_of s;
 }
 
 -- `replay` from the first document on.
-abbrev pub replaying : View
+abbrev pub replaying : View (Unit {0})
 replaying = replaying_from 0
 
 -- ---- `normalise`: each accepted change as its canonical message, and every other byte as it is
@@ -222,11 +234,12 @@ canonical_output s r j
 
 -- `normalise` writes each record, and at the end nothing. A log of version 2 without records is its
 -- line.
-abbrev pub normalising : View
+abbrev pub normalising : View (Unit {0})
 normalising = record {
-  record_output = λ s r j. unless_bad r j.verdict (canonical_output s r j);
-  end_output = λ s line_due. line_if line_due;
-  outcome = outcome_of;
+  record_output = λ _ s r j. unless_bad r j.verdict (canonical_output s r j);
+  next = λ _ s r j. tt;
+  end_output = λ _ s line_due. line_if line_due;
+  outcome = λ _ s. outcome_of s;
 }
 
 -- ---- `convert`: a log of version 2, with the replies in it
@@ -241,13 +254,14 @@ abbrev pub line_before : Session → List ℕ
 line_before s = if s.records == 0 then version_line else []
 
 -- `convert` writes each record with its mark, and after it the reply.
-abbrev pub converting : View
+abbrev pub converting : View (Unit {0})
 converting = record {
-  record_output = λ s r j.
+  record_output = λ _ s r j.
       unless_bad r j.verdict
       (writes (line_before s ++ codes ">" ++ r.raw ++ reply_record j.verdict));
-  end_output = λ s line_due. line_before s;
-  outcome = outcome_of;
+  next = λ _ s r j. tt;
+  end_output = λ _ s line_due. line_before s;
+  outcome = λ _ s. outcome_of s;
 }
 
 -- ---- the engines, from their settings and an input's records to their output
@@ -264,23 +278,23 @@ default_settings = record { limits = default_limits; encoding = Utf16; squash = 
 
 -- The output of `serve`.
 abbrev pub replies : Config → List Record → RunOutput
-replies config = run_output_in serving (opened config)
+replies config = output_in serving tt (opened config)
 
 -- The output of `check`.
 abbrev pub verdicts : Settings → List Record → RunOutput
-verdicts settings = run_output_in checking (opened (log_config settings))
+verdicts settings = output_in checking tt (opened (log_config settings))
 
 -- The output of `replay`.
 abbrev pub report : Settings → List Record → RunOutput
-report settings = run_output_in replaying (opened (log_config settings))
+report settings = output_in replaying tt (opened (log_config settings))
 
 -- The output of `normalise` without squash.
 abbrev pub canonical_log : Settings → List Record → RunOutput
-canonical_log settings = run_output_in normalising (opened (log_config settings))
+canonical_log settings = output_in normalising tt (opened (log_config settings))
 
 -- The output of `convert`.
 abbrev pub converted : Settings → List Record → RunOutput
-converted settings = run_output_in converting (opened (log_config settings))
+converted settings = output_in converting tt (opened (log_config settings))
 
 -- How each input is read: `serve` reads frames without a log's line, and the log commands read both
 -- versions. `convert` refuses version 2.

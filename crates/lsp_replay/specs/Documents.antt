@@ -87,11 +87,12 @@ is_due c head = c.due || head.line_due
 abbrev pub with_line : Selection → Record → Record
 with_line c r = record r { head = record r.head { line_due = is_due c r.head } }
 
--- After a record that stays, and after one that is left out.
+-- After a record that stays: the line of version 2 is written with it.
 abbrev pub after_kept : Selection → Head → List ℕ → Selection
 after_kept c head body
     = record { waiting = waiting_after c.waiting head.side body; due = false }
 
+-- After a record that is left out: the line is still to be written, if it was.
 abbrev pub after_left_out : Selection → Head → Selection
 after_left_out c head = record c { due = is_due c head }
 
@@ -101,6 +102,7 @@ pub record Kept : Type 0 where
   pub records : List Record
   pub due : Bool
 
+-- A record that stays, before some others.
 abbrev pub kept_first : Record → Kept → Kept
 kept_first r k = record k { records = r ∷ k.records }
 
@@ -131,6 +133,7 @@ kept settings records = kept_in (opened (log_config settings)) nothing_selected 
 abbrev pub documents : Settings → List Record → RunOutput
 documents settings records = output_of_kept (normalised settings) (kept settings records)
 
+-- `normalise --documents` reads logs of both versions.
 abbrev pub documents_engine : Settings → Engine
 documents_engine settings
     = record {
@@ -166,6 +169,7 @@ pub record WroteDocuments (settings : Settings)
   pub wrote : Appends received_old received_new bytes
   pub keeps : KeepsDocuments settings log.records outcome bytes
 
+-- If the engine has an outcome, it wrote bytes of which that holds.
 abbrev pub WritesDocuments : Settings → Ports → Ports → Result Outcome EngineFault → Type 0
 WritesDocuments settings before after result =
     IfOk result (WroteDocuments settings before.reader.left after.reader.left before.writer.written

@@ -58,7 +58,8 @@ pub record Called (reads_old reads_new writes_old writes_new allowed : ℕ)
   pub read_fault : result ≡ Err Read → (read_failed ≡ true) × Rose reads_old reads_new
   -- after `Write` the last write or flush failed
   pub write_fault : result ≡ Err Write → (write_failed ≡ true) × Rose writes_old writes_new
-  -- if the reader reports its end, no byte is left, unless too many turns were needed
+  -- unless too many turns were needed: if the reader reports its end, no byte is left, and a read
+  -- was made
   pub at_end : result ≢ Err TooManyTurns → ended ≡ true → IsAtEnd left × Rose reads_old reads_new
 
 -- No failure was passed over. If the last read failed, the result is `Read`; if the last write or

@@ -9,8 +9,8 @@ use Rattle.lsp_log.specs.Log.{Record}
 use Rattle.lsp_replay.specs.declared.commands.Settings.{Settings}
 use Rattle.lsp_replay.specs.declared.notes.Note.{Note}
 use Rattle.lsp_replay.specs.RunOutput.{RunOutput}
-use Rattle.lsp_replay.specs.Commands.{as_log, change_in, log_config, verdict_word}
-use Rattle.lsp_replay.specs.Lines.{Known, LineView, lines_in, nothing_known, uri_of}
+use Rattle.lsp_replay.specs.Commands.{as_log, change_in, log_config, output_in, verdict_word}
+use Rattle.lsp_replay.specs.Lines.{Known, LineView, lines, nothing_known, uri_of}
 use Rattle.lsp_replay.specs.Mentions.{last_for}
 use Rattle.lsp_replay.specs.Notes.{notes_of, notes_words}
 use Rattle.lsp_replay.specs.Reasons.{reason_words}
@@ -53,6 +53,7 @@ explained_line known s r j m =
 
 -- ---- what to do next, after so many refusals
 
+-- By the number of refusals and, where there is none, by whether a record has notes.
 abbrev pub first_advice : ℕ → Bool → List ℕ
 first_advice refusals suspicious =
     if refusals == 0 then (if suspicious then
@@ -61,12 +62,13 @@ first_advice refusals suspicious =
     else
     codes "Refused messages change nothing. `lspsync replay --at N`: the texts after message N.\n"
 
+-- By whether a record is refused with S1 or S5.
 abbrev pub advice_if_strict : Bool → List ℕ
 advice_if_strict strict = if strict then
     codes "Many servers don't refuse what is S1 or S5 here. `--lenient` doesn't either.\n"
     else []
 
--- By what is known of all records.
+-- All of it, by what is known of all records.
 abbrev pub advice : ℕ → Known → List ℕ
 advice refusals known = first_advice refusals known.suspicious ++ advice_if_strict known.strict
 
@@ -81,8 +83,9 @@ explaining = record {
 
 -- The output of `check --explain`.
 abbrev pub explained : Settings → List Record → RunOutput
-explained settings = lines_in explaining nothing_known (opened (log_config settings))
+explained settings = output_in (lines explaining) nothing_known (opened (log_config settings))
 
+-- `check --explain` reads logs of both versions.
 abbrev pub explain_engine : Settings → Engine
 explain_engine settings
     = record {

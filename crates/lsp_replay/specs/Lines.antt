@@ -11,11 +11,10 @@ use Rattle.lsp_log.specs.declared.record.Side.{Side}
 use Rattle.lsp_log.specs.declared.record.Side.TheVariants.{Client}
 use Rattle.lsp_log.specs.Log.{Record}
 use Rattle.lsp_replay.specs.declared.notes.Note.{Note}
-use Rattle.lsp_replay.specs.RunOutput.{RunOutput}
-use Rattle.lsp_replay.specs.Commands.{RecordOutput, continue_with, unless_bad, writes}
+use Rattle.lsp_replay.specs.Commands.{View, unless_bad, writes}
 use Rattle.lsp_replay.specs.Mentions.{Mention, is_mention, mentioned}
 use Rattle.lsp_replay.specs.Notes.{notes_of, ranged_after}
-use Rattle.lsp_replay.specs.Session.{Session, Judged, Verdict, answered, is_change, judge, outcome_of}
+use Rattle.lsp_replay.specs.Session.{Session, Judged, Verdict, answered, is_change, outcome_of}
 
 -- The document that a record of one side is about: the URI in valid parameters of an editor's
 -- message.
@@ -27,25 +26,27 @@ uri_of side m = None
 
 -- ---- what is known of the records before one
 
+-- What is known of them.
 pub record Known : Type 0 where
   -- the documents that were opened, closed or refused last
   pub mentions : List Mention
   -- did the server ask for ranges?
   pub ranged : Bool
-  -- has a record notes?
+  -- does one of them have notes?
   pub suspicious : Bool
-  -- is one refused with S1 or S5, which lenient limits never do?
+  -- is one of them refused with S1 or S5, which lenient limits never do?
   pub strict : Bool
 
 -- Before the first record.
 abbrev pub nothing_known : Known
 nothing_known = record { mentions = []; ranged = false; suspicious = false; strict = false }
 
+-- Are there notes?
 abbrev pub has_notes : List Note → Bool
 has_notes [] = false
 has_notes (note ∷ notes) = true
 
--- Is it refused with S1 or S5?
+-- Is a record refused with S1 or S5?
 abbrev pub is_strict : Verdict → Bool
 is_strict (answered (refused (Store AlreadyOpen))) = true
 is_strict (answered (refused (Store (StaleVersion current)))) = true
@@ -73,20 +74,11 @@ pub record LineView : Type 0 where
   pub line : Known → Session → Record → Judged → List ℕ
   pub end_lines : Known → Session → List ℕ
 
--- The output for a record: its line.
-abbrev pub line_output : LineView → Known → Session → Record → Judged → RecordOutput
-line_output view known s r j = unless_bad r j.verdict (writes (view.line known s r j))
-
--- The output for records that a session judges one after another.
-abbrev pub lines_in : LineView → Known → Session → List Record → RunOutput
-lines_in view known s []
-    = record {
-      out = [];
-      stop = None;
-      last = λ line_due. view.end_lines known s;
-      outcome = outcome_of s;
-    }
-lines_in view known s (r ∷ rs) =
-    continue_with (line_output view known s r (judge s r)).out
-    (line_output view known s r (judge s r)).end
-    (lines_in view (known_after known s r.head r.body (judge s r)) (judge s r).session rs)
+-- Such a command. Its state is what is known of the records before.
+abbrev pub lines : LineView → View Known
+lines view = record {
+  record_output = λ known s r j. unless_bad r j.verdict (writes (view.line known s r j));
+  next = λ known s r j. known_after known s r.head r.body j;
+  end_output = λ known s line_due. view.end_lines known s;
+  outcome = λ known s. outcome_of s;
+}

@@ -2,7 +2,6 @@
 use Rattle.std.specs.Prelude.{ℕ, Bool, true, false, not, if◌then◌else◌, take, List, [], ◌∷◌, Option, Some, None, option_and_then}
 use Rattle.std.specs.Str.{bytes_eq}
 use Rattle.lsp_server.specs.Answer.{changed, refused}
-use Rattle.lsp_replay.specs.declared.mentions.TheConstants.{MENTIONS}
 use Rattle.lsp_replay.specs.Session.{Verdict, answered}
 
 -- A document, and the number of the record that opened, closed or refused it last.
@@ -22,10 +21,14 @@ without uri [] = []
 without uri (mention ∷ mentions) =
     if bytes_eq mention.uri uri then mentions else mention ∷ without uri mentions
 
+-- How many documents are known.
+abbrev pub most_mentions : ℕ
+most_mentions = 64
+
 -- A document comes first with its new number. The last one is dropped if there are too many.
 abbrev pub newest_first : List ℕ → ℕ → List Mention → List Mention
 newest_first uri number mentions =
-    take MENTIONS (record { uri = uri; number = number } ∷ without uri mentions)
+    take most_mentions (record { uri = uri; number = number } ∷ without uri mentions)
 
 -- The record to look at, by the document of one that the documents refuse.
 abbrev pub last_for : List Mention → Option (List ℕ) → Verdict → Option ℕ

@@ -204,6 +204,7 @@ notes_of s ranged body verdict =
 
 -- ---- whether the server asked for ranges, which a log of version 2 says
 
+-- Does a kind of synchronisation ask for ranges?
 abbrev pub is_incremental : SyncKind → Bool
 is_incremental Incremental = true
 is_incremental kind = false
@@ -234,6 +235,7 @@ ranged_after ranged s Server body = ranged_for ranged s.expected body
 abbrev pub change_words : ℕ → List ℕ
 change_words index = codes "change " ++ decimal (one_more index)
 
+-- Which end of a change's range.
 abbrev pub side_words : Side → List ℕ
 side_words Start = codes " starts at "
 side_words Stop = codes " ends at "
@@ -244,6 +246,7 @@ past_words sent taken =
     if sent.line == taken.line then codes ", past the line's end (taken as "
     else codes ", past the last line (taken as "
 
+-- A note.
 abbrev pub note_words : Note → List ℕ
 note_words OpenAlready = codes "the document was open already"
 note_words (OldVersion sent current) =

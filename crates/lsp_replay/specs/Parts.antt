@@ -1,5 +1,5 @@
 -- `replay` of a part of a log: the documents after a record, or the last text of one document.
-use Rattle.std.specs.Prelude.{ℕ, Bool, false, ◌==◌, if◌then◌else◌, List, [], ◌∷◌, Option, Some, None, is_some, option_map, Ok}
+use Rattle.std.specs.Prelude.{ℕ, Bool, false, ◌==◌, if◌then◌else◌, List, [], Option, Some, None, is_some, option_map, Ok}
 use Rattle.std.specs.String.{string_bytes}
 use Rattle.lsp_message.specs.Params.{DocumentItem}
 use Rattle.lsp_store.specs.Table.{entry_at}
@@ -10,9 +10,9 @@ use Rattle.lsp_replay.specs.declared.outcome.Missing.{Missing}
 use Rattle.lsp_replay.specs.declared.outcome.Missing.TheVariants as missing
 use Rattle.lsp_replay.specs.declared.outcome.Outcome.{Outcome}
 use Rattle.lsp_replay.specs.RunOutput.{RunOutput}
-use Rattle.lsp_replay.specs.Commands.{RecordOutput, writes, ends, continue_with, unless_bad, report_from, as_log, log_config}
+use Rattle.lsp_replay.specs.Commands.{RecordOutput, View, writes, ends, output_in, unless_bad, report_from, as_log, log_config}
 use Rattle.lsp_replay.specs.Run.{Engine}
-use Rattle.lsp_replay.specs.Session.{Session, Judged, judge, opened, outcome_of}
+use Rattle.lsp_replay.specs.Session.{Session, Judged, opened, outcome_of}
 
 -- The part of a log that is replayed, and what is printed of it.
 pub record PartData : Type 0 where
@@ -84,29 +84,19 @@ end_outcome part last s =
 abbrev pub next_text : PartData → Option (List ℕ) → Judged → Option (List ℕ)
 next_text part last j = last_text_in part.uri last j.session.server.table
 
--- The output for a record.
-abbrev pub part_output : PartData → Option (List ℕ) → Record → Judged → RecordOutput
-part_output part last r j =
-    unless_bad r j.verdict (part_step part (next_text part last j) j.session)
-
--- The output for records that a session judges one after another. `last` is the last text before
--- them.
-abbrev pub replayed_in : PartData → Option (List ℕ) → Session → List Record → RunOutput
-replayed_in part last s []
-    = record {
-      out = [];
-      stop = None;
-      last = λ line_due. end_bytes part last s;
-      outcome = end_outcome part last s;
-    }
-replayed_in part last s (r ∷ rs) =
-    continue_with (part_output part last r (judge s r)).out
-    (part_output part last r (judge s r)).end
-    (replayed_in part (next_text part last (judge s r)) (judge s r).session rs)
+-- A record prints nothing, unless it is the part's last one. The state is the last text.
+abbrev pub replaying_part : PartData → View (Option (List ℕ))
+replaying_part part = record {
+  record_output = λ last s r j.
+      unless_bad r j.verdict (part_step part (next_text part last j) j.session);
+  next = λ last s r j. next_text part last j;
+  end_output = λ last s line_due. end_bytes part last s;
+  outcome = end_outcome part;
+}
 
 -- The output of `replay` for a part of a log.
 abbrev pub part_report : Settings → PartData → List Record → RunOutput
-part_report settings part = replayed_in part None (opened (log_config settings))
+part_report settings part = output_in (replaying_part part) None (opened (log_config settings))
 
 -- The engine that replays a part of a log. Its report is written at once.
 abbrev pub part_engine : Settings → Part → Engine

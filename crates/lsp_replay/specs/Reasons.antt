@@ -53,6 +53,7 @@ edit_reason p (ReversedRange change) =
     ++ codes ", after it" ++ end_words Stop (range_sent p change)
 edit_reason p NoMemoryToEdit = []
 
+-- A command that the documents refuse, by the limits and by the change, if it is one.
 abbrev pub store_reason : LimitsData → Option ChangeData → StoreFault → List ℕ
 store_reason limits p AlreadyOpen = codes "the document is open already"
 store_reason limits p TooManyDocuments =
@@ -69,6 +70,7 @@ store_reason limits p TooManyChanges =
 store_reason limits p (Edit fault) = edit_reason p fault
 store_reason limits p fault = []
 
+-- A notification that is refused.
 abbrev pub refusal_reason : LimitsData → Option ChangeData → Refusal → List ℕ
 refusal_reason limits p BadParams = codes "the parameters can't be read"
 refusal_reason limits p (Store fault) = store_reason limits p fault

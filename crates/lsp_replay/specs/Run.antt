@@ -50,7 +50,7 @@ pub record IsEngineRun (engine : Engine) (max_turns : ℕ) (before after : Ports
   pub passed_on : engine.flushes ≡ true → result ≢ Err Write → result ≢ Err TooManyTurns →
       StaysFlushed before.writer.flushed after.writer.flushed
 
--- ---- the five engines
+-- ---- the engines of `serve`, `check`, `replay`, `normalise` and `convert`
 
 -- `serve` reads frames and no log, and flushes each reply.
 abbrev pub serve_engine : Config → Engine
@@ -72,7 +72,7 @@ check_engine settings
       in_parts = false;
     }
 
--- `replay` writes its report document by document.
+-- `replay` reads logs of both versions, and writes its report document by document.
 abbrev pub replay_engine : Settings → Engine
 replay_engine settings
     = record {
@@ -82,7 +82,7 @@ replay_engine settings
       in_parts = true;
     }
 
--- So does `normalise`.
+-- `normalise` reads logs of both versions.
 abbrev pub normalise_engine : Settings → Engine
 normalise_engine settings
     = record {
@@ -92,7 +92,7 @@ normalise_engine settings
       in_parts = false;
     }
 
--- `convert` takes version 1 alone.
+-- `convert` reads logs of both versions, and refuses version 2.
 abbrev pub convert_engine : Settings → Engine
 convert_engine settings
     = record {

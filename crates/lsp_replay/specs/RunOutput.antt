@@ -20,8 +20,7 @@ abbrev pub written_first : List ℕ → RunOutput → RunOutput
 written_first bytes c = record c { out = bytes ++ c.out }
 
 -- Some output, and then a result: nothing after it is read, so there is no end of the input. What
--- the
--- two other fields have means nothing.
+-- the two other fields have means nothing.
 abbrev pub stopped : List ℕ → Result Outcome EngineFault → RunOutput
 stopped bytes answer
     = record {

@@ -1,6 +1,6 @@
 -- A server over the records of a log: the judgement of each record, and what is counted (LSP 3.17,
 -- Lifecycle Messages).
-use Rattle.std.specs.Prelude.{ℕ, Bool, true, false, ◌&&◌, ◌==◌, not, if◌then◌else◌, List, Option, Some, None, is_some}
+use Rattle.std.specs.Prelude.{ℕ, Bool, true, false, ◌&&◌, ◌==◌, not, if◌then◌else◌, List, Option, Some, None, is_some, option_and_then, option_map}
 use Rattle.std.specs.Ordering.{int_eq}
 use Rattle.std.specs.Str.{bytes_eq}
 use Rattle.serde_json.specs.Data.{Data}
@@ -8,7 +8,7 @@ use Rattle.lsp_text.specs.declared.encoding.Encoding.{Encoding}
 use Rattle.lsp_message.specs.declared.agreement.Announced.{Announced}
 use Rattle.lsp_message.specs.declared.outgoing.ErrorCode.{ErrorCode}
 use Rattle.lsp_message.specs.declared.outgoing.ErrorCode.TheVariants.{MethodNotFound}
-use Rattle.lsp_message.specs.Message.{IdData, MessageData, Reading, reading}
+use Rattle.lsp_message.specs.Message.{IdData, Reading, reading}
 use Rattle.lsp_message.specs.Message as read
 use Rattle.lsp_message.specs.Agreement.{announced_of}
 use Rattle.lsp_server.specs.declared.phase.Phase.{Phase}
@@ -23,7 +23,6 @@ use Rattle.lsp_log.specs.declared.record.Version.{Version}
 use Rattle.lsp_log.specs.declared.record.Version.TheVariants.{Two}
 use Rattle.lsp_log.specs.declared.record.Side.{Side}
 use Rattle.lsp_log.specs.declared.record.Side.TheVariants.{Client, Server}
-use Rattle.lsp_log.specs.declared.record.Head.{Head}
 use Rattle.lsp_log.specs.Log.{Record}
 
 -- A server that is run on a log, and what is counted.
@@ -75,12 +74,12 @@ count_if counts count = if counts then one_more count else count
 
 -- ---- a client's record
 
--- No `initialize` was accepted yet.
+-- No `initialize` was accepted yet, and no `exit` came.
 abbrev pub is_new : Phase → Bool
 is_new New = true
 is_new phase = false
 
--- `initialize` was accepted, and no `shutdown` came.
+-- `initialize` was accepted, and neither `shutdown` nor `exit` came.
 abbrev pub is_running : Phase → Bool
 is_running Running = true
 is_running phase = false
@@ -122,8 +121,8 @@ handled s version m server answer =
 
 -- A message in a log of a version. After `exit` it is bad, and so is an early change. Any other is
 -- answered.
-abbrev pub judge_incoming : Session → Version → IncomingData → Judged
-judge_incoming s version m =
+abbrev pub judge_client : Session → Version → IncomingData → Judged
+judge_client s version m =
     if is_ended s.server.phase then judged bad s
     else if is_early s m then judged bad s
     else handled s version m (step_on s.server m).state (as_sent (step_on s.server m).answer)
@@ -136,56 +135,44 @@ same_id (read.whole m) (read.whole n) = int_eq m n
 same_id (read.text s) (read.text t) = bytes_eq s t
 same_id id other = false
 
--- The result in a response to the request with this id.
-abbrev pub result_in : IdData → MessageData → Option Data
-result_in id (read.response (Some other) (read.given result)) = if same_id id other then
-    Some result else None
-result_in id m = None
-
--- The same from what was read of a body.
+-- The result in a body that is the response to the request with this id.
 abbrev pub result_for : IdData → Reading → Option Data
-result_for id (read.message m) = result_in id m
-result_for id r = None
+result_for id (read.message (read.response (Some other) (read.given result))) =
+    if same_id id other then Some result else None
+result_for id body = None
 
--- The session continues in the encoding that was announced. An unknown one makes the record bad.
-abbrev pub settle_in : Session → Option Encoding → Judged
-settle_in s None = judged bad s
-settle_in s (Some encoding)
-    = judged recorded (record s { server = with_encoding s.server encoding; expected = None })
+-- The encoding that a result of `initialize` announces, if it can be read and the encoding is
+-- known.
+abbrev pub encoding_in : Data → Option Encoding
+encoding_in result = option_and_then (λ (a : Announced). a.encoding) (announced_of result)
 
--- So does a result that can't be read.
-abbrev pub settle_by : Session → Option Announced → Judged
-settle_by s None = judged bad s
-settle_by s (Some announced) = settle_in s announced.encoding
+-- What a body announces by the result that is waited for, if it has that.
+abbrev pub encoding_for : Option IdData → Reading → Option (Option Encoding)
+encoding_for expected body =
+    option_map encoding_in (option_and_then (λ id. result_for id body) expected)
 
--- Any other body of the server is recorded.
-abbrev pub heard : Session → Option Data → Judged
-heard s None = judged recorded s
-heard s (Some result) = settle_by s (announced_of result)
-
--- A server's record, by the id whose result is waited for.
-abbrev pub hear_for : Session → Option IdData → List ℕ → Judged
-hear_for s None body = judged recorded s
-hear_for s (Some id) body = heard s (result_for id (reading body))
+-- The session continues in the encoding that is announced. Without a known one the record is bad.
+-- Any other body is recorded.
+abbrev pub judge_server : Session → Option (Option Encoding) → Judged
+judge_server s None = judged recorded s
+judge_server s (Some None) = judged bad s
+judge_server s (Some (Some encoding)) =
+    judged recorded (record s { server = with_encoding s.server encoding; expected = None })
 
 -- ---- any record
 
 -- A record of one side, in a log of a version.
 abbrev pub judge_from : Session → Version → Side → List ℕ → Judged
-judge_from s version Client body = judge_incoming s version (incoming_of (reading body))
-judge_from s version Server body = hear_for s s.expected body
+judge_from s version Client body = judge_client s version (incoming_of (reading body))
+judge_from s version Server body = judge_server s (encoding_for s.expected (reading body))
 
 -- One more record was judged.
 abbrev pub counted : Judged → Judged
 counted j = record j { session = record j.session { records = one_more j.session.records } }
 
--- A record with this head and body.
-abbrev pub judge_at : Session → Head → List ℕ → Judged
-judge_at s head body = counted (judge_from s head.version head.side body)
-
 -- The judgement of a record, and the session after it.
 abbrev pub judge : Session → Record → Judged
-judge s r = judge_at s r.head r.body
+judge s r = counted (judge_from s r.head.version r.head.side r.body)
 
 -- The session of a log before its first record, over a new server.
 abbrev pub opened : Config → Session

@@ -1,145 +1,108 @@
 -- `normalise` with squash: accepted changes of one document, with no other record between them, are
 -- written as one message.
-use Rattle.std.specs.Prelude.{ℕ, Bool, ◌++◌, if◌then◌else◌, nat_lt, length, map, List, [], ◌∷◌, Option, Some, None, Result, Err}
+use Rattle.std.specs.Prelude.{ℕ, Bool, false, ◌++◌, if◌then◌else◌, is_none, map, flat_map, List, [], ◌∷◌, Option, Some, None, option_map, Result}
 use Rattle.std.specs.Str.{bytes_eq}
-use Rattle.lsp_frame.specs.Frame.{frame}
 use Rattle.lsp_message.specs.Message.{reading}
-use Rattle.lsp_message.specs.Params.{DocumentItem, ChangeData}
+use Rattle.lsp_message.specs.Params.{ChangeData, DocumentItem}
 use Rattle.lsp_store.specs.Squash.{SquashData, squash_of, squash_after, squash_frame, squash_refusal}
-use Rattle.lsp_store.specs.Table.{Refusal, entry_at}
+use Rattle.lsp_store.specs.Table.{entry_at}
 use Rattle.lsp_server.specs.Incoming.{incoming_of}
-use Rattle.lsp_server.specs.Step.{ServerData, session_encoding, edit_from_data}
+use Rattle.lsp_server.specs.Step.{session_encoding, edit_from_data}
 use Rattle.lsp_server.specs.Answer.{changed}
 use Rattle.lsp_replay.specs.declared.commands.Settings.{Settings}
 use Rattle.lsp_replay.specs.declared.outcome.Outcome.{Outcome}
 use Rattle.lsp_stream.specs.declared.fault.EngineFault.{EngineFault}
-use Rattle.lsp_stream.specs.declared.fault.EngineFault.TheVariants.{BadLog, BodyTooLong}
 use Rattle.lsp_log.specs.Log.{Record}
 use Rattle.lsp_replay.specs.RunOutput.{RunOutput}
-use Rattle.lsp_replay.specs.Commands.{continue_with, front_of, change_in, canonical_change_body, line_if, log_config, canonical_log}
-use Rattle.lsp_replay.specs.Session.{Session, Verdict, answered, bad, Judged, judge, opened, outcome_of}
+use Rattle.lsp_replay.specs.Commands.{RecordOutput, View, writes, ends, output_in, front_of, change_in, normalising, line_if, log_config, canonical_log}
+use Rattle.lsp_replay.specs.Session.{Session, Verdict, answered, Judged, opened, outcome_of}
 
--- ---- a run: accepted changes of one document, one after another
+-- ---- a series: accepted changes of one document, one after another
 
--- An open run, as it is written once it ends.
-pub record Run : Type 0 where
-  -- the bytes before its first record's frame
+-- A change in a series.
+pub record SeriesChange : Type 0 where
+  pub change : ChangeData
+  -- the document before it, with no batch yet
+  pub document : SquashData
+  -- the bytes before the record's frame
   pub front : List ℕ
-  -- its records as they are written without squash
-  pub singles : List ℕ
-  -- its batches together, on the document before it
-  pub squash : SquashData
+  -- the record as it is written without squash
+  pub single : List ℕ
 
--- A run is written as the one canonical message of all its batches. If that has too many changes or
--- is too long, the run is written as without squash.
-abbrev pub run_written : Run → Option Refusal → List ℕ
-run_written run None = run.front ++ squash_frame run.squash
-run_written run (Some refusal) = run.singles
+-- The batches of some changes, together with those of a squash before them.
+abbrev pub joined : SquashData → List SeriesChange → SquashData
+joined squash [] = squash
+joined squash (c ∷ more) =
+    joined (squash_after squash c.change.version (map edit_from_data c.change.changes)) more
 
--- The bytes of a run, by whether its one message is possible.
-abbrev pub run_bytes : Run → List ℕ
-run_bytes run = run_written run (squash_refusal run.squash)
+-- A series is written as the one canonical message of all its batches. If that has too many changes
+-- or is too long, each of its changes is written as without squash.
+abbrev pub series_written : List SeriesChange → List ℕ
+series_written [] = []
+series_written (first ∷ more) =
+    if is_none (squash_refusal (joined first.document (first ∷ more)))
+    then first.front ++ squash_frame (joined first.document (first ∷ more))
+    else flat_map (λ (c : SeriesChange). c.single) (first ∷ more)
 
--- The output when the open run ends, if one is open.
-abbrev pub end_bytes : Option Run → List ℕ
-end_bytes None = []
-end_bytes (Some run) = run_bytes run
+-- Does a change join a series? It does if it is of the same document.
+abbrev pub joins : List SeriesChange → SeriesChange → Bool
+joins [] c = false
+joins (first ∷ more) c = bytes_eq c.change.uri first.document.uri
 
--- The batch of a change, after the batches of a squash.
-abbrev pub joined_by : ChangeData → SquashData → SquashData
-joined_by p squash = squash_after squash p.version (map edit_from_data p.changes)
+-- ---- a log is cut into series
 
--- A run that a change begins, on the document before it. `single` is the record as it is written
+-- The change in a record, on the document before it. `single` is the record as it is written
 -- without squash.
-abbrev pub begun_on : ServerData → ChangeData → List ℕ → List ℕ → Option DocumentItem → Option Run
-begun_on server p front single None = None
-begun_on server p front single (Some entry) =
-    Some (record {
-      front = front;
-      singles = single;
-      squash = joined_by p (squash_of server.config.limits (session_encoding server) entry);
-    })
+abbrev pub change_on : Session → Record → List ℕ → ChangeData → DocumentItem → SeriesChange
+change_on s r single p entry = record {
+  change = p;
+  document = squash_of s.server.config.limits (session_encoding s.server) entry;
+  front = front_of r.head;
+  single = single;
+}
 
--- The same on the documents of a server.
-abbrev pub begun : ServerData → ChangeData → List ℕ → List ℕ → Option Run
-begun server p front single = begun_on server p front single (entry_at server.table p.uri)
+-- The same, if the change is accepted. Its document is open then.
+abbrev pub change_if : Session → Record → List ℕ → Option ChangeData → Verdict → Option SeriesChange
+change_if s r single (Some p) (answered changed) =
+    option_map (change_on s r single p) (entry_at s.server.table p.uri)
+change_if s r single change verdict = None
 
--- A run after one more change.
-abbrev pub longer : Run → ChangeData → List ℕ → Run
-longer run p single
-    = record run { singles = run.singles ++ single; squash = joined_by p run.squash }
+-- The same from the bytes of the record's body.
+abbrev pub series_change : Session → Record → Judged → Option SeriesChange
+series_change s r j =
+    change_if s r (normalising.record_output tt s r j).out
+    (change_in (incoming_of (reading r.body))) j.verdict
 
--- ---- the output of a record, and the run that is open after it
+-- The series that is open after a record: any record but a change ends it, and so does a change of
+-- another document, which begins one.
+abbrev pub series_after : List SeriesChange → Option SeriesChange → List SeriesChange
+series_after series None = []
+series_after series (Some c) = if joins series c then series ++ c ∷ [] else c ∷ []
 
--- A record's output, the result with which it ends the command's run, if it does, and the run that
--- is open after it.
-pub record Step : Type 0 where
-  pub out : List ℕ
-  pub end : Option (Result Outcome EngineFault)
-  pub run : Option Run
+-- What is written at a record, by what it is without squash: the series that it ends, and a record
+-- that is no change. At a fault nothing is written, the open series neither.
+abbrev pub squash_output : List SeriesChange → Option SeriesChange → List ℕ
+    → Option (Result Outcome EngineFault) → RecordOutput
+squash_output series change single (Some answer) = ends [] answer
+squash_output series None single None = writes (series_written series ++ single)
+squash_output series (Some c) single None =
+    writes (if joins series c then [] else series_written series)
 
--- After a fault nothing more is written, the open run neither.
-abbrev pub faulty : EngineFault → Step
-faulty fault = record { out = []; end = Some (Err fault); run = None }
-
--- An accepted change joins the open run if it is of the same document. Else it ends that run and
--- begins one.
-abbrev pub change_output : ServerData → ChangeData → List ℕ → List ℕ → Option Run → Step
-change_output server p front single None
-    = record { out = []; end = None; run = begun server p front single }
-change_output server p front single (Some run) =
-    if bytes_eq p.uri run.squash.uri then
-    record { out = []; end = None; run = Some (longer run p single) }
-    else record { out = run_bytes run; end = None; run = begun server p front single }
-
--- Its own canonical message must not be too long.
-abbrev pub change_step : ServerData → Record → ChangeData → List ℕ → Option Run → Step
-change_step server r p front run =
-    if nat_lt server.config.limits.max_body (length (canonical_change_body server p)) then
-    faulty (BodyTooLong r.head.place)
-    else change_output server p front (front ++ frame (canonical_change_body server p)) run
-
--- Any other record ends the open run, and is written as it is.
-abbrev pub other_step : Record → List ℕ → Option Run → Step
-other_step r front run
-    = record { out = end_bytes run ++ (front ++ r.raw); end = None; run = None }
-
--- A record's output, by the change in it and the judgement of it.
-abbrev pub step_if : ServerData → Record → List ℕ → Option Run → Option ChangeData → Verdict → Step
-step_if server r front run change bad = faulty (BadLog r.head.place)
-step_if server r front run (Some p) (answered changed) = change_step server r p front run
-step_if server r front run change verdict = other_step r front run
-
--- The same from the session before the record.
-abbrev pub squash_step : Session → Option Run → Record → Judged → Step
-squash_step s run r j
-    = step_if s.server r (front_of r.head) run (change_in (incoming_of (reading r.body))) j.verdict
-
--- ---- all records
-
--- The end of the input ends the open run. A log of version 2 without records is its line.
-abbrev pub squashed_in : Session → Option Run → List Record → RunOutput
-squashed_in s run []
-    = record {
-      out = [];
-      stop = None;
-      last = λ line_due. end_bytes run ++ line_if line_due;
-      outcome = outcome_of s;
-    }
-squashed_in s run (r ∷ rs) =
-    continue_with (squash_step s run r (judge s r)).out (squash_step s run r (judge s r)).end
-    (squashed_in (judge s r).session (squash_step s run r (judge s r)).run rs)
+-- The state is the open series. The end of the input ends it. A log of version 2 without records is
+-- its line.
+abbrev pub squashing : View (List SeriesChange)
+squashing = record {
+  record_output = λ series s r j.
+      squash_output series (series_change s r j) (normalising.record_output tt s r j).out
+      (normalising.record_output tt s r j).end;
+  next = λ series s r j. series_after series (series_change s r j);
+  end_output = λ series s line_due. series_written series ++ line_if line_due;
+  outcome = λ series s. outcome_of s;
+}
 
 -- The output of `normalise` with squash.
 abbrev pub squashed : Settings → List Record → RunOutput
-squashed settings = squashed_in (opened (log_config settings)) None
-
--- ---- how far a log is squashed
-
--- The session, and the open run.
-pub record Squashing : Type 0 where
-  pub session : Session
-  pub run : Option Run
+squashed settings = output_in squashing [] (opened (log_config settings))
 
 -- ---- `normalise`, with squash and without
 

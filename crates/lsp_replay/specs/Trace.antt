@@ -17,8 +17,8 @@ use Rattle.lsp_replay.specs.declared.commands.Settings.{Settings}
 use Rattle.lsp_replay.specs.declared.commands.traced.Details.{Details}
 use Rattle.lsp_replay.specs.declared.notes.Note.{Note}
 use Rattle.lsp_replay.specs.RunOutput.{RunOutput}
-use Rattle.lsp_replay.specs.Commands.{as_log, canonical_of_record, change_in, log_config, verdict_word}
-use Rattle.lsp_replay.specs.Lines.{Known, LineView, lines_in, nothing_known, uri_of}
+use Rattle.lsp_replay.specs.Commands.{as_log, canonical_of_record, change_in, log_config, output_in, verdict_word}
+use Rattle.lsp_replay.specs.Lines.{Known, LineView, lines, nothing_known, uri_of}
 use Rattle.lsp_replay.specs.Mentions.{last_for}
 use Rattle.lsp_replay.specs.Notes.{notes_of, notes_words}
 use Rattle.lsp_replay.specs.Reasons.{reason_words}
@@ -43,6 +43,7 @@ id_json (text s) = json_string s
 
 -- ---- what a record is, whatever is answered
 
+-- Who sent it.
 abbrev pub side_word : Side → List ℕ
 side_word Client = codes "editor"
 side_word Server = codes "server"
@@ -109,7 +110,7 @@ abbrev pub is_changed : Verdict → Bool
 is_changed (answered changed) = true
 is_changed verdict = false
 
--- The document's text, if it is asked for and the record opened or changed the document.
+-- The text of an open document, if it is to be written.
 abbrev pub text_json : Bool → Option DocumentItem → Option (List ℕ)
 text_json is_asked document =
     if is_asked then option_map (λ entry. json_string entry.text) document else None
@@ -125,7 +126,7 @@ abbrev pub one_line : List ℕ → List ℕ
 one_line [] = []
 one_line (byte ∷ bytes) = if byte == 10 || byte == 13 then one_line bytes else byte ∷ one_line bytes
 
--- The body, if it is asked for and is JSON.
+-- A body on one line, if it is to be written.
 abbrev pub body_json : Bool → List ℕ → Option (List ℕ)
 body_json is_asked body = if is_asked then Some (one_line body) else None
 
@@ -146,7 +147,8 @@ last_members word reason last notes version canonical shown body =
 -- ---- the engine
 
 -- A line of `trace`, from what is known of the records before, the session before the record and
--- the judgement of it. `m` is what the record's body asks.
+-- the judgement of it. `m` is what the record's body asks. The text is written if it is asked for
+-- and the record opened or changed the document, the body if it is asked for and is JSON.
 abbrev pub trace_line : Details → Known → Session → Record → Judged → IncomingData → List ℕ
 trace_line details known s r j m =
     first_members j.session.records r.head m
@@ -169,8 +171,10 @@ tracing details = record {
 
 -- The output of `trace`.
 abbrev pub traced : Settings → Details → List Record → RunOutput
-traced settings details = lines_in (tracing details) nothing_known (opened (log_config settings))
+traced settings details =
+    output_in (lines (tracing details)) nothing_known (opened (log_config settings))
 
+-- `trace` reads logs of both versions.
 abbrev pub trace_engine : Settings → Details → Engine
 trace_engine settings details
     = record {

@@ -4,6 +4,7 @@ pub mod Joining
 pub mod Explained
 pub mod Kept
 pub mod Known
+pub mod Lines
 pub mod Mentions
 pub mod Noting
 pub mod Parts
@@ -14,6 +15,7 @@ pub mod Engine
 pub mod Run
 pub mod Reads
 pub mod RunOutput
+pub mod Session
 pub mod Squashed
 pub mod Tracing
 pub mod Commands

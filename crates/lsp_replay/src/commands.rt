@@ -41,8 +41,8 @@ pub struct Settings {
     pub limits: Limits,
     /// The encoding of positions in a log of version 1; one of version 2 says its own.
     pub encoding: Encoding,
-    /// Does [`normalise`] write changes of one document that follow each other as one message? The
-    /// other commands ignore it.
+    /// Whether [`normalise`] writes changes of one document that follow each other as one message.
+    /// The other commands ignore it.
     pub squash: bool,
 }
 
@@ -51,7 +51,7 @@ impl Default for Settings {
 
     ghost is_default = { λ settings. settings ≡ default_settings };
 
-    /// The default limits, UTF-16, and each change as a message of its own.
+    /// Returns the default limits, UTF-16, and each change as a message of its own.
     fn default() -> Settings {
         Settings {
             limits: Limits::default(),
@@ -62,7 +62,7 @@ impl Default for Settings {
 }
 
 impl Settings {
-    /// The server of a log command.
+    /// Returns the server of a log command.
     fn config(&self) -> Config
         ensures value { result ≡ log_config self.now }
         ensures in_range { AreInRange self.now.limits }
@@ -76,14 +76,14 @@ impl Settings {
         }
     }
 
-    /// Are the changes of a run written as one message?
+    /// Returns whether the changes of a series are written as one message.
     fn joins_runs(&self) -> bool
         ensures { result ≡ self.now.squash }
     {
         self.squash
     }
 
-    /// How the log is read. With `only_one` version 2 is refused.
+    /// Returns how the log is read. With `only_one` version 2 is refused.
     fn rules(&self, only_one: bool) -> InputRules
         ensures { result
             ≡ record { limits = self.now.limits; versions = true; only_one = only_one } }
@@ -221,19 +221,19 @@ pub fn convert<R: Source, W: Sink>(
 /// Writes a log in which each accepted change is its canonical message, and everything else is as
 /// it was, byte for byte. The status is 1 if something was refused, else 0.
 ///
-/// With `squash` accepted changes of one document, with no other record between them, are a run. A
-/// run is written once it has ended: as the one canonical message of all its batches, under the
-/// last version. If that message has more than `max_changes` changes, or its body is over the
+/// With `squash` accepted changes of one document, with no other record between them, are a series.
+/// A series is written once it has ended: as the one canonical message of all its batches, under
+/// the last version. If that message has more than `max_changes` changes, or its body is over the
 /// limit, each change is written as without squash.
 ///
 /// # Errors
 /// [`EngineFault::BodyTooLong`] at an accepted change whose canonical body is over the limit,
-/// [`EngineFault::BadLog`], and those of [`serve`]. After a fault a run that hasn't ended isn't
+/// [`EngineFault::BadLog`], and those of [`serve`]. After a fault a series that hasn't ended isn't
 /// written.
 ///
 /// # Costs
-/// Those of [`serve`]. With `squash` a run of k changes costs some k log k more. It keeps the run's
-/// old text, its canonical messages, and its batches together.
+/// Those of [`serve`]. With `squash` a series of k changes costs some k log k more. It keeps the
+/// series' old text, its canonical messages, and its batches together.
 pub fn normalise<R: Source, W: Sink>(
     alloc: Global,
     reader: &mut R,

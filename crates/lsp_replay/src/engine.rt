@@ -30,9 +30,9 @@ const PIECE: usize = 65_536;
 #[derive(Clone, Copy)]
 pub struct InputRules {
     pub limits: Limits,
-    /// Is a log of version 2 recognised?
+    /// Whether a log of version 2 is recognised.
     pub versions: bool,
-    /// Is it refused then?
+    /// Whether it is refused then.
     pub only_one: bool,
 }
 

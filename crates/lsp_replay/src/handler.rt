@@ -47,7 +47,7 @@ pub struct Given {
 }
 
 impl Given {
-    /// The output of a record that doesn't end the run.
+    /// Returns the output of a record that doesn't end the run.
     pub fn more(output: Output) -> Self
         ensures { result ≡ record { output = output; end = None } }
     {
@@ -60,7 +60,7 @@ pub trait Handler {
     // The output for the records that are still to come.
     ghost run_output: { Self → List Record → RunOutput };
 
-    // Is each output passed on before more is read?
+    // Whether each output is passed on before more is read.
     ghost FLUSHES: { Bool };
 
     const FLUSHES: bool;
@@ -92,8 +92,8 @@ pub trait Handler {
             ≡ stopped [] (Err fault)))) };
 
     /// Writes a part of the output at the end of the input into `buffer`; with the last part it
-    /// returns the outcome. `line_due`: is it the first part, and the input a log of version 2
-    /// without records?
+    /// returns the outcome. `line_due` says whether it is the first part, and the input a log of
+    /// version 2 without records.
     fn finish(
         &mut self,
         line_due: bool,

@@ -18,8 +18,8 @@ use lsp_log::reading_laws;
 ///   documents and status, and the same is written again.
 /// - What `convert` writes of a log of version 1 is a log of which `replay` reports the same. For
 ///   that each reply in it must be within the limit on bodies.
-/// - `trace` ends where `check` does, and as it does, with the same numbers and words. Its last texts
-///   are those of `replay`.
+/// - `trace` ends where `check` does, and as it does, with the same numbers and words. Its last
+///   texts are those of `replay`.
 pub fn log_laws()
     ensures unique { UniqueLaw }
     ensures report { ReportLaw }

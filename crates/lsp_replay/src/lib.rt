@@ -1,8 +1,8 @@
 //! The engines of the log commands and of a server: each runs from a reader to a writer, over a
 //! server's end. The streams (`lsp_stream`) are re-exported.
 //!
-//! - `commands`: `serve` and `serve_on`, `check` and `explain`, `trace`, `replay` and `replay_part`,
-//!   `normalise` and `normalise_documents`, and `convert`.
+//! - `commands`: `serve` and `serve_on`, `check` and `explain`, `trace`, `replay` and
+//!   `replay_part`, `normalise` and `normalise_documents`, and `convert`.
 //! - `engine`: the one loop from a reader to a writer.
 //! - `session`: a server over the records of a log, and what is counted.
 //! - `handler`: what is written for each record and for the end. Its modules are the handlers,

@@ -9,7 +9,7 @@ use std::alloc::{AllocError, Global};
 use std::marker::Model;
 
 /// How many documents are kept.
-pub const MENTIONS: usize = 64;
+const MENTIONS: usize = 64;
 
 /// A document, and the number of the record that opened, closed or refused it last.
 #[derive(Drop)]
@@ -41,7 +41,7 @@ impl Mention {
         })
     }
 
-    /// Is the document's URI this one?
+    /// Returns whether the document's URI is this one.
     fn is_of(&self, uri: &str) -> bool
         ensures { result ≡ bytes_eq self.now.uri uri.now }
     {
@@ -73,7 +73,8 @@ impl Mentions {
         }
     }
 
-    /// The number of the record that opened, closed or refused the document with this URI last.
+    /// Returns the number of the record that opened, closed or refused the document with this URI
+    /// last.
     pub fn last(&self, uri: &str) -> Option<u64>
         ensures { result ≡ last_record uri.now self.now.newest.items }
     {
@@ -93,7 +94,7 @@ impl Mentions {
         Ok(())
     }
 
-    /// The same with the document of a record, if the record opened, closed or refused one.
+    /// Does the same with the document of a record, if the record opened, closed or refused one.
     pub fn keep(
         &mut self,
         is_mention: bool,
@@ -122,7 +123,7 @@ fn forget(mentions: &mut Vec<Mention>, uri: &str)
     }
 }
 
-/// The index of a document.
+/// Returns the index of a document.
 fn index_of(mentions: &[Mention], uri: &str) -> Option<usize>
     ensures { IsFoundAt uri.now mentions.now result }
 {

@@ -2,7 +2,7 @@
 //!
 //! - `planning`: changes, each of which is planned once.
 //! - `writing`: the canonical bodies of accepted changes.
-//! - `joining`: the open run of accepted changes.
+//! - `joining`: the open series of accepted changes.
 //! - `selecting`: the records that stay where others are left out.
 //! - `results`: the result of `initialize`.
 //! - `counting`: what counts as refused.
@@ -14,8 +14,9 @@
 ghost use Rattle.std.specs.Prelude.{◌≡◌, ◌≢◌, ◌⊎◌, IfErr, IfOk, OnErr, OnOk, MatchOption, Some, None};
 ghost use Rattle.lsp_message.specs.Seen.{change_view, id_view};
 ghost use Rattle.lsp_server.specs.Seen.{incoming_view};
-ghost use Rattle.lsp_replay.specs.Session.{bad, counted, opened, judge_at, judge_incoming, is_early, expected_after, outcome_of};
+ghost use Rattle.lsp_replay.specs.Session.{bad, counted, opened, judge_client, is_early, expected_after, outcome_of};
 ghost use Rattle.lsp_replay.specs.inside.Bodies.{IsReceived, body_read, body_view, canonical_read, judge_read};
+ghost use Rattle.lsp_replay.specs.inside.Session.{judge_at};
 ghost use Rattle.lsp_replay.specs.inside.Verdicts.{verdict_view};
 
 pub(crate) mod counting;
@@ -102,35 +103,35 @@ impl Session {
         }
     }
 
-    /// How many records were judged.
+    /// Returns how many records were judged.
     pub fn records(&self) -> u64
         ensures { result ≡ self.now.records }
     {
         self.records
     }
 
-    /// The server as it is now.
+    /// Returns the server as it is now.
     pub fn server(&self) -> &Server
         ensures { result.now ≡ self.now.server }
     {
         &self.server
     }
 
-    /// How many bodies were handled.
+    /// Returns how many bodies were handled.
     pub fn messages(&self) -> u64
         ensures { result ≡ self.now.messages }
     {
         self.messages
     }
 
-    /// How many of them were refused.
+    /// Returns how many of them were refused.
     pub fn refusals(&self) -> u64
         ensures { result ≡ self.now.refusals }
     {
         self.refusals
     }
 
-    /// The outcome of a log command at the end of the input.
+    /// Returns the outcome of a log command at the end of the input.
     pub fn outcome(&self) -> Outcome
         ensures { result ≡ outcome_of self.now }
     {
@@ -226,11 +227,11 @@ impl Session {
     fn answer(&mut self, version: Version, incoming: Incoming) -> Result<Verdict, AllocError>
         ensures verdict { IfOk result
             (λ v. verdict_view v
-            ≡ (judge_incoming self.old version (incoming_view incoming)).verdict) }
+            ≡ (judge_client self.old version (incoming_view incoming)).verdict) }
         ensures session { OnOk result
-            (self.new ≡ (judge_incoming self.old version (incoming_view incoming)).session) }
+            (self.new ≡ (judge_client self.old version (incoming_view incoming)).session) }
         ensures memory { OnErr result
-            ((judge_incoming self.old version (incoming_view incoming)).verdict ≢ bad) }
+            ((judge_client self.old version (incoming_view incoming)).verdict ≢ bad) }
     {
         if self.server.phase() == Phase::Ended || self.is_early(&incoming) {
             return Ok(Verdict::Bad);
@@ -249,7 +250,8 @@ impl Session {
         Ok(Verdict::Answered(answer))
     }
 
-    /// Is it a change that comes before the result of `initialize`, which says its encoding?
+    /// Returns whether it is a change that comes before the result of `initialize`, which says its
+    /// encoding.
     fn is_early(&self, incoming: &Incoming) -> bool
         ensures { result ≡ is_early self.now (incoming_view incoming.now) }
     {

@@ -201,7 +201,7 @@ struct Report {
     writes: u64,
 }
 
-/// The default limits, and UTF-16.
+/// Returns the default limits, and UTF-16.
 fn settings() -> Result<Settings, Fail> {
     Ok(Settings {
         limits: Limits::new(16_777_216, 16_777_216, 1_024, 65_536)?,
@@ -210,7 +210,7 @@ fn settings() -> Result<Settings, Fail> {
     })
 }
 
-/// The server of `serve`.
+/// Returns the server of `serve`.
 fn config(settings: Settings) -> Config {
     Config {
         limits: settings.limits,
@@ -293,7 +293,7 @@ fn run_with(
     })
 }
 
-/// The frames of some bodies, one after another: a log of version 1.
+/// Returns the frames of some bodies, one after another: a log of version 1.
 fn log(alloc: Global, bodies: &[&str]) -> Result<Vec<u8>, AllocError> {
     let mut bytes = Vec::new(alloc);
     for body in bodies {
@@ -302,7 +302,7 @@ fn log(alloc: Global, bodies: &[&str]) -> Result<Vec<u8>, AllocError> {
     Ok(bytes)
 }
 
-/// A log of version 2, of records with their marks.
+/// Returns a log of version 2, of records with their marks.
 fn marked(alloc: Global, records: &[(&str, &str)]) -> Result<Vec<u8>, AllocError> {
     let mut bytes = Vec::from_slice(alloc, LINE)?;
     for (mark, body) in records {
@@ -312,7 +312,7 @@ fn marked(alloc: Global, records: &[(&str, &str)]) -> Result<Vec<u8>, AllocError
     Ok(bytes)
 }
 
-/// A `didChange` of the document `file:///a`, with these content changes.
+/// Returns a `didChange` of the document `file:///a`, with these content changes.
 fn change(alloc: Global, version: i32, changes: &str) -> Result<String, AllocError> {
     format!(in alloc;
         r#"{{"jsonrpc":"2.0","method":"textDocument/didChange","params":{{"contentChanges":[{changes}],"textDocument":{{"uri":"file:///a","version":{version}}}}}}}"#
@@ -347,7 +347,7 @@ impl End {
 #[derive(Clone, Copy)]
 struct Row(Command, Bytes, End, Bytes, usize);
 
-/// Has the engine this result and output, however its calls end?
+/// Returns whether the engine has this result and output, however its calls end.
 fn has_result(alloc: Global, row: &Row, calls: Calls) -> Result<bool, Fail> {
     let Row(command, input, end, output, flushes) = row;
     let input = input.get(alloc)?;
@@ -356,7 +356,7 @@ fn has_result(alloc: Global, row: &Row, calls: Calls) -> Result<bool, Fail> {
     Ok(run.answer == end.answer() && run.output == output && run.flushes == *flushes)
 }
 
-/// Do all rows hold?
+/// Returns whether all rows hold.
 fn all_give(alloc: Global, rows: &[Row]) -> Result<bool, Fail> {
     for row in rows {
         if !has_result(alloc, row, SMOOTH)? {
@@ -366,7 +366,7 @@ fn all_give(alloc: Global, rows: &[Row]) -> Result<bool, Fail> {
     Ok(true)
 }
 
-/// Have the bytes these lengths?
+/// Returns whether the bytes have these lengths.
 fn have_lengths(alloc: Global, rows: &[(Bytes, usize)]) -> Result<bool, Fail> {
     for (bytes, len) in rows {
         if bytes.get(alloc)?.len() != *len {

@@ -22,7 +22,7 @@ impl Default for Config {
 
     ghost is_default = { λ config. config ≡ default_config };
 
-    /// The default limits, UTF-16 whatever the client offers, and changed ranges.
+    /// Returns the default limits, UTF-16 whatever the client offers, and changed ranges.
     fn default() -> Config {
         Config {
             limits: Limits::default(),

@@ -61,7 +61,8 @@
 //! `server.store().get(uri)` returns the current document. `lsp_text` converts its positions, in
 //! `server.encoding()`, into byte offsets.
 //!
-//! - `server`: the server, and the table of its steps.
+//! - `server`: the server, and the table of its steps. `lifecycle` has those of requests and of
+//!   `exit`, `documents` those of the document notifications.
 //! - `answer`: what a server answers.
 //! - `config`: limits, the choice of an encoding, and the kind of synchronisation.
 //! - `phase`: the phases of a session.

@@ -134,9 +134,9 @@ impl Server {
     /// | Down | a request | a reply -32600 |
     /// | Down | another notification | dropped |
     ///
-    /// The first row that fits counts. Nothing changes but what the table names. After [`ServerFault::NoMemory`] the server is
-    /// unchanged, and a caller can pass the same body again. [`ServerFault::AlreadyEnded`] comes in
-    /// phase Ended, and only there.
+    /// The first row that fits counts. Nothing changes but what the table names. After
+    /// [`ServerFault::NoMemory`] the server is unchanged, and a caller can pass the same body
+    /// again. [`ServerFault::AlreadyEnded`] comes in phase Ended, and only there.
     ///
     /// Costs one parse of the body, whose texts are moved into the store; then what the command
     /// costs there, or the reply's bytes.

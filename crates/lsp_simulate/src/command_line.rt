@@ -65,7 +65,7 @@ fn client_limits(options: &ArgMatches<'_>) -> Option<Limits> {
     Some(asked(options, limits))
 }
 
-/// These limits, lenient if that is asked for: those of both ends are.
+/// Returns these limits, lenient if that is asked for, which is for both ends.
 fn asked(options: &ArgMatches<'_>, limits: Limits) -> Limits {
     if options.get_flag("lenient") {
         return limits.lenient();
@@ -73,7 +73,7 @@ fn asked(options: &ArgMatches<'_>, limits: Limits) -> Limits {
     limits
 }
 
-/// The server's limits. Those that no option sets are the client's.
+/// Returns the server's limits. Those that no option sets are the client's.
 fn server_limits(options: &ArgMatches<'_>) -> Option<Limits> {
     let limits = Limits::new(
         either(options, "server-max-body", "max-body")?,
@@ -85,11 +85,11 @@ fn server_limits(options: &ArgMatches<'_>) -> Option<Limits> {
     Some(asked(options, limits))
 }
 
+/// Returns the number of the first option, or else that of the second.
 fn either(options: &ArgMatches<'_>, first: &str, second: &str) -> Option<usize> {
-    match options.get_one::<usize>(first) {
-        Some(number) => Some(number),
-        None => options.get_one::<usize>(second),
-    }
+    options
+        .get_one::<usize>(first)
+        .or(options.get_one::<usize>(second))
 }
 
 static ENCODINGS: [&str; 3] = ["utf-8", "utf-16", "utf-32"];
@@ -148,7 +148,7 @@ fn sync<'a>(alloc: Global) -> Arg<'a> {
         .help(help::sync())
 }
 
-/// An option with a number in a range.
+/// Returns an option with a number in a range.
 fn number<'a>(alloc: Global, limit: Limit) -> Arg<'a> {
     Arg::new(alloc, limit.name)
         .long(limit.name)

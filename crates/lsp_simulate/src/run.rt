@@ -44,7 +44,7 @@ impl From<AllocError> for RunFault {
 impl From<EngineFault> for RunFault {
     ghost from_gives = { λ fault given. given ≡ run_fault fault };
 
-    /// The fault of output: nothing is read there.
+    /// Returns the fault of output: nothing is read there.
     fn from(fault: EngineFault) -> RunFault {
         match fault {
             EngineFault::NoMemory => RunFault::NoMemory,

@@ -63,7 +63,8 @@ fn step(alloc: Global, pair: &mut Pair, number: u64, line: &[u8]) -> Result<Vec<
     }
 }
 
-/// The line of a step: its number, and the words for what happened. It fails only if out of memory.
+/// Returns the line of a step: its number, and the words for what happened. It fails only if out of
+/// memory.
 fn step_line(alloc: Global, number: u64, happened: Happened) -> io::Result<Vec<u8>>
     ensures { IfOk result (λ line. line.items ≡ step_line number happened) }
 {
@@ -91,7 +92,7 @@ fn write_end<W: Sink>(
     write_documents(alloc, "server", pair.server().store(), output, turns)
 }
 
-/// The line that says how many messages wait for the server, and for the client.
+/// Returns the line that says how many messages wait for the server, and for the client.
 fn waiting_line(alloc: Global, to_server: usize, to_client: usize) -> Result<String, AllocError>
     ensures { IfOk result (λ line. string_bytes line ≡ waiting_line to_server to_client) }
 {
@@ -116,7 +117,7 @@ fn write_documents<W: Sink>(
     Ok(())
 }
 
-/// A line with the name of an end, and then a document of it in JSON.
+/// Returns a line with the name of an end, and then a document of it in JSON.
 fn document_line(alloc: Global, end: &str, document: &Document<'_>) -> Result<Vec<u8>, AllocError>
     ensures { IfOk result (λ line. line.items ≡ document_line end.now document.now) }
 {

@@ -4,7 +4,8 @@ ghost use Rattle.lsp_store.specs.laws.Tables.{GreaterLimitsLaw, CanonicalBatchLa
 
 /// Does nothing: its contract states what holds of the table of documents.
 ///
-/// - Greater limits refuse no command that smaller ones accept; lenient ones are greater than strict.
+/// - Greater limits refuse no command that smaller ones accept; lenient ones are greater than
+///   strict.
 /// - The canonical batch of an accepted batch is accepted too and has the same result. So is the
 ///   batch of one change that is the whole text. Both hold within greater limits.
 /// - After any list of accepted commands there are at most `max_docs` documents, each text within

@@ -56,8 +56,7 @@ impl Squash {
     /// Starts at a document before any batch, within limits. Later changes of the document have no
     /// effect on it.
     ///
-    /// Fails only where memory runs out. Costs two copies of the text and its lines, and no search
-    /// through it.
+    /// Fails only where memory runs out. Costs two steps for each block of the text.
     pub fn start(
         alloc: Global,
         limits: Limits,
@@ -118,7 +117,7 @@ impl Squash {
     ///
     /// Refuses with [`StoreFault::TooManyChanges`] where that batch has more than `max_changes`
     /// changes, then with [`StoreFault::BodyTooLong`]; and with [`StoreFault::NoMemory`]. Costs a
-    /// walk over the spans of each delta, and the message's bytes.
+    /// walk over the spans of its layers, and the message's bytes.
     pub fn message(&self) -> Result<Vec<u8>, StoreFault>
         ensures ok { IfOk result (λ bytes. bytes.items ≡ squash_frame self.now) }
         ensures accepted { OnOk result (squash_refusal self.now ≡ None) }

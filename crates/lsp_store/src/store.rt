@@ -91,8 +91,8 @@ impl Store {
     }
 
     /// Returns the document at an index, in order of opening from 0. There is none from
-    /// [`Store::len`] on. Costs one step, and once documents were closed at most a step for each 256
-    /// documents and some 256 more ([`ordered_map::OrderedMap::get_index`]).
+    /// [`Store::len`] on. Costs one step, and once documents were closed at most a step for each
+    /// 256 documents and some 256 more ([`ordered_map::OrderedMap::get_index`]).
     pub fn at(&self, index: usize) -> Option<Document<'_>>
         ensures { result ≡ slice_get self.now.table index }
     {
@@ -157,8 +157,8 @@ impl Store {
     }
 
     /// Opens a document after all others, even one that was open before (LSP 3.17,
-    /// DidOpenTextDocument). Any version is accepted. Within lenient limits
-    /// ([`Limits::lenient`]) it replaces an open document of its URI.
+    /// DidOpenTextDocument). Any version is accepted. Within lenient limits ([`Limits::lenient`])
+    /// it replaces an open document of its URI.
     ///
     /// Refuses, in this order, with [`StoreFault::AlreadyOpen`], [`StoreFault::TooManyDocuments`]
     /// and, where the text has more than `max_text` bytes, [`StoreFault::TextTooLong`]; and with
@@ -206,10 +206,10 @@ impl Store {
     ///
     /// Refuses, in this order, with [`StoreFault::NotOpen`], [`StoreFault::StaleVersion`] within
     /// strict limits, [`StoreFault::TooManyChanges`], [`StoreFault::Edit`] and
-    /// [`StoreFault::TextTooLong`]; and with [`StoreFault::NoMemory`]. Only the text after the whole
-    /// batch has to be within `max_text` bytes. Costs a hash look-up, and what the batch costs to apply
-    /// ([`lsp_edit::IndexedText::change`]). For one change of a range: its two positions, one move
-    /// of the text after it, and one pass over the line starts after it.
+    /// [`StoreFault::TextTooLong`]; and with [`StoreFault::NoMemory`]. Only the text after the
+    /// whole batch has to be within `max_text` bytes. Costs a hash look-up, and what the batch
+    /// costs to apply ([`lsp_edit::IndexedText::change`]): for one change of a range its two
+    /// positions, its block of the text, and an addition for each later block.
     pub fn change(
         &mut self,
         uri: &str,
@@ -239,8 +239,9 @@ impl Store {
     /// Resolves a batch on an open document, and makes all refusals of [`Store::change`], in their
     /// order. The plan borrows the changes, and nothing of the store.
     ///
-    /// Costs a hash look-up, and what the batch costs to resolve ([`lsp_edit::IndexedText::delta`]):
-    /// for one change of a range its two positions, and no memory.
+    /// Costs a hash look-up, and what the batch costs to resolve
+    /// ([`lsp_edit::IndexedText::delta`]): for one change of a range its two positions, and no
+    /// memory.
     pub fn plan<'a>(
         &self,
         uri: &str,

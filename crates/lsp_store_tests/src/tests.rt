@@ -66,7 +66,8 @@ pub(super) fn store_of(
     Ok(store)
 }
 
-/// Returns a store with one open document of version 1, of two changes at most. Out of memory is counted, and the call repeated.
+/// Returns a store with one open document of version 1, of two changes at most. Out of memory is
+/// counted, and the call repeated.
 pub(super) fn store_again(
     alloc: Global,
     text: &str,

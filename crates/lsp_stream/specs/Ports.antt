@@ -31,6 +31,7 @@ pub record Ports : Type 0 where
   pub reader : ReaderState
   pub writer : WriterState
 
+-- The two as a record.
 abbrev pub ports : ReaderState → WriterState → Ports
 ports reader writer = record { reader = reader; writer = writer }
 

@@ -92,7 +92,7 @@ impl<T> Told<T> {
     }
 }
 
-/// Was the call interrupted? Then it didn't fail, and may be made again.
+/// Returns whether the call was interrupted. Then it didn't fail, and may be made again.
 pub(crate) fn is_interrupted(error: &io::Error) -> bool
     ensures { result ≡ true ↔ error_kind error.now ≡ ErrorKind.Interrupted }
 {

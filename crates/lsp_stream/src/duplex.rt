@@ -62,8 +62,8 @@ impl<'a, R: Source, W: Sink> Duplex<'a, R, W> {
         &mut *self.writer
     }
 
-    /// Did a read come too early: was the reader borrowed while something that was written was not
-    /// passed on?
+    /// Returns whether a read came too early: the reader was borrowed while something that was
+    /// written was not passed on.
     pub fn read_early(&self) -> bool
         ensures { result ≡ self.now.read_early }
     {

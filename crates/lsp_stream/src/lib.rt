@@ -1,6 +1,7 @@
 //! Readers and writers that report how their calls ended, and calls in a bounded number.
 //!
-//! - `port`: a reader and a writer that report on their calls; `adapter` makes them of those of std.
+//! - `port`: a reader and a writer that report on their calls; `adapter` makes them of those of
+//!   std.
 //! - `turns`: reads, writes and flushes in a bounded number of calls.
 //! - `duplex`: both ends of a connection, and whether a read came before a flush.
 //! - `fault`: why a run from a reader to a writer ends early.

@@ -22,15 +22,15 @@ pub trait Source {
         ensures counted { (seen self.new).calls ≡ one_more (seen self.old).calls }
         ensures ended { (seen self.new).ended ≡ true ↔ IsEnd buf.new result };
 
-    /// Did the last read fail? An interrupted one didn't.
+    /// Returns whether the last read failed. An interrupted one didn't.
     fn failed(&self) -> bool
         ensures { result ≡ (seen self.now).failed };
 
-    /// How many reads were made. It stays at the greatest value of a `u64`.
+    /// Returns how many reads were made. It stays at the greatest value of a `u64`.
     fn calls(&self) -> u64
         ensures { result ≡ (seen self.now).calls };
 
-    /// Was the last read at the end: was `buf` not empty, and did it return 0?
+    /// Returns whether the last read was at the end: `buf` wasn't empty, and it returned 0.
     fn ended(&self) -> bool
         ensures { result ≡ (seen self.now).ended };
 }
@@ -59,17 +59,17 @@ pub trait Sink {
             ≡ flushed_after_flush (seen self.old).flushed result }
         ensures counted { (seen self.new).calls ≡ one_more (seen self.old).calls };
 
-    /// Did the last write or flush fail? An interrupted one didn't. A write that took nothing of a
-    /// `buf` that isn't empty did.
+    /// Returns whether the last write or flush failed. An interrupted one didn't. A write that took
+    /// nothing of a `buf` that isn't empty did.
     fn failed(&self) -> bool
         ensures { result ≡ (seen self.now).failed };
 
-    /// How many writes and flushes were made. It stays at the greatest value of a `u64`.
+    /// Returns how many writes and flushes were made. It stays at the greatest value of a `u64`.
     fn calls(&self) -> u64
         ensures { result ≡ (seen self.now).calls };
 
-    /// Is all that was written passed on: did a flush succeed after the last write that took bytes?
-    /// True before the first.
+    /// Returns whether all that was written is passed on: a flush succeeded after the last write
+    /// that took bytes. True before the first.
     fn flushed(&self) -> bool
         ensures { result ≡ (seen self.now).flushed };
 }

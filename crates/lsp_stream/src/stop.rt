@@ -35,7 +35,7 @@ fn next_call(script: &mut &[Call], others: Call) -> Call
     }
 }
 
-/// The error of a call that moves no byte.
+/// Returns the error of a call that moves no byte.
 fn stopped(call: Call) -> io::Error
     ensures { IsStop call result }
 {
@@ -120,14 +120,14 @@ impl<'a> StopWriter<'a> {
         }
     }
 
-    /// The bytes that were written.
+    /// Returns the bytes that were written.
     pub fn bytes(&self) -> &[u8]
         ensures { result.now ≡ self.now.bytes.items }
     {
         &self.bytes
     }
 
-    /// How many flushes succeeded. It stays at the greatest value of a `usize`.
+    /// Returns how many flushes succeeded. It stays at the greatest value of a `usize`.
     pub fn flushes(&self) -> usize
         ensures { result ≡ self.now.flushes }
     {

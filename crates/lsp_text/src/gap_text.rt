@@ -49,8 +49,8 @@ impl Model for GapText {
         IsGapText (without_gap text.bytes) text.starts.front text.starts.back };
 }
 
-/// Whether bytes can be written over those from `start` to `stop` while the gap and all line starts
-/// stay as they are.
+/// Returns whether bytes can be written over those from `start` to `stop` while the gap and all
+/// line starts stay as they are.
 fn is_in_place(bytes: &GapBytes, start: usize, stop: usize, new: &[u8]) -> bool
     requires order { start ≤ stop }
     requires within { stop ≤ length (without_gap bytes.now) }

@@ -1,12 +1,12 @@
 //! Writes conformance vectors: cases of text synchronisation with what they mean by the proved
-//! programs of `lsp_text`, `lsp_edit`, `lsp_store` and `lsp_frame`. Changes and text edits are applied
-//! by the plain program of the definitions, then by those that a server uses (`beside`); it stops
-//! where the two differ.
+//! programs of `lsp_text`, `lsp_edit`, `lsp_store` and `lsp_frame`. Changes and text edits are
+//! applied by the plain program of the definitions, then by those that a server uses (`beside`); it
+//! stops where the two differ.
 //!
 //! A case is a line of JSON, an object of one of four kinds. Its member `changes` is the content of
-//! one `textDocument/didChange`, `edits` a list of text edits, `messages` several messages in a row,
-//! and `bytes` a stream of frames. What it means becomes its last member, `expect`; one that is
-//! there already is dropped, and computed anew.
+//! one `textDocument/didChange`, `edits` a list of text edits, `messages` several messages in a
+//! row, and `bytes` a stream of frames. What it means becomes its last member, `expect`; one that
+//! is there already is dropped, and computed anew.
 //!
 //! Without arguments the cases of standard input are written with their meanings. Each argument
 //! names a file of vectors; of those the lines are written that are not as computed, and how many,

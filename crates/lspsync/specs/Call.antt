@@ -34,7 +34,8 @@ pub record HasNumber (options : ArgMatches) (id : List ℕ) (n : ℕ) : Type 0 w
   pub value : n ≡ digits_value 10 (without_leading_plus text)
   pub small : digits_value 10 (without_leading_plus text) < 2 ^ 64
 
--- A flag is set exactly if its option is there: `clap` finds the text `true` then, else `false`.
+-- A flag is set where `clap` finds the text `true` under its name, and isn't where it finds `false`
+-- or nothing. It finds `true` if the option is there, else `false`.
 pub record IsFlag (options : ArgMatches) (id : List ℕ) (flag : Bool) : Type 0 where
   pub missing : one_text (found_of options) id ≡ None → flag ≡ false
   pub set : one_text (found_of options) id ≡ Some (codes "true") → flag ≡ true
@@ -87,6 +88,7 @@ pub record IsLogPart (options : ArgMatches) (part : Part) : Type 0 where
 abbrev pub is_whole : Part → Bool
 is_whole part = not (is_some part.at) && not (is_some part.uri)
 
+-- That part.
 abbrev pub whole : Part
 whole = record { at = None; uri = None }
 

@@ -28,6 +28,7 @@ abbrev pub rule_of_limit : Limit → Rule
 rule_of_limit limit =
     option_rule limit.name.now (Unsigned limit.least limit.greatest) limit.default.now
 
+-- The options of the four limits, and the flag `--lenient`.
 abbrev pub rules_of_limits : LimitOptions → List Rule
 rules_of_limits limits = rule_of_limit limits.body ∷ rule_of_limit limits.text
     ∷ rule_of_limit limits.docs ∷ rule_of_limit limits.changes

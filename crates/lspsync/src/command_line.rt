@@ -1,4 +1,7 @@
 //! The program's command line.
+//!
+//! `options` is the program as `clap` sees it, `help` has the pages of help, and `texts` what the
+//! commands' pages say.
 
 ghost use Rattle.std.specs.Prelude.{◌≡◌, ◌≢◌, codes, true, false};
 ghost use Rattle.std.specs.Prelude.{IfOk, IfSome, IsSome, ℕ, map};
@@ -8,6 +11,7 @@ ghost use Rattle.lsp_frame.specs.Limits.{LimitsData};
 
 mod help;
 mod options;
+mod texts;
 
 use crate::command_line::options::program;
 use clap::{ArgMatches, Error};
@@ -34,7 +38,8 @@ pub enum Call {
     ReplayPart(Settings, Part),
     /// `normalise`: write a log with each accepted change as its canonical message.
     Normalise(Settings),
-    /// `normalise --documents`: write of it only what is about the session and the documents' texts.
+    /// `normalise --documents`: write of it only what is about the session and the documents'
+    /// texts.
     NormaliseDocuments(Settings),
     /// `convert`: write a log of version 1 in version 2.
     Convert(Settings),
@@ -51,7 +56,7 @@ pub fn parse<'a>(alloc: Global, words: &'a [&'a str]) -> Result<Option<Call>, Er
     Ok(call)
 }
 
-/// The call that `clap` found.
+/// Returns the call that `clap` found.
 fn call_of(alloc: Global, matches: &ArgMatches<'_>) -> Result<Option<Call>, AllocError>
     ensures { IfOk result (IsFound matches.now) }
 {
@@ -61,7 +66,7 @@ fn call_of(alloc: Global, matches: &ArgMatches<'_>) -> Result<Option<Call>, Allo
     call_named(alloc, name, options)
 }
 
-/// The call of a subcommand with these options.
+/// Returns the call of a subcommand with these options.
 fn call_named(
     alloc: Global,
     name: &str,
@@ -77,7 +82,7 @@ fn call_named(
     }
 }
 
-/// The call of another subcommand than `replay`.
+/// Returns the call of another subcommand than `replay`.
 fn other_call(name: &str, options: &ArgMatches<'_>) -> Option<Call>
     ensures some { IfSome result (IsCallNamed name.now options.now) }
     ensures none { (call : Call) → name.now ≢ codes "replay" →
@@ -93,7 +98,7 @@ fn other_call(name: &str, options: &ArgMatches<'_>) -> Option<Call>
     }
 }
 
-/// The call of `check`, with reasons or without.
+/// Returns the call of `check`, with reasons or without.
 fn check_call(options: &ArgMatches<'_>) -> Option<Call>
     ensures some { IfSome result (IsCallNamed (codes "check") options.now) }
     ensures none { (call : Call) → IsCallNamed (codes "check") options.now call → IsSome result }
@@ -105,7 +110,7 @@ fn check_call(options: &ArgMatches<'_>) -> Option<Call>
     Some(Call::Check(settings))
 }
 
-/// The call of `normalise`, of all messages or of those about the session and the texts.
+/// Returns the call of `normalise`, of all messages or of those about the session and the texts.
 fn normalise_call(options: &ArgMatches<'_>) -> Option<Call>
     ensures some { IfSome result (IsCallNamed (codes "normalise") options.now) }
     ensures none { (call : Call) → IsCallNamed (codes "normalise") options.now call →
@@ -119,7 +124,7 @@ fn normalise_call(options: &ArgMatches<'_>) -> Option<Call>
     Some(Call::Normalise(settings))
 }
 
-/// The call of `replay`, of a part of a log or of the whole.
+/// Returns the call of `replay`, of a part of a log or of the whole.
 fn replay_call(alloc: Global, options: &ArgMatches<'_>) -> Result<Option<Call>, AllocError>
     ensures some { IfOk result (λ found. IfSome found (IsCallNamed (codes "replay") options.now)) }
     ensures none { IfOk result (λ found. (call : Call) →
@@ -132,7 +137,7 @@ fn replay_call(alloc: Global, options: &ArgMatches<'_>) -> Result<Option<Call>, 
     Ok(Some(replaying(settings, part)))
 }
 
-/// The call of `replay` with these settings.
+/// Returns the call of `replay` with these settings.
 fn replaying(settings: Settings, part: Part) -> Call
     ensures whole { is_whole part ≡ true → result ≡ Call.Replay settings }
     ensures part { is_whole part ≡ false → result ≡ Call.ReplayPart settings part }
@@ -143,7 +148,7 @@ fn replaying(settings: Settings, part: Part) -> Call
     Call::ReplayPart(settings, part)
 }
 
-/// The part of a log that the options name.
+/// Returns the part of a log that the options name.
 fn part_of(alloc: Global, options: &ArgMatches<'_>) -> Result<Part, AllocError>
     ensures { IfOk result (IsLogPart options.now) }
 {
@@ -158,7 +163,7 @@ fn part_of(alloc: Global, options: &ArgMatches<'_>) -> Result<Part, AllocError>
     Ok(Part { at, uri })
 }
 
-/// What `trace` is to write of each record.
+/// Returns what `trace` is to write of each record.
 fn details_of(options: &ArgMatches<'_>) -> Details
     ensures { AreDetails options.now result }
 {

@@ -119,7 +119,7 @@ pub fn perform<R: Source, W: Sink>(
     answer_with(ran, flushed)
 }
 
-/// A fault of the engine comes before one of the flush.
+/// Returns the result of a run. A fault of the engine comes before one of the flush.
 fn answer_with(
     ran: Result<Outcome, EngineFault>,
     flushed: Result<(), EngineFault>,
@@ -249,7 +249,7 @@ pub fn report<E: Write>(fault: EngineFault, errors: &mut E) -> Ending
     }
 }
 
-/// The status of a fault.
+/// Returns the status of a fault.
 fn status_of(fault: EngineFault) -> u8
     ensures { result ≡ status_of fault }
 {

@@ -23,7 +23,7 @@ struct Answer {
 }
 
 impl Answer {
-    /// Are these the status, the output and the lines on standard error?
+    /// Returns whether these are the status, the output and the lines on standard error.
     fn is(&self, status: u8, output: &[u8], errors: &str) -> bool {
         self.status == status
             && self.output.as_slice() == output
@@ -31,7 +31,8 @@ impl Answer {
     }
 }
 
-/// Has a run with these words this status and output, and nothing on standard error?
+/// Returns whether a run with these words has this status and output, and nothing on standard
+/// error.
 fn answers(
     alloc: Global,
     words: &[&str],
@@ -42,7 +43,8 @@ fn answers(
     Ok(ran(alloc, words, input)?.is(status, output, ""))
 }
 
-/// Is a run with these words a fault that is reported in this line, after this output?
+/// Returns whether a run with these words is a fault that is reported in this line, after this
+/// output.
 fn fails(
     alloc: Global,
     words: &[&str],
@@ -53,12 +55,12 @@ fn fails(
     Ok(ran(alloc, words, input)?.is(5, output, line))
 }
 
-/// A run of the program over streams that never fail.
+/// Runs the program over streams that never fail.
 fn ran(alloc: Global, words: &[&str], input: &[u8]) -> Result<Answer, AllocError> {
     stopped(alloc, words, input, &[], &[])
 }
 
-/// A run of the program over streams whose first calls end as these scripts say.
+/// Runs the program over streams whose first calls end as these scripts say.
 fn stopped(
     alloc: Global,
     words: &[&str],

@@ -84,8 +84,8 @@ pub(crate) fn index_of<V>(slots: &[Slot<V>], counts: &[usize], live: usize, slot
     }
 }
 
-/// Returns the slot of the entry at an index, of which there are so many. Where no slot is vacant it
-/// costs one step.
+/// Returns the slot of the entry at an index, of which there are so many. Where no slot is vacant
+/// it costs one step.
 pub(crate) fn slot_of<V>(
     slots: &[Slot<V>],
     counts: &[usize],

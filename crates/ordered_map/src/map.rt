@@ -18,8 +18,8 @@ use std::marker::Model;
 /// How many more slots may be vacant than have an entry.
 const MAX_VACANT: usize = 64;
 
-/// A hash map with keys that are texts, which keeps its entries in order of insertion and gives each
-/// an index, as `indexmap::IndexMap` does. To remove an entry costs the same whichever it is.
+/// A hash map with keys that are texts, which keeps its entries in order of insertion and gives
+/// each an index, as `indexmap::IndexMap` does. To remove an entry costs the same whichever it is.
 ///
 /// A removed entry leaves a vacant slot. Once more slots are vacant than not, and more than a few,
 /// they are packed; that costs a few steps for each entry removed since the last time. The map's
@@ -159,8 +159,8 @@ impl<V> OrderedMap<V> {
         self.slots[slot].value_mut()
     }
 
-    /// Returns the entries in order of insertion. Each costs one step, and so does each vacant slot:
-    /// there are at most some 64 more of them than entries.
+    /// Returns the entries in order of insertion. Each costs one step, and so does each vacant
+    /// slot: there are at most some 64 more of them than entries.
     pub fn iter(&self) -> Iter<'_, V>
         ensures { result ≡ self.now.entries }
     {

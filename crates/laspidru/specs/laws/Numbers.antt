@@ -48,7 +48,7 @@ pub record HaveKinds : Type 0 where
   pub noted : NOTED ≡ 6
   pub bad_server : BAD_SERVER ≡ 7
 
--- All codes, and all kinds, in the order of their numbers.
+-- All codes, in the order of their numbers.
 abbrev pub codes : List ℕ
 codes =
     OK ∷ NOT_UTF8 ∷ OUT_OF_MEMORY ∷ IN_USE ∷ EMPTY ∷ TOO_LONG ∷ INSIDE_CHARACTER ∷
@@ -57,6 +57,7 @@ codes =
     INVALID_PARAMS ∷ CUT ∷ BAD_FRAME ∷ BODY_TOO_LONG ∷ BAD_LOG ∷ TOO_MANY_TURNS ∷ OVERLAP ∷
     FAILED ∷ NO_MESSAGE ∷ WRONG_PHASE ∷ NOT_AN_ANSWER ∷ ERROR_ANSWER ∷ NO_SYNC ∷ []
 
+-- All kinds, in the order of their numbers.
 abbrev pub kinds : List ℕ
 kinds =
     REPLIED ∷ CHANGED ∷ DROPPED ∷ IGNORED ∷ REFUSED ∷ EXITED ∷ NOTED ∷ BAD_SERVER ∷ []

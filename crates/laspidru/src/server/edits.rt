@@ -23,7 +23,7 @@ use lsp_store::Document;
 use lsp_text::Encoding;
 use std::alloc::Global;
 
-/// The canonical batch of what edits mean on an open document, or the code of their fault.
+/// Returns the canonical batch of what edits mean on an open document, or the code of their fault.
 fn batch_on(
     alloc: Global,
     document: &Document<'_>,

@@ -28,7 +28,7 @@ fn next(seed: &mut u64) -> usize {
 }
 
 /// Returns so many random parts, one after another.
-fn parts(alloc: Global, seed: &mut u64, count: usize) -> Result<String, AllocError> {
+pub(super) fn parts(alloc: Global, seed: &mut u64, count: usize) -> Result<String, AllocError> {
     let mut text = String::new(alloc);
     for _ in 0..count {
         text.push_str(PARTS[next(seed) % 12])?;
@@ -71,7 +71,11 @@ static SIZES: [Size; 4] = [
 ];
 
 /// Makes a random change of both. Returns whether they are the same text then.
-fn is_changed(alloc: Global, pair: &mut Pair, seed: &mut u64) -> Result<bool, AllocError> {
+pub(super) fn is_changed(
+    alloc: Global,
+    pair: &mut Pair,
+    seed: &mut u64,
+) -> Result<bool, AllocError> {
     let size = &SIZES[next(seed) % 4];
     let start = boundary(&pair.plain, next(seed) % pair.plain.len().saturating_add(1));
     let end = start.saturating_add(next(seed) % size.reach.max(1));

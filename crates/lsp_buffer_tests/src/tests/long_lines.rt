@@ -35,7 +35,7 @@ static CHANGES: [Change; 8] = [
     (8, 4_000, "\n"),
 ];
 
-/// A line of letters with something at its first seam, so many bytes after `SEAM - 8`.
+/// Returns a line of letters with something at its first seam, so many bytes after `SEAM - 8`.
 fn with_seam(alloc: Global, part: &str, shift: usize) -> Result<String, AllocError> {
     let mut text = "a".repeat(alloc, SEAM - 8)?;
     for _ in 0..shift {
@@ -123,7 +123,7 @@ fn a_seam_is_at_no_character_that_it_would_part(rt: HostRuntime) -> Result<(), F
     Ok(())
 }
 
-/// A line of 100,000 bytes without a line end.
+/// Returns a line of 100,000 bytes without a line end.
 fn long_line(alloc: Global) -> Result<String, AllocError> {
     "0123456789\u{E9}\u{1F600}\u{20AC}b".repeat(alloc, 5_000)
 }

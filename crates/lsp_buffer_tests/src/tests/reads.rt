@@ -8,7 +8,7 @@ use std::test::Fail;
 /// Where a change of the text of `seamed` begins and ends, and what it inserts.
 type Change = (usize, usize, &'static str);
 
-/// A text of lines of sixteen bytes, each of which ends with a CRLF, and so do its blocks.
+/// Returns a text of lines of sixteen bytes, each of which ends with a CRLF, and so do its blocks.
 fn seamed(alloc: Global) -> Result<String, AllocError> {
     "0123456789\u{1F600}\r\n".repeat(alloc, 1_000)
 }

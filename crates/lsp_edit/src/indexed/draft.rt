@@ -101,8 +101,8 @@ impl IndexedText {
 
     /// Applies a batch to a copy of the text. A fault reports the first change that has no result.
     ///
-    /// Costs what each change costs, and a copy of the text if the first change doesn't replace
-    /// all.
+    /// Costs what each change costs, and [`IndexedText::clone_in`] if the first change doesn't
+    /// replace all.
     pub(crate) fn left_by(&self, encoding: Encoding, changes: &[Change]) -> Result<Self, EditFault>
         requires size { length self.now ≤ MAX_OLD_TEXT }
         requires fits { sum_by (λ change. string_len change.text) changes.now ≤ MAX_NEW_TEXT }

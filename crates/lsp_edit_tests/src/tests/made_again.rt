@@ -39,7 +39,7 @@ fn refused_apply_where_lines_come_and_go(rt: HostRuntime) -> Result<(), Fail> {
     Ok(())
 }
 
-/// Are the text and the canonical batch of pieces `AFTER` and `wanted`?
+/// Returns whether the text and the canonical batch of pieces are `AFTER` and `wanted`.
 fn are_left(pieces: &Pieces<'_>, wanted: &[Change]) -> Result<bool, AllocError> {
     let canonical = pieces.canonical(UTF16)?;
     Ok(canonical.as_slice() == wanted && pieces.text()?.as_str() == AFTER)

@@ -1,6 +1,5 @@
 -- When a pair has a history: it is at the world of some list of events, and its history is what
--- that
--- world says.
+-- that world says.
 use Rattle.std.specs.Prelude.{◌≡◌, List, [], ◌∷◌}
 use Rattle.lsp_message.specs.Params.{DocumentItem}
 use Rattle.lsp_pair.specs.Events.{Setting, EventData}

@@ -81,7 +81,7 @@ static PREFERRED: &[(Encoding, bool, Encoding)] = &[
     (Encoding::Utf32, false, Encoding::Utf16),
 ];
 
-/// The rows of a session in this encoding, once the document is open.
+/// Returns the rows of a session in this encoding, once the document is open.
 fn edits_in(encoding: Encoding) -> &'static [Row] {
     match encoding {
         Encoding::Utf8 => IN_UTF8,
@@ -90,7 +90,7 @@ fn edits_in(encoding: Encoding) -> &'static [Row] {
     }
 }
 
-/// Is the document opened in this encoding, and edited?
+/// Returns whether the document is opened in this encoding, and edited.
 fn agrees(pair: &mut Pair, alloc: Global, wanted: Encoding) -> Result<bool, AllocError> {
     if wrong_row(pair, alloc, OPENED)?.is_some() {
         return Ok(false);

@@ -62,7 +62,7 @@ fn is_run(pair: &mut Pair, events: &[Event], refused: &mut u32) -> bool {
     !run_pair(pair, rest).out_of_memory
 }
 
-/// How often memory ran out while the events were listed and run.
+/// Returns how often memory ran out while the events were listed and run.
 fn run(pair: &mut Pair, alloc: Global, scripts: &[Script]) -> Result<u32, AllocError> {
     let mut refused = 0;
     let events = events_again(alloc, scripts, &mut refused)?;
@@ -74,8 +74,8 @@ fn run(pair: &mut Pair, alloc: Global, scripts: &[Script]) -> Result<u32, AllocE
 
 const EDITED: Open = Some((2, "aXc"));
 
-/// How often memory ran out in the session of a new pair, if both ends have the edited document
-/// after it, and nothing waits.
+/// Returns how often memory ran out in the session of a new pair, if both ends have the edited
+/// document after it, and nothing waits.
 fn run_session(alloc: Global, sync: ChangeForm) -> Result<Option<u32>, Fail> {
     let mut pair = new_pair(alloc, NO_OFFERS, UTF16, sync)?;
     let refused = run(&mut pair, alloc, SESSION)?;

@@ -79,7 +79,7 @@ static AT_ONCE: &[Row] = &[
     (Script::ToServer, Happened::Server(Did::Exit(0)), None, None),
 ];
 
-/// Does a session of a new pair go so, and does nothing wait at its end?
+/// Returns whether a session of a new pair goes so, and nothing waits at its end.
 fn is_session(alloc: Global, sync: ChangeForm, rows: &[Row]) -> Result<bool, Fail> {
     let mut pair = new_pair(alloc, NO_OFFERS, UTF16, sync)?;
     Ok(wrong_row(&mut pair, alloc, rows)?.is_none() && are_waiting(&pair, (0, 0)))
@@ -122,7 +122,7 @@ static WAITING: [(usize, usize); 9] = [
     (5, 0),
 ];
 
-/// Makes a step. Do so many messages wait then?
+/// Makes a step. Returns whether so many messages wait then.
 fn are_left(
     pair: &mut Pair,
     alloc: Global,

@@ -49,7 +49,7 @@ fn which_ends_fit(rt: HostRuntime) -> Result<(), Fail> {
     Ok(())
 }
 
-/// Are lenient ends refused where only the client is?
+/// Returns whether lenient ends are refused where only the client is.
 fn lenient_ends_fit(alloc: Global) -> Result<bool, BadLimits> {
     let limits = Limits::new(4_097, 8, 2, 2)?;
     let strict = Config {

@@ -2,12 +2,8 @@
 use Rattle.std.proofs.Common.{◌≡◌, ◌≢◌, ◌≤◌, ◌<◌, ◌⊎◌, inl, inr, ℕ, Bool, true, false, List, [], ◌∷◌, map, length, refl, ap, if◌then◌else◌, nat_lt, ltb-true, ltb-false, le-ltb, lt-ltb, ◌++◌, ◌∙◌, drop, sym, append_assoc}
 use Rattle.std.proofs.lemmas.List.{drop_at}
 use Rattle.std.specs.Prelude.{Option, Some, None, option_map, Err}
-use Rattle.serde_json.specs.Data.{Data}
 use Rattle.lsp_text.specs.Units.{units_in}
 use Rattle.lsp_text.specs.declared.encoding.Encoding.{Encoding}
-use Rattle.lsp_message.specs.declared.agreement.Announced.{Announced}
-use Rattle.lsp_message.specs.Agreement.{announced_of}
-use Rattle.lsp_message.specs.Message.{IdData, reading}
 use Rattle.lsp_message.specs.Params.{DocumentItem, ChangeData}
 use Rattle.lsp_edit.specs.Edited as given
 use Rattle.lsp_frame.specs.Limits.{LimitsData}
@@ -23,7 +19,7 @@ use Rattle.lsp_server.specs.declared.phase.Phase.TheVariants.{New, Running, Down
 use Rattle.lsp_server.specs.Answer.{AnswerData, Sent, changed, as_sent}
 use Rattle.lsp_server.specs.Incoming.{did_change}
 use Rattle.lsp_server.specs.Step.{ServerData, edit_from_data, session_encoding, obeyed, change_command, step_in}
-use Rattle.lsp_replay.specs.Session.{Session, Verdict, answered, recorded, bad, Judged, judged, judge_incoming, hear_for, heard, settle_by, settle_in, result_for}
+use Rattle.lsp_replay.specs.Session.{Session, Verdict, answered, recorded, bad, Judged, judged, judge_client, judge_server}
 use Rattle.lsp_replay.specs.Commands.{canonical_if, written, writes, ends}
 use Rattle.lsp_log.specs.declared.record.Version.{Version}
 use Rattle.lsp_log.specs.Log.{Record}
@@ -40,32 +36,18 @@ none_unless_answered server None verdict way = refl
 none_unless_answered server (Some p) verdict (inl e) = rw e refl
 none_unless_answered server (Some p) verdict (inr e) = rw e refl
 
-settled_in : (s : Session) (encoding : Option Encoding) → ((settle_in s encoding).verdict ≡ recorded)
-    ⊎ ((settle_in s encoding).verdict ≡ bad)
-settled_in s None = inr refl
-settled_in s (Some encoding) = inl refl
-
-settled_by : (s : Session) (announced : Option Announced) → ((settle_by s announced).verdict ≡ recorded)
-    ⊎ ((settle_by s announced).verdict ≡ bad)
-settled_by s None = inr refl
-settled_by s (Some announced) = settled_in s announced.encoding
-
-was_heard : (s : Session) (result : Option Data) → ((heard s result).verdict ≡ recorded)
-    ⊎ ((heard s result).verdict ≡ bad)
-was_heard s None = inl refl
-was_heard s (Some result) = settled_by s (announced_of result)
-
-pub heard_for : (s : Session) (expected : Option IdData) (body : List ℕ)
-    → ((hear_for s expected body).verdict ≡ recorded) ⊎ ((hear_for s expected body).verdict ≡ bad)
-heard_for s None body = inl refl
-heard_for s (Some id) body = was_heard s (result_for id (reading body))
+pub heard_as : (s : Session) (announced : Option (Option Encoding))
+    → ((judge_server s announced).verdict ≡ recorded) ⊎ ((judge_server s announced).verdict ≡ bad)
+heard_as s None = inl refl
+heard_as s (Some None) = inr refl
+heard_as s (Some (Some encoding)) = inl refl
 
 -- A server's record has no canonical message.
-pub heard_has_none : (server : ServerData) (change : Option ChangeData) (s : Session) (expected : Option IdData)
-    (body : List ℕ)
-    → canonical_if server change (hear_for s expected body).verdict ≡ None
-heard_has_none server change s expected body = none_unless_answered server change (hear_for s expected body).verdict
-    (heard_for s expected body)
+pub heard_has_none : (server : ServerData) (change : Option ChangeData) (s : Session)
+    (announced : Option (Option Encoding))
+    → canonical_if server change (judge_server s announced).verdict ≡ None
+heard_has_none server change s announced = none_unless_answered server change (judge_server s announced).verdict
+    (heard_as s announced)
 
 -- ---- a change that is answered by `changed` was not refused
 
@@ -96,7 +78,7 @@ same_answer : (a b : AnswerData Sent) → answered a ≡ answered b → a ≡ b
 same_answer a b e = cc
 
 pub accepted : (s : Session) (version : Version) (p : ChangeData)
-    → (judge_incoming s version (did_change (Some p))).verdict ≡ answered changed
+    → (judge_client s version (did_change (Some p))).verdict ≡ answered changed
     → change_refusal s.server.config.limits (units_in (session_encoding s.server)) s.server.table p.uri p.version
     (map edit_from_data p.changes) ≡ None
 accepted s version p e = step_changed s.server.phase s.server p (same_answer _ _ (unless_bad_is _ _ s _ changed e))

@@ -15,7 +15,8 @@ use Rattle.lsp_log.specs.declared.record.Head.{Head}
 use Rattle.lsp_log.specs.Log.{Record, Log, IsRecord, AreRecords, IsVersion, together, record_bytes, mark_of, line_of, version_line, is_line_due}
 use Rattle.lsp_replay.specs.RunOutput.{RunOutput, written_first}
 use Rattle.lsp_replay.specs.Session.{Session, Verdict, answered, recorded, bad, Judged, judge, opened}
-use Rattle.lsp_replay.specs.Commands.{View, RecordOutput, writes, ends, continue_with, unless_bad, run_output_in, normalising, replaying, canonical_output, canonical_of_record, written, front_of, line_if, log_config, canonical_log}
+use Rattle.lsp_replay.specs.Commands.{View, RecordOutput, writes, ends, continue_with, unless_bad, normalising, replaying, canonical_output, canonical_of_record, written, front_of, line_if, log_config, canonical_log}
+use Rattle.lsp_replay.specs.inside.Commands.{run_output_in}
 use Rattle.lsp_replay.specs.laws.Written.{CanonicalLogLaw, all_of}
 use Rattle.lsp_replay.proofs.Records.StateLemmas.{IsHeldState}
 use Rattle.lsp_replay.proofs.Converted.LineLemmas.{is_version_one}
@@ -23,15 +24,16 @@ use Rattle.lsp_replay.proofs.Records.JudgeLemmas.{judged_held, judged_again}
 
 -- ---- a course, a record at a time
 
-abbrev pub course_by : View → Session → Record → List Record → Judged → RecordOutput → RunOutput
+abbrev pub course_by : View (Unit {0}) → Session → Record → List Record → Judged → RecordOutput → RunOutput
 course_by view s r rs j g = continue_with g.out g.end (run_output_in view j.session rs)
 
 -- what is known of a record's judgement and of what it gives tells the course
-pub command_output : (view : View) (s : Session) (r : Record) (rs : List Record) (j : Judged) (out : List ℕ) → judge s r
-    ≡ j → view.record_output s r j ≡ writes out
+pub command_output : (view : View (Unit {0})) (s : Session) (r : Record) (rs : List Record) (j : Judged)
+    (out : List ℕ) → judge s r ≡ j → view.record_output tt s r j ≡ writes out
     → run_output_in view s (r ∷ rs) ≡ written_first out (run_output_in view j.session rs)
 command_output view s r rs j out is gives_it =
-    ap (λ (k : Judged). course_by view s r rs k (view.record_output s r k)) is ∙ ap (course_by view s r rs j) gives_it
+    ap (λ (k : Judged). course_by view s r rs k (view.record_output tt s r k)) is
+    ∙ ap (course_by view s r rs j) gives_it
 
 pub went_on : (out : List ℕ) (end : Option (Result Outcome EngineFault)) (c : RunOutput)
     → (continue_with out end c).stop ≡ None → (end ≡ None) × (c.stop ≡ None)
@@ -66,10 +68,10 @@ pub record IsWrittenAs (limits : LimitsData) (at : ℕ) (s : Session) (r q : Rec
   pub same_version : q.head.version ≡ r.head.version
   pub due : q.head.line_due ≡ r.head.line_due
   pub same : judge s q ≡ judge s r
-  pub first : normalising.record_output s r (judge s r) ≡ writes (front_of r.head ++ q.raw)
-  pub again : normalising.record_output s q (judge s r) ≡ writes (front_of r.head ++ q.raw)
-  pub error : replaying.record_output s r (judge s r) ≡ writes []
-  pub told_again : replaying.record_output s q (judge s r) ≡ writes []
+  pub first : normalising.record_output tt s r (judge s r) ≡ writes (front_of r.head ++ q.raw)
+  pub again : normalising.record_output tt s q (judge s r) ≡ writes (front_of r.head ++ q.raw)
+  pub error : replaying.record_output tt s r (judge s r) ≡ writes []
+  pub told_again : replaying.record_output tt s q (judge s r) ≡ writes []
 
 module _ (limits : LimitsData) (ranges : AreInRange limits) where
   module _ (at : ℕ) (s : Session) (r : Record) (received : IsHeldState limits s.server)

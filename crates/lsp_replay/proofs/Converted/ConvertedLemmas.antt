@@ -1,11 +1,13 @@
 -- What `convert` writes of a log: a log of which the same is told.
 use Rattle.std.proofs.Common.{◌≡◌, ℕ, Bool, true, false, Option, Some, None, refl, ap, ◌∙◌}
-use Rattle.std.specs.Prelude.{⊤, if◌then◌else◌}
+use Rattle.std.specs.Prelude.{⊤, if◌then◌else◌, option_and_then, option_map}
+use Rattle.serde_json.specs.Data.{Data}
 use Rattle.std.proofs.lemmas.Bool.Decides.{Decides-int_eq}
 use Rattle.std.proofs.lemmas.Slice.Eq.{bytes_eq-Decides}
+use Rattle.lsp_message.specs.declared.agreement.Announced.{Announced}
 use Rattle.lsp_message.specs.declared.agreement.Offers.{Offers}
 use Rattle.lsp_message.specs.declared.agreement.SyncKind.{SyncKind}
-use Rattle.lsp_message.specs.Message.{IdData, whole, text}
+use Rattle.lsp_message.specs.Message.{IdData, Reading, whole, text, reading}
 use Rattle.lsp_message.specs.Outgoing.{OutgoingData, initialize_result, body_of}
 use Rattle.lsp_message.specs.Written.{initialize_value}
 use Rattle.lsp_message.specs.laws.Sent.{IsProperId}
@@ -20,7 +22,7 @@ use Rattle.lsp_server.specs.Step.{ServerData, step_in, step_on, begins, with_enc
 use Rattle.lsp_log.specs.declared.record.Version.{Version}
 use Rattle.lsp_log.specs.declared.record.Version.TheVariants.{One, Two}
 use Rattle.lsp_stream.specs.Ports.{one_more}
-use Rattle.lsp_replay.specs.Session.{Session, Verdict, answered, recorded, bad, Judged, judged, judge_incoming, handled, hear_for, heard, settle_by, result_for, same_id, is_ended, is_early, is_new, expected_of, count_if, is_refused}
+use Rattle.lsp_replay.specs.Session.{Session, Verdict, answered, recorded, bad, Judged, judged, judge_client, handled, judge_server, encoding_for, encoding_in, same_id, is_ended, is_early, is_new, expected_of, count_if, is_refused}
 use Rattle.lsp_replay.proofs.Records.AskedLemmas.{IsProperIncoming}
 
 -- ---- a log of version 1 and one of version 2, side by side
@@ -42,7 +44,7 @@ good_tests false false s j good = (refl, refl)
 
 handled_on : (s : Session) (version : Version) (m : IncomingData) → is_ended s.server.phase ≡ false → is_early s m
     ≡ false
-    → judge_incoming s version m ≡ handled s version m (step_on s.server m).state (as_sent (step_on s.server m).answer)
+    → judge_client s version m ≡ handled s version m (step_on s.server m).state (as_sent (step_on s.server m).answer)
 handled_on s version m a b = rw (a, b) refl
 
 -- no result is waited for in a log of version 1
@@ -62,18 +64,22 @@ if_true true x y e = refl
 if_true false x y e = absurd (let wrong : false ≡ true = e in cc)
 
 hears_result : (u : Session) (id : IdData) (encoding : Encoding) (kind : SyncKind) → IsProperId id
-    → hear_for u (Some id) (body_of (initialize_result id encoding kind))
+    → judge_server u (encoding_for (Some id) (reading (body_of (initialize_result id encoding kind))))
     ≡ judged recorded (record u { server = with_encoding u.server encoding; expected = None })
 hears_result u id encoding kind proper =
-    ap (λ r. heard u (result_for id r)) (reading-body_of (initialize_result id encoding kind) proper)
-    ∙ ap (heard u) (if_true (same_id id id) (Some (initialize_value encoding kind)) None (same_id_is id))
-    ∙ ap (settle_by u) (is_read_back (initialize_result id encoding kind) proper)
+    ap (λ (r : Reading). judge_server u (encoding_for (Some id) r))
+    (reading-body_of (initialize_result id encoding kind) proper)
+    ∙ ap (λ (r : Option Data). judge_server u (option_map encoding_in r))
+    (if_true (same_id id id) (Some (initialize_value encoding kind)) None (same_id_is id))
+    ∙ ap (λ (a : Option Announced). judge_server u (Some (option_and_then (λ (b : Announced). b.encoding) a)))
+    (is_read_back (initialize_result id encoding kind) proper)
 
 -- ---- what is waited for behind a client's record
 
 -- what is told behind an answer: the server's record of a reply settles what is waited for, and else nothing is
 abbrev pub Follows : Session → AnswerData OutgoingData → Type 0
-Follows u (reply m) = hear_for u u.expected (body_of m) ≡ judged recorded (record u { expected = None })
+Follows u (reply m) = judge_server u (encoding_for u.expected (reading (body_of m)))
+    ≡ judged recorded (record u { expected = None })
 Follows u changed = u.expected ≡ None
 Follows u dropped = u.expected ≡ None
 Follows u ignored = u.expected ≡ None
@@ -82,7 +88,7 @@ Follows u (refused why) = u.expected ≡ None
 Follows u (exits status) = u.expected ≡ None
 
 follows_none : (u : Session) (answer : AnswerData OutgoingData) → u.expected ≡ None → Follows u answer
-follows_none u (reply m) none = ap (λ e. hear_for u e (body_of m)) none
+follows_none u (reply m) none = ap (λ (e : Option IdData). judge_server u (encoding_for e (reading (body_of m)))) none
     ∙ (λ i. judged recorded (record u { expected = none i }))
 follows_none u changed none = none
 follows_none u dropped none = none
@@ -149,12 +155,12 @@ follows_step s n Ended server m proper = refl
 -- ---- a client's record is judged alike in both logs
 
 module _ (s : Session) (n : ℕ) (m : IncomingData) (none : s.expected ≡ None)
-    (good : IsGood (judge_incoming s One m).verdict) where
+    (good : IsGood (judge_client s One m).verdict) where
   tests : (is_ended s.server.phase ≡ false) × (is_early s m ≡ false)
   tests = good_tests (is_ended s.server.phase) (is_early s m) s
       (handled s One m (step_on s.server m).state (as_sent (step_on s.server m).answer)) good
 
-  pub judged_one : judge_incoming s One m ≡ judged (answered (as_sent (step_on s.server m).answer)) (record s {
+  pub judged_one : judge_client s One m ≡ judged (answered (as_sent (step_on s.server m).answer)) (record s {
     server = (step_on s.server m).state;
     expected = None;
     messages = one_more s.messages;
@@ -169,7 +175,7 @@ module _ (s : Session) (n : ℕ) (m : IncomingData) (none : s.expected ≡ None)
         refusals = count_if (is_refused (as_sent (step_on s.server m).answer)) s.refusals;
       })) (none_expected (is_new s.server.phase) m s.expected none)
 
-  pub judged_two : judge_incoming (twin s n) Two m ≡ judged (answered (as_sent (step_on s.server m).answer)) (record s {
+  pub judged_two : judge_client (twin s n) Two m ≡ judged (answered (as_sent (step_on s.server m).answer)) (record s {
     server = (step_on s.server m).state;
     expected = waits s.server.phase m;
     records = n;

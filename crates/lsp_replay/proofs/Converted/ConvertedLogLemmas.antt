@@ -18,8 +18,9 @@ use Rattle.lsp_log.specs.declared.record.Side.TheVariants.{Client, Server}
 use Rattle.lsp_stream.specs.Ports.{one_more}
 use Rattle.lsp_log.specs.Log.{Record, IsRecord, AreRecords, together, record_bytes, line_of, version_line, is_line_due}
 use Rattle.lsp_replay.specs.RunOutput.{RunOutput, written_first}
-use Rattle.lsp_replay.specs.Session.{Session, Verdict, answered, recorded, bad, Judged, judged, judge, judge_from, judge_incoming, counted, opened}
-use Rattle.lsp_replay.specs.Commands.{RecordOutput, writes, unless_bad, run_output_in, replaying, converting, line_if, line_before, reply_record, log_config, converted}
+use Rattle.lsp_replay.specs.Session.{Session, Verdict, answered, recorded, bad, Judged, judged, judge, judge_from, judge_client, counted, opened}
+use Rattle.lsp_replay.specs.Commands.{RecordOutput, writes, unless_bad, replaying, converting, line_if, line_before, reply_record, log_config, converted}
+use Rattle.lsp_replay.specs.inside.Commands.{run_output_in}
 use Rattle.lsp_replay.specs.laws.Written.{IsReplyWithin, AreRepliesWithin, ConvertedLaw, all_of}
 use Rattle.lsp_replay.proofs.Records.AskedLemmas.{asked_proper}
 use Rattle.lsp_replay.proofs.Canonical.NormalisedLemmas.{command_output, went_on, Passes, passes}
@@ -81,7 +82,7 @@ good_gives r recorded g e = tt
 good_gives r bad g e = let wrong : Some (Err (BadLog r.head.place)) ≡ None = e in absurd (cc)
 
 judged_client : (s : Session) (r : Record) → r.head.version ≡ One → r.head.side ≡ Client → judge s r
-    ≡ counted (judge_incoming s One (incoming_of (reading r.body)))
+    ≡ counted (judge_client s One (incoming_of (reading r.body)))
 judged_client s r one side = ap (λ v. counted (judge_from s v r.head.side r.body)) one
     ∙ ap (λ k. counted (judge_from s One k r.body)) side
 
@@ -218,7 +219,7 @@ module _ (limits : LimitsData) (ranges : AreInRange limits) where
       let on = went_on (unless_bad r (judge s r).verdict g).out (unless_bad r (judge s r).verdict g).end
       (run_output_in converting (judge s r).session rs) goes in
       let client = judged_client s r each.0.of_version (each.0.side refl) in
-      let good : IsGood (judge_incoming s One m).verdict =
+      let good : IsGood (judge_client s One m).verdict =
       subst IsGood (ap (λ (j : Judged). j.verdict) client) (good_gives r (judge s r).verdict g on.0) in
       let here : judge s r ≡ judged (answered (as_sent step.answer)) (next_of s step.state (as_sent step.answer)) =
       client ∙ ap counted (judged_one s n m none good) in

@@ -21,9 +21,10 @@ use Rattle.lsp_replay.specs.declared.session.joining.Writing.{Writing}
 use Rattle.lsp_replay.specs.declared.session.joining.Writing.TheVariants.{AsItIs, TooLong, Continues, Begins}
 use Rattle.lsp_replay.specs.declared.session.writing.Appended.{Appended}
 use Rattle.lsp_replay.specs.Commands.{canonical_change_body, canonical_if, canonical_of_record, change_in}
-use Rattle.lsp_replay.specs.Session.{Session, Verdict, judge_at, judge_from, judge_incoming}
+use Rattle.lsp_replay.specs.Session.{Session, Verdict, encoding_for, judge_from, judge_client}
 use Rattle.lsp_replay.specs.inside.Bodies.{BodyData, from_client, from_server, IsReceived, body_read, canonical_read, change_of, judge_read}
 use Rattle.lsp_replay.specs.inside.Joining.{IsChangeWriting, IsOpenAfter, IsWriting, refusal_of}
+use Rattle.lsp_replay.specs.inside.Session.{judge_at}
 use Rattle.lsp_replay.specs.inside.Verdicts.{IsAppended}
 use Rattle.lsp_replay.proofs.Canonical.CanonicalLogLemmas.{edits_of, heard_has_none}
 use Rattle.lsp_replay.proofs.Squash.JoiningLemmas.{change_open, change_writing, running_accepted, running_refused}
@@ -41,7 +42,7 @@ canonical_of : (s : Session) (version : Version) (side : Side) (body : List ℕ)
     (judge_from s version side body).verdict
 canonical_of s version Client body = refl
 canonical_of s version Server body =
-    sym (heard_has_none s.server (change_in (incoming_of (reading body))) s s.expected body)
+    sym (heard_has_none s.server (change_in (incoming_of (reading body))) s (encoding_for s.expected (reading body)))
 
 writing_of : (s : Session) (run : Option SquashData) (version : Version) (side : Side) (body : List ℕ) (w : Writing)
     → IsWriting s.server run (change_of (body_read version side body))
@@ -49,7 +50,7 @@ writing_of : (s : Session) (run : Option SquashData) (version : Version) (side :
     → IsWriting s.server run (change_in (incoming_of (reading body))) (judge_from s version side body).verdict w
 writing_of s run version Client body w is = is
 writing_of s run version Server body (AsItIs ended) is =
-    (heard_has_none s.server (change_in (incoming_of (reading body))) s s.expected body, is.1)
+    (heard_has_none s.server (change_in (incoming_of (reading body))) s (encoding_for s.expected (reading body)), is.1)
 writing_of s run version Server body TooLong is = absurd (let none : None ≡ Some is.0 = is.1 in cc)
 writing_of s run version Server body (Continues canonical batches) is =
     absurd (let none : None ≡ Some is.0.params = is.0.is in cc)

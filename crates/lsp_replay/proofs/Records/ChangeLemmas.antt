@@ -18,8 +18,8 @@ use Rattle.lsp_stream.specs.Ports.{one_more}
 use Rattle.lsp_frame.specs.Frame.{frame}
 use Rattle.lsp_replay.specs.Commands.{change_in, canonical_if, canonical_change_body}
 use Rattle.lsp_replay.specs.inside.Joining.{refusal_of, server_after}
-use Rattle.lsp_replay.specs.Session.{Session, Verdict, answered, recorded, bad, Judged, judge, judge_from, judge_incoming, counted}
-use Rattle.lsp_replay.specs.Squashed.{Run, faulty, change_output, step_if}
+use Rattle.lsp_replay.specs.Session.{Session, Verdict, answered, recorded, bad, Judged, judge, judge_from, judge_client, counted, encoding_for}
+use Rattle.lsp_replay.specs.inside.Squashed.{Run, change_output, faulty, step_if}
 use Rattle.lsp_replay.proofs.Records.AskedLemmas.{IsProperAsked, IsProperIncoming, asked_proper}
 use Rattle.lsp_replay.proofs.Squash.JoiningLemmas.{running_accepted}
 use Rattle.lsp_replay.proofs.Records.JudgeLemmas.{asks_change}
@@ -94,7 +94,7 @@ pub record IsAccepted (s : Session) (r : Record) (p : ChangeData) : Type 0 where
 
 module _ (s : Session) (version : Version) (p : ChangeData) where
   runs : (phase : Phase) → s.server.phase ≡ phase → (expected : Option IdData) → s.expected ≡ expected
-      → (judge_incoming s version (did_change (Some p))).verdict ≡ answered changed
+      → (judge_client s version (did_change (Some p))).verdict ≡ answered changed
       → (s.server.phase ≡ Running) × (s.expected ≡ None)
   runs Running is None none e = (is, none)
   runs Running is (Some id) some e = absurd (let wrong = rw (is, some) at e in cc)
@@ -116,11 +116,12 @@ was_accepted s r p is error = by r.head.side refl
     by Server server =
         let heard = ap (λ side. (judge_from s r.head.version side r.body).verdict) (sym server) ∙ error in
         let none : canonical_if s.server (Some p) (answered changed) ≡ None =
-        ap (canonical_if s.server (Some p)) (sym heard) ∙ heard_has_none s.server (Some p) s s.expected r.body in
+        ap (canonical_if s.server (Some p)) (sym heard)
+        ∙ heard_has_none s.server (Some p) s (encoding_for s.expected (reading r.body)) in
         absurd (let wrong : Some (canonical_change_body s.server p) ≡ None = none in cc)
     by Client client =
-        let told_here : (judge_incoming s r.head.version (did_change (Some p))).verdict ≡ answered changed =
-        ap (λ x. (judge_incoming s r.head.version x).verdict) (sym asks)
+        let told_here : (judge_client s r.head.version (did_change (Some p))).verdict ≡ answered changed =
+        ap (λ x. (judge_client s r.head.version x).verdict) (sym asks)
         ∙ ap (λ side. (judge_from s r.head.version side r.body).verdict) (sym client) ∙ error in
         let where_it_runs = runs s r.head.version p s.server.phase refl s.expected refl told_here in
         record {
@@ -141,7 +142,7 @@ pub record IsDone (s : Session) (r : Record) (p : ChangeData) : Type 0 where
 
 pub done_session : (s : Session) (version : Version) (p : ChangeData) → s.server.phase ≡ Running → s.expected ≡ None
     → refusal_of s.server p ≡ None
-    → (counted (judge_incoming s version (did_change (Some p)))).session ≡ numbered (one_more s.records)
+    → (counted (judge_client s version (did_change (Some p)))).session ≡ numbered (one_more s.records)
     (one_more s.messages) (session_after s p)
 done_session s version p running waits may = rw (running, waits, may) refl
 
@@ -155,5 +156,5 @@ is_done s r p a = record {
   );
 }
   where
-    here : judge_from s r.head.version r.head.side r.body ≡ judge_incoming s r.head.version (did_change (Some p))
-    here = ap (λ side. judge_from s r.head.version side r.body) a.side ∙ ap (judge_incoming s r.head.version) a.asks
+    here : judge_from s r.head.version r.head.side r.body ≡ judge_client s r.head.version (did_change (Some p))
+    here = ap (λ side. judge_from s r.head.version side r.body) a.side ∙ ap (judge_client s r.head.version) a.asks

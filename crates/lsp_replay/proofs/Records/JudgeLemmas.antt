@@ -3,11 +3,8 @@
 -- change was.
 use Rattle.std.proofs.Common.{◌≡◌, ℕ, ◌≤◌, Bool, true, false, List, length, Option, Some, None, refl, sym, ap, ◌∙◌, subst, arith}
 use Rattle.std.specs.Prelude.{if◌then◌else◌}
-use Rattle.serde_json.specs.Data.{Data}
 use Rattle.lsp_frame.specs.Limits.{LimitsData, AreInRange}
 use Rattle.lsp_text.specs.declared.encoding.Encoding.{Encoding}
-use Rattle.lsp_message.specs.declared.agreement.Announced.{Announced}
-use Rattle.lsp_message.specs.Agreement.{announced_of}
 use Rattle.lsp_message.specs.Message.{IdData, reading}
 use Rattle.lsp_message.specs.Params.{ChangeData}
 use Rattle.lsp_server.specs.Answer.{AnswerData, Sent, reply, changed, dropped, ignored, already_ended, refused, exits, as_sent}
@@ -19,9 +16,10 @@ use Rattle.lsp_log.specs.declared.record.Side.{Side}
 use Rattle.lsp_log.specs.declared.record.Side.TheVariants.{Client, Server}
 use Rattle.lsp_log.specs.declared.record.Head.{Head}
 use Rattle.lsp_log.specs.Log.{Record}
-use Rattle.lsp_replay.specs.Session.{Session, Verdict, answered, recorded, bad, Judged, judged, judge, judge_at, judge_from, judge_incoming, handled, hear_for, heard, settle_by, settle_in, result_for, is_ended, is_early, is_new, expected_of, count_if, is_refused}
+use Rattle.lsp_replay.specs.Session.{Session, Verdict, answered, recorded, bad, Judged, judged, judge, judge_from, judge_client, judge_server, encoding_for, handled, is_ended, is_early, is_new, expected_of, count_if, is_refused}
 use Rattle.lsp_stream.specs.Ports.{one_more}
 use Rattle.lsp_replay.specs.Commands.{change_in, canonical_if, canonical_of_record, canonical_change_body}
+use Rattle.lsp_replay.specs.inside.Session.{judge_at}
 use Rattle.lsp_replay.proofs.Canonical.CanonicalLogLemmas.{accepted, heard_has_none}
 use Rattle.lsp_replay.proofs.Records.AskedLemmas.{IsProperIncoming, asked_proper}
 use Rattle.lsp_replay.proofs.Records.StateLemmas.{IsHeldState, step_on_held}
@@ -34,37 +32,17 @@ both P true x y p q = p
 both P false x y p q = q
 
 module _ (P : Judged → Type 0) (s : Session) where
-  of_settled_in : P (judged bad s)
+  of_server : P (judged recorded s) → P (judged bad s)
       → ((encoding : Encoding)
       → P (judged recorded (record s { server = with_encoding s.server encoding; expected = None })))
-      → (encoding : Option Encoding) → P (settle_in s encoding)
-  of_settled_in refuses goes None = refuses
-  of_settled_in refuses goes (Some encoding) = goes encoding
-
-  of_settled : P (judged bad s)
-      → ((encoding : Encoding)
-      → P (judged recorded (record s { server = with_encoding s.server encoding; expected = None })))
-      → (announced : Option Announced) → P (settle_by s announced)
-  of_settled refuses goes None = refuses
-  of_settled refuses goes (Some announced) = of_settled_in refuses goes announced.encoding
-
-  of_result : P (judged recorded s) → P (judged bad s)
-      → ((encoding : Encoding)
-      → P (judged recorded (record s { server = with_encoding s.server encoding; expected = None })))
-      → (result : Option Data) → P (heard s result)
-  of_result stays refuses goes None = stays
-  of_result stays refuses goes (Some result) = of_settled refuses goes (announced_of result)
-
-  of_heard : P (judged recorded s) → P (judged bad s)
-      → ((encoding : Encoding)
-      → P (judged recorded (record s { server = with_encoding s.server encoding; expected = None })))
-      → (id : Option IdData) (body : List ℕ) → P (hear_for s id body)
-  of_heard stays refuses goes None body = stays
-  of_heard stays refuses goes (Some id) body = of_result stays refuses goes (result_for id (reading body))
+      → (announced : Option (Option Encoding)) → P (judge_server s announced)
+  of_server stays refuses goes None = stays
+  of_server stays refuses goes (Some None) = refuses
+  of_server stays refuses goes (Some (Some encoding)) = goes encoding
 
   of_incoming : (version : Version) (m : IncomingData) → P (judged bad s)
       → P (handled s version m (step_on s.server m).state (as_sent (step_on s.server m).answer))
-      → P (judge_incoming s version m)
+      → P (judge_client s version m)
   of_incoming version m refuses goes =
       both P (is_ended s.server.phase) (judged bad s) (if is_early s m then judged bad s else handled s version m
       (step_on s.server m).state (as_sent (step_on s.server m).answer)) refuses
@@ -77,10 +55,10 @@ from_held limits s version Client body received =
     of_incoming (λ (j : Judged). IsHeldState limits j.session.server) s version (incoming_of (reading body)) received
     (step_on_held limits s.server (incoming_of (reading body)) (asked_proper body) received)
 from_held limits s version Server body received =
-    of_heard (λ (j : Judged). IsHeldState limits j.session.server) s received received (λ encoding. record {
+    of_server (λ (j : Judged). IsHeldState limits j.session.server) s received received (λ encoding. record {
       limit = received.limit;
       table = received.table;
-    }) s.expected body
+    }) (encoding_for s.expected (reading body))
 
 pub judged_held : (limits : LimitsData) (s : Session) (r : Record) → IsHeldState limits s.server
     → IsHeldState limits (judge s r).session.server
@@ -158,7 +136,7 @@ handled_same s version params others server answer =
 
 again_incoming : (s : Session) (version : Version) (p again : ChangeData) → step_on s.server (did_change (Some again))
     ≡ step_on s.server (did_change (Some p))
-    → judge_incoming s version (did_change (Some again)) ≡ judge_incoming s version (did_change (Some p))
+    → judge_client s version (did_change (Some again)) ≡ judge_client s version (did_change (Some p))
 again_incoming s version p again same =
     ap (λ (step : Step). if is_ended s.server.phase then judged bad s else if is_early s (did_change (Some again)) then
     judged bad s else handled s version (did_change (Some again)) step.state (as_sent step.answer)) same
@@ -180,11 +158,11 @@ module _ (limits : LimitsData) (ranges : AreInRange limits) where
       ≡ Some again → length again ≤ limits.max_body → IsJudgedAgain s version Client body again
   again_client s version body again received canonical_log fits =
       let m = incoming_of (reading body) in
-      let c = case_of s.server m (judge_incoming s version m).verdict again canonical_log in
+      let c = case_of s.server m (judge_client s version m).verdict again canonical_log in
       let p = c.change in
       let proper : IsProperIncoming (did_change (Some p)) = subst IsProperIncoming c.asks (asked_proper body) in
-      let error : (judge_incoming s version (did_change (Some p))).verdict ≡ answered changed =
-      ap (λ (x : IncomingData). (judge_incoming s version x).verdict) (sym c.asks) ∙ c.error in
+      let error : (judge_client s version (did_change (Some p))).verdict ≡ answered changed =
+      ap (λ (x : IncomingData). (judge_client s version x).verdict) (sym c.asks) ∙ c.error in
       let here : AreInRange s.server.config.limits = subst AreInRange (sym received.limit) ranges in
       let own : IsHeldState s.server.config.limits s.server =
       subst (λ (l : LimitsData). IsHeldState l s.server) (sym received.limit) received in
@@ -194,9 +172,9 @@ module _ (limits : LimitsData) (ranges : AreInRange limits) where
       short in
       let asks : incoming_of (reading again) ≡ did_change (Some set.again) = ap (λ b. incoming_of (reading b)) c.is
       ∙ set.asks in (
-        ap (judge_incoming s version) asks ∙ again_incoming s version p set.again set.same_step
-            ∙ ap (judge_incoming s version) (sym c.asks),
-        ap (λ (x : IncomingData). canonical_if s.server (change_in x) (judge_incoming s version m).verdict) asks
+        ap (judge_client s version) asks ∙ again_incoming s version p set.again set.same_step
+            ∙ ap (judge_client s version) (sym c.asks),
+        ap (λ (x : IncomingData). canonical_if s.server (change_in x) (judge_client s version m).verdict) asks
             ∙ ap (canonical_if s.server (Some set.again)) c.error ∙ ap Some (set.same_body ∙ sym c.is),
       )
 
@@ -207,7 +185,8 @@ module _ (limits : LimitsData) (ranges : AreInRange limits) where
       again_client s version body again received canonical_log fits
   again_from s version Server body again received canonical_log fits =
       let none : None ≡ Some again =
-      sym (heard_has_none s.server (change_in (incoming_of (reading body))) s s.expected body) ∙ canonical_log in
+      sym (heard_has_none s.server (change_in (incoming_of (reading body))) s (encoding_for s.expected (reading body)))
+      ∙ canonical_log in
       absurd (cc)
 
   pub judged_again : (s : Session) (head : Head) (body again : List ℕ) → IsHeldState limits s.server

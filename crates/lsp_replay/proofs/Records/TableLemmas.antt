@@ -16,11 +16,11 @@ use Rattle.lsp_log.specs.declared.record.Side.{Side}
 use Rattle.lsp_log.specs.declared.record.Side.TheVariants.{Client, Server}
 use Rattle.lsp_log.specs.declared.record.Version.{Version}
 use Rattle.lsp_log.specs.Log.{Record}
-use Rattle.lsp_replay.specs.Session.{Session, Judged, answered, bad, judged, handled, is_ended, is_early, judge, judge_from, judge_incoming}
+use Rattle.lsp_replay.specs.Session.{Session, Judged, answered, bad, judged, handled, is_ended, is_early, judge, judge_from, judge_client, encoding_for}
 use Rattle.lsp_replay.specs.Lines.{uri_of}
 use Rattle.lsp_replay.specs.Trace.{is_changed}
 use Rattle.lsp_replay.specs.laws.Traced.{is_document}
-use Rattle.lsp_replay.proofs.Reports.KeptLemmas.{hear_table}
+use Rattle.lsp_replay.proofs.Reports.KeptLemmas.{heard_table}
 
 -- ---- another document
 
@@ -135,7 +135,7 @@ IsKept uri s side m j = (is_changed j.verdict && is_document uri (uri_of side m)
     → entry_at j.session.server.table uri ≡ entry_at s.server.table uri
 
 client_keeps : (uri : List ℕ) (s : Session) (version : Version) (m : IncomingData)
-    → IsKept uri s Client m (judge_incoming s version m)
+    → IsKept uri s Client m (judge_client s version m)
 client_keeps uri s version m = by (is_ended s.server.phase) (is_early s m)
   where
     by : (ended early : Bool)
@@ -149,7 +149,8 @@ side_keeps : (uri : List ℕ) (s : Session) (version : Version) (side : Side) (b
     → IsKept uri s side (incoming_of (reading body)) (judge_from s version side body)
 side_keeps uri s version Client body = client_keeps uri s version (incoming_of (reading body))
 side_keeps uri s version Server body =
-    λ other. ap (λ (table : List DocumentItem). entry_at table uri) (hear_table s s.expected body)
+    λ other. ap (λ (table : List DocumentItem). entry_at table uri)
+    (heard_table s (encoding_for s.expected (reading body)))
 
 pub record_keeps : (uri : List ℕ) (s : Session) (r : Record) → IsKept uri s r.head.side (incoming_of (reading r.body))
     (judge s r)

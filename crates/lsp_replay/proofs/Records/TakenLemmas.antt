@@ -34,9 +34,10 @@ use Rattle.lsp_replay.specs.declared.session.joining.Writing.{Writing}
 use Rattle.lsp_replay.specs.declared.session.writing.Appended.{Appended}
 use Rattle.lsp_replay.specs.declared.session.writing.Appended.TheVariants.{Body}
 use Rattle.lsp_replay.specs.Commands.{canonical_change_body, canonical_if, canonical_of_record, change_in}
-use Rattle.lsp_replay.specs.Session.{Session, Judged, Verdict, answered, counted, judge_at, judge_incoming, judged}
+use Rattle.lsp_replay.specs.Session.{Session, Judged, Verdict, answered, counted, judge_client, judged}
 use Rattle.lsp_replay.specs.inside.Bodies.{BodyData, IsChangeTaken, IsReceived, body_read, canonical_read, change_of, judge_read}
 use Rattle.lsp_replay.specs.inside.Joining.{IsBegun, IsChangeWriting, IsFramed, IsLonger, IsOpenAfter, IsOpenIn, IsWriting, body_unless, change_body_if, refusal_of, server_after}
+use Rattle.lsp_replay.specs.inside.Session.{judge_at}
 use Rattle.lsp_replay.specs.inside.Verdicts.{IsAppended}
 use Rattle.lsp_replay.proofs.Records.BodyLemmas.{appended_at, asked_in, judged_at, writing_at}
 use Rattle.lsp_replay.proofs.Canonical.CanonicalLogLemmas.{over, within}
@@ -113,7 +114,7 @@ module _ (s : Session) (p : ChangeData) (running : s.server.phase ≡ Running) (
 
   -- A change that is refused is counted.
   refused_by : (version : Version) (refusal : Refusal) → refusal_of s.server p ≡ Some refusal
-      → judge_incoming s version (did_change (Some p)) ≡ judged (answered (refused (Store (fault_of refusal))))
+      → judge_client s version (did_change (Some p)) ≡ judged (answered (refused (Store (fault_of refusal))))
       (record s { messages = one_more s.messages; refusals = one_more s.refusals })
   refused_by version refusal is = rw (running, known, is) refl
 
@@ -147,14 +148,14 @@ module _ (s : Session) (p : ChangeData) (running : s.server.phase ≡ Running) (
 
   -- Which body it has.
   canonical_by : (version : Version) (r : Option Refusal) → refusal_of s.server p ≡ r
-      → canonical_if s.server (Some p) (judge_incoming s version (did_change (Some p))).verdict
+      → canonical_if s.server (Some p) (judge_client s version (did_change (Some p))).verdict
       ≡ body_unless r (canonical_change_body s.server p)
   canonical_by version None is = ap (canonical_if s.server (Some p)) (running_accepted s version p running known is)
   canonical_by version (Some refusal) is =
       running_refused s version p running known (Some refusal) is (λ (e : Some refusal ≡ None). cc)
 
   pub change_canonical : (version : Version)
-      → canonical_if s.server (Some p) (judge_incoming s version (did_change (Some p))).verdict
+      → canonical_if s.server (Some p) (judge_client s version (did_change (Some p))).verdict
       ≡ change_body_if s.server p
   change_canonical version = canonical_by version (refusal_of s.server p) refl
 
@@ -176,7 +177,7 @@ module _ (s : Session) (head : Head) (body : List ℕ) (t : Session) (read : Bod
   abbrev version : Version
   version = (asked_in read p received.is).0
 
-  judged_here : judge_read t read ≡ judge_incoming t version (did_change (Some p))
+  judged_here : judge_read t read ≡ judge_client t version (did_change (Some p))
   judged_here = ap (judge_read t) (asked_in read p received.is).1
 
   pub taken_verdict : (v : Verdict) (u : Session) → IsChangeTaken t p v u → v ≡ (judge_at s head body).verdict

@@ -5,11 +5,8 @@ use Rattle.std.proofs.lemmas.Slice.Eq.{bytes_eq-Decides}
 use Rattle.lsp_text.specs.Units.{units_in}
 use Rattle.lsp_text.specs.declared.encoding.Encoding.{Encoding}
 use Rattle.lsp_edit.specs.Batch.{Edit}
-use Rattle.lsp_message.specs.Message.{reading, IdData}
+use Rattle.lsp_message.specs.Message.{reading}
 use Rattle.lsp_message.specs.Params.{DocumentItem, ChangeData, CloseData}
-use Rattle.lsp_message.specs.Agreement.{announced_of}
-use Rattle.lsp_message.specs.declared.agreement.Announced.{Announced}
-use Rattle.serde_json.specs.Data.{Data}
 use Rattle.lsp_store.specs.Table.{Refusal, entry_at, changed, after_open, after_change, after_close, close_refusal, change_refusal, open_refusal, unless_refused}
 use Rattle.lsp_server.specs.Answer.{as_sent}
 use Rattle.lsp_server.specs.declared.phase.Phase.{Phase}
@@ -17,7 +14,7 @@ use Rattle.lsp_server.specs.declared.phase.Phase.TheVariants.{New, Running, Down
 use Rattle.lsp_server.specs.Incoming.{IncomingData, not_json, not_a_message, response, initialize, shutdown, other_request, exit, did_open, did_change, did_close, other_notification}
 use Rattle.lsp_server.specs.Step.{ServerData, step_in, step_on, obeyed, edit_from_data, session_encoding}
 use Rattle.lsp_log.specs.declared.record.Version.{Version}
-use Rattle.lsp_replay.specs.Session.{Session, bad, judged, counted, handled, is_ended, is_early, judge_incoming, settle_in, settle_by, heard, hear_for, result_for}
+use Rattle.lsp_replay.specs.Session.{Session, bad, judged, counted, handled, is_ended, is_early, judge_client, judge_server, encoding_for}
 use Rattle.lsp_replay.specs.Parts.{last_text, last_text_in}
 use Rattle.lsp_replay.specs.inside.Bodies.{BodyData, from_client, from_server, judge_read}
 use Rattle.lsp_replay.specs.inside.Kept.{closed_by, kept_after, text_at, text_closed}
@@ -182,7 +179,7 @@ step_kept Down s uri (did_close params) = same_table s.table uri (did_close para
 step_kept Down s uri (other_notification method) = same_table s.table uri (other_notification method)
 
 client_kept : (s : Session) (version : Version) (uri : List ℕ) (m : IncomingData)
-    → Keeps s.server.table uri m (judge_incoming s version m).session.server.table
+    → Keeps s.server.table uri m (judge_client s version m).session.server.table
 client_kept s version uri m = by (is_ended s.server.phase) (is_early s m)
   where
     by : (ended early : Bool)
@@ -194,24 +191,11 @@ client_kept s version uri m = by (is_ended s.server.phase) (is_early s m)
 
 -- ---- a server's record leaves the documents alone
 
-settled_in_table : (s : Session) (encoding : Option Encoding) → (settle_in s encoding).session.server.table
+pub heard_table : (s : Session) (announced : Option (Option Encoding)) → (judge_server s announced).session.server.table
     ≡ s.server.table
-settled_in_table s None = refl
-settled_in_table s (Some encoding) = refl
-
-settled_table : (s : Session) (announced : Option Announced) → (settle_by s announced).session.server.table
-    ≡ s.server.table
-settled_table s None = refl
-settled_table s (Some announced) = settled_in_table s announced.encoding
-
-heard_table : (s : Session) (result : Option Data) → (heard s result).session.server.table ≡ s.server.table
 heard_table s None = refl
-heard_table s (Some result) = settled_table s (announced_of result)
-
-pub hear_table : (s : Session) (expected : Option IdData) (body : List ℕ)
-    → (hear_for s expected body).session.server.table ≡ s.server.table
-hear_table s None body = refl
-hear_table s (Some id) body = heard_table s (result_for id (reading body))
+heard_table s (Some None) = refl
+heard_table s (Some (Some encoding)) = refl
 
 -- ---- the last text over a record
 
@@ -239,11 +223,12 @@ over_read : (s : Session) (read : BodyData) (uri : Option (List ℕ)) (old new :
     ≡ last_text_in uri (last_text_in uri old s.server.table) (judge_read s read).session.server.table
 over_read s read None old new is = refl
 over_read s (from_client version m) (Some uri) old new is =
-    text_over uri s.server.table (judge_incoming s version m).session.server.table (text_closed s.server.table uri m)
+    text_over uri s.server.table (judge_client s version m).session.server.table (text_closed s.server.table uri m)
     old new is (client_kept s version uri m)
 over_read s (from_server body) (Some uri) old new is =
-    text_over uri s.server.table (hear_for s s.expected body).session.server.table None old new is
-    (inr (refl, λ e. ap (λ (t : List DocumentItem). entry_at t uri) (sym (hear_table s s.expected body)) ∙ e))
+    let announced = encoding_for s.expected (reading body) in
+    text_over uri s.server.table (judge_server s announced).session.server.table None old new is
+    (inr (refl, λ e. ap (λ (t : List DocumentItem). entry_at t uri) (sym (heard_table s announced)) ∙ e))
 
 -- the same of a session that is the same after it read the record, and of what it kept
 pub kept_over : (s t u : Session) (read : BodyData) (uri : Option (List ℕ)) (closed old new : Option (List ℕ)) → t ≡ s

@@ -6,7 +6,8 @@ use Rattle.lsp_stream.specs.declared.fault.EngineFault.{EngineFault}
 use Rattle.lsp_log.specs.Log.{Record}
 use Rattle.lsp_replay.specs.RunOutput.{RunOutput}
 use Rattle.lsp_replay.specs.Session.{Session, Verdict, answered, recorded, bad, judge, opened}
-use Rattle.lsp_replay.specs.Commands.{writes, continue_with, unless_bad, run_output_in, replaying, log_config}
+use Rattle.lsp_replay.specs.Commands.{writes, continue_with, unless_bad, replaying, log_config}
+use Rattle.lsp_replay.specs.inside.Commands.{run_output_in}
 use Rattle.lsp_replay.specs.laws.Written.{ReportLaw}
 
 quiet_gives : (r : Record) (verdict : Verdict) → (unless_bad r verdict (writes [])).out ≡ []

@@ -14,9 +14,11 @@ use Rattle.lsp_stream.specs.declared.fault.EngineFault.TheVariants.{BadLog}
 use Rattle.lsp_log.specs.Log.{Record}
 use Rattle.lsp_replay.specs.declared.commands.traced.Details.{Details}
 use Rattle.lsp_replay.specs.RunOutput.{RunOutput, written_first}
-use Rattle.lsp_replay.specs.Commands.{canonical_of_record, check_line, checking, code_word, continue_with, log_config, replaying, report_from, run_output_in, unless_bad, verdict_word, writes}
+use Rattle.lsp_replay.specs.Commands.{canonical_of_record, check_line, checking, code_word, continue_with, log_config, replaying, report_from, unless_bad, verdict_word, writes}
+use Rattle.lsp_replay.specs.inside.Commands.{run_output_in}
 use Rattle.lsp_replay.specs.Session.{Session, Verdict, answered, recorded, bad, opened, Judged, judge}
-use Rattle.lsp_replay.specs.Lines.{Known, known_after, lines_in, nothing_known, uri_of}
+use Rattle.lsp_replay.specs.Lines.{Known, known_after, nothing_known, uri_of}
+use Rattle.lsp_replay.specs.inside.Lines.{lines_in}
 use Rattle.lsp_replay.specs.Mentions.{last_for}
 use Rattle.lsp_replay.specs.Notes.{notes_of}
 use Rattle.lsp_replay.specs.Trace.{body_json, document_after, first_members, id_json, id_of, is_changed, is_json, json_string, last_members, member, method_of, notes_json, reason_json, side_word, text_json, trace_line, tracing, version_json, within}

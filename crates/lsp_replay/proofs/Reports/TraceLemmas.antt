@@ -1,11 +1,8 @@
 -- A line of `trace`, as it is written.
 use Rattle.std.proofs.Common.{◌≡◌, ℕ, Bool, true, false, List, [], ◌++◌, length, le-ltb, lt-ltb, Option, Some, None, refl, sym, ap, ◌∙◌, subst}
 use Rattle.std.specs.Prelude.{if◌then◌else◌}
-use Rattle.serde_json.specs.Data.{Data}
 use Rattle.lsp_text.specs.declared.encoding.Encoding.{Encoding}
-use Rattle.lsp_message.specs.declared.agreement.Announced.{Announced}
-use Rattle.lsp_message.specs.Agreement.{announced_of}
-use Rattle.lsp_message.specs.Message.{IdData, reading}
+use Rattle.lsp_message.specs.Message.{reading}
 use Rattle.lsp_server.specs.Answer.{as_sent}
 use Rattle.lsp_server.specs.Incoming.{IncomingData, incoming_of}
 use Rattle.lsp_server.specs.Step.{step_on}
@@ -20,7 +17,7 @@ use Rattle.lsp_replay.specs.declared.session.writing.Appended.{Appended}
 use Rattle.lsp_replay.specs.declared.session.writing.Appended.TheVariants.{Body, TooLong}
 use Rattle.lsp_replay.specs.Commands.{canonical_of_record}
 use Rattle.lsp_replay.specs.Lines.{Known}
-use Rattle.lsp_replay.specs.Session.{Session, bad, Judged, judged, judge, judge_from, judge_incoming, handled, hear_for, heard, settle_by, settle_in, result_for, is_ended, is_early}
+use Rattle.lsp_replay.specs.Session.{Session, bad, Judged, judged, judge, judge_from, judge_client, judge_server, encoding_for, handled, is_ended, is_early}
 use Rattle.lsp_replay.specs.Trace.{first_members, trace_line, within}
 use Rattle.lsp_replay.specs.inside.Tracing.{IsTraced, canonical_json, members_by}
 use Rattle.lsp_replay.specs.inside.Verdicts.{IsAppended}
@@ -32,24 +29,13 @@ either : (b : Bool) (x y : Judged) (n : ℕ) → x.session.records ≡ n → y.s
 either true x y n p q = p
 either false x y n p q = q
 
-of_encoding : (s : Session) (encoding : Option Encoding) → (settle_in s encoding).session.records ≡ s.records
-of_encoding s None = refl
-of_encoding s (Some encoding) = refl
-
-of_announced : (s : Session) (announced : Option Announced) → (settle_by s announced).session.records ≡ s.records
-of_announced s None = refl
-of_announced s (Some announced) = of_encoding s announced.encoding
-
-of_result : (s : Session) (result : Option Data) → (heard s result).session.records ≡ s.records
-of_result s None = refl
-of_result s (Some result) = of_announced s (announced_of result)
-
-of_heard : (s : Session) (expected : Option IdData) (body : List ℕ) → (hear_for s expected body).session.records
+of_server : (s : Session) (announced : Option (Option Encoding)) → (judge_server s announced).session.records
     ≡ s.records
-of_heard s None body = refl
-of_heard s (Some id) body = of_result s (result_for id (reading body))
+of_server s None = refl
+of_server s (Some None) = refl
+of_server s (Some (Some encoding)) = refl
 
-of_incoming : (s : Session) (version : Version) (m : IncomingData) → (judge_incoming s version m).session.records
+of_incoming : (s : Session) (version : Version) (m : IncomingData) → (judge_client s version m).session.records
     ≡ s.records
 of_incoming s version m =
     let step = step_on s.server m in
@@ -60,7 +46,7 @@ of_incoming s version m =
 of_body : (s : Session) (version : Version) (side : Side) (body : List ℕ)
     → (judge_from s version side body).session.records ≡ s.records
 of_body s version Client body = of_incoming s version (incoming_of (reading body))
-of_body s version Server body = of_heard s s.expected body
+of_body s version Server body = of_server s (encoding_for s.expected (reading body))
 
 pub one_more_record : (s : Session) (r : Record) → (judge s r).session.records ≡ one_more s.records
 one_more_record s r = ap one_more (of_body s r.head.version r.head.side r.body)

@@ -17,8 +17,7 @@ use Rattle.lsp_replay.specs.RunOutput.{RunOutput}
 use Rattle.lsp_replay.specs.Session.{Session, judge}
 use Rattle.lsp_replay.specs.Engine.{Reached, PortState, WroteRecords}
 use Rattle.lsp_replay.specs.inside.Engine.{IsLoopRun, Ran, Stopped, Broken, RanOut, RanOutAtEnd, AtEnd, BreaksAtEnd, IsRunFault, RefusesInput}
-use Rattle.lsp_replay.specs.Commands.{View, continue_with, run_output_in}
-use Rattle.lsp_replay.specs.Squashed.{Run, squash_step, squashed_in}
+use Rattle.lsp_replay.specs.Commands.{View, continue_with, output_in}
 use Rattle.lsp_replay.specs.Run.{IsEngineRun}
 use Rattle.lsp_replay.specs.AllRecords.{EndedBy, Passed, PassedEnd, CutAtEnd, ShortAtEnd, IsFaultReported, IsRunReport, RanOver}
 use Rattle.lsp_log.specs.Opening.{IsUnfinished}
@@ -28,22 +27,27 @@ use Rattle.lsp_replay.proofs.Runs.EngineLemmas.{empty_rest, still_short}
 
 -- ---- outputs: a record that ended a run ends it whatever follows, and more records give more output
 
-abbrev IsCanonicalOf : View → Session → List Record → Type 0
-IsCanonicalOf view s rs = (more : List Record) (answer : Result Outcome EngineFault) → (run_output_in view s rs).stop
-    ≡ Some answer → run_output_in view s (rs ++ more) ≡ run_output_in view s rs
-
 pub settled_on : (out : List ℕ) (end : Option (Result Outcome EngineFault)) (c longer : RunOutput)
     (answer : Result Outcome EngineFault) → (continue_with out end c).stop ≡ Some answer
     → (c.stop ≡ Some answer → longer ≡ c) → continue_with out end longer ≡ continue_with out end c
 settled_on out None c longer answer e same = ap (continue_with out None) (same e)
 settled_on out (Some other) c longer answer e same = refl
 
-pub settled : (view : View) (s : Session) (rs : List Record) → IsCanonicalOf view s rs
-settled view s [] more answer e = absurd (let wrong : None ≡ Some answer = e in cc)
-settled view s (r ∷ rs) more answer e =
-    settled_on (view.record_output s r (judge s r)).out (view.record_output s r (judge s r)).end
-    (run_output_in view (judge s r).session rs) (run_output_in view (judge s r).session (rs ++ more)) answer e
-    (settled view (judge s r).session rs more answer)
+-- the same of any course
+abbrev pub Settles : (List Record → RunOutput) → Type 0
+Settles run_output = (rs more : List Record) (answer : Result Outcome EngineFault) → (run_output rs).stop ≡ Some answer
+    → run_output (rs ++ more) ≡ run_output rs
+
+pub settled : {State : Type 0} (view : View State) (state : State) (s : Session) (rs more : List Record)
+    (answer : Result Outcome EngineFault) → (output_in view state s rs).stop ≡ Some answer
+    → output_in view state s (rs ++ more) ≡ output_in view state s rs
+settled view state s [] more answer e = absurd (let wrong : None ≡ Some answer = e in cc)
+settled view state s (r ∷ rs) more answer e =
+    let given = view.record_output state s r (judge s r) in
+    let next = view.next state s r (judge s r) in
+    settled_on given.out given.end (output_in view next (judge s r).session rs)
+    (output_in view next (judge s r).session (rs ++ more)) answer e
+    (settled view next (judge s r).session rs more answer)
 
 unfoldable pub Grows : RunOutput → RunOutput → Type 0
 Grows c longer = (rest : List ℕ) × (longer.out ≡ c.out ++ rest)
@@ -54,37 +58,16 @@ unfolding Grows
 grows_on out None c longer more = (more.0, ap (λ z. out ++ z) more.1 ∙ sym (append_assoc out c.out more.0))
 grows_on out (Some answer) c longer more = ([], sym (append-nil out))
 
-pub grows : (view : View) (s : Session) (rs more : List Record)
-    → Grows (run_output_in view s rs) (run_output_in view s (rs ++ more))
-unfolding Grows
-grows view s [] more = ((run_output_in view s more).out, refl)
-grows view s (r ∷ rs) more = grows_on (view.record_output s r (judge s r)).out (view.record_output s r (judge s r)).end
-    _ _ (grows view (judge s r).session rs more)
-
--- the same of any course
-abbrev pub Settles : (List Record → RunOutput) → Type 0
-Settles run_output = (rs more : List Record) (answer : Result Outcome EngineFault) → (run_output rs).stop ≡ Some answer
-    → run_output (rs ++ more) ≡ run_output rs
-
 abbrev pub GrowsAll : (List Record → RunOutput) → Type 0
 GrowsAll run_output = (rs more : List Record) → Grows (run_output rs) (run_output (rs ++ more))
 
-pub squashed_settled : (s : Session) (run : Option Run) (rs more : List Record) (answer : Result Outcome EngineFault)
-    → (squashed_in s run rs).stop ≡ Some answer → squashed_in s run (rs ++ more) ≡ squashed_in s run rs
-squashed_settled s run [] more answer e = absurd (let wrong : None ≡ Some answer = e in cc)
-squashed_settled s run (r ∷ rs) more answer e =
-    let step = squash_step s run r (judge s r) in
-    settled_on step.out step.end (squashed_in (judge s r).session step.run rs)
-    (squashed_in (judge s r).session step.run (rs ++ more)) answer e
-    (squashed_settled (judge s r).session step.run rs more answer)
-
-pub squashed_grows : (s : Session) (run : Option Run) (rs more : List Record)
-    → Grows (squashed_in s run rs) (squashed_in s run (rs ++ more))
+pub grows : {State : Type 0} (view : View State) (state : State) (s : Session) (rs more : List Record)
+    → Grows (output_in view state s rs) (output_in view state s (rs ++ more))
 unfolding Grows
-squashed_grows s run [] more = ((squashed_in s run more).out, refl)
-squashed_grows s run (r ∷ rs) more =
-    let step = squash_step s run r (judge s r) in
-    grows_on step.out step.end _ _ (squashed_grows (judge s r).session step.run rs more)
+grows view state s [] more = ((output_in view state s more).out, refl)
+grows view state s (r ∷ rs) more =
+    let given = view.record_output state s r (judge s r) in
+    grows_on given.out given.end _ _ (grows view (view.next state s r (judge s r)) (judge s r).session rs more)
 
 -- ---- rests that no record begins
 
@@ -333,23 +316,6 @@ over_course first version log_rules run_output settles grows_all state left_old 
           two result ran.came;
     }
 
-pub ran_over : FirstLaw → VersionLaw → (log_rules : LogRules) (view : View) (s : Session) (state : PortState)
-    (left_old left_new received_old received_new : Option (List ℕ)) (result : Result Outcome EngineFault)
-    → Ran log_rules (run_output_in view s) state left_old left_new received_old received_new result
-    → RanOver log_rules (run_output_in view s) state left_old left_new received_old received_new result
-ran_over first version log_rules view s state left_old left_new received_old received_new result ran =
-    over_course first version log_rules (run_output_in view s) (settled view s) (grows view s) state left_old left_new
-    received_old received_new result ran
-
-pub ran_over_squashed : FirstLaw → VersionLaw → (log_rules : LogRules) (s : Session) (run : Option Run)
-    (state : PortState) (left_old left_new received_old received_new : Option (List ℕ))
-    (result : Result Outcome EngineFault)
-    → Ran log_rules (squashed_in s run) state left_old left_new received_old received_new result
-    → RanOver log_rules (squashed_in s run) state left_old left_new received_old received_new result
-ran_over_squashed first version log_rules s run state left_old left_new received_old received_new result ran =
-    over_course first version log_rules (squashed_in s run) (squashed_settled s run) (squashed_grows s run) state
-    left_old left_new received_old received_new result ran
-
 -- ---- what the contract of an engine says, from what the loop does
 
 abbrev pub NoneCut : Bool → LogRules → (List Record → RunOutput) → Ports → Ports → Result Outcome EngineFault → Type 0
@@ -357,43 +323,6 @@ NoneCut in_parts log_rules run_output before after result =
     in_parts ≡ false → result ≡ Err NoMemory → WroteRecords log_rules run_output before.reader.left after.reader.left
     before.writer.written after.writer.written
 
-pub run_of : FirstLaw → VersionLaw → (view : View) (s : Session) (in_parts : Bool) {log_rules : LogRules}
-    {flushes : Bool} {max_turns : ℕ} {before after : Ports} {result : Result Outcome EngineFault}
-    → IsLoopRun log_rules (run_output_in view s) flushes max_turns before after result
-    → NoneCut in_parts log_rules (run_output_in view s) before after result
-    → IsEngineRun (record {
-      log_rules = log_rules;
-      run_output = run_output_in view s;
-      flushes = flushes;
-      in_parts = in_parts;
-    }) max_turns before after result
-run_of first version view s in_parts {log_rules} {flushes} {max_turns} {before} {after} {result} run whole = record {
-  all_records = ran_over first version log_rules view s _ _ _ _ _ result run.ran;
-  whole = whole;
-  called = run.called;
-  none_passed_over = run.none_passed_over;
-  passed_on = run.passed_on;
-}
-
-pub run_of_squashed : FirstLaw → VersionLaw → (s : Session) (run_now : Option Run) {log_rules : LogRules}
-    {flushes : Bool} {max_turns : ℕ} {before after : Ports} {result : Result Outcome EngineFault}
-    → IsLoopRun log_rules (squashed_in s run_now) flushes max_turns before after result
-    → NoneCut false log_rules (squashed_in s run_now) before after result
-    → IsEngineRun (record {
-      log_rules = log_rules;
-      run_output = squashed_in s run_now;
-      flushes = flushes;
-      in_parts = false;
-    }) max_turns before after result
-run_of_squashed first version s run_now {log_rules} {flushes} {max_turns} {before} {after} {result} run whole = record {
-  all_records = ran_over_squashed first version log_rules s run_now _ _ _ _ _ result run.ran;
-  whole = whole;
-  called = run.called;
-  none_passed_over = run.none_passed_over;
-  passed_on = run.passed_on;
-}
-
--- the same of any output, which in one part is that of its end
 pub run_of_course : FirstLaw → VersionLaw → (run_output : List Record → RunOutput) → Settles run_output
     → GrowsAll run_output → (in_parts : Bool) {log_rules : LogRules} {flushes : Bool} {max_turns : ℕ}
     {before after : Ports} {result : Result Outcome EngineFault}
@@ -409,3 +338,17 @@ run_of_course first version run_output settles grows_all in_parts {log_rules} {f
       none_passed_over = run.none_passed_over;
       passed_on = run.passed_on;
     }
+
+pub run_of : {State : Type 0} → FirstLaw → VersionLaw → (view : View State) (state : State) (s : Session)
+    (in_parts : Bool) {log_rules : LogRules} {flushes : Bool} {max_turns : ℕ} {before after : Ports}
+    {result : Result Outcome EngineFault}
+    → IsLoopRun log_rules (output_in view state s) flushes max_turns before after result
+    → NoneCut in_parts log_rules (output_in view state s) before after result
+    → IsEngineRun (record {
+      log_rules = log_rules;
+      run_output = output_in view state s;
+      flushes = flushes;
+      in_parts = in_parts;
+    }) max_turns before after result
+run_of first version view state s in_parts run whole =
+    run_of_course first version (output_in view state s) (settled view state s) (grows view state s) in_parts run whole

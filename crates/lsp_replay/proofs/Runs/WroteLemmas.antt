@@ -8,15 +8,21 @@ use Rattle.lsp_replay.specs.declared.commands.Settings.{Settings}
 use Rattle.lsp_replay.specs.declared.outcome.Outcome.{Outcome}
 use Rattle.lsp_stream.specs.declared.fault.EngineFault.{EngineFault}
 use Rattle.lsp_stream.specs.declared.fault.EngineFault.TheVariants.{BodyTooLong}
+use Rattle.lsp_stream.specs.Ports.{Ports}
 use Rattle.lsp_log.specs.Log.{Record}
 use Rattle.lsp_replay.specs.RunOutput.{RunOutput}
 use Rattle.lsp_replay.specs.Session.{Session, Verdict, answered, recorded, bad, judge, opened}
 use Rattle.lsp_replay.specs.Engine.{PortState}
 use Rattle.lsp_replay.specs.inside.Engine.{Ran, AtEnd, Stopped}
-use Rattle.lsp_replay.specs.Commands.{RecordOutput, writes, ends, continue_with, unless_bad, run_output_in, normalising, written, canonical_of_record, front_of, canonical_output, converting, line_before, reply_record, as_log, as_converted, log_config, canonical_log, converted}
+use Rattle.lsp_replay.specs.Commands.{RecordOutput, writes, ends, continue_with, unless_bad, normalising, written, canonical_of_record, front_of, canonical_output, converting, line_before, reply_record, as_log, as_converted, log_config, canonical_log, converted}
+use Rattle.lsp_replay.specs.inside.Commands.{run_output_in}
 use Rattle.lsp_replay.specs.laws.Written.{IsCanonicalLog, IsConverted, IsSquashed, Wrote, all_of}
 use Rattle.lsp_replay.specs.Squashed.{squashed}
-use Rattle.lsp_replay.proofs.Squash.SquashedLemmas.{stops_in}
+use Rattle.lsp_replay.specs.Run.{IsEngineRun}
+use Rattle.lsp_replay.specs.inside.Run.{squash_engine}
+use Rattle.lsp_replay.specs.inside.Squashed.{squashed_steps}
+use Rattle.lsp_replay.proofs.Squash.SeriesLemmas.{squashed_is}
+use Rattle.lsp_replay.proofs.Squash.SquashedLemmas.{stops_alike}
 use Rattle.lsp_replay.proofs.Squash.SquashedLogLemmas.{squashed_law}
 use Rattle.lsp_replay.proofs.Canonical.NormalisedLemmas.{canonical_log_law}
 use Rattle.lsp_replay.proofs.Converted.ConvertedLogLemmas.{converted_law}
@@ -148,7 +154,7 @@ module _ (settings : Settings) (ranges : AreInRange settings.limits)
 -- ---- `normalise` with squash
 
 squashed_not_ok : (settings : Settings) (rs : List Record) → IsNotOk (squashed settings rs).stop
-squashed_not_ok settings rs = subst IsNotOk (sym (stops_in (opened (log_config settings)) None rs))
+squashed_not_ok settings rs = subst IsNotOk (sym (stops_alike settings rs).0)
     (normal_not_ok (opened (log_config settings)) rs)
 
 module _ (settings : Settings) (ranges : AreInRange settings.limits)
@@ -183,3 +189,27 @@ module _ (settings : Settings) (ranges : AreInRange settings.limits)
       (λ (end : (state.ended ≡ true) × AtEnd (as_log settings) (squashed settings) ran.input received_old received_new
       outcome). squashed_at_end ran.input outcome end.1 ran.read)
       ran.came
+
+  -- the same from what the code makes
+  pub wrote_steps : (state : PortState) (result : Result Outcome EngineFault)
+      → Ran (as_log settings) (squashed_steps settings) state left_old left_new received_old received_new result
+      → IfOk result (Wrote settings (IsSquashed settings) left_old left_new received_old received_new)
+  wrote_steps state result ran =
+      wrote_squashed state result
+      (subst (λ (f : Settings → List Record → RunOutput). Ran (as_log settings) (f settings) state left_old left_new
+      received_old received_new result) squashed_is ran)
+
+pub squash_run : (settings : Settings) (max_turns : ℕ) (before after : Ports) (result : Result Outcome EngineFault)
+    → IsEngineRun (record {
+      log_rules = as_log settings;
+      run_output = squashed_steps settings;
+      flushes = false;
+      in_parts = false;
+    }) max_turns before after result → IsEngineRun (squash_engine settings) max_turns before after result
+squash_run settings max_turns before after result run =
+    subst (λ (f : Settings → List Record → RunOutput). IsEngineRun (record {
+      log_rules = as_log settings;
+      run_output = f settings;
+      flushes = false;
+      in_parts = false;
+    }) max_turns before after result) squashed_is run

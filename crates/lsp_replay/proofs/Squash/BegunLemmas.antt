@@ -20,7 +20,7 @@ use Rattle.lsp_replay.proofs.Squash.SingleLemmas.{IsSingle, is_single, single_re
 use Rattle.lsp_replay.specs.Commands.{front_of, line_if, canonical_change_body}
 use Rattle.lsp_replay.specs.inside.Joining.{server_after}
 use Rattle.lsp_replay.specs.Session.{Session, judge}
-use Rattle.lsp_replay.specs.Squashed.{Run, joined_by, squash_step, end_bytes}
+use Rattle.lsp_replay.specs.inside.Squashed.{Run, end_bytes, joined_by, squash_step}
 use Rattle.lsp_replay.proofs.Records.ChangeLemmas.{IsAccepted, IsDone, is_done, proper_change, session_after}
 use Rattle.lsp_replay.proofs.Records.NumberedLemmas.{IsAlike, alike_both, numbered}
 use Rattle.lsp_replay.proofs.Squash.OpenRunLemmas.{IsOpenFrom, begins_from}

@@ -27,7 +27,7 @@ use Rattle.lsp_log.specs.declared.record.Version.{Version}
 use Rattle.lsp_replay.specs.declared.session.joining.Writing.{Writing}
 use Rattle.lsp_replay.specs.declared.session.joining.Writing.TheVariants.{AsItIs, TooLong, Continues, Begins}
 use Rattle.lsp_replay.specs.Commands.{canonical_if}
-use Rattle.lsp_replay.specs.Session.{Session, answered, judge_incoming}
+use Rattle.lsp_replay.specs.Session.{Session, answered, judge_client}
 use Rattle.lsp_replay.specs.inside.Joining.{IsOpenIn, IsOpenAfter, IsLonger, IsBegun, IsWriting, IsChangeWriting, refusal_of, server_after}
 
 -- ---- a canonical body that is too long is that of a change that is not refused
@@ -88,24 +88,24 @@ not_refused (Some refusal) other e = e
 -- ---- what a session makes of a change
 
 pub running_accepted : (s : Session) (version : Version) (p : ChangeData) → s.server.phase ≡ Running → s.expected ≡ None
-    → refusal_of s.server p ≡ None → (judge_incoming s version (did_change (Some p))).verdict ≡ answered changed
+    → refusal_of s.server p ≡ None → (judge_client s version (did_change (Some p))).verdict ≡ answered changed
 running_accepted s version p running none may = rw (running, none, may) refl
 
 pub running_leaves : (s : Session) (version : Version) (p : ChangeData) → s.server.phase ≡ Running → s.expected ≡ None
-    → refusal_of s.server p ≡ None → (judge_incoming s version (did_change (Some p))).session.server
+    → refusal_of s.server p ≡ None → (judge_client s version (did_change (Some p))).session.server
     ≡ server_after s.server p
 running_leaves s version p running none may = rw (running, none, may) refl
 
 pub running_refused : (s : Session) (version : Version) (p : ChangeData) → s.server.phase ≡ Running → s.expected ≡ None
     → (refusal : Option Refusal) → refusal_of s.server p ≡ refusal → refusal ≢ None
-    → canonical_if s.server (Some p) (judge_incoming s version (did_change (Some p))).verdict ≡ None
+    → canonical_if s.server (Some p) (judge_client s version (did_change (Some p))).verdict ≡ None
 running_refused s version p running none None is some = absurd (some refl)
 running_refused s version p running none (Some refusal) is some = rw (running, none, is) refl
 
 -- how a change is written, by the session that judges it
 pub change_writing : (s : Session) (version : Version) (run : Option SquashData) (p : ChangeData) (w : Writing)
     → s.server.phase ≡ Running → s.expected ≡ None → IsChangeWriting s.server run p w
-    → IsWriting s.server run (Some p) (judge_incoming s version (did_change (Some p))).verdict w
+    → IsWriting s.server run (Some p) (judge_client s version (did_change (Some p))).verdict w
 change_writing s version run p (AsItIs ended) running none is =
     (running_refused s version p running none (refusal_of s.server p) refl is.0, is.1)
 change_writing s version run p TooLong running none is = (p, refl, running_accepted s version p running none is.0, is.1)
@@ -120,7 +120,7 @@ change_writing s version run p (Begins canonical ended batches) running none is 
 
 pub change_open : (s : Session) (version : Version) (run : Option SquashData) (p : ChangeData) (w : Writing)
     → s.server.phase ≡ Running → s.expected ≡ None → IsChangeWriting s.server run p w
-    → IsOpenAfter (judge_incoming s version (did_change (Some p))).session.server w
+    → IsOpenAfter (judge_client s version (did_change (Some p))).session.server w
 change_open s version run p (AsItIs ended) running none is = tt
 change_open s version run p TooLong running none is = tt
 change_open s version run p (Continues canonical batches) running none is =
@@ -138,7 +138,7 @@ not_same a b not =
 module _ (s : Session) (version : Version) (p : ChangeData) where
   idle_phase : (phase : Phase) → s.server.phase ≡ phase → phase ≢ Running → (expected : Option IdData) → s.expected
       ≡ expected
-      → canonical_if s.server (Some p) (judge_incoming s version (did_change (Some p))).verdict ≡ None
+      → canonical_if s.server (Some p) (judge_client s version (did_change (Some p))).verdict ≡ None
   idle_phase New is idle None none = rw (is, none) refl
   idle_phase New is idle (Some id) some = rw (is, some) refl
   idle_phase Down is idle None none = rw (is, none) refl
@@ -147,12 +147,12 @@ module _ (s : Session) (version : Version) (p : ChangeData) where
   idle_phase Running is idle expected waits = absurd (idle refl)
 
   pub idle : s.server.phase ≢ Running
-      → canonical_if s.server (Some p) (judge_incoming s version (did_change (Some p))).verdict ≡ None
+      → canonical_if s.server (Some p) (judge_client s version (did_change (Some p))).verdict ≡ None
   idle not = idle_phase s.server.phase refl not s.expected refl
 
   early_phase : (phase : Phase) → s.server.phase ≡ phase → (expected : Option IdData) → s.expected ≡ expected → expected
       ≢ None
-      → canonical_if s.server (Some p) (judge_incoming s version (did_change (Some p))).verdict ≡ None
+      → canonical_if s.server (Some p) (judge_client s version (did_change (Some p))).verdict ≡ None
   early_phase phase is None none some = absurd (some refl)
   early_phase New is (Some id) waits some = rw (is, waits) refl
   early_phase Down is (Some id) waits some = rw (is, waits) refl
@@ -160,7 +160,7 @@ module _ (s : Session) (version : Version) (p : ChangeData) where
   early_phase Running is (Some id) waits some = rw (is, waits) refl
 
   pub early : s.expected ≢ None
-      → canonical_if s.server (Some p) (judge_incoming s version (did_change (Some p))).verdict ≡ None
+      → canonical_if s.server (Some p) (judge_client s version (did_change (Some p))).verdict ≡ None
   early some = early_phase s.server.phase refl s.expected refl some
 
 -- ---- the batches that are open afterwards

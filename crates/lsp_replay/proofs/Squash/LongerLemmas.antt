@@ -12,10 +12,11 @@ use Rattle.lsp_log.proofs.LogLemmas.{are_push, together_push}
 use Rattle.std.proofs.lemmas.Slice.Eq.{bytes_eq-Decides}
 use Rattle.lsp_replay.proofs.Squash.SingleLemmas.{IsSingle, is_single, single_record}
 use Rattle.lsp_replay.specs.RunOutput.{written_first}
-use Rattle.lsp_replay.specs.Commands.{run_output_in, replaying, front_of, line_if, canonical_change_body}
+use Rattle.lsp_replay.specs.Commands.{replaying, front_of, line_if, canonical_change_body}
+use Rattle.lsp_replay.specs.inside.Commands.{run_output_in}
 use Rattle.lsp_replay.specs.inside.Joining.{server_after}
 use Rattle.lsp_replay.specs.Session.{Session, judge}
-use Rattle.lsp_replay.specs.Squashed.{Run, joined_by, longer, squash_step, squashed_in, end_bytes}
+use Rattle.lsp_replay.specs.inside.Squashed.{Run, end_bytes, joined_by, longer, squash_step, squashed_in}
 use Rattle.lsp_replay.proofs.Records.ChangeLemmas.{IsAccepted, IsDone, is_done, proper_change, session_after}
 use Rattle.lsp_replay.proofs.Records.NumberedLemmas.{IsAlike, alike_both, numbered}
 use Rattle.lsp_replay.proofs.Squash.OpenRunLemmas.{IsOpenFrom, goes_on_from, same_encoding, same_text}

@@ -23,7 +23,7 @@ use Rattle.lsp_store.proofs.Messages.ScalarLemmas.{scalar-meaning, scalar-text}
 use Rattle.lsp_store.specs.laws.Tables.{IsWithin}
 use Rattle.lsp_server.specs.Step.{ServerData, edit_from_data, session_encoding}
 use Rattle.lsp_replay.specs.inside.Joining.{refusal_of, server_after}
-use Rattle.lsp_replay.specs.Squashed.{joined_by}
+use Rattle.lsp_replay.specs.inside.Squashed.{joined_by}
 use Rattle.lsp_replay.proofs.Records.AskedLemmas.{IsProperAsked}
 use Rattle.lsp_replay.proofs.Squash.JoiningLemmas.{uri_at}
 use Rattle.lsp_replay.proofs.Records.PutLemmas.{put, change_puts, put_at, put_twice}

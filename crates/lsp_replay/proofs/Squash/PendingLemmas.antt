@@ -20,10 +20,11 @@ use Rattle.lsp_log.specs.declared.record.Side.TheVariants.{Client}
 use Rattle.lsp_log.specs.Log.{Record, AreRecords, together, mark_of}
 use Rattle.lsp_log.proofs.LogLemmas.{due_after}
 use Rattle.lsp_replay.specs.RunOutput.{written_first}
-use Rattle.lsp_replay.specs.Commands.{run_output_in, replaying, front_of, line_if, change_in, canonical_change_body}
+use Rattle.lsp_replay.specs.Commands.{replaying, front_of, line_if, change_in, canonical_change_body}
+use Rattle.lsp_replay.specs.inside.Commands.{run_output_in}
 use Rattle.lsp_replay.specs.inside.Joining.{server_after}
 use Rattle.lsp_replay.specs.Session.{Session, answered, bad, judge}
-use Rattle.lsp_replay.specs.Squashed.{Run, joined_by, change_output, longer, squash_step, squashed_in, run_bytes, end_bytes}
+use Rattle.lsp_replay.specs.inside.Squashed.{Run, change_output, end_bytes, joined_by, longer, run_bytes, squash_step, squashed_in}
 use Rattle.lsp_replay.proofs.Canonical.CanonicalChangeLemmas.{IsCanonicalChange, canonical_at, canonical_change}
 use Rattle.lsp_replay.proofs.Records.ChangeLemmas.{IsAccepted, IsDone, is_done}
 use Rattle.lsp_replay.proofs.Records.NumberedLemmas.{IsAlike, alike_both}

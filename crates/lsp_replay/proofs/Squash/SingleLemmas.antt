@@ -29,7 +29,7 @@ use Rattle.lsp_log.specs.Log.{Record, IsRecord}
 use Rattle.lsp_replay.specs.Commands.{canonical_change_body}
 use Rattle.lsp_replay.specs.inside.Joining.{server_after}
 use Rattle.lsp_replay.specs.Session.{Session}
-use Rattle.lsp_replay.specs.Squashed.{joined_by}
+use Rattle.lsp_replay.specs.inside.Squashed.{joined_by}
 use Rattle.lsp_replay.proofs.Canonical.CanonicalChangeLemmas.{IsProperAt, IsCanonicalChange, canonical_at, canonical_change, is_canonical_change}
 use Rattle.lsp_replay.proofs.Records.ChangeLemmas.{IsAccepted, proper_change}
 use Rattle.lsp_replay.proofs.Records.StateLemmas.{IsHeldState}

@@ -7,9 +7,10 @@ use Rattle.lsp_log.specs.declared.record.Version.{Version}
 use Rattle.lsp_log.specs.Log.{Record, IsRecord, AreRecords, together, record_bytes, mark_of}
 use Rattle.lsp_log.proofs.LogLemmas.{due_after}
 use Rattle.lsp_replay.specs.RunOutput.{RunOutput, written_first}
-use Rattle.lsp_replay.specs.Commands.{writes, continue_with, unless_bad, run_output_in, replaying, line_if}
+use Rattle.lsp_replay.specs.Commands.{writes, continue_with, unless_bad, replaying, line_if}
+use Rattle.lsp_replay.specs.inside.Commands.{run_output_in}
 use Rattle.lsp_replay.specs.Session.{Session, Verdict, answered, recorded, bad, judge}
-use Rattle.lsp_replay.specs.Squashed.{Run, Step, squash_step, squashed_in, end_bytes}
+use Rattle.lsp_replay.specs.inside.Squashed.{Run, Step, end_bytes, squash_step, squashed_in}
 use Rattle.lsp_replay.proofs.Records.NumberedLemmas.{IsAlike}
 
 -- all that is written of some records

@@ -1,19 +1,22 @@
 -- With squash a log ends as without: at the same record, for the same cause, with the same status and counts.
-use Rattle.std.proofs.Common.{ℕ, ◌≡◌, true, false, nat_lt, List, [], ◌∷◌, length, Option, Some, None, Result, refl, ⊎_elim, bytes_eq}
+use Rattle.std.proofs.Common.{ℕ, ◌≡◌, true, false, nat_lt, List, [], ◌∷◌, length, Option, Some, None, Result, refl, subst, ⊎_elim, bytes_eq}
 use Rattle.std.proofs.lemmas.Bool.{cases_Bool}
 use Rattle.lsp_message.specs.Message.{reading}
 use Rattle.lsp_message.specs.Params.{ChangeData}
 use Rattle.lsp_server.specs.Answer.{reply, changed, dropped, ignored, refused, exits, already_ended}
 use Rattle.lsp_server.specs.Incoming.{incoming_of}
 use Rattle.lsp_server.specs.Step.{ServerData}
+use Rattle.lsp_replay.specs.declared.commands.Settings.{Settings}
 use Rattle.lsp_replay.specs.declared.outcome.Outcome.{Outcome}
 use Rattle.lsp_stream.specs.declared.fault.EngineFault.{EngineFault}
 use Rattle.lsp_log.specs.Log.{Record}
 use Rattle.lsp_replay.specs.RunOutput.{RunOutput}
-use Rattle.lsp_replay.specs.Commands.{RecordOutput, change_in, run_output_in, front_of, continue_with, log_config, canonical_change_body, canonical_if, normalising, unless_bad, written}
+use Rattle.lsp_replay.specs.Commands.{RecordOutput, change_in, front_of, continue_with, log_config, canonical_log, canonical_change_body, canonical_if, normalising, unless_bad, written}
+use Rattle.lsp_replay.specs.inside.Commands.{run_output_in}
 use Rattle.lsp_replay.specs.Session.{Session, Verdict, answered, recorded, bad, judge, opened}
 use Rattle.lsp_replay.specs.laws.Written.{StopsAlike}
-use Rattle.lsp_replay.specs.Squashed.{Run, change_output, squash_step, squashed_in, step_if}
+use Rattle.lsp_replay.specs.inside.Squashed.{Run, change_output, squash_step, squashed_in, step_if, squashed_steps}
+use Rattle.lsp_replay.proofs.Squash.SeriesLemmas.{squashed_is}
 
 abbrev single : ServerData → Record → List ℕ → Option ChangeData → Verdict → RecordOutput
 single server r front change v =
@@ -83,8 +86,17 @@ outcome_in s run (r ∷ rs) =
     (judge s r).verdict)
     (outcome_in (judge s r).session (squash_step s run r (judge s r)).run rs)
 
-pub stops_alike : StopsAlike
-stops_alike settings records = (
+-- the same of any output
+abbrev StopsBy : (Settings → List Record → RunOutput) → Type 0
+StopsBy f = (settings : Settings) (records : List Record)
+    → ((f settings records).stop ≡ (canonical_log settings records).stop)
+    × ((f settings records).outcome ≡ (canonical_log settings records).outcome)
+
+steps_stop : StopsBy squashed_steps
+steps_stop settings records = (
   stops_in (opened (log_config settings)) None records,
   outcome_in (opened (log_config settings)) None records,
 )
+
+pub stops_alike : StopsAlike
+stops_alike = subst StopsBy squashed_is steps_stop

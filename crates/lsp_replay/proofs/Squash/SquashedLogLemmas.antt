@@ -11,16 +11,19 @@ use Rattle.lsp_server.specs.Incoming.{incoming_of}
 use Rattle.lsp_server.specs.Step.{ServerData}
 use Rattle.lsp_log.specs.declared.record.Version.{Version}
 use Rattle.lsp_log.specs.declared.record.Version.TheVariants.{One, Two}
-use Rattle.lsp_log.specs.Log.{Record, Log, IsRecord, AreRecords, together, record_bytes, mark_of, line_of, version_line, is_line_due}
+use Rattle.lsp_log.specs.Log.{Record, Log, IsReadAs, IsRecord, AreRecords, together, record_bytes, mark_of, line_of, version_line, is_line_due}
 use Rattle.lsp_log.proofs.LogLemmas.{due_after}
 use Rattle.lsp_replay.specs.declared.commands.Settings.{Settings}
 use Rattle.lsp_replay.specs.declared.outcome.Outcome.{Outcome}
 use Rattle.lsp_stream.specs.declared.fault.EngineFault.{EngineFault}
 use Rattle.lsp_replay.specs.RunOutput.{RunOutput}
-use Rattle.lsp_replay.specs.Commands.{change_in, run_output_in, front_of, continue_with, line_if, canonical_if, log_config, replaying, report}
-use Rattle.lsp_replay.specs.laws.Written.{SquashedLaw, IsSquashed, LeavesAlike, all_of}
+use Rattle.lsp_replay.specs.Commands.{change_in, front_of, continue_with, line_if, as_log, canonical_if, log_config, replaying, report}
+use Rattle.lsp_replay.specs.inside.Commands.{run_output_in}
+use Rattle.lsp_replay.specs.laws.Written.{SquashedLaw, LeavesAlike, all_of}
 use Rattle.lsp_replay.specs.Session.{Session, answered, bad, judge, opened}
-use Rattle.lsp_replay.specs.Squashed.{Run, Step, squash_step, squashed_in, squashed, end_bytes, other_step}
+use Rattle.lsp_replay.specs.Squashed.{squashed}
+use Rattle.lsp_replay.specs.inside.Squashed.{Run, Step, end_bytes, other_step, squash_step, squashed_in, squashed_steps}
+use Rattle.lsp_replay.proofs.Squash.SeriesLemmas.{squashed_is}
 use Rattle.lsp_replay.proofs.Records.ChangeLemmas.{IsAccepted, IsOtherKind, IsChangeKind, kind_of, not_bad_of, was_accepted}
 use Rattle.lsp_replay.proofs.Records.JudgeLemmas.{judged_held}
 use Rattle.lsp_replay.proofs.Canonical.NormalisedLemmas.{canonical_record, went_on, version_is}
@@ -220,9 +223,22 @@ module _ (limits : LimitsData) (ranges : AreInRange limits) where
 
 -- ---- the bytes
 
+-- what is to be shown, of any output
+record IsSquashedBy (f : Settings → List Record → RunOutput) (settings : Settings) (records : List Record)
+    (bytes : List ℕ) : Type 0 where
+  outcome : (f settings records).outcome ≡ (report settings records).outcome
+  leaves : LeavesAlike settings records bytes
+  continues : (f settings leaves.log.records).stop ≡ None
+  again : all_of (f settings) leaves.log ≡ bytes
+
+abbrev LawBy : (Settings → List Record → RunOutput) → Type 0
+LawBy f = (settings : Settings) → AreInRange settings.limits → (input : List ℕ) (log : Log)
+    → IsReadAs (as_log settings) input log → log.rest ≡ [] → (f settings log.records).stop ≡ None
+    → IsSquashedBy f settings log.records (all_of (f settings) log)
+
 -- Its status and counts are those of `replay`.
-same_outcome : (settings : Settings) (rs : List Record) → (squashed settings rs).stop ≡ None
-    → (squashed settings rs).outcome ≡ (report settings rs).outcome
+same_outcome : (settings : Settings) (rs : List Record) → (squashed_steps settings rs).stop ≡ None
+    → (squashed_steps settings rs).outcome ≡ (report settings rs).outcome
 same_outcome settings rs goes = outcome_on (opened (log_config settings)) None rs goes
   where
     outcome_on : (s : Session) (run : Option Run) (rs : List Record) → (squashed_in s run rs).stop ≡ None
@@ -242,7 +258,7 @@ same_outcome settings rs goes = outcome_on (opened (log_config settings)) None r
 module _ (settings : Settings) (ranges : AreInRange settings.limits) (log : Log) (r : Record) (rs : List Record)
     (is : log.records ≡ r ∷ rs)
     (each : AreRecords settings.limits.max_body log.version (length (line_of log.version)) (is_line_due log.version [])
-    (r ∷ rs)) (goes : (squashed settings (r ∷ rs)).stop ≡ None) where
+    (r ∷ rs)) (goes : (squashed_steps settings (r ∷ rs)).stop ≡ None) where
   abbrev s : Session
   s = opened (log_config settings)
 
@@ -272,20 +288,24 @@ module _ (settings : Settings) (ranges : AreInRange settings.limits) (log : Log)
   abbrev next : Log
   next = record { version = log.version; records = w.qs; rest = [] }
 
-  all_is : (xs : List Record) (bytes : List ℕ) → is_line_due log.version xs ≡ false → total (squashed settings xs)
-      ≡ bytes → (squashed settings xs).out ++ (squashed settings xs).last (is_line_due log.version xs) ≡ bytes
-  all_is xs bytes not e = ap (λ b. (squashed settings xs).out ++ (squashed settings xs).last b) not ∙ e
+  all_is : (xs : List Record) (bytes : List ℕ) → is_line_due log.version xs ≡ false → total (squashed_steps settings xs)
+      ≡ bytes
+      → (squashed_steps settings xs).out ++ (squashed_steps settings xs).last (is_line_due log.version xs) ≡ bytes
+  all_is xs bytes not e = ap (λ b. (squashed_steps settings xs).out ++ (squashed_steps settings xs).last b) not ∙ e
 
   abbrev bytes : List ℕ
-  bytes = (squashed settings (r ∷ rs)).out ++ (squashed settings (r ∷ rs)).last (is_line_due log.version (r ∷ rs))
+  bytes = (squashed_steps settings (r ∷ rs)).out
+      ++ (squashed_steps settings (r ∷ rs)).last (is_line_due log.version (r ∷ rs))
 
   bytes_are : bytes ≡ line_of log.version ++ together log.version w.qs []
   bytes_are = all_is (r ∷ rs) (line_of log.version ++ together log.version w.qs []) (not_due log.version (r ∷ rs) tt)
       (w.bytes ∙ ap (λ l. l ++ together log.version w.qs []) (line_is log.version w.qs (w.some tt)))
 
-  again : (squashed settings w.qs).out ++ (squashed settings w.qs).last (is_line_due log.version w.qs) ≡ bytes
+  again : (squashed_steps settings w.qs).out ++ (squashed_steps settings w.qs).last (is_line_due log.version w.qs)
+      ≡ bytes
   again = all_is w.qs bytes (not_due log.version w.qs (w.some tt))
-      (w.again ∙ sym (all_is (r ∷ rs) (total (squashed settings (r ∷ rs))) (not_due log.version (r ∷ rs) tt) refl))
+      (w.again
+      ∙ sym (all_is (r ∷ rs) (total (squashed_steps settings (r ∷ rs))) (not_due log.version (r ∷ rs) tt) refl))
 
   leaves : LeavesAlike settings (r ∷ rs) bytes
   leaves = record {
@@ -303,7 +323,7 @@ module _ (settings : Settings) (ranges : AreInRange settings.limits) (log : Log)
     refused = w.refused;
   }
 
-  some_law : IsSquashed settings (r ∷ rs) bytes
+  some_law : IsSquashedBy squashed_steps settings (r ∷ rs) bytes
   unfolding leaves w
   some_law = record {
     outcome = same_outcome settings (r ∷ rs) goes;
@@ -314,7 +334,8 @@ module _ (settings : Settings) (ranges : AreInRange settings.limits) (log : Log)
 
 -- A log without records is its line.
 none_law : (settings : Settings) (version : Version) (max_body : ℕ)
-    → IsSquashed settings [] ((squashed settings []).out ++ (squashed settings []).last (is_line_due version []))
+    → IsSquashedBy squashed_steps settings []
+    ((squashed_steps settings []).out ++ (squashed_steps settings []).last (is_line_due version []))
 none_law settings version max_body = record {
   outcome = refl;
   leaves = record {
@@ -342,17 +363,24 @@ none_law settings version max_body = record {
 
 -- What `normalise` writes of a log with squash is a log, of which `replay` reports the same, and of which the same is
 -- written.
-pub squashed_law : SquashedLaw
-squashed_law settings ranges input log reads whole goes = by log.records refl
+abbrev IsWritten : Settings → Version → List Record → Type 0
+IsWritten settings version xs = IsSquashedBy squashed_steps settings xs
+    ((squashed_steps settings xs).out ++ (squashed_steps settings xs).last (is_line_due version xs))
+
+steps_law : LawBy squashed_steps
+steps_law settings ranges input log reads whole goes = by log.records refl
   where
-    by : (xs : List Record) → log.records ≡ xs → IsSquashed settings log.records (all_of (squashed settings) log)
-    by [] is = subst (λ (xs : List Record). IsSquashed settings xs
-        ((squashed settings xs).out ++ (squashed settings xs).last (is_line_due log.version xs))) (sym is)
-        (none_law settings log.version settings.limits.max_body)
+    by : (xs : List Record) → log.records ≡ xs → IsWritten settings log.version log.records
+    by [] is = subst (IsWritten settings log.version) (sym is) (none_law settings log.version settings.limits.max_body)
     by (r ∷ rs) is =
-        subst (λ (xs : List Record). IsSquashed settings xs ((squashed settings xs).out ++ (squashed settings xs).last
-        (is_line_due log.version xs))) (sym is)
+        subst (IsWritten settings log.version) (sym is)
         (some_law settings ranges log r rs is
         (subst (AreRecords settings.limits.max_body log.version (length (line_of log.version))
         (is_line_due log.version [])) is reads.each)
-        (subst (λ (xs : List Record). (squashed settings xs).stop ≡ None) is goes))
+        (subst (λ (xs : List Record). (squashed_steps settings xs).stop ≡ None) is goes))
+
+pub squashed_law : SquashedLaw
+squashed_law settings ranges input log reads whole goes =
+    let all : LawBy squashed = subst LawBy squashed_is steps_law in
+    let law = all settings ranges input log reads whole goes in
+    record { outcome = law.outcome; leaves = law.leaves; continues = law.continues; again = law.again }

@@ -14,8 +14,7 @@ use Rattle.lsp_replay.specs.RunOutput.{written_first}
 use Rattle.lsp_replay.specs.inside.RunOutput.{after}
 use Rattle.lsp_replay.specs.Commands.{change_in, front_of, continue_with, canonical_if, canonical_change_body}
 use Rattle.lsp_replay.specs.Session.{Session, Verdict, answered, recorded, bad, judge}
-use Rattle.lsp_replay.specs.Squashed.{Run, Step, squash_step, squashed_in, run_bytes, end_bytes, begun, longer, faulty, change_output, other_step, step_if}
-use Rattle.lsp_replay.specs.inside.Squashed.{run_of}
+use Rattle.lsp_replay.specs.inside.Squashed.{Run, Step, begun, change_output, end_bytes, faulty, longer, other_step, run_bytes, run_of, squash_step, squashed_in, step_if}
 use Rattle.lsp_replay.specs.inside.Joining.{IsChange, IsLonger, IsOther, IsBegun}
 
 -- any record but an accepted change

@@ -20,11 +20,13 @@ use Rattle.lsp_replay.specs.Run.{IsEngineRun}
 use Rattle.lsp_replay.specs.RunOutput.{RunOutput}
 use Rattle.lsp_replay.specs.Session.{Session, opened}
 use Rattle.lsp_replay.specs.Squashed.{normalised_if, squashed}
+use Rattle.lsp_replay.specs.inside.Squashed.{squashed_steps}
 use Rattle.lsp_replay.specs.inside.Documents.{each_documents_engine, each_of_kept, squashed_documents_engine, squashed_of_kept}
 use Rattle.lsp_replay.proofs.Stay.KeptLogLemmas.{IsReportedAs, are_kept, each_located, kept_due, kept_stop, left_due, located_all, located_due, reported, squash_located}
 use Rattle.lsp_replay.proofs.Canonical.NormalisedLemmas.{canonical_log_law, version_is}
 use Rattle.lsp_replay.proofs.Records.NumberedLemmas.{alike_self}
-use Rattle.lsp_replay.proofs.Squash.SquashedLemmas.{stops_in}
+use Rattle.lsp_replay.proofs.Squash.SquashedLemmas.{stops_alike}
+use Rattle.lsp_replay.proofs.Squash.SeriesLemmas.{squashed_is}
 use Rattle.lsp_replay.proofs.Squash.SquashedLogLemmas.{squashed_law}
 use Rattle.lsp_replay.proofs.Runs.WroteLemmas.{IsNotOk, normal_not_ok, stops_not_ok}
 
@@ -32,7 +34,7 @@ use Rattle.lsp_replay.proofs.Runs.WroteLemmas.{IsNotOk, normal_not_ok, stops_not
 
 stop_if : (settings : Settings) (b : Bool) (rs : List Record) → (normalised_if b settings rs).stop
     ≡ (canonical_log settings rs).stop
-stop_if settings true rs = stops_in (opened (log_config settings)) None rs
+stop_if settings true rs = (stops_alike settings rs).0
 stop_if settings false rs = refl
 
 pub documents_stop : DocumentsStopAlike
@@ -40,6 +42,18 @@ documents_stop settings records =
     stop_if settings settings.squash (kept settings records).records
     ∙ kept_stop (opened (log_config settings)) (opened (log_config settings)) nothing_selected records
     (alike_self (opened (log_config settings)))
+
+-- ---- where the records lie changes nothing
+
+abbrev LocatedBy : (Settings → List Record → RunOutput) → Type 0
+LocatedBy f = (settings : Settings) (rs : List Record) (at : ℕ) (version : Version) → (f settings rs).stop ≡ None
+    → f settings (located_all at version rs) ≡ f settings rs
+
+steps_located : LocatedBy squashed_steps
+steps_located settings rs at version on = squash_located (opened (log_config settings)) None rs at version on
+
+squashed_located : LocatedBy squashed
+squashed_located = subst LocatedBy squashed_is steps_located
 
 -- ---- the records that stay, as a log
 
@@ -151,7 +165,7 @@ module _ (settings : Settings) (ranges : AreInRange settings.limits) (input : Li
         canonical_log_law settings ranges bytes kept_log kept_reads refl (ap (λ (c : RunOutput). c.stop) same ∙ on) in
         leaves_by (canonical_log settings) same law.outcome (canonical_leaves _ law)
     keeps_if true on =
-        let same = squash_located s None k.records start log.version on in
+        let same = squashed_located settings k.records start log.version on in
         let law : IsSquashed settings ks (all_of (squashed settings) kept_log) =
         squashed_law settings ranges bytes kept_log kept_reads refl (ap (λ (c : RunOutput). c.stop) same ∙ on) in
         leaves_by (squashed settings) same law.outcome law.leaves
@@ -208,7 +222,9 @@ as_squashed : (settings : Settings) → settings.squash ≡ true → (P : (List 
     → P (squashed_of_kept (record { session = opened (log_config settings); run = None }) nothing_selected)
     → P (documents settings)
 as_squashed settings e P p =
-    subst (λ (b : Bool). P (λ rs. output_of_kept (normalised_if b settings) (kept settings rs))) (sym e) p
+    subst (λ (b : Bool). P (λ rs. output_of_kept (normalised_if b settings) (kept settings rs))) (sym e)
+    (subst (λ (f : Settings → List Record → RunOutput). P (λ rs. output_of_kept (f settings) (kept settings rs)))
+    squashed_is p)
 
 -- What the engines wrote, and that each is the engine of these settings.
 module _ (settings : Settings) (ranges : AreInRange settings.limits)

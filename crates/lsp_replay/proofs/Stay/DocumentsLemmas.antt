@@ -13,21 +13,21 @@ use Rattle.lsp_log.specs.Log.{LogRules, Record}
 use Rattle.lsp_log.specs.laws.Logs.{FirstLaw, VersionLaw}
 use Rattle.lsp_message.specs.Message.{IdData}
 use Rattle.lsp_replay.specs.Documents.{Kept, Selection, after_kept, after_left_out, is_due, kept_in, output_of_kept, record_stays, waiting_after, with_due, with_line}
-use Rattle.lsp_replay.specs.Commands.{RecordOutput, canonical_of_record, continue_with, ends, front_of, normalising, run_output_in, unless_bad, writes, written}
+use Rattle.lsp_replay.specs.Commands.{RecordOutput, canonical_of_record, continue_with, ends, front_of, normalising, unless_bad, writes, written}
 use Rattle.lsp_replay.specs.Run.{IsEngineRun}
 use Rattle.lsp_replay.specs.RunOutput.{RunOutput, stopped, written_first}
-use Rattle.lsp_replay.specs.Session.{Session, Verdict, answered, bad, judge, judge_at, recorded}
-use Rattle.lsp_replay.specs.Squashed.{Run, Squashing, Step, faulty, squash_step, squashed_in}
+use Rattle.lsp_replay.specs.Session.{Session, Verdict, answered, bad, judge, recorded}
 use Rattle.lsp_replay.specs.inside.Bodies.{BodyData, body_read}
 use Rattle.lsp_replay.specs.inside.Documents.{each_of_kept, squashed_of_kept}
 use Rattle.lsp_replay.specs.inside.Engine.{IsLoopRun}
-use Rattle.lsp_replay.specs.inside.Commands.{each_output}
+use Rattle.lsp_replay.specs.inside.Commands.{each_output, run_output_in}
 use Rattle.lsp_replay.specs.inside.Reads.{IsKept, IsLeftOut, stays_read, waiting_read}
 use Rattle.lsp_replay.specs.inside.RunOutput.{IsRecordFault, after}
-use Rattle.lsp_replay.specs.inside.Squashed.{IsSquashStep, step_at}
+use Rattle.lsp_replay.specs.inside.Session.{judge_at}
+use Rattle.lsp_replay.specs.inside.Squashed.{IsSquashStep, Run, Squashing, Step, faulty, squash_step, squashed_in, squash_view, step_at}
 use Rattle.lsp_replay.proofs.Stay.KeptLogLemmas.{kept_false, kept_true}
 use Rattle.lsp_replay.proofs.Reports.PartLemmas.{unless_not}
-use Rattle.lsp_replay.proofs.Runs.RunReportLemmas.{Grows, GrowsAll, NoneCut, Settles, grows, run_of_course, settled, squashed_grows, squashed_settled}
+use Rattle.lsp_replay.proofs.Runs.RunReportLemmas.{Grows, GrowsAll, NoneCut, Settles, grows, run_of_course, settled}
 
 -- ---- what was read of a record decides whether it stays
 
@@ -391,7 +391,8 @@ pub run_of_each_kept : FirstLaw → VersionLaw → (s : Session) (c : Selection)
     max_turns before after result
 run_of_each_kept first version s c run whole =
     run_of_course first version (each_of_kept s c) (kept_settles s c (run_output_in normalising s)
-    (settled normalising s) (each_even s)) (kept_grows s c (run_output_in normalising s) (grows normalising s)) false
+    (settled normalising tt s) (each_even s))
+    (kept_grows s c (run_output_in normalising s) (grows normalising tt s)) false
     run whole
 
 pub run_of_squashed_kept : FirstLaw → VersionLaw → (q : Squashing) (c : Selection) {log_rules : LogRules}
@@ -406,5 +407,5 @@ pub run_of_squashed_kept : FirstLaw → VersionLaw → (q : Squashing) (c : Sele
     }) max_turns before after result
 run_of_squashed_kept first version q c run whole =
     run_of_course first version (squashed_of_kept q c) (kept_settles q.session c (squashed_in q.session q.run)
-    (squashed_settled q.session q.run) (squash_even q.session q.run))
-    (kept_grows q.session c (squashed_in q.session q.run) (squashed_grows q.session q.run)) false run whole
+    (settled squash_view q.run q.session) (squash_even q.session q.run))
+    (kept_grows q.session c (squashed_in q.session q.run) (grows squash_view q.run q.session)) false run whole

@@ -16,11 +16,12 @@ use Rattle.lsp_log.specs.declared.record.Version.TheVariants.{One, Two}
 use Rattle.lsp_log.specs.Log.{Record, AreRecords, is_line_due, record_bytes}
 use Rattle.lsp_replay.specs.declared.outcome.Outcome.{Outcome}
 use Rattle.lsp_replay.specs.Documents.{Kept, Selection, after_kept, after_left_out, is_due, kept_first, kept_in, record_stays, with_line}
-use Rattle.lsp_replay.specs.Commands.{RecordOutput, canonical_change_body, canonical_if, change_in, continue_with, ends, front_of, normalising, replaying, run_output_in, unless_bad, writes, written}
+use Rattle.lsp_replay.specs.Commands.{RecordOutput, canonical_change_body, canonical_if, change_in, continue_with, ends, front_of, normalising, replaying, unless_bad, writes, written}
+use Rattle.lsp_replay.specs.inside.Commands.{run_output_in}
 use Rattle.lsp_replay.specs.inside.Joining.{IsChange}
 use Rattle.lsp_replay.specs.RunOutput.{RunOutput}
 use Rattle.lsp_replay.specs.Session.{Session, Verdict, answered, bad, judge, recorded}
-use Rattle.lsp_replay.specs.Squashed.{Run, Step, squash_step, squashed_in}
+use Rattle.lsp_replay.specs.inside.Squashed.{Run, Step, squash_step, squashed_in}
 use Rattle.lsp_replay.proofs.Records.ChangeLemmas.{IsChangeKind, IsOtherKind, kind_of}
 use Rattle.lsp_replay.proofs.Stay.LeftOutLemmas.{IsHarmless, harmless, stays_alike}
 use Rattle.lsp_replay.proofs.Canonical.NormalisedLemmas.{went_on}

@@ -1,6 +1,7 @@
 -- A record that is left out changes nothing of a session but its counts.
 use Rattle.std.proofs.Common.{◌≡◌, ◌≢◌, ℕ, Bool, true, false, ◌&&◌, ◌||◌, List, Option, Some, None, is_some, refl, sym, ap, ◌∙◌, subst}
-use Rattle.std.specs.Prelude.{not, if◌then◌else◌}
+use Rattle.std.specs.Prelude.{not, if◌then◌else◌, option_map}
+use Rattle.serde_json.specs.Data.{Data}
 use Rattle.lsp_message.specs.Message.{IdData, Reading, reading}
 use Rattle.lsp_message.specs.Message as read
 use Rattle.lsp_message.specs.Outgoing.{OutgoingData, error_reply}
@@ -19,7 +20,7 @@ use Rattle.lsp_log.specs.declared.record.Side.TheVariants.{Client, Server}
 use Rattle.lsp_log.specs.Log.{Record}
 use Rattle.lsp_replay.specs.Documents.{is_answer_to, is_kept_method, message_stays, record_stays}
 use Rattle.lsp_replay.specs.Commands.{canonical_if, change_in}
-use Rattle.lsp_replay.specs.Session.{Session, Verdict, answered, recorded, bad, Judged, judged, judge, judge_from, judge_incoming, handled, hear_for, heard, counted, count_if, result_for, is_change, is_early, is_ended, is_new, is_refused, is_running, expected_of, expected_after}
+use Rattle.lsp_replay.specs.Session.{Session, Verdict, answered, recorded, bad, Judged, judged, judge, judge_from, judge_client, handled, judge_server, encoding_for, encoding_in, counted, count_if, result_for, is_change, is_early, is_ended, is_new, is_refused, is_running, expected_of, expected_after}
 use Rattle.lsp_replay.proofs.Records.NumberedLemmas.{IsAlike}
 
 -- What becomes of a record that is left out.
@@ -138,11 +139,11 @@ module _ (s : Session) (version : Version) (m : IncomingData) (left_out : messag
   abbrev quiet : Judged
   quiet = judged (answered (as_sent here.answer)) (record s { messages = one_more s.messages })
 
-  is_handled : judge_incoming s version m ≡ handled s version m (step_on s.server m).state
+  is_handled : judge_client s version m ≡ handled s version m (step_on s.server m).state
       (as_sent (step_on s.server m).answer)
   is_handled = rw (here.goes_on, not_early) refl
 
-  is_quiet : judge_incoming s version m ≡ quiet
+  is_quiet : judge_client s version m ≡ quiet
   is_quiet =
       is_handled ∙ ap (λ (step : Step). handled s version m step.state (as_sent step.answer)) here.step
       ∙ ap (λ (e : Option IdData). judged (answered (as_sent here.answer)) (record s {
@@ -160,7 +161,7 @@ module _ (s : Session) (version : Version) (m : IncomingData) (left_out : messag
   not_bad : answered (as_sent here.answer) ≢ bad
   not_bad e = cc
 
-  client_harmless : IsHarmless s (change_in m) (judge_incoming s version m)
+  client_harmless : IsHarmless s (change_in m) (judge_client s version m)
   client_harmless =
       subst (IsHarmless s (change_in m)) (sym is_quiet)
       (record {
@@ -182,9 +183,10 @@ no_result id (read.message (read.response (Some other) read.failed)) e = refl
 no_result id (read.message (read.response (Some other) (read.given result))) e = rw e refl
 
 no_answer : (s : Session) (expected : Option IdData) (body : List ℕ) → is_answer_to expected (reading body) ≡ false
-    → hear_for s expected body ≡ judged recorded s
+    → judge_server s (encoding_for expected (reading body)) ≡ judged recorded s
 no_answer s None body e = refl
-no_answer s (Some id) body e = ap (heard s) (no_result id (reading body) e)
+no_answer s (Some id) body e = ap (λ (r : Option Data). judge_server s (option_map encoding_in r))
+    (no_result id (reading body) e)
 
 neither : (a b : Bool) → (a || b) ≡ false → a ≡ false
 neither true b e = absurd (let wrong : true ≡ false = e in cc)
@@ -198,7 +200,8 @@ none_recorded server None = refl
 none_recorded server (Some p) = refl
 
 server_harmless : (s : Session) (waiting : Option IdData) (change : Option ChangeData) (body : List ℕ)
-    → record_stays s waiting Server body ≡ false → IsHarmless s change (hear_for s s.expected body)
+    → record_stays s waiting Server body ≡ false
+    → IsHarmless s change (judge_server s (encoding_for s.expected (reading body)))
 server_harmless s waiting change body e =
     subst (IsHarmless s change) (sym (no_answer s s.expected body (neither _ _ e)))
     (record { alike = (s.records, s.messages, refl); not_bad = not_recorded; none = none_recorded s.server change })

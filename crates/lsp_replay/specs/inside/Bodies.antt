@@ -11,7 +11,7 @@ use Rattle.lsp_server.specs.Seen.{incoming_view}
 use Rattle.lsp_replay.specs.declared.session.RecordBody.{RecordBody}
 use Rattle.lsp_replay.specs.declared.session.RecordBody.TheVariants.{Client, Server}
 use Rattle.lsp_replay.specs.Commands.{change_in, canonical_if}
-use Rattle.lsp_replay.specs.Session.{Session, Judged, Verdict, counted, judge_incoming, hear_for}
+use Rattle.lsp_replay.specs.Session.{Session, Judged, Verdict, counted, encoding_for, judge_client, judge_server}
 
 -- What a client's record in a log of a version asks of the server, or the body of a server's
 -- record.
@@ -31,8 +31,8 @@ body_read version side.Server body = from_server body
 
 -- The judgement of a record.
 abbrev pub judge_read : Session → BodyData → Judged
-judge_read s (from_client version m) = judge_incoming s version m
-judge_read s (from_server body) = hear_for s s.expected body
+judge_read s (from_client version m) = judge_client s version m
+judge_read s (from_server body) = judge_server s (encoding_for s.expected (reading body))
 
 -- The parameters of a client's `didChange`, if they are valid.
 abbrev pub change_of : BodyData → Option ChangeData
@@ -53,6 +53,6 @@ pub record IsReceived (s : Session) (read : BodyData) (p : ChangeData) : Type 0 
 pub record IsChangeTaken (s : Session) (p : ChangeData) (verdict : Verdict) (new : Session) :
     Type 0 where
   pub judged : (version : Version)
-      → verdict ≡ (judge_incoming s version (did_change (Some p))).verdict
+      → verdict ≡ (judge_client s version (did_change (Some p))).verdict
   pub session : (version : Version)
-      → new ≡ (counted (judge_incoming s version (did_change (Some p)))).session
+      → new ≡ (counted (judge_client s version (did_change (Some p)))).session

@@ -3,11 +3,12 @@ use Rattle.std.specs.Prelude.{List, None, false}
 use Rattle.lsp_log.specs.Log.{Record}
 use Rattle.lsp_replay.specs.declared.commands.Settings.{Settings}
 use Rattle.lsp_replay.specs.Documents.{Selection, kept_in, nothing_selected, output_of_kept}
-use Rattle.lsp_replay.specs.Commands.{as_log, log_config, normalising, run_output_in}
+use Rattle.lsp_replay.specs.Commands.{as_log, log_config, normalising}
+use Rattle.lsp_replay.specs.inside.Commands.{run_output_in}
 use Rattle.lsp_replay.specs.Run.{Engine}
 use Rattle.lsp_replay.specs.RunOutput.{RunOutput}
 use Rattle.lsp_replay.specs.Session.{Session, opened}
-use Rattle.lsp_replay.specs.Squashed.{Squashing, squashed_in}
+use Rattle.lsp_replay.specs.inside.Squashed.{Squashing, squashed_in}
 
 -- The output of `normalise` for the records that stay, without squash and with it.
 abbrev pub each_of_kept : Session → Selection → List Record → RunOutput

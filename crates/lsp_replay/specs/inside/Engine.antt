@@ -1,6 +1,5 @@
 -- What only proofs and private contracts use of `Engine`: what an engine wrote and answered, by
--- some
--- first records of what it read.
+-- some first records of what it read.
 use Rattle.std.specs.Prelude.{ℕ, ◌≡◌, ◌≢◌, ◌⊎◌, ◌<◌, ◌&&◌, not, Bool, true, false, List, [], ◌++◌, length, Option, Some, None, Result, Ok, Err, MatchResult}
 use Rattle.std.specs.Io.KnownBytes.{Consumes, Appends}
 use Rattle.lsp_frame.specs.Faults.{place_after}
@@ -175,7 +174,6 @@ pub record IsLoopRun (log_rules : LogRules) (run_output : List Record → RunOut
   pub none_passed_over : NonePassedOver before.reader.failed after.reader.failed
       before.writer.failed after.writer.failed result
   -- Where each output is passed on before more is read: after an outcome, and after each fault but
-  -- those of writing and of too many turns,
-  -- all that was written is passed on.
+  -- those of writing and of too many turns, all that was written is passed on.
   pub passed_on : flushes ≡ true → result ≢ Err Write → result ≢ Err TooManyTurns →
       StaysFlushed before.writer.flushed after.writer.flushed

@@ -12,7 +12,7 @@ use Rattle.lsp_replay.specs.declared.session.joining.Writing.{Writing}
 use Rattle.lsp_replay.specs.declared.session.joining.Writing.TheVariants.{AsItIs, TooLong, Continues, Begins}
 use Rattle.lsp_replay.specs.Commands.{canonical_if, canonical_change_body}
 use Rattle.lsp_replay.specs.Session.{Verdict, answered}
-use Rattle.lsp_replay.specs.Squashed.{joined_by}
+use Rattle.lsp_replay.specs.inside.Squashed.{joined_by}
 
 -- The batches of a run lead to the document that is open now, with the server's limits and
 -- encoding.

@@ -12,9 +12,10 @@ use Rattle.lsp_replay.specs.declared.session.known.Noted.{Noted}
 use Rattle.lsp_replay.specs.Lines.{Known, has_notes, is_strict, uri_of}
 use Rattle.lsp_replay.specs.Mentions.{is_mention, last_for, mentioned}
 use Rattle.lsp_replay.specs.Notes.{notes_if, notes_of}
-use Rattle.lsp_replay.specs.Session.{Session, is_change, judge_at}
+use Rattle.lsp_replay.specs.Session.{Session, is_change}
 use Rattle.lsp_replay.specs.inside.Bodies.{BodyData, from_client, from_server}
 use Rattle.lsp_replay.specs.inside.Noting.{notes_on_read}
+use Rattle.lsp_replay.specs.inside.Session.{judge_at}
 use Rattle.lsp_replay.specs.inside.Verdicts.{verdict_view}
 
 -- ---- before the record is judged, by what was read of its body

@@ -11,9 +11,10 @@ use Rattle.lsp_replay.specs.declared.session.selecting.Selected.{Selected}
 use Rattle.lsp_replay.specs.declared.session.writing.Appended.{Appended}
 use Rattle.lsp_replay.specs.Documents.{Selection, after_kept, after_left_out, is_answer_to, is_due, message_stays, record_stays, waiting_for}
 use Rattle.lsp_replay.specs.Commands.{canonical_of_record, change_in}
-use Rattle.lsp_replay.specs.Session.{Session, bad, judge_at, same_id}
+use Rattle.lsp_replay.specs.Session.{Session, bad, same_id}
 use Rattle.lsp_replay.specs.inside.Bodies.{BodyData, body_read, body_view, from_client, from_server}
 use Rattle.lsp_replay.specs.inside.Joining.{IsWriting}
+use Rattle.lsp_replay.specs.inside.Session.{judge_at}
 use Rattle.lsp_replay.specs.inside.Verdicts.{IsAppended, verdict_view}
 
 -- This was read of a record's body.

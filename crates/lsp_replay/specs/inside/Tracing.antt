@@ -10,9 +10,10 @@ use Rattle.lsp_replay.specs.declared.session.writing.Appended.{Appended}
 use Rattle.lsp_replay.specs.declared.session.writing.Appended.TheVariants.{Body}
 use Rattle.lsp_replay.specs.Commands.{canonical_of_record, verdict_word}
 use Rattle.lsp_replay.specs.Lines.{Known}
-use Rattle.lsp_replay.specs.Session.{Session, judge_at}
+use Rattle.lsp_replay.specs.Session.{Session}
 use Rattle.lsp_replay.specs.Trace.{body_json, document_after, is_changed, is_json, last_members, notes_json, reason_json, text_json, version_json}
 use Rattle.lsp_replay.specs.inside.Known.{IsNoted}
+use Rattle.lsp_replay.specs.inside.Session.{judge_at}
 use Rattle.lsp_replay.specs.inside.Verdicts.{IsAppended, verdict_view}
 
 -- Of a record with this head and body, before which the session was `s`. `old` and `new` are the

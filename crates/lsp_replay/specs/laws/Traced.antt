@@ -21,9 +21,11 @@ pub record Line : Type 0 where
   pub between : List ℕ
   pub after : List ℕ
 
+-- The line of `check`.
 abbrev pub checked_line : Line → List ℕ
 checked_line l = decimal l.number ++ codes " " ++ l.word ++ codes "\n"
 
+-- The line of `trace`.
 abbrev pub traced_line : Line → List ℕ
 traced_line l =
     codes "{\"number\":" ++ decimal l.number ++ l.before
@@ -52,8 +54,7 @@ pub record AreTextsOf (report : RunOutput) (lines : List Line) : Type 0 where
       → written_text uri None lines ≡ option_map (λ entry. entry.text) (entry_at table uri)
 
 -- An output of `trace` ends where one of `check` does, and as it does, and they have the same
--- numbers
--- and words. With texts the last ones are those of `replay`, if the log has no bad record.
+-- numbers and words. With texts the last ones are those of `replay`, if the log has no bad record.
 pub record IsTraceOf (details : Details) (trace check report : RunOutput) : Type 0 where
   pub stop : trace.stop ≡ check.stop
   pub outcome : trace.outcome ≡ check.outcome
@@ -62,6 +63,7 @@ pub record IsTraceOf (details : Details) (trace check report : RunOutput) : Type
   pub checked : check.out ≡ flat_map checked_line lines
   pub texts : details.texts ≡ true → trace.stop ≡ None → AreTextsOf report lines
 
+-- So it is for each list of records.
 abbrev pub TraceLaw : Type 0
 TraceLaw = (settings : Settings) (details : Details) (records : List Record)
     → IsTraceOf details (traced settings details records) (verdicts settings records)

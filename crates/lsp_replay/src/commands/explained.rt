@@ -12,14 +12,14 @@ use crate::outcome::Outcome;
 use lsp_stream::{EngineFault, Sink, Source};
 use std::alloc::Global;
 
-/// Writes a line for each record of a log, as [`check`](crate::check) does; where it was refused the
-/// document, why, and the record that opened, closed or refused the document last; where it is
+/// Writes a line for each record of a log, as [`check`](crate::check) does; where it was refused
+/// the document, why, and the record that opened, closed or refused the document last; where it is
 /// suspicious the document and notes; at the end what to do next. The status is 1 if something was
 /// refused, else 0.
 ///
-/// Errors and memory are those of [`check`](crate::check), with the URIs of 64 documents more. A body
-/// that is refused or a change is read once more. The notes of a change of a range cost what the
-/// change costs, those of several changes a copy of the text.
+/// Errors and memory are those of [`check`](crate::check), with the URIs of 64 documents more. A
+/// body that is refused or a change is read once more. The notes of a change of a range cost what
+/// the change costs, those of several changes a copy of the text.
 pub fn explain<R: Source, W: Sink>(
     alloc: Global,
     reader: &mut R,

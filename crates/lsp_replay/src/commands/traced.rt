@@ -21,14 +21,14 @@ pub struct Details {
     pub bodies: bool,
 }
 
-/// Writes a line of JSON for each record of a log: its number, its offset, what it is, what a server
-/// answers to it, and why it was refused or what is suspicious of it. It is written as soon as the
-/// record is complete. The status is 1 if something was refused, else 0.
+/// Writes a line of JSON for each record of a log: its number, its offset, what it is, what a
+/// server answers to it, and why it was refused or what is suspicious of it. It is written as soon
+/// as the record is complete. The status is 1 if something was refused, else 0.
 ///
-/// Errors and memory are those of [`check`](crate::check), with the URIs of 64 documents more. A body
-/// that is refused or a change is read once more, and each body of the server's once. The notes of a
-/// change of a range cost what the change costs, those of several changes a copy of the text. With
-/// `texts` a record costs what its document's text has.
+/// Errors and memory are those of [`check`](crate::check), with the URIs of 64 documents more. A
+/// body that is refused or a change is read once more, and each body of the server's once. The
+/// notes of a change of a range cost what the change costs, those of several changes a copy of the
+/// text. With `texts` a record costs what its document's text has.
 pub fn trace<R: Source, W: Sink>(
     alloc: Global,
     reader: &mut R,

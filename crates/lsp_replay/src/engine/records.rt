@@ -15,7 +15,7 @@ use crate::outcome::Outcome;
 use lsp_log::{Head, Splitter, reading_laws};
 use lsp_stream::{EngineFault, Sink, Turns, write_given};
 
-/// The bytes from an index on.
+/// Returns the bytes from an index on.
 fn rest(bytes: &[u8], start: usize) -> &[u8]
     ensures { result.now ≡ drop start bytes.now }
 {

@@ -4,7 +4,8 @@ ghost use Rattle.std.specs.Prelude.{◌≡◌, ◌++◌, refl, OnOk, decimal, fa
 ghost use Rattle.lsp_server.specs.Seen.{answer_view};
 ghost use Rattle.lsp_replay.specs.RunOutput.{RunOutput};
 ghost use Rattle.lsp_replay.specs.Session.{opened};
-ghost use Rattle.lsp_replay.specs.Commands.{checking, run_output_in, check_line, code_word, label, store_label, edit_label, verdict_word, word_of};
+ghost use Rattle.lsp_replay.specs.Commands.{checking, check_line, code_word, label, store_label, edit_label, verdict_word, word_of};
+ghost use Rattle.lsp_replay.specs.inside.Commands.{run_output_in};
 ghost use Rattle.lsp_replay.specs.inside.Verdicts.{verdict_view};
 
 use crate::handler::{Given, Handler, Output};
@@ -137,7 +138,7 @@ fn code_word(code: Option<ErrorCode>) -> &'static str
     }
 }
 
-/// The code of a refusal, as docs/PROTOCOL.md lists them.
+/// Returns the code of a refusal, as docs/PROTOCOL.md lists them.
 fn label(refusal: Refusal) -> &'static str
     ensures { result.now ≡ label refusal }
 {

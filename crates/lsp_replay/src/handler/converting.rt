@@ -2,7 +2,8 @@
 
 ghost use Rattle.std.specs.Prelude.{◌≡◌, ◌++◌, refl, OnOk, false};
 ghost use Rattle.lsp_replay.specs.Session.{opened};
-ghost use Rattle.lsp_replay.specs.Commands.{converting, run_output_in, line_before, reply_record};
+ghost use Rattle.lsp_replay.specs.Commands.{converting, line_before, reply_record};
+ghost use Rattle.lsp_replay.specs.inside.Commands.{run_output_in};
 ghost use Rattle.lsp_replay.specs.inside.Verdicts.{verdict_view};
 
 use crate::handler::front::push_line;

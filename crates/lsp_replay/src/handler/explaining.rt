@@ -6,7 +6,8 @@ ghost use Rattle.lsp_message.specs.Message.{reading};
 ghost use Rattle.lsp_server.specs.Incoming.{incoming_of};
 ghost use Rattle.lsp_replay.specs.Commands.{change_in};
 ghost use Rattle.lsp_replay.specs.Explained.{advice, advice_if_strict, document_words, explaining, explanation, first_advice, remark, see_words};
-ghost use Rattle.lsp_replay.specs.Lines.{lines_in, nothing_known};
+ghost use Rattle.lsp_replay.specs.Lines.{nothing_known};
+ghost use Rattle.lsp_replay.specs.inside.Lines.{lines_in};
 ghost use Rattle.lsp_replay.specs.Session.{opened};
 ghost use Rattle.lsp_replay.specs.inside.Explained.{line_by};
 ghost use Rattle.lsp_replay.specs.inside.Verdicts.{verdict_view};
@@ -171,7 +172,7 @@ fn push_advice(buffer: &mut Vec<u8>, refusals: u64, known: &Known) -> Result<(),
     push_words(buffer, advice_if_strict(known.is_strict()))
 }
 
-/// What to do first, after so many refusals.
+/// Returns what to do first, after so many refusals.
 fn first_advice(refusals: u64, suspicious: bool) -> &'static str
     ensures { result.now ≡ first_advice refusals suspicious }
 {
@@ -185,7 +186,7 @@ fn first_advice(refusals: u64, suspicious: bool) -> &'static str
     }
 }
 
-/// What to try where something was refused with S1 or S5.
+/// Returns what to try where something was refused with S1 or S5.
 fn advice_if_strict(strict: bool) -> &'static str
     ensures { result.now ≡ advice_if_strict strict }
 {

@@ -7,7 +7,7 @@ ghost use Rattle.lsp_replay.specs.Commands.{line_if, front_of};
 use lsp_log::{Head, Side, VERSION_LINE, Version};
 use std::alloc::AllocError;
 
-/// The line of version 2, if it is due.
+/// Returns the line of version 2, if it is due.
 pub fn line_bytes(line_due: bool) -> &'static [u8]
     ensures is { result.now ≡ line_if line_due }
     ensures short { length result.now ≤ 18 }
@@ -15,7 +15,7 @@ pub fn line_bytes(line_due: bool) -> &'static [u8]
     if line_due { VERSION_LINE } else { b"" }
 }
 
-/// The mark of a record.
+/// Returns the mark of a record.
 pub fn mark_bytes(head: Head) -> &'static [u8]
     ensures is { result.now ≡ mark_of head.version head.side }
     ensures short { length result.now ≤ 1 }

@@ -4,10 +4,11 @@ ghost use Rattle.std.specs.Prelude.{ℕ, ◌≡◌, ◌≤◌, ◌-◌, ◌⊎�
 ghost use Rattle.lsp_frame.specs.Frame.{frame};
 ghost use Rattle.lsp_log.specs.Log.{mark_of};
 ghost use Rattle.lsp_replay.specs.inside.RunOutput.{IsRecordFault, output_of};
-ghost use Rattle.lsp_replay.specs.Session.{judge_at, opened};
-ghost use Rattle.lsp_replay.specs.Commands.{normalising, run_output_in, line_if, front_of, written, writes, ends};
-ghost use Rattle.lsp_replay.specs.inside.Commands.{each_output};
+ghost use Rattle.lsp_replay.specs.Session.{opened};
+ghost use Rattle.lsp_replay.specs.Commands.{normalising, line_if, front_of, written, writes, ends};
+ghost use Rattle.lsp_replay.specs.inside.Commands.{each_output, run_output_in};
 ghost use Rattle.lsp_replay.specs.inside.Reads.{IsReadOf};
+ghost use Rattle.lsp_replay.specs.inside.Session.{judge_at};
 ghost use Rattle.lsp_replay.specs.inside.Verdicts.{IsAppended};
 
 use crate::handler::front::{line_bytes, mark_bytes, push_front, push_line};

@@ -98,7 +98,7 @@ fn side_words(side: Side) -> &'static str
     }
 }
 
-/// Past which end a position is, by the position that it is taken as.
+/// Returns the words for the end that a position is past, by the position that it is taken as.
 fn past_words(sent: Position, taken: Position) -> &'static str
     ensures { result.now ≡ past_words sent taken }
 {

@@ -7,8 +7,8 @@ ghost use Rattle.lsp_log.specs.Log.{Record};
 ghost use Rattle.lsp_replay.specs.RunOutput.{RunOutput};
 ghost use Rattle.lsp_replay.specs.Session.{opened, outcome_of};
 ghost use Rattle.lsp_replay.specs.Commands.{report_from};
-ghost use Rattle.lsp_replay.specs.Parts.{is_last, last_text, part_bytes, part_of, part_outcome, replayed_in};
-ghost use Rattle.lsp_replay.specs.inside.Parts.{last_of};
+ghost use Rattle.lsp_replay.specs.Parts.{is_last, last_text, part_bytes, part_of, part_outcome};
+ghost use Rattle.lsp_replay.specs.inside.Parts.{last_of, replayed_in};
 
 use crate::commands::Part;
 use crate::handler::replaying::push_document_line;
@@ -44,7 +44,7 @@ impl ReplayPart {
         }
     }
 
-    /// Was the last record the part's last one?
+    /// Returns whether the last record was the part's last one.
     fn is_last(&self) -> bool
         ensures { result ≡ is_last self.now.part.at self.now.session.records }
     {

@@ -142,7 +142,7 @@ fn push_version(buffer: &mut Vec<u8>, change: Option<&ChangeParams>) -> Result<(
     }
 }
 
-/// The range of one of the changes that were sent, by its index.
+/// Returns the range of one of the changes that were sent, by its index.
 fn range_sent(change: Option<&ChangeParams>, index: usize) -> Option<Range>
     ensures { result ≡ range_sent (option_map (λ p. change_view p.now) change.entry) index }
 {

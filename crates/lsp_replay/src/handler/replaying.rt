@@ -2,7 +2,8 @@
 
 ghost use Rattle.std.specs.Prelude.{◌≡◌, ◌++◌, ◌-◌, refl, OnOk, length, false};
 ghost use Rattle.lsp_replay.specs.Session.{opened};
-ghost use Rattle.lsp_replay.specs.Commands.{replaying, replaying_from, run_output_in, document_line};
+ghost use Rattle.lsp_replay.specs.Commands.{replaying, replaying_from, document_line};
+ghost use Rattle.lsp_replay.specs.inside.Commands.{run_output_in};
 
 use crate::handler::{Given, Handler, Output};
 use crate::outcome::Outcome;

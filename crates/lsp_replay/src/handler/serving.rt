@@ -3,7 +3,8 @@
 ghost use Rattle.std.specs.Prelude.{◌≡◌, [], Ok, option_map, refl, true};
 ghost use Rattle.lsp_replay.specs.Session.{opened, outcome_of};
 ghost use Rattle.lsp_replay.specs.Session as spec;
-ghost use Rattle.lsp_replay.specs.Commands.{serving, serve_output, run_output_in};
+ghost use Rattle.lsp_replay.specs.Commands.{serving, serve_output};
+ghost use Rattle.lsp_replay.specs.inside.Commands.{run_output_in};
 ghost use Rattle.lsp_replay.specs.inside.Verdicts.{verdict_view};
 
 use crate::handler::{Given, Handler, Output};
@@ -38,14 +39,15 @@ impl Serve {
         }
     }
 
-    /// The outcome of an input that ends without `exit`.
+    /// Returns the outcome of an input that ends without `exit`.
     fn without_exit(&self) -> Outcome
-        ensures { result ≡ serving.outcome self.now.session }
+        ensures { result ≡ record (outcome_of self.now.session) { status = 1 } }
     {
         self.outcome(1)
     }
 
-    /// The outcome with which a record ends the run, if it does: `exit` does, with its status.
+    /// Returns the outcome with which a record ends the run, if it does: `exit` does, with its
+    /// status.
     fn end(&self, verdict: &Verdict) -> Option<Outcome>
         ensures { (serve_output self.now.session (verdict_view verdict.now)).end
             ≡ option_map Ok result }

@@ -4,10 +4,9 @@
 ghost use Rattle.std.specs.Prelude.{◌≡◌, ◌++◌, ◌⊎◌, ℕ, List, [], refl, IfOk, IfErr, OnOk, None, Some, false};
 ghost use Rattle.lsp_replay.specs.Session.{opened, outcome_of};
 ghost use Rattle.lsp_replay.specs.Commands.{front_of};
-ghost use Rattle.lsp_replay.specs.Squashed.{squashed_in, end_bytes, faulty};
 ghost use Rattle.lsp_replay.specs.inside.Reads.{IsReadOf, IsSelection};
 ghost use Rattle.lsp_replay.specs.inside.RunOutput.{IsRecordFault};
-ghost use Rattle.lsp_replay.specs.inside.Squashed.{IsSquashStep, run_of, step_at};
+ghost use Rattle.lsp_replay.specs.inside.Squashed.{IsSquashStep, end_bytes, faulty, run_of, squashed_in, step_at};
 
 use crate::handler::front::{push_front, push_line};
 use crate::handler::{Given, Handler, Output};
@@ -23,13 +22,13 @@ use lsp_stream::EngineFault;
 use std::alloc::{AllocError, Global};
 use std::marker::Model;
 
-/// The output of a record that doesn't end the run of the command.
+/// The output of a record that doesn't end the run.
 const WRITTEN: Given = Given {
     output: Output::Bytes,
     end: None,
 };
 
-/// The bytes of a run, beside the canonical message of its batches.
+/// The bytes of a series of changes, beside the canonical message of its batches.
 #[derive(Drop)]
 struct Texts {
     // The bytes before its first record's frame.
@@ -39,7 +38,7 @@ struct Texts {
 }
 
 impl Texts {
-    /// Starts with the record that begins a run, and its canonical frame.
+    /// Starts with the record that begins a series, and its canonical frame.
     fn begin(&mut self, head: Head, frame: &[u8]) -> Result<(), AllocError>
         ensures front { OnOk result (self.new.front.items ≡ front_of head) }
         ensures singles { OnOk result (self.new.singles.items ≡ front_of head ++ frame.now) }
@@ -60,8 +59,8 @@ impl Texts {
         self.singles.extend_from_slice(frame)
     }
 
-    /// Writes a run that has ended, as the one canonical message of its batches. If that has too
-    /// many changes or is too long, the run is written as without squash.
+    /// Writes a series that has ended, as the one canonical message of its batches. If that has too
+    /// many changes or is too long, the series is written as without squash.
     fn push_run(&self, output: &mut Vec<u8>, batches: &Batches) -> Result<(), AllocError>
         ensures { OnOk result (output.new.items ≡ output.old.items
             ++ end_bytes (run_of self.now.front.items self.now.singles.items (Some batches.now))) }
@@ -75,7 +74,7 @@ impl Texts {
         }
     }
 
-    /// Writes the run that has ended, if there is one.
+    /// Writes the series that has ended, if there is one.
     fn push_end(&self, output: &mut Vec<u8>, ended: &Option<Batches>) -> Result<(), AllocError>
         ensures { OnOk result (output.new.items ≡ output.old.items
             ++ end_bytes (run_of self.now.front.items self.now.singles.items ended.now)) }
@@ -87,18 +86,18 @@ impl Texts {
     }
 }
 
-/// Writes each record as it is, and each run of accepted changes of one document as one message,
-/// once the run has ended.
+/// Writes each record as it is, and each series of accepted changes of one document as one message,
+/// once the series has ended.
 #[derive(Drop)]
 pub struct Squashing {
     session: Session,
     texts: Texts,
-    // The batches of the open run, if there is one. They lead to the document that is open now.
+    // The batches of the open series, if there is one. They lead to the document that is open now.
     batches: Option<Batches>,
 }
 
 impl Model for Squashing {
-    ghost use Rattle.lsp_replay.specs.Squashed as spec;
+    ghost use Rattle.lsp_replay.specs.inside.Squashed as spec;
     ghost use Rattle.lsp_replay.specs.inside.Squashed.{run_of};
     ghost use Rattle.lsp_replay.specs.inside.Joining.{MayBeOpenIn};
 
@@ -127,7 +126,7 @@ impl Squashing {
         }
     }
 
-    /// Writes the open run, if there is one.
+    /// Writes the open series, if there is one.
     pub(super) fn push_open(&self, output: &mut Vec<u8>) -> Result<(), AllocError>
         ensures { OnOk result (output.new.items ≡ output.old.items ++ end_bytes self.now.run) }
     {
@@ -148,9 +147,9 @@ impl Squashing {
         selection.select(&mut self.session, head, body)
     }
 
-    /// Writes the record that was read: a change joins the open run or begins one, any other record
-    /// is written as it is, after the run that it ends. A bad record, and a canonical body over the
-    /// limit, end the run of the command.
+    /// Writes the record that was read: a change joins the open series or begins one, any other
+    /// record is written as it is, after the series that it ends. A bad record, and a canonical
+    /// body over the limit, end the run.
     pub(super) fn write_read(
         &mut self,
         head: Head,
@@ -192,7 +191,7 @@ impl Squashing {
         }
     }
 
-    /// The outcome at the end of the input.
+    /// Returns the outcome at the end of the input.
     pub(super) fn outcome(&self) -> Outcome
         ensures { result ≡ outcome_of self.now.session }
     {

@@ -7,7 +7,8 @@ ghost use Rattle.lsp_server.specs.Incoming.{incoming_of};
 ghost use Rattle.lsp_server.specs.Seen.{incoming_view};
 ghost use Rattle.lsp_replay.specs.Session.{opened};
 ghost use Rattle.lsp_replay.specs.Commands.{change_in};
-ghost use Rattle.lsp_replay.specs.Lines.{lines_in, nothing_known};
+ghost use Rattle.lsp_replay.specs.Lines.{nothing_known};
+ghost use Rattle.lsp_replay.specs.inside.Lines.{lines_in};
 ghost use Rattle.lsp_replay.specs.Trace.{document_after, is_changed, member, notes_json, reason_json, tracing};
 ghost use Rattle.lsp_replay.specs.inside.Tracing.{members_by};
 ghost use Rattle.lsp_replay.specs.inside.Verdicts.{verdict_view};
@@ -113,7 +114,7 @@ impl Trace {
         buffer.extend_from_slice(b"\"")
     }
 
-    /// Has the last record's line the document's text, if the document is open?
+    /// Returns whether the last record's line has the document's text, if the document is open.
     fn has_text(&self, verdict: &Verdict) -> bool
         ensures { result
             ≡ (self.now.details.texts && is_changed (verdict_view verdict.now)) }
@@ -121,14 +122,14 @@ impl Trace {
         self.details.texts && is_changed(verdict)
     }
 
-    /// Has the last record's line its body?
+    /// Returns whether the last record's line has its body.
     fn has_body(&self, is_json: bool) -> bool
         ensures { result ≡ (self.now.details.bodies && is_json) }
     {
         self.details.bodies && is_json
     }
 
-    /// The document with this URI, if it is open.
+    /// Returns the document with this URI, if it is open.
     fn document_after(&self, uri: &Option<String>) -> Option<Document<'_>>
         ensures { result
             ≡ document_after self.now.session.server.table (option_map string_bytes uri.now) }
@@ -177,14 +178,14 @@ impl Handler for Trace {
     }
 }
 
-/// Did a record change the documents?
+/// Returns whether a record changed the documents.
 fn is_changed(verdict: &Verdict) -> bool
     ensures { result ≡ is_changed (verdict_view verdict.now) }
 {
     matches!(verdict, Verdict::Answered(Answer::Changed))
 }
 
-/// The parameters of a `didChange`, if they are valid.
+/// Returns the parameters of a `didChange`, if they are valid.
 pub fn change_in(incoming: &Incoming) -> Option<&ChangeParams>
     ensures { option_map (λ p. change_view p.now) result ≡ change_in (incoming_view incoming.now) }
 {

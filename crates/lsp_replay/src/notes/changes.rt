@@ -23,12 +23,12 @@ pub struct Terms<'a> {
     pub encoding: Encoding,
     /// The `rangeLength` of each change.
     pub lengths: &'a [Option<u64>],
-    /// Did the server ask for ranges?
+    /// Whether the server asked for ranges.
     pub ranged: bool,
 }
 
 impl Terms<'_> {
-    /// The `rangeLength` of a change, by its index.
+    /// Returns the `rangeLength` of a change, by its index.
     fn length(&self, index: usize) -> Option<u64>
         ensures { result ≡ length_at (terms_view self.now).lengths index }
     {
@@ -213,7 +213,7 @@ fn push_end_note(
     Ok(())
 }
 
-/// Are two positions equal?
+/// Returns whether two positions are equal.
 fn is_same(position: Position, other: Position) -> bool
     ensures { result ≡ is_same position other }
 {
@@ -292,7 +292,7 @@ fn push_same_note(
     Ok(())
 }
 
-/// Are two texts equal?
+/// Returns whether two texts are equal.
 #[tactic(auto, using(crate::proofs::Reports::NoteLemmas::same_chars))]
 fn is_same_text(text: &str, other: &str) -> bool
     ensures { result ≡ bytes_eq (chars text.now) (chars other.now) }

@@ -8,14 +8,14 @@ ghost use Rattle.lsp_replay.specs.Session.{is_refused, is_refusing};
 use lsp_message::ErrorCode;
 use lsp_server::Answer;
 
-/// One more, up to the greatest value.
+/// Returns one more, up to the greatest value.
 pub fn one_more(count: u64) -> u64
     ensures { result ≡ one_more count }
 {
     count.saturating_add(1)
 }
 
-/// Does an answer count as refused?
+/// Returns whether an answer counts as refused.
 pub fn is_refused(answer: &Answer) -> bool
     ensures { result ≡ is_refused (answer_view answer.now) }
 {
@@ -27,7 +27,7 @@ pub fn is_refused(answer: &Answer) -> bool
     }
 }
 
-/// Does an error reply count as refused?
+/// Returns whether an error reply counts as refused.
 fn is_refusing(code: Option<ErrorCode>) -> bool
     ensures { result ≡ is_refusing code }
 {

@@ -1,4 +1,4 @@
-//! How records are joined to the open run of accepted changes.
+//! How records are joined to the open series of accepted changes.
 
 ghost use Rattle.std.specs.Prelude.{ℕ, ◌≡◌, List, IfOk, None};
 ghost use Rattle.lsp_log.specs.declared.record.Head.{Head};
@@ -21,22 +21,22 @@ use std::alloc::AllocError;
 /// How a record is written with squash, and which batches are open after it.
 #[derive(Drop)]
 pub enum Writing {
-    /// As it is. The open run ends, if there is one.
+    /// As it is. The open series ends, if there is one.
     AsItIs(Option<Batches>),
     /// It is an accepted change whose canonical body is over the limit.
     TooLong,
-    /// It is an accepted change of the open run's document: its canonical frame, and the batches
+    /// It is an accepted change of the open series' document: its canonical frame, and the batches
     /// with it.
     Continues(Vec<u8>, Batches),
-    /// It is an accepted change of another document: its canonical frame, the run that it ends, and
-    /// the batches that it begins.
+    /// It is an accepted change of another document: its canonical frame, the series that it ends,
+    /// and the batches that it begins.
     Begins(Vec<u8>, Option<Batches>, Batches),
 }
 
 impl Session {
     /// Judges the record that was read as [`Session::judge`] does, and joins an accepted change to
-    /// the batches of the open run if they are of its document. Else batches of its own begin. It
-    /// consumes the open batches.
+    /// the batches of the open series if they are of its document. Else batches of its own begin.
+    /// It consumes the open batches.
     pub fn judge_and_join(
         &mut self,
         read: RecordBody<'_>,
@@ -77,7 +77,7 @@ impl Session {
         }
     }
 
-    /// Joins an accepted change to the batches of the open run if they are of its document. Else
+    /// Joins an accepted change to the batches of the open series if they are of its document. Else
     /// batches of its own begin.
     fn join(
         &self,

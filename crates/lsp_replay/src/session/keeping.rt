@@ -2,9 +2,10 @@
 
 ghost use Rattle.std.specs.Prelude.{◌≡◌, ◌≢◌, ◌⊎◌, IfErr, IfOk, OnOk, option_map, string_bytes};
 ghost use Rattle.lsp_replay.specs.Parts.{last_text_in};
-ghost use Rattle.lsp_replay.specs.Session.{bad, judge_at};
+ghost use Rattle.lsp_replay.specs.Session.{bad};
 ghost use Rattle.lsp_replay.specs.inside.Bodies.{body_view};
 ghost use Rattle.lsp_replay.specs.inside.Kept.{closed_by, kept_after};
+ghost use Rattle.lsp_replay.specs.inside.Session.{judge_at};
 ghost use Rattle.lsp_replay.specs.inside.Verdicts.{verdict_view};
 
 use crate::session::{RecordBody, Session, Verdict, in_log};

@@ -21,7 +21,7 @@ use std::marker::Model;
 pub struct About {
     /// The URI of its document.
     pub uri: Option<String>,
-    /// Is it a `didChange`?
+    /// Whether it is a `didChange`.
     pub is_change: bool,
     /// What is suspicious of it, if it is accepted.
     pub notes: Vec<Note>,
@@ -44,11 +44,11 @@ pub struct Noted {
 #[derive(Drop)]
 pub struct Known {
     mentions: Mentions,
-    // Did the server ask for ranges?
+    // Whether the server asked for ranges.
     ranged: bool,
-    // Has a record notes?
+    // Whether a record has notes.
     suspicious: bool,
-    // Is one refused with S1 or S5, which lenient limits never do?
+    // Whether one is refused with S1 or S5, which lenient limits never do.
     strict: bool,
 }
 
@@ -78,28 +78,29 @@ impl Known {
         }
     }
 
-    /// Did the server ask for ranges?
+    /// Returns whether the server asked for ranges.
     pub fn is_ranged(&self) -> bool
         ensures { result ≡ self.now.ranged }
     {
         self.ranged
     }
 
-    /// Has a record notes?
+    /// Returns whether a record has notes.
     pub fn is_suspicious(&self) -> bool
         ensures { result ≡ self.now.suspicious }
     {
         self.suspicious
     }
 
-    /// Is a record refused with S1 or S5?
+    /// Returns whether a record is refused with S1 or S5.
     pub fn is_strict(&self) -> bool
         ensures { result ≡ self.now.strict }
     {
         self.strict
     }
 
-    /// Learns of a record with this number that was judged. `ranged`: are ranges asked for after it?
+    /// Learns of a record with this number that was judged. `ranged` says whether ranges are asked
+    /// for after it.
     pub fn learn(
         &mut self,
         ranged: bool,
@@ -131,7 +132,8 @@ impl Known {
     }
 }
 
-/// The record that opened, closed or refused a document last, if the documents refused one about it.
+/// Returns the record that opened, closed or refused a document last, if the documents refused one
+/// about it.
 fn last_for(mentions: &Mentions, uri: &Option<String>, verdict: &Verdict) -> Option<u64>
     ensures { result ≡ last_for mentions.now.newest.items (option_map string_bytes uri.now)
         (verdict_view verdict.now) }
@@ -145,7 +147,7 @@ fn last_for(mentions: &Mentions, uri: &Option<String>, verdict: &Verdict) -> Opt
     mentions.last(uri.as_str())
 }
 
-/// Does an answer open, close or refuse a document?
+/// Returns whether an answer opens, closes or refuses a document.
 fn is_mention(is_change: bool, verdict: &Verdict) -> bool
     ensures { result ≡ is_mention is_change (verdict_view verdict.now) }
 {
@@ -156,14 +158,14 @@ fn is_mention(is_change: bool, verdict: &Verdict) -> bool
     }
 }
 
-/// Is there a note?
+/// Returns whether there is a note.
 fn has_notes(notes: &[Note]) -> bool
     ensures { result ≡ has_notes notes.now }
 {
     !notes.is_empty()
 }
 
-/// Is a record refused with S1 or S5?
+/// Returns whether a record is refused with S1 or S5.
 fn is_strict(verdict: &Verdict) -> bool
     ensures { result ≡ is_strict (verdict_view verdict.now) }
 {

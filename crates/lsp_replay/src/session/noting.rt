@@ -7,9 +7,10 @@ ghost use Rattle.lsp_server.specs.Seen.{incoming_view};
 ghost use Rattle.lsp_store.specs.Table.{entry_at};
 ghost use Rattle.lsp_replay.specs.Lines.{known_after};
 ghost use Rattle.lsp_replay.specs.Notes.{changing_notes, notes_if, notes_on, opening_notes, terms_in, version_notes};
-ghost use Rattle.lsp_replay.specs.Session.{bad, judge_at};
+ghost use Rattle.lsp_replay.specs.Session.{bad};
 ghost use Rattle.lsp_replay.specs.inside.Bodies.{body_view};
 ghost use Rattle.lsp_replay.specs.inside.Known.{IsAbout, IsNoted};
+ghost use Rattle.lsp_replay.specs.inside.Session.{judge_at};
 ghost use Rattle.lsp_replay.specs.inside.Verdicts.{verdict_view};
 
 use crate::notes::Note;

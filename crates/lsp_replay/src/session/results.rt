@@ -3,11 +3,11 @@
 
 ghost use Rattle.std.specs.Prelude.{◌≡◌, ◌≢◌, Err, IfErr, IfOk, None, Ok, OnErr, OnOk, Some, option_map};
 ghost use Rattle.serde_json.specs.View.{view};
-ghost use Rattle.lsp_message.specs.Agreement.{announced_of};
 ghost use Rattle.lsp_message.specs.Message.{reading};
+ghost use Rattle.lsp_message.specs.Message as spec;
 ghost use Rattle.lsp_message.specs.Seen.{id_view, message_view};
 ghost use Rattle.lsp_replay.specs.Notes.{ranged_after, ranged_by};
-ghost use Rattle.lsp_replay.specs.Session.{hear_for, settle_by, result_for, result_in, same_id};
+ghost use Rattle.lsp_replay.specs.Session.{encoding_for, encoding_in, judge_server, result_for, same_id};
 ghost use Rattle.lsp_replay.specs.inside.Verdicts.{verdict_view};
 
 use crate::session::{Session, Verdict};
@@ -20,9 +20,11 @@ impl Session {
     /// Judges a server's record. Only the result of `initialize` is read.
     pub(super) fn hear(&mut self, body: &[u8]) -> Result<Verdict, AllocError>
         ensures verdict { IfOk result
-            (λ v. verdict_view v ≡ (hear_for self.old self.old.expected body.now).verdict) }
+            (λ v. verdict_view v ≡ (judge_server self.old
+            (encoding_for self.old.expected (reading body.now))).verdict) }
         ensures session { OnOk result
-            (self.new ≡ (hear_for self.old self.old.expected body.now).session) }
+            (self.new ≡ (judge_server self.old
+            (encoding_for self.old.expected (reading body.now))).session) }
     {
         let result = match &self.expected {
             None => None,
@@ -37,8 +39,9 @@ impl Session {
     /// Continues in the encoding that a result of `initialize` announces.
     fn settle(&mut self, value: Value) -> Verdict
         ensures verdict { verdict_view result
-            ≡ (settle_by self.old (announced_of (view value))).verdict }
-        ensures session { self.new ≡ (settle_by self.old (announced_of (view value))).session }
+            ≡ (judge_server self.old (Some (encoding_in (view value)))).verdict }
+        ensures session { self.new
+            ≡ (judge_server self.old (Some (encoding_in (view value)))).session }
     {
         let Ok(announced) = result_initialize(self.alloc, value) else {
             return Verdict::Bad;
@@ -51,8 +54,8 @@ impl Session {
         Verdict::Recorded
     }
 
-    /// Returns whether ranges are asked for after a record. `ranged`: were they before? Only the
-    /// result of `initialize` is read.
+    /// Returns whether ranges are asked for after a record. `ranged` says whether they were before.
+    /// Only the result of `initialize` is read.
     pub fn ranged_after(&self, ranged: bool, head: Head, body: &[u8]) -> Result<bool, AllocError>
         ensures { IfOk result
             (λ after. after ≡ ranged_after ranged self.now head.side body.now) }
@@ -90,7 +93,7 @@ pub(super) fn copied(id: &Id) -> Result<Id, AllocError>
     }
 }
 
-/// Are two ids equal?
+/// Returns whether two ids are equal.
 pub(super) fn same_id(id: &Id, other: &Id) -> bool
     ensures { result ≡ same_id (id_view id.now) (id_view other.now) }
 {
@@ -129,7 +132,8 @@ pub fn message_of(outcome: Result<Message, ReadFault>) -> Result<Option<Message>
 
 /// Returns the result in a successful response to the request with this id.
 fn result_in(id: &Id, message: Message) -> Option<Value>
-    ensures { option_map view result ≡ result_in (id_view id.now) (message_view message) }
+    ensures { option_map view result
+        ≡ result_for (id_view id.now) (spec.message (message_view message)) }
 {
     let Message::Response { id: other, outcome } = message else {
         return None;

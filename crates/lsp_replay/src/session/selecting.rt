@@ -30,7 +30,7 @@ pub struct Selected<'a> {
 pub struct Selection {
     // The id of the last request that stayed, until a response to it has come.
     waiting: Option<Id>,
-    // Is the line of version 2 still to be written?
+    // Whether the line of version 2 is still to be written.
     due: bool,
 }
 
@@ -55,14 +55,14 @@ impl Selection {
         }
     }
 
-    /// Is the line of version 2 still to be written?
+    /// Returns whether the line of version 2 is still to be written.
     pub fn is_due(&self) -> bool
         ensures { result ≡ self.now.due }
     {
         self.due
     }
 
-    /// Is the line of version 2 to be written before a record, if that stays?
+    /// Returns whether the line of version 2 is to be written before a record, if that stays.
     fn is_due_before(&self, head: Head) -> bool
         ensures { result ≡ is_due self.now head }
     {
@@ -91,7 +91,8 @@ impl Selection {
         Ok(Some(Selected { head, read }))
     }
 
-    /// Does the record that was read stay? If it does, remembers whose answer is waited for.
+    /// Returns whether the record that was read stays. If it does, remembers whose answer is waited
+    /// for.
     fn stays(&mut self, session: &Session, read: &RecordBody<'_>) -> Result<bool, AllocError>
         ensures stays { IfOk result (λ stays.
             stays ≡ stays_read session.now self.old.waiting (body_view read.now)) }
@@ -108,7 +109,7 @@ impl Selection {
         }
     }
 
-    /// The same of a client's message in a phase.
+    /// Returns the same of a client's message in a phase.
     fn message_stays(&mut self, phase: Phase, incoming: &Incoming) -> Result<bool, AllocError>
         ensures stays { IfOk result (λ stays.
             stays ≡ message_stays phase (incoming_view incoming.now)) }
@@ -128,7 +129,7 @@ impl Selection {
         Ok(true)
     }
 
-    /// The same of a server's record.
+    /// Returns the same of a server's record.
     fn answer_stays(&mut self, session: &Session, body: &[u8]) -> Result<bool, AllocError>
         ensures stays { IfOk result (λ stays.
             stays ≡ stays_read session.now self.old.waiting (from_server body.now)) }
@@ -152,7 +153,7 @@ impl Selection {
     }
 }
 
-/// Does a client's message stay in a phase?
+/// Returns whether a client's message stays in a phase.
 fn message_stays(phase: Phase, incoming: &Incoming) -> bool
     ensures { result ≡ message_stays phase (incoming_view incoming.now) }
 {
@@ -166,14 +167,15 @@ fn message_stays(phase: Phase, incoming: &Incoming) -> bool
     }
 }
 
-/// Does a notification with this method stay, beside `exit` and those of open documents?
+/// Returns whether a notification with this method stays, beside `exit` and those of open
+/// documents.
 fn is_kept_method(method: &str) -> bool
     ensures { result ≡ is_kept_method method.now }
 {
     method == "initialized" || method == "shutdown" || method == "textDocument/didSave"
 }
 
-/// The id of a request.
+/// Returns the id of a request.
 fn asked_id(incoming: &Incoming) -> Option<&Id>
     ensures { MatchOption result (asked_id (incoming_view incoming.now) ≡ None)
         (λ id. asked_id (incoming_view incoming.now) ≡ Some (id_view id.now)) }
@@ -186,7 +188,7 @@ fn asked_id(incoming: &Incoming) -> Option<&Id>
     }
 }
 
-/// The id in a body that is a response.
+/// Returns the id in a body that is a response.
 fn answered_id(alloc: Global, body: &[u8]) -> Result<Option<Id>, AllocError>
     ensures { IfOk result (λ id. (waiting : Option IdData) →
         is_answer_to waiting (reading body.now) ≡ is_waited waiting (option_map id_view id)) }
@@ -197,7 +199,7 @@ fn answered_id(alloc: Global, body: &[u8]) -> Result<Option<Id>, AllocError>
     }
 }
 
-/// The id of a response.
+/// Returns the id of a response.
 fn response_id(answer: Message) -> Option<Id>
     ensures { (waiting : Option IdData) →
         is_answer_to waiting (message (message_view answer)) ≡ is_waited waiting
@@ -209,7 +211,7 @@ fn response_id(answer: Message) -> Option<Id>
     }
 }
 
-/// Is an id the one that is waited for?
+/// Returns whether an id is the one that is waited for.
 fn is_waited(waiting: &Option<Id>, answered: &Option<Id>) -> bool
     ensures { result
         ≡ is_waited (option_map id_view waiting.now) (option_map id_view answered.now) }

@@ -7,10 +7,11 @@ ghost use Rattle.lsp_message.specs.Seen.{id_view};
 ghost use Rattle.lsp_server.specs.Incoming.{incoming_of};
 ghost use Rattle.lsp_server.specs.Seen.{incoming_view};
 ghost use Rattle.lsp_stream.specs.Ports as ports;
-ghost use Rattle.lsp_replay.specs.Session.{bad, is_change, judge_at};
+ghost use Rattle.lsp_replay.specs.Session.{bad, is_change};
 ghost use Rattle.lsp_replay.specs.Lines.{known_after, uri_of};
 ghost use Rattle.lsp_replay.specs.Trace.{first_members, id_json, id_of, is_json, member, method_of, side_word};
 ghost use Rattle.lsp_replay.specs.inside.Bodies.{body_read, body_view};
+ghost use Rattle.lsp_replay.specs.inside.Session.{judge_at};
 ghost use Rattle.lsp_replay.specs.inside.Tracing.{IsTraced};
 ghost use Rattle.lsp_replay.specs.inside.Verdicts.{verdict_view};
 
@@ -31,7 +32,7 @@ pub struct Traced {
     pub noted: Noted,
     /// What was appended of the canonical message of an accepted change.
     pub canonical: Option<Appended>,
-    /// Is its body JSON?
+    /// Whether its body is JSON.
     pub is_json: bool,
 }
 
@@ -108,7 +109,7 @@ impl Session {
     }
 }
 
-/// The body of a record, by what it asks.
+/// Returns the body of a record, by what it asks.
 fn record_body<'a>(head: Head, body: &'a [u8], incoming: Incoming) -> RecordBody<'a>
     ensures { incoming_view incoming ≡ incoming_of (reading body.entry.now) →
         body_view result ≡ body_read head.version head.side body.entry.now }
@@ -171,21 +172,21 @@ fn side_word(side: Side) -> &'static str
     }
 }
 
-/// Is a body JSON?
+/// Returns whether a body is JSON.
 fn is_json(incoming: &Incoming) -> bool
     ensures { result ≡ is_json (incoming_view incoming.now) }
 {
     !matches!(incoming, Incoming::NotJson)
 }
 
-/// Does a body ask for a change?
+/// Returns whether a body asks for a change.
 pub fn is_change(incoming: &Incoming) -> bool
     ensures { result ≡ is_change (incoming_view incoming.now) }
 {
     matches!(incoming, Incoming::DidChange(_))
 }
 
-/// The method of a request or a notification.
+/// Returns the method of a request or a notification.
 fn method_of(incoming: &Incoming) -> Option<&str>
     ensures { option_map (λ method. method.now) result ≡ method_of (incoming_view incoming.now) }
 {
@@ -202,7 +203,7 @@ fn method_of(incoming: &Incoming) -> Option<&str>
     }
 }
 
-/// The id of a request or a response, or the one that a body which is no message names.
+/// Returns the id of a request or a response, or the one that a body which is no message names.
 fn id_of(incoming: &Incoming) -> Option<&Id>
     ensures { option_map (λ id. id_view id.now) result ≡ id_of (incoming_view incoming.now) }
 {
@@ -216,7 +217,7 @@ fn id_of(incoming: &Incoming) -> Option<&Id>
     }
 }
 
-/// The URI in valid parameters of an editor's message about a document.
+/// Returns the URI in valid parameters of an editor's message about a document.
 pub fn uri_of(side: Side, incoming: &Incoming) -> Option<&str>
     ensures { option_map (λ uri. uri.now) result ≡ uri_of side (incoming_view incoming.now) }
 {

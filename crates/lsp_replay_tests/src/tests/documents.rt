@@ -55,7 +55,7 @@ static CHANGES: [(i32, &str, Option<usize>); 6] = [
     (2, r#"{"text":1}"#, None),
 ];
 
-/// A log that ends with the change. Another raw frame is kept where the body is.
+/// Returns a log that ends with the change. Another raw frame is kept where the body is.
 fn changed_log(alloc: Global, body: &str) -> Result<Vec<u8>, AllocError> {
     let mut input = log(alloc, &[INITIALIZE, OPEN])?;
     let header = format!(in alloc; "content-length:{}\r\n\r\n", body.len())?;
@@ -64,8 +64,8 @@ fn changed_log(alloc: Global, body: &str) -> Result<Vec<u8>, AllocError> {
     Ok(input)
 }
 
-/// Is this the output of `normalise` for the input: the first 340 bytes, and a frame of the
-/// canonical body?
+/// Returns whether this is the output of `normalise` for the input: the first 340 bytes, and a
+/// frame of the canonical body.
 fn is_canonical(run: &Report, input: &[u8], length: Option<usize>) -> bool {
     match length {
         Some(length) => {
@@ -77,7 +77,7 @@ fn is_canonical(run: &Report, input: &[u8], length: Option<usize>) -> bool {
     }
 }
 
-/// Does `normalise` write the same again, with the same result?
+/// Returns whether `normalise` writes the same again, with the same result.
 fn is_written_again(alloc: Global, run: &Report) -> Result<bool, Fail> {
     let again = run_with(alloc, Command::Normalise, &run.output, settings()?, SMOOTH)?;
     Ok(again.output == run.output && again.answer == run.answer)
@@ -101,8 +101,8 @@ fn accepted_changes_alone_are_written_anew(rt: HostRuntime) -> Result<(), Fail> 
     Ok(())
 }
 
-/// A change of the whole text to so many letters. Its canonical body has 214 bytes more than the
-/// letters.
+/// Returns a change of the whole text to so many letters. Its canonical body has 214 bytes more
+/// than the letters.
 pub(super) fn letters(alloc: Global, count: usize, version: i32) -> Result<String, AllocError> {
     let mut whole = String::from_str(alloc, r#"{"text":""#)?;
     for _ in 0..count {

@@ -19,7 +19,7 @@ pub struct Case {
 }
 
 impl Case {
-    /// How many bytes are written once so many were read.
+    /// Returns how many bytes are written once so many were read.
     fn written_at(&self, read: usize) -> usize {
         let mut written = 0;
         for (bytes, output) in self.records {
@@ -30,7 +30,7 @@ impl Case {
         written
     }
 
-    /// How many bytes are written after so many writes.
+    /// Returns how many bytes are written after so many writes.
     fn written_by(&self, writes: usize, all: usize) -> usize {
         match writes.checked_sub(1) {
             None => 0,
@@ -109,24 +109,25 @@ impl<'a> Runs<'a> {
         Ok(wanted.is_met(&run, &self.output))
     }
 
-    /// The run to its end.
+    /// Returns what is wanted of the run to its end.
     fn whole(&self) -> Wanted {
         expected(self.case.end.answer(), self.output.len())
     }
 
-    /// How many reads of one byte it makes: one for each byte, and one that comes to the end.
-    /// `serve` has no such read, since it ends at the exit.
+    /// Returns how many reads of one byte it makes: one for each byte, and one that comes to the
+    /// end. `serve` has no such read, since it ends at the exit.
     fn reads(&self) -> usize {
         let more = usize::from(self.case.command != Command::Serve);
         self.input.len().saturating_add(more)
     }
 
-    /// How many calls of the writer it makes that write one byte or flush.
+    /// Returns how many calls of the writer it makes that write one byte or flush.
     fn writes(&self) -> usize {
         self.output.len().saturating_add(self.case.flushes.len())
     }
 
-    /// Is the run as wanted if the reader returns single bytes, and is interrupted before each?
+    /// Returns whether the run is as wanted if the reader returns single bytes, and is interrupted
+    /// before each.
     pub fn reads_slowly(&self) -> Result<bool, Fail> {
         let reads = self.reads() as u64;
         let single = Wanted {
@@ -148,7 +149,7 @@ impl<'a> Runs<'a> {
         self.meets(calls, double)
     }
 
-    /// Is the run as wanted if the read of this number fails?
+    /// Returns whether the run is as wanted if the read of this number fails.
     fn fails_at_read(&self, script: &[Call], number: usize) -> Result<bool, Fail> {
         let calls = Calls {
             reads: script,
@@ -173,7 +174,8 @@ impl<'a> Runs<'a> {
         Ok(true)
     }
 
-    /// Is the run as wanted if the writer takes single bytes, and is interrupted before each?
+    /// Returns whether the run is as wanted if the writer takes single bytes, and is interrupted
+    /// before each.
     pub fn writes_slowly(&self) -> Result<bool, Fail> {
         let twice = interrupted(self.alloc, self.writes())?;
         let calls = Calls {
@@ -187,7 +189,7 @@ impl<'a> Runs<'a> {
         self.meets(calls, double)
     }
 
-    /// How many of the writer's first calls flush.
+    /// Returns how many of the writer's first calls flush.
     fn flushed_before(&self, number: usize) -> usize {
         let mut flushed = 0usize;
         for flush in self.case.flushes {
@@ -198,7 +200,8 @@ impl<'a> Runs<'a> {
         flushed
     }
 
-    /// Is the run as wanted if the writer's call of this number fails, or takes nothing?
+    /// Returns whether the run is as wanted if the writer's call of this number fails, or takes
+    /// nothing.
     fn fails_at_write(&self, script: &[Call], number: usize) -> Result<bool, Fail> {
         let calls = Calls {
             writes: script,
@@ -227,7 +230,7 @@ impl<'a> Runs<'a> {
         Ok(true)
     }
 
-    /// Does a run with so many allowed calls make these?
+    /// Returns whether a run with so many allowed calls makes these.
     fn stops_after(&self, turns: usize, made: [usize; 3], answer: Answer) -> Result<bool, Fail> {
         let [reads, writes, flushes] = made;
         let calls = Calls {
@@ -259,7 +262,7 @@ impl<'a> Runs<'a> {
     }
 }
 
-/// The counts of reads, writes and flushes with one call more.
+/// Returns the counts of reads, writes and flushes with one call more.
 fn one_more(made: [usize; 3], call: u8) -> [usize; 3] {
     let [reads, writes, flushes] = made;
     match call {
@@ -269,7 +272,7 @@ fn one_more(made: [usize; 3], call: u8) -> [usize; 3] {
     }
 }
 
-/// A script in which each call is interrupted, and then moves one byte.
+/// Returns a script in which each call is interrupted, and then moves one byte.
 fn interrupted(alloc: Global, calls: usize) -> Result<Vec<Call>, AllocError> {
     let mut script = Vec::new(alloc);
     for _ in 0..calls {
@@ -286,7 +289,7 @@ fn set(script: &mut [Call], number: usize, ending: Call) {
     }
 }
 
-/// A script in which each call moves one byte.
+/// Returns a script in which each call moves one byte.
 fn script(alloc: Global, calls: usize) -> Result<Vec<Call>, AllocError> {
     let mut script = Vec::new(alloc);
     for _ in 0..calls {

@@ -234,7 +234,7 @@ fn output_is_written_and_flushed_before_the_next_read(rt: HostRuntime) -> Result
     Ok(())
 }
 
-/// Is this the result of the session, and are so many bytes of its replies written?
+/// Returns whether this is the result of the session, and so many bytes of its replies are written.
 fn serves(alloc: Global, calls: Calls, answer: Answer, written: usize) -> Result<bool, Fail> {
     for case in &SERVED {
         if !Runs::new(alloc, case)?.meets(calls, expected(answer, written))? {
@@ -261,8 +261,8 @@ fn a_reader_and_a_writer_that_stop(rt: HostRuntime) -> Result<(), Fail> {
     Ok(())
 }
 
-/// A request that is none, again and again: each is answered, and the answer flushed, before the
-/// next is read.
+/// Returns whether each of a series of requests that are none is answered, and the answer flushed,
+/// before the next is read.
 fn is_answered_at_once(alloc: Global) -> Result<bool, Fail> {
     let bodies = ["[]"; 20];
     let endless = log(alloc, &bodies)?;

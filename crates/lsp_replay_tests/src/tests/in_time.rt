@@ -30,7 +30,7 @@ static ROWS: [(&[u8], Calls<'static>, bool); 5] = [
     ),
 ];
 
-/// Do both ends report this after `serve_on`?
+/// Returns whether both ends report this after `serve_on`.
 fn leaves(alloc: Global, row: &(&[u8], Calls, bool)) -> Result<bool, Fail> {
     let (before, calls, read_early) = row;
     let input = log(alloc, SESSION)?;

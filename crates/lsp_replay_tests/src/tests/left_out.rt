@@ -184,7 +184,7 @@ static ROWS: [Row; 13] = [
     ),
 ];
 
-/// Is this written, also by single bytes, and the same again of what was written?
+/// Returns whether this is written, also by single bytes, and the same again of what was written.
 fn is_written(alloc: Global, row: &Row) -> Result<bool, Fail> {
     let Row(command, input, output, end) = row;
     let (input, output) = (input.get(alloc)?, output.get(alloc)?);
@@ -201,7 +201,7 @@ fn what_is_about_the_documents_stays(rt: HostRuntime) -> Result<(), Fail> {
     Ok(())
 }
 
-/// Does `replay` report the same documents and the same status of both?
+/// Returns whether `replay` reports the same documents and the same status of both.
 fn is_replayed(alloc: Global, row: &Row) -> Result<bool, Fail> {
     let Row(_, input, output, _) = row;
     let (input, output) = (input.get(alloc)?, output.get(alloc)?);
@@ -210,7 +210,7 @@ fn is_replayed(alloc: Global, row: &Row) -> Result<bool, Fail> {
     Ok(before.output == after.output && status_of(&before) == status_of(&after))
 }
 
-/// The status, if the run ended without a fault.
+/// Returns the status, if the run ended without a fault.
 fn status_of(report: &Report) -> Option<u8> {
     match report.answer {
         Ok(outcome) => Some(outcome.status),

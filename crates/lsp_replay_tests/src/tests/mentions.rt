@@ -10,7 +10,7 @@ fn open(alloc: Global, number: u32) -> Result<Vec<u8>, AllocError> {
     frame(alloc, body.as_bytes())
 }
 
-/// A log that opens 65 documents, and then one of them again.
+/// Returns a log that opens 65 documents, and then one of them again.
 fn many(alloc: Global, again: u32) -> Result<Vec<u8>, AllocError> {
     let mut bytes = log(alloc, &[INITIALIZE])?;
     for number in 0..65 {
@@ -20,7 +20,7 @@ fn many(alloc: Global, again: u32) -> Result<Vec<u8>, AllocError> {
     Ok(bytes)
 }
 
-/// Does the last line of such a log end so?
+/// Returns whether the last line of such a log ends so.
 fn ends_so(alloc: Global, again: u32, end: &str) -> Result<bool, Fail> {
     let run = run_with(
         alloc,

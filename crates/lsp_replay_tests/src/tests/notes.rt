@@ -81,7 +81,7 @@ fn joined(alloc: Global, notes: &[&str], between: &str) -> Result<String, AllocE
     Ok(words)
 }
 
-/// The end of what `check` with reasons writes of a third message with these notes.
+/// Returns the end of what `check` with reasons writes of a third message with these notes.
 fn explained(alloc: Global, notes: &[&str]) -> Result<String, AllocError> {
     if notes.is_empty() {
         return format!(in alloc; "\n3 changed\n{COMPARE}");
@@ -90,7 +90,7 @@ fn explained(alloc: Global, notes: &[&str]) -> Result<String, AllocError> {
     format!(in alloc; "\n3 changed of \"file:///a\": {words}\n{SEE}")
 }
 
-/// What `trace` writes of them between the word and the version.
+/// Returns what `trace` writes of them between the word and the version.
 fn traced(alloc: Global, notes: &[&str]) -> Result<String, AllocError> {
     if notes.is_empty() {
         return format!(in alloc; "\"word\":\"changed\",\"version\":2,\"canonical\"");
@@ -99,13 +99,13 @@ fn traced(alloc: Global, notes: &[&str]) -> Result<String, AllocError> {
     format!(in alloc; "\"word\":\"changed\",\"notes\":[\"{words}\"],\"version\":2,\"canonical\"")
 }
 
-/// Does the output of a command have these words?
+/// Returns whether the output of a command has these words.
 fn has_words(alloc: Global, command: Command, input: &[u8], words: &str) -> Result<bool, Fail> {
     let run = run_with(alloc, command, input, settings()?, SMOOTH)?;
     Ok(String::from_utf8(run.output)?.as_str().contains(words))
 }
 
-/// Has a change these notes?
+/// Returns whether a change has these notes.
 fn is_noted(alloc: Global, row: &(&str, &[&str])) -> Result<bool, Fail> {
     let (changes, notes) = row;
     let changed = change(alloc, 2, changes)?;
@@ -137,7 +137,7 @@ fn what_is_suspicious_is_noted(rt: HostRuntime) -> Result<(), Fail> {
 const RANGES_ASKED: &str =
     "1 reply\n2 server\n3 changed\n4 changed of \"file:///a\": change 1 is the whole text, and the server asked for ranges\n";
 
-/// Is a whole text noted in a log of version 2?
+/// Returns whether a whole text is noted in a log of version 2.
 fn is_asked(alloc: Global) -> Result<bool, Fail> {
     let input = marked(alloc, CONVERTED)?;
     let run = run_with(alloc, Command::Explain, &input, settings()?, SMOOTH)?;
@@ -154,7 +154,7 @@ fn whole_texts_are_noted_where_ranges_were_asked_for(rt: HostRuntime) -> Result<
 const LENIENT: &str =
     "1 reply\n2 changed\n3 changed of \"file:///a\": the document was open already\n4 changed\n5 changed of \"file:///a\": version 2 was sent, and the current one was 2; change 1 changes nothing\n";
 
-/// Is what lenient limits accept noted?
+/// Returns whether what lenient limits accept is noted.
 fn is_accepted(alloc: Global) -> Result<bool, Fail> {
     let settings = settings()?;
     let settings = Settings {

@@ -205,7 +205,7 @@ static WAYS: [Calls<'static>; 3] = [
     },
 ];
 
-/// Does each row hold in all ways?
+/// Returns whether each row holds in all ways.
 fn give_in_pieces(alloc: Global, rows: &[Row]) -> Result<bool, Fail> {
     for row in rows {
         for calls in &WAYS {
@@ -251,7 +251,7 @@ fn failing_script(alloc: Global, reads: usize) -> Result<Vec<Call>, AllocError> 
     Ok(script)
 }
 
-/// Has the run this result, and does it write so many bytes of its whole output?
+/// Returns whether the run has this result, and writes so many bytes of its whole output.
 fn writes_part(
     alloc: Global,
     command: Command,
@@ -264,7 +264,8 @@ fn writes_part(
     Ok(run.answer == answer && Some(run.output.as_slice()) == part)
 }
 
-/// If the read of this number fails, is the first record written once it is complete?
+/// Returns whether the first record is written once it is complete, if the read of this number
+/// fails.
 fn fails_at(alloc: Global, input: &[u8], first: usize, number: usize) -> Result<bool, Fail> {
     let script = failing_script(alloc, number)?;
     let calls = Calls {
@@ -346,7 +347,7 @@ fn a_short_write_goes_on_with_the_rest(rt: HostRuntime) -> Result<(), Fail> {
     Ok(())
 }
 
-/// Does a run make so many calls and no more?
+/// Returns whether a run makes so many calls and no more.
 fn makes_calls(alloc: Global, turns: u64, answer: Answer) -> Result<bool, Fail> {
     let calls = Calls { turns, ..SMOOTH };
     let run = run_with(alloc, Command::Serve, TWO_FRAMES, settings()?, calls)?;

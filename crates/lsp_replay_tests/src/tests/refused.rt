@@ -31,7 +31,7 @@ struct Wanted {
 }
 
 impl Wanted {
-    /// Is this the output of some first records?
+    /// Returns whether this is the output of some first records.
     fn begins_with(&self, output: &[u8]) -> bool {
         let mut rest = output;
         for part in self.parts {
@@ -46,15 +46,15 @@ impl Wanted {
             && self.lengths.last() == Some(&run.output.len())
     }
 
-    /// Was the run out of memory after some records? The writer takes memory too, and its write
-    /// fails if there is none.
+    /// Returns whether the run was out of memory after some records. The writer takes memory too,
+    /// and its write fails if there is none.
     fn ran_out(&self, run: &Report) -> bool {
         let fault = run.answer.err();
         (fault == Some(EngineFault::NoMemory) || fault == Some(EngineFault::Write))
             && self.begins_with(&run.output)
     }
 
-    /// The input, and how often the heap refused memory until it was built.
+    /// Returns the input, and how often the heap refused memory until it was built.
     fn input(&self, alloc: Global) -> Result<(Vec<u8>, u32), AllocError> {
         match self.input.get(alloc) {
             Ok(input) => Ok((input, 0)),

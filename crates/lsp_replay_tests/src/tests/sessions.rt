@@ -210,7 +210,7 @@ static FAULTS: [(Bytes, EngineFault, &[u8]); 7] = [
     ),
 ];
 
-/// Do `check` and `replay` report the fault, after these lines and after nothing?
+/// Returns whether `check` and `replay` report the fault, after these lines and after nothing.
 fn has_fault(alloc: Global, row: &(Bytes, EngineFault, &'static [u8])) -> Result<bool, Fail> {
     let (input, fault, lines) = row;
     let checked = Row(

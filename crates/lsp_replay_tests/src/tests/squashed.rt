@@ -171,7 +171,7 @@ fn squash_settings(max_changes: usize) -> Result<Settings, Fail> {
     })
 }
 
-/// Has the log this squashed form, and this form itself? Has it the same documents?
+/// Returns whether the log has this squashed form, this form itself, and the same documents.
 fn is_squashed(alloc: Global, row: &Squashed) -> Result<bool, Fail> {
     let Squashed(input, output, max_changes) = row;
     let settings = squash_settings(*max_changes)?;
@@ -278,8 +278,8 @@ fn narrow() -> Result<Settings, Fail> {
     })
 }
 
-/// A change that inserts so many letters at the front. It is canonical, and its body has 214 bytes
-/// more than the letters.
+/// Returns a change that inserts so many letters at the front. It is canonical, and its body has
+/// 214 bytes more than the letters.
 fn put_letters(alloc: Global, count: usize, version: i32) -> Result<String, AllocError> {
     let mut put = String::from_str(
         alloc,
@@ -292,8 +292,8 @@ fn put_letters(alloc: Global, count: usize, version: i32) -> Result<String, Allo
     change(alloc, version, &put)
 }
 
-/// Is a run of two changes, which insert so many letters, written as one message? Else it must stay
-/// as it is.
+/// Returns whether a run of two changes, which insert so many letters, is written as one message.
+/// Else it must stay as it is.
 fn is_one_message(alloc: Global, first: usize, second: usize, is_one: bool) -> Result<bool, Fail> {
     let both = put_letters(alloc, first.saturating_add(second), 3)?;
     let one = log(alloc, &[INITIALIZE, OPEN, &both])?;
@@ -327,7 +327,7 @@ static OPEN_RUNS: [Open; 2] = [
     ),
 ];
 
-/// Is no byte of the run written if the message of the next change is too long?
+/// Returns whether no byte of the run is written if the message of the next change is too long.
 fn is_lost(alloc: Global, row: &Open) -> Result<bool, Fail> {
     let (before, written, place) = row;
     let mut input = log(alloc, before)?;

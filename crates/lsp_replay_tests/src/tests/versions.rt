@@ -279,7 +279,7 @@ static LOGS: [Marks; 11] = [
     },
 ];
 
-/// Is this the result of `check`?
+/// Returns whether this is the result of `check`.
 fn is_checked(answer: Answer, bad: Option<u64>) -> bool {
     match bad {
         None => answer.is_ok(),
@@ -287,7 +287,7 @@ fn is_checked(answer: Answer, bad: Option<u64>) -> bool {
     }
 }
 
-/// The input up to the record that can't be in a log.
+/// Returns the input up to the record that can't be in a log.
 fn good_part(input: &[u8], bad: Option<u64>) -> &[u8] {
     match bad {
         None => input,
@@ -295,8 +295,8 @@ fn good_part(input: &[u8], bad: Option<u64>) -> &[u8] {
     }
 }
 
-/// Does `check` write the lines, and `normalise` all that comes before the bad record, with the
-/// same result?
+/// Returns whether `check` writes the lines, and `normalise` all that comes before the bad record,
+/// with the same result.
 fn is_read_so(alloc: Global, marks: &Marks) -> Result<bool, Fail> {
     let input = marked(alloc, marks.records)?;
     let checked = run_with(alloc, Command::Check, &input, settings()?, SMOOTH)?;
@@ -329,7 +329,7 @@ static ENCODINGS: [(Encoding, &str, u8); 4] = [
 
 static LOG_COMMANDS: [Command; 3] = [Command::Check, Command::Normalise, Command::Replay];
 
-/// Do the log commands accept or refuse the change like this?
+/// Returns whether the log commands accept or refuse the change like this.
 fn is_taken(alloc: Global, row: &(Encoding, &str, u8)) -> Result<bool, Fail> {
     let (encoding, body, refused) = row;
     let input = log(alloc, &[INITIALIZE, OPEN_WIDE, body])?;

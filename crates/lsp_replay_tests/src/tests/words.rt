@@ -75,7 +75,7 @@ static WORDS: [(&str, &str); 27] = [
     (EXIT, "exit 0"),
 ];
 
-/// The frames of the bodies.
+/// Returns the frames of the bodies.
 fn frames(alloc: Global, rows: &[(&str, &str)]) -> Result<Vec<u8>, AllocError> {
     let mut bytes = Vec::new(alloc);
     for (body, _) in rows {
@@ -96,7 +96,7 @@ fn lines(alloc: Global, rows: &[(&str, &str)]) -> Result<Vec<u8>, AllocError> {
     Ok(bytes)
 }
 
-/// Has each body its word, with this result?
+/// Returns whether each body has its word, with this result.
 fn have_words(alloc: Global, rows: &[(&str, &str)], answer: Answer) -> Result<bool, Fail> {
     let settings = Settings {
         limits: Limits::new(4_096, 8, 2, 2)?,

@@ -105,7 +105,7 @@ fn a_lenient_server_takes_what_editors_send(rt: HostRuntime) -> Result<(), Fail>
     Ok(())
 }
 
-/// The numbers that `docs/LSPSYNC.md` has as the defaults, and the default of `serve`.
+/// Returns the defaults that `docs/LSPSYNC.md` has, with those of `serve`.
 fn documented() -> Result<Config, BadLimits> {
     Ok(Config {
         limits: Limits::new(16_777_216, 16_777_216, 1_024, 65_536)?,

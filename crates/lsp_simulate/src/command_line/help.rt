@@ -19,17 +19,17 @@ pub struct Flag {
     pub help: &'static str,
 }
 
-/// The text above the list of options.
+/// Returns the text above the list of options.
 pub fn about() -> &'static str {
     PROGRAM
 }
 
-/// The text below the list of options.
+/// Returns the text below the list of options.
 pub fn notes() -> &'static str {
     NOTES
 }
 
-/// The encodings that a client may offer beside UTF-16, and `--lenient`.
+/// Returns the encodings that a client may offer beside UTF-16, and `--lenient`.
 pub fn flags() -> [Flag; 3] {
     [
         Flag {
@@ -47,22 +47,22 @@ pub fn flags() -> [Flag; 3] {
     ]
 }
 
-/// The help of `--prefer`.
+/// Returns the help of `--prefer`.
 pub fn prefer() -> &'static str {
     PREFER
 }
 
-/// The help of `--fixed`.
+/// Returns the help of `--fixed`.
 pub fn fixed() -> &'static str {
     FIXED
 }
 
-/// The help of `--sync`.
+/// Returns the help of `--sync`.
 pub fn sync() -> &'static str {
     SYNC
 }
 
-/// The options that set the client's limits.
+/// Returns the options that set the client's limits.
 pub fn client_limits() -> [Limit; 4] {
     [
         body("max-body", MAX_BODY),
@@ -72,7 +72,7 @@ pub fn client_limits() -> [Limit; 4] {
     ]
 }
 
-/// The defaults of the client's limits, in decimal digits.
+/// Returns the defaults of the client's limits, in decimal digits.
 pub fn defaults(alloc: Global) -> Result<[String; 4], AllocError> {
     let default = Limits::default();
     Ok([
@@ -87,7 +87,7 @@ fn digits(alloc: Global, number: usize) -> Result<String, AllocError> {
     format!(in alloc; "{number}")
 }
 
-/// The options that set the server's limits.
+/// Returns the options that set the server's limits.
 pub fn server_limits() -> [Limit; 4] {
     [
         body("server-max-body", SERVER_MAX_BODY),

@@ -1,6 +1,7 @@
 //! Runs that end in a fault: the status, the output before it, and its line.
 
 use super::ran;
+use std::str;
 use std::test::Fail;
 
 /// The words, the input, the status, the output, and the line of the fault.
@@ -65,5 +66,32 @@ fn a_word_that_is_unknown(rt: HostRuntime) -> Result<(), Fail> {
     let answer = ran(rt.alloc(), &["lsp_simulate", "--prefer", "utf-7"], "");
     assert_eq!(rt; answer.status, 2);
     assert!(rt; answer.output.is_empty());
+    Ok(())
+}
+
+/// What help says of each exit status.
+static STATUSES: [&str; 5] = [
+    "0 all events were made",
+    "2 the command line is wrong",
+    "3 reading or writing failed",
+    "4 out of memory",
+    "5 a line is no event",
+];
+
+/// Returns the first status that a text doesn't name.
+fn missing_status(text: &str) -> Option<&'static str> {
+    for status in &STATUSES {
+        if !text.contains(*status) {
+            return Some(*status);
+        }
+    }
+    None
+}
+
+#[test]
+fn help_names_each_exit_status(rt: HostRuntime) -> Result<(), Fail> {
+    let answer = ran(rt.alloc(), &["lsp_simulate", "--help"], "");
+    assert_eq!(rt; answer.status, 0);
+    assert_eq!(rt; missing_status(str::from_utf8(&answer.output)?), None);
     Ok(())
 }

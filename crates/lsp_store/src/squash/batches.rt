@@ -57,8 +57,7 @@ impl Model for Batches {
 impl Batches {
     /// Starts at a document before any batch, within limits.
     ///
-    /// Fails only where memory runs out. Costs a copy of the text and its lines, and no search
-    /// through it.
+    /// Fails only where memory runs out. Costs a step for each block of the text.
     pub fn start(
         alloc: Global,
         limits: Limits,
@@ -91,8 +90,8 @@ impl Batches {
     /// document stays as it is.
     ///
     /// Fails only where memory runs out, and then nothing changes. Costs what the batch costs to
-    /// apply, without a move of the text, and a share in the joins of earlier batches. There k
-    /// changes cost some k log k steps on spans.
+    /// resolve and to compose, and a share in the joins of earlier batches. There k changes cost
+    /// some k log k steps on spans.
     pub fn add(
         &mut self,
         document: &Document<'_>,

@@ -271,8 +271,8 @@ impl Store {
     /// Appends the body of that message, so that a caller can put its header before it
     /// ([`lsp_frame::put_header`]).
     ///
-    /// Refuses as [`Store::planned_message`] does, and then the bytes are unchanged. Costs the same,
-    /// with no copy of the message.
+    /// Refuses as [`Store::planned_message`] does, and then the bytes are unchanged. Costs the
+    /// same, with no copy of the message.
     pub fn push_planned_body(&self, bytes: &mut Vec<u8>, plan: &Plan<'_>) -> Result<(), StoreFault>
         requires on { IsPlanOn self.now plan.now }
         ensures body { OnOk result

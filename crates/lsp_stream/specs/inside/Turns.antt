@@ -6,8 +6,7 @@ use Rattle.lsp_stream.specs.Ports.{WriterState}
 use Rattle.lsp_stream.specs.Turns.{StaysFlushed}
 
 -- Where each output is passed on before more is read, nothing is kept back: after an answer, and
--- after each fault but those of writing
--- and of too many turns.
+-- after each fault but those of writing and of too many turns.
 pub record PassesOn {A : Type 0} (flushes : Bool) (before after : WriterState)
     (result : Result A EngineFault) : Type 0 where
   pub flushed : OnOk result (flushes ≡ true → StaysFlushed before.flushed after.flushed)

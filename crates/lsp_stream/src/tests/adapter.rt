@@ -64,12 +64,12 @@ static READ_SCRIPT: [Call; 5] = [
     Call::Take(9),
 ];
 
-/// Are these the bytes, and zeros after them?
+/// Returns whether these are the bytes, and zeros after them.
 fn holds(buf: &[u8], bytes: &[u8]) -> bool {
     buf.starts_with(bytes) && buf.iter().skip(bytes.len()).all(|byte| *byte == 0)
 }
 
-/// Does the next read end as this row says?
+/// Returns whether the next read ends as this row says.
 fn reads_so(reader: &mut Told<StopReader>, read: &Read) -> bool {
     let mut buf = [0u8; 4];
     let answer = Source::read(reader, &mut buf).map_err(|error| error.kind());
@@ -78,7 +78,7 @@ fn reads_so(reader: &mut Told<StopReader>, read: &Read) -> bool {
         && (Source::failed(reader), reader.ended()) == (read.failed, read.ended)
 }
 
-/// Do all reads end as their rows say, and are they counted?
+/// Returns whether all reads end as their rows say, and are counted.
 fn read_so(reader: &mut Told<StopReader>, reads: &[Read]) -> bool {
     let mut calls = 0u64;
     for read in reads {
@@ -112,7 +112,7 @@ static WRITES: [(Result<usize, ErrorKind>, bool); 5] = [
     (Ok(3), false),
 ];
 
-/// Do all writes end as their rows say, and are they counted?
+/// Returns whether all writes end as their rows say, and are counted.
 fn write_so(writer: &mut Told<StopWriter>, writes: &[(Result<usize, ErrorKind>, bool)]) -> bool {
     let mut calls = 0u64;
     for (wanted, failed) in writes {
@@ -146,7 +146,8 @@ static FLUSHES: [(Result<(), ErrorKind>, bool, usize); 4] = [
     (Ok(()), false, 2),
 ];
 
-/// After these flushes: are the calls counted, and has the inner writer so many flushes and bytes?
+/// Returns whether after these flushes the calls are counted, and the inner writer has so many
+/// flushes and bytes.
 fn flush_so(
     alloc: Global,
     flushes: &[(Result<(), ErrorKind>, bool, usize)],

@@ -34,7 +34,7 @@ fn take<R: Source, W: Sink>(ends: &mut Duplex<'_, R, W>, step: Step) -> Result<(
     Ok(())
 }
 
-/// Do the two ends report this after these steps?
+/// Returns whether the two ends report this after these steps.
 fn says(alloc: Global, steps: &[Step], read_early: bool) -> Result<bool, Error> {
     let mut from = Told::new(StopReader::new(b"abc", &[], Call::Take(1)));
     let mut to = Told::new(StopWriter::new(alloc, &[], Call::Take(1)));

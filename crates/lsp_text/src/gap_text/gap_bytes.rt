@@ -127,7 +127,7 @@ impl GapBytes {
             && self.at(offset) == b'\n'
     }
 
-    /// Whether the gap lies among the bytes from one offset to another.
+    /// Returns whether the gap lies among the bytes from one offset to another.
     pub fn is_cut(&self, start: usize, stop: usize) -> bool
         ensures { IsFalse result → length self.now.front < stop → length self.now.front ≤ start }
     {

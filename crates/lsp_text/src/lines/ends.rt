@@ -27,7 +27,7 @@ pub fn is_inside_crlf(bytes: &[u8], place: usize) -> bool
     place > 0 && place < bytes.len() && bytes[place - 1] == b'\r' && bytes[place] == b'\n'
 }
 
-/// Whether neither a line feed nor a carriage return is among the bytes.
+/// Returns whether neither a line feed nor a carriage return is among the bytes.
 pub fn has_no_end(bytes: &[u8]) -> bool
     ensures { IsTrue result → HasNoEnd bytes.now }
 {

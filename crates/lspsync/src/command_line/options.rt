@@ -65,7 +65,7 @@ pub(crate) fn program<'a>(
     with_command(alloc, program, help::convert(), values)
 }
 
-/// The program without its commands.
+/// Returns the program without its commands.
 fn top<'a>(alloc: Global) -> Command<'a>
     ensures { app_of result ≡ top_app }
 {
@@ -207,7 +207,7 @@ fn with_limits<'a>(
         .arg(flag(alloc, "lenient", limits.lenient))
 }
 
-/// An option with one of these names.
+/// Returns an option with one of these names.
 fn choice<'a>(alloc: Global, name: &'a str, names: &'a [&'a str], default: &'a str) -> Arg<'a>
     ensures rule { rule_of result
         ≡ option_rule name.entry.now (Names names.entry) default.entry.now }
@@ -220,7 +220,7 @@ fn choice<'a>(alloc: Global, name: &'a str, names: &'a [&'a str], default: &'a s
         .default_value(default)
 }
 
-/// `--at`: a record's number, from 1.
+/// Returns `--at`: a record's number, from 1.
 fn at_option<'a>(alloc: Global, help: &'a str) -> Arg<'a>
     ensures rule { rule_of result ≡ at_rule }
     ensures global { result.global ≡ false }
@@ -232,7 +232,7 @@ fn at_option<'a>(alloc: Global, help: &'a str) -> Arg<'a>
         .help(help)
 }
 
-/// `--uri`: any text.
+/// Returns `--uri`: any text.
 fn uri_option<'a>(alloc: Global, help: &'a str) -> Arg<'a>
     ensures rule { rule_of result ≡ uri_rule }
     ensures global { result.global ≡ false }
@@ -243,7 +243,7 @@ fn uri_option<'a>(alloc: Global, help: &'a str) -> Arg<'a>
         .help(help)
 }
 
-/// An option without a value.
+/// Returns an option without a value.
 fn flag<'a>(alloc: Global, name: &'a str, help: &'a str) -> Arg<'a>
     ensures rule { rule_of result ≡ flag_rule name.entry.now }
     ensures global { result.global ≡ false }
@@ -254,7 +254,7 @@ fn flag<'a>(alloc: Global, name: &'a str, help: &'a str) -> Arg<'a>
         .help(help)
 }
 
-/// An option with a number in a range.
+/// Returns an option with a number in a range.
 fn number<'a>(alloc: Global, limit: &'a Limit) -> Arg<'a>
     ensures rule { rule_of result ≡ rule_of_limit limit.entry.now }
     ensures global { result.global ≡ false }

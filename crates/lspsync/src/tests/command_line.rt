@@ -63,7 +63,7 @@ static WRONG: [&[&str]; 45] = [
     ],
 ];
 
-/// Is a call with these words refused, by a text on standard error?
+/// Returns whether a call with these words is refused, by a text on standard error.
 fn is_wrong(alloc: Global, words: &[&str]) -> Result<bool, AllocError> {
     let answer = ran(alloc, words, b"")?;
     Ok(answer.status == 2 && answer.output.is_empty() && !answer.errors.is_empty())
@@ -88,12 +88,13 @@ static ENDS: [(&str, &str, &str); 5] = [
     ("--encoding", "utf-8", "--encoding=utf-32"),
 ];
 
-/// The status of a call with these words and no input.
+/// Returns the status of a call with these words and no input.
 fn status_of(alloc: Global, words: &[&str]) -> Result<u8, AllocError> {
     Ok(ran(alloc, words, b"")?.status)
 }
 
-/// Are both ends of the range of an option accepted? `serve` ends with status 1 if no `exit` came.
+/// Returns whether both ends of the range of an option are accepted. `serve` ends with status 1 if
+/// no `exit` came.
 fn takes_both<'a>(
     alloc: Global,
     command: &'a str,
@@ -123,7 +124,7 @@ fn both_ends_of_each_range_are_taken(rt: HostRuntime) -> Result<(), Fail> {
     Ok(())
 }
 
-/// Are these words this call?
+/// Returns whether these words are this call.
 fn is_call<'a>(alloc: Global, words: &'a [&'a str], wanted: command_line::Call) -> bool {
     let Ok(found) = parse(alloc, words) else {
         return false;
@@ -176,7 +177,7 @@ static HELP: [&[&str]; 3] = [
     &["lspsync", "help"],
 ];
 
-/// Are all of these in a text?
+/// Returns whether all of these are in a text.
 fn has_all(text: &str, words: &[&str]) -> bool {
     for word in words {
         if !text.contains(*word) {
@@ -186,7 +187,7 @@ fn has_all(text: &str, words: &[&str]) -> bool {
     true
 }
 
-/// The text that a call for help prints.
+/// Returns the text that a call for help prints.
 fn help(alloc: Global, words: &[&str]) -> Result<Vec<u8>, Fail> {
     let answer = ran(alloc, words, b"")?;
     if answer.status != 0 || !answer.errors.is_empty() {
@@ -216,6 +217,27 @@ fn help_names_each_command_and_status(rt: HostRuntime) -> Result<(), Fail> {
     Ok(())
 }
 
+/// What help says of each exit status.
+static STATUSES: [&str; 6] = [
+    "0 all is well",
+    "1 a record counts as refused",
+    "2 the command line",
+    "3 reading or writing failed",
+    "4 out of memory",
+    "5 the log is faulty",
+];
+
+fn names_statuses(alloc: Global) -> Result<bool, Fail> {
+    let output = help(alloc, &["lspsync", "--help"])?;
+    Ok(has_all(str::from_utf8(&output)?, &STATUSES))
+}
+
+#[test]
+fn help_names_each_exit_status(rt: HostRuntime) -> Result<(), Fail> {
+    assert!(rt; names_statuses(rt.alloc())?);
+    Ok(())
+}
+
 static OPTIONS: [&str; 6] = [
     "--encoding",
     "--max-body",
@@ -228,7 +250,8 @@ static OPTIONS: [&str; 6] = [
 /// How help shows the defaults of the limits.
 static DEFAULTS: [&str; 3] = ["[default: 16777216]", "[default: 1024]", "[default: 65536]"];
 
-/// Does the help of a command have its options with their defaults, and an example of its call?
+/// Returns whether the help of a command has its options with their defaults, and an example of its
+/// call.
 fn has_options(alloc: Global, command: &str, words: &[&str]) -> Result<bool, Fail> {
     let example = format!(in alloc; "  ./lspsync {command} < examples/")?;
     let output = help(alloc, words)?;

@@ -8,7 +8,7 @@ use lsp_samples::bodies::{
 use lsp_samples::logs::{LINE, log};
 use std::test::Fail;
 
-/// A log of version 2 with the client's records, and the server's after the first.
+/// Returns a log of version 2 with the client's records, and the server's after the first.
 fn recorded(alloc: Global, bodies: &[&str], server: &[&str]) -> Result<Vec<u8>, AllocError> {
     let mut bytes = Vec::from_slice(alloc, LINE)?;
     for (i, body) in bodies.iter().enumerate() {
@@ -91,7 +91,7 @@ fn a_change_before_the_result_of_initialize(rt: HostRuntime) -> Result<(), Fail>
 /// status.
 static RECORDED: [(&str, &str, u8); 2] = [("utf-32", "changed", 0), ("utf-8", "refused E1", 1)];
 
-/// A log whose server chose the encoding of this name.
+/// Returns a log whose server chose the encoding of this name.
 fn encoded_log(alloc: Global, name: &str) -> Result<Vec<u8>, AllocError> {
     let result = format!(in alloc;
         r#"{{"id":1,"jsonrpc":"2.0","result":{{"capabilities":{{"positionEncoding":"{name}"}}}}}}"#

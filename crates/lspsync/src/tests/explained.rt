@@ -9,8 +9,8 @@ use std::test::Fail;
 const EMPTY: &str =
     r#"{"jsonrpc":"2.0","method":"textDocument/didChange","params":{"contentChanges":[],"textDocument":{"uri":"file:///a","version":2}}}"#;
 
-/// The line at the end, where nothing was refused, where something was noted, and where something was
-/// refused.
+/// The line at the end, where nothing was refused, where something was noted, and where something
+/// was refused.
 const COMPARE: &str =
     "Nothing was refused. Compare `lspsync replay --uri URI` with the editor's text.\n";
 
@@ -55,7 +55,7 @@ static ROWS: [Row; 5] = [
     ),
 ];
 
-/// Is this written of the row's log?
+/// Returns whether this is written of the row's log.
 fn is_written(alloc: Global, row: &Row) -> Result<bool, AllocError> {
     let Row(bodies, status, lines, last) = row;
     let input = log(alloc, bodies)?;

@@ -37,13 +37,13 @@ static REPORTS: [(EngineFault, u8, &str); 8] = [
     ),
 ];
 
-/// Is a fault reported with this status, in this line?
+/// Returns whether a fault is reported with this status, in this line.
 fn is_reported(alloc: Global, fault: EngineFault, status: u8, line: &str) -> bool {
     let mut errors = Vec::new(alloc);
     report(fault, &mut errors).status == status && errors.as_slice() == line.as_bytes()
 }
 
-/// Are words that can't be read refused with this status, in this line?
+/// Returns whether words that can't be read are refused with this status, in this line.
 fn is_refused(alloc: Global, kind: ErrorKind, status: u8, line: &str) -> bool {
     let mut errors = Vec::new(alloc);
     refuse(kind, &mut errors).status == status && errors.as_slice() == line.as_bytes()
@@ -125,7 +125,7 @@ fn a_faulty_input_is_reported_with_its_place(rt: HostRuntime) -> Result<(), Fail
     Ok(())
 }
 
-/// How many of so many first bytes of a log are complete records.
+/// Returns how many of so many first bytes of a log are complete records.
 fn whole_len(len: usize) -> usize {
     if len < 172 {
         0
@@ -136,8 +136,8 @@ fn whole_len(len: usize) -> usize {
     }
 }
 
-/// Is a log that is cut after so many bytes written as far as its records are complete, and the cut
-/// reported?
+/// Returns whether a log that is cut after so many bytes is written as far as its records are
+/// complete, and the cut reported.
 fn is_cut(alloc: Global, input: &[u8], len: usize) -> Result<bool, AllocError> {
     let (Some(cut), Some(whole)) = (input.get(..len), input.get(..whole_len(len))) else {
         return Ok(false);
@@ -159,7 +159,7 @@ fn a_cut_log_is_reported_with_its_length(rt: HostRuntime) -> Result<(), Fail> {
     Ok(())
 }
 
-/// A log in which the text `abc` is replaced by so many letters.
+/// Returns a log in which the text `abc` is replaced by so many letters.
 fn long_log(alloc: Global, letters: usize) -> Result<Vec<u8>, Fail> {
     let text = "x".repeat(alloc, letters)?;
     let change = format!(in alloc;
@@ -168,7 +168,7 @@ fn long_log(alloc: Global, letters: usize) -> Result<Vec<u8>, Fail> {
     Ok(log(alloc, &[INITIALIZE, OPEN, change.as_str()])?)
 }
 
-/// The run that normalises such a log.
+/// Returns the run that normalises such a log.
 fn long_answer(alloc: Global, letters: usize) -> Result<Answer, Fail> {
     let words = ["lspsync", "normalise", "--max-body", "4096"];
     let input = long_log(alloc, letters)?;

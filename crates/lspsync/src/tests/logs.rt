@@ -10,8 +10,8 @@ use std::test::Fail;
 const REPORT: &str =
     "{\"languageId\":\"plaintext\",\"text\":\"aXc\",\"uri\":\"file:///a\",\"version\":2}\n";
 
-/// Does a log of a change of the whole text have these outputs of `normalise`, `check` and
-/// `replay`?
+/// Returns whether a log of a change of the whole text has these outputs of `normalise`, `check`
+/// and `replay`.
 fn is_worked(alloc: Global, input: &[u8], canonical_log: &[u8]) -> Result<bool, AllocError> {
     if !answers(alloc, &["lspsync", "normalise"], input, 0, canonical_log)? {
         return Ok(false);
@@ -60,8 +60,8 @@ fn a_whole_session_ends_at_exit(rt: HostRuntime) -> Result<(), Fail> {
     Ok(())
 }
 
-/// A third message after `initialize` and the opening of `abc`, and the text and the version that it
-/// leaves where the limits are lenient.
+/// A third message after `initialize` and the opening of `abc`, and the text and the version that
+/// it leaves where the limits are lenient.
 static LENIENT: [(&str, &str, i32); 4] = [
     (OPEN, "abc", 1),
     (
@@ -81,7 +81,7 @@ static LENIENT: [(&str, &str, i32); 4] = [
     ),
 ];
 
-/// Is the third message taken leniently, and is the log canonical?
+/// Returns whether the third message is taken leniently, and the log is canonical.
 fn is_taken(alloc: Global, third: &str, text: &str, version: i32) -> Result<bool, AllocError> {
     let input = log(alloc, &[INITIALIZE, OPEN, third])?;
     let lines = b"1 reply\n2 changed\n3 changed\n";
@@ -151,7 +151,7 @@ pub(super) static THIRD: [(&str, &str, &str); 12] = [
     ("--max-docs=2", EXIT, "exit 1"),
 ];
 
-/// Has the third message this word and status 1, and is the log written as it is?
+/// Returns whether the third message has this word and status 1, and the log is written as it is.
 fn is_refused(alloc: Global, option: &str, third: &str, word: &str) -> Result<bool, AllocError> {
     let input = log(alloc, &[INITIALIZE, OPEN, third])?;
     let lines = format!(in alloc; "1 reply\n2 changed\n3 {word}\n")?;
@@ -191,7 +191,7 @@ const HOVER: &str = r#"{"id":7,"jsonrpc":"2.0","method":"textDocument/hover","pa
 
 const SAVED: &str = r#"{"jsonrpc":"2.0","method":"textDocument/didSave","params":{}}"#;
 
-/// Does `normalise` with these options write the frames of these bodies?
+/// Returns whether `normalise` with these options writes the frames of these bodies.
 fn writes(
     alloc: Global,
     words: &[&str],
@@ -223,7 +223,7 @@ static ENCODINGS: [(&str, u32, u8); 5] = [
     ("--encoding=utf-32", 1, 0),
 ];
 
-/// A log in which a letter is put in at a character.
+/// Returns a log in which a letter is put in at a character.
 fn log_with_change_at(alloc: Global, character: u32) -> Result<Vec<u8>, AllocError> {
     let change = format!(in alloc;
         r#"{{"jsonrpc":"2.0","method":"textDocument/didChange","params":{{"contentChanges":[{{"range":{{"end":{{"character":{character},"line":0}},"start":{{"character":{character},"line":0}}}},"text":"b"}}],"textDocument":{{"uri":"file:///a","version":2}}}}}}"#

@@ -56,7 +56,8 @@ static ROWS: [(&[&str], u8, &str, &str); 11] = [
     ),
 ];
 
-/// Has a run with these words this status, this output and this line on standard error?
+/// Returns whether a run with these words has this status, this output and this line on standard
+/// error.
 fn ends_with(
     alloc: Global,
     words: &[&str],
@@ -80,7 +81,7 @@ fn a_part_of_a_log_is_replayed(rt: HostRuntime) -> Result<(), Fail> {
     Ok(())
 }
 
-/// A log whose second `didOpen` is refused, and which is cut short after it.
+/// Returns a log whose second `didOpen` is refused, and which is cut short after it.
 fn cut_log(alloc: Global) -> Result<Vec<u8>, AllocError> {
     let mut input = log(alloc, &[INITIALIZE, OPEN, OPEN])?;
     input.extend_from_slice(b"Content-Length: 2\r\n\r\n[")?;

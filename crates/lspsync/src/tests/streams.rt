@@ -56,7 +56,8 @@ static FAILING: [Failing; 12] = [
     ("normalise", &[], &[Take(0)], 0, WRITE_FAULT),
 ];
 
-/// Has a stream that fails this line and status 3, and are so many bytes of the output written?
+/// Returns whether a stream that fails has this line and status 3, and so many bytes of the output
+/// are written.
 fn has_failed(alloc: Global, input: &[u8], row: &Failing) -> Result<bool, AllocError> {
     let (command, reads, writes, len, line) = *row;
     let words = ["lspsync", command];
@@ -83,7 +84,7 @@ fn a_stream_that_fails_has_its_line_and_status_3(rt: HostRuntime) -> Result<(), 
 
 static COMMANDS: [&str; 5] = ["serve", "check", "replay", "normalise", "convert"];
 
-/// Is the result the same if reader and writer are slow?
+/// Returns whether the result is the same if reader and writer are slow.
 fn is_the_same(
     alloc: Global,
     command: &str,
@@ -110,7 +111,8 @@ fn a_slow_stream_changes_nothing(rt: HostRuntime) -> Result<(), Fail> {
 
 static HELP: [&str; 3] = ["lspsync", "check", "--help"];
 
-/// Has help that cannot be printed this status and line, and is this much of it printed?
+/// Returns whether help that cannot be printed has this status and line, and this much of it is
+/// printed.
 fn has_printed(
     alloc: Global,
     writes: &[Call],
@@ -154,7 +156,7 @@ static SILENT: [(&[&str], &[Call], u8); 4] = [
     (&["lspsync", "check", "--max-docs", "0"], &[], 2),
 ];
 
-/// Is this the status of a call that cannot print its line?
+/// Returns whether this is the status of a call that cannot print its line.
 fn has_status(alloc: Global, words: &[&str], reads: &[Call], status: u8) -> bool {
     let mut reader = Told::new(StopReader::new(b"\r\n", reads, ALL));
     let mut writer = Told::new(Vec::new(alloc));

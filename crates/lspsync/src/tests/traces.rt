@@ -56,7 +56,7 @@ static REASONS: [(&str, &str); 12] = [
     ("\"method\":\"exit\",", "`exit` came without `shutdown`\""),
 ];
 
-/// Has the third message this line?
+/// Returns whether the third message has this line.
 fn is_explained(
     alloc: Global,
     row: &(&str, &str, &str),
@@ -154,7 +154,8 @@ fn bodies_are_written_on_one_line(rt: HostRuntime) -> Result<(), Fail> {
 const STALE: &str =
     r#"{"jsonrpc":"2.0","method":"textDocument/didChange","params":{"contentChanges":[],"textDocument":{"uri":"file:///a","version":1}}}"#;
 
-/// The end of the line of each record of a log, which says what the last record on its document was.
+/// The end of the line of each record of a log, which says what the last record on its document
+/// was.
 static LASTS: [(&str, &str); 8] = [
     (INITIALIZE, "\"word\":\"reply\"}"),
     (STALE, "\"reason\":\"the document is not open\"}"),
@@ -169,7 +170,7 @@ static LASTS: [(&str, &str); 8] = [
     (STALE, "\"reason\":\"the document is not open\",\"last\":7}"),
 ];
 
-/// Do the lines of an output end so, one after another?
+/// Returns whether the lines of an output end so, one after another.
 fn ends_so(output: &[u8]) -> bool {
     let Ok(text) = str::from_utf8(output) else {
         return false;

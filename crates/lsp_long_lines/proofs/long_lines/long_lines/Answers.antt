@@ -3,7 +3,7 @@ use Rattle.std.specs.Str.{chars}
 use Rattle.lsp_text.specs.declared.position.Range.{Range}
 use Rattle.lsp_text.specs.TextLines.{line_ends}
 use Rattle.lsp_text.specs.Units.{units_in}
-use Rattle.lsp_long_lines.proofs.LineEndLemmas.{stops, ends_before, stops-long, stops-short}
+use Rattle.lsp_long_lines.proofs.LineEndLemmas.{ranges_before, ranges-long, ranges-short}
 use Rattle.lsp_long_lines.proofs.long_lines.long_lines.Goals as goal
 use Rattle.lsp_long_lines.proofs.long_lines.long_lines.Goals.{in-Some+in_ok-push, in_default}
 
@@ -19,13 +19,13 @@ loop-line-preserved c =
       | in-Some+in_ok-push w ↦
           let items : c.match-excess.ranges.items ≡ c.loop-line.ranges.items ++ w.in-Some.range ∷ [] =
           ap (λ (v : Vec Range Global). v.items) w.ranges-is ∙ w.in_ok-push.ensures.items in
-          ap stops items ∙ stops-long (units_in c.args.encoding) c.args.document.now.text c.text-text.result.now
+          items ∙ ranges-long (units_in c.args.encoding) c.args.document.now.text c.text-text.result.now
           c.loop-line.line c.loop-line.ranges.items w.in-Some.range
-          c.text-text.ensures.text w.in-Some.ensures.long w.in-Some.ensures.stop c.loop-line.invariant
+          c.text-text.ensures.text w.in-Some.ensures.long w.in-Some.ensures.range c.loop-line.invariant
       | in_default w ↦
           let items : c.match-excess.ranges.items ≡ c.loop-line.ranges.items =
           ap (λ (v : Vec Range Global). v.items) w.ranges-is in
-          ap stops items ∙ stops-short (units_in c.args.encoding) c.args.document.now.text c.text-text.result.now
+          items ∙ ranges-short (units_in c.args.encoding) c.args.document.now.text c.text-text.result.now
           c.loop-line.line c.loop-line.ranges.items
           c.text-text.ensures.text w.in_default.ensures.long c.loop-line.invariant
     ]
@@ -39,5 +39,5 @@ returns c =
       c.line_count-line-end.ensures.count,
       ap (λ (b : List ℕ). line_ends (chars b)) c.text-text.ensures.text,
     ) in
-    subst (λ (n : ℕ). stops c.loop-line.ranges.items ≡ ends_before (units_in c.args.encoding) text n) all
+    subst (λ (n : ℕ). c.loop-line.ranges.items ≡ ranges_before (units_in c.args.encoding) text n) all
     c.loop-line.invariant

@@ -10,6 +10,6 @@ returns g c =
     let run = rw (c.rules-rules.ensures, run_output) at c.run_engine.ensures.run in
     let whole = rw (c.rules-rules.ensures, run_output) at c.run_engine.ensures.whole in
     record {
-      run = run_of c.run_engine.ensures.first c.run_engine.ensures.version checking
+      run = run_of c.run_engine.ensures.first c.run_engine.ensures.version checking tt
           (opened (log_config c.args.settings)) false run (λ _. whole (λ _. refl));
     }

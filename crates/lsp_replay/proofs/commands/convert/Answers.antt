@@ -10,7 +10,7 @@ returns-clause-run g c =
     let run_output = rw c.config.ensures.value at c.new-convert.ensures.session in
     let run = rw (c.rules-rules.ensures, run_output) at c.run_engine.ensures.run in
     let whole = rw (c.rules-rules.ensures, run_output) at c.run_engine.ensures.whole in
-    run_of c.run_engine.ensures.first c.run_engine.ensures.version converting (opened (log_config c.args.settings))
+    run_of c.run_engine.ensures.first c.run_engine.ensures.version converting tt (opened (log_config c.args.settings))
     false run (λ _. whole (λ _. refl))
 
 pub returns-clause-converted : goal.returns-clause-converted

@@ -11,7 +11,7 @@ returns g c =
     let run_output = rw c.config.ensures.value at c.new-replay.ensures.run_output in
     let run = rw c.rules-rules.ensures at c.run_engine.ensures.run in
     record {
-      run = run_of c.run_engine.ensures.first c.run_engine.ensures.version replaying
+      run = run_of c.run_engine.ensures.first c.run_engine.ensures.version replaying tt
           (opened (log_config c.args.settings)) true
           (subst (λ run_output. IsLoopRun (as_log c.args.settings) run_output false c.args.max_turns
           (ports (g.R.Source.seen c.args.reader.now) (g.W.Sink.seen c.args.writer.now))

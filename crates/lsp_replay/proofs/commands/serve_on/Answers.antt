@@ -8,7 +8,7 @@ pub returns-clause-run : goal.returns-clause-run
 returns-clause-run g c =
     let run = rw c.new-serve.ensures.session at c.run_on.ensures.run in
     let whole = rw c.new-serve.ensures.session at c.run_on.ensures.whole in
-    run_of c.run_on.ensures.first c.run_on.ensures.version serving (opened c.args.config) false run
+    run_of c.run_on.ensures.first c.run_on.ensures.version serving tt (opened c.args.config) false run
     (λ _. whole (λ _. refl))
 
 pub returns-clause-in_time : goal.returns-clause-in_time

@@ -3,10 +3,10 @@ use Rattle.lsp_stream.specs.Ports.{ports}
 use Rattle.lsp_replay.specs.Engine.{WroteRecords}
 use Rattle.lsp_replay.specs.inside.Engine.{IsLoopRun}
 use Rattle.lsp_replay.specs.Commands.{as_log, log_config}
-use Rattle.lsp_replay.specs.Lines.{nothing_known}
+use Rattle.lsp_replay.specs.Lines.{lines, nothing_known}
 use Rattle.lsp_replay.specs.Session.{opened}
 use Rattle.lsp_replay.specs.Trace.{tracing}
-use Rattle.lsp_replay.proofs.KnownLemmas.{run_of_lines}
+use Rattle.lsp_replay.proofs.Runs.RunReportLemmas.{run_of}
 use Rattle.lsp_replay.proofs.commands.traced.trace.Goals as goal
 
 pub returns : goal.returns
@@ -15,8 +15,8 @@ returns g c =
     let run = rw c.rules-rules.ensures at c.run_engine.ensures.run in
     let whole = rw c.rules-rules.ensures at c.run_engine.ensures.whole in
     record {
-      run = run_of_lines c.run_engine.ensures.first c.run_engine.ensures.version (tracing c.args.details) nothing_known
-          (opened (log_config c.args.settings))
+      run = run_of c.run_engine.ensures.first c.run_engine.ensures.version (lines (tracing c.args.details))
+          nothing_known (opened (log_config c.args.settings)) false
           (subst (λ run_output. IsLoopRun (as_log c.args.settings) run_output false c.args.max_turns
           (ports (g.R.Source.seen c.args.reader.now) (g.W.Sink.seen c.args.writer.now))
           (ports (g.R.Source.seen c.run_engine.new.reader) (g.W.Sink.seen c.run_engine.new.writer)) c.run_engine.result)

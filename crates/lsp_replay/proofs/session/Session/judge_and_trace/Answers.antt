@@ -1,7 +1,8 @@
 use Rattle.std.proofs.Common.{ap, ◌∙◌}
-use Rattle.lsp_replay.specs.Session.{Session, judge_at}
+use Rattle.lsp_replay.specs.Session.{Session}
 use Rattle.lsp_replay.specs.Trace.{is_json}
 use Rattle.lsp_replay.specs.inside.Bodies.{body_view}
+use Rattle.lsp_replay.specs.inside.Session.{judge_at}
 use Rattle.lsp_replay.proofs.KnownLemmas.{known_is, noted_is}
 use Rattle.lsp_replay.proofs.session.Session.judge_and_trace.Goals as goal
 

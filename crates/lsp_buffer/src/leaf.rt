@@ -1,0 +1,77 @@
+//! A part of a text with its lines.
+ghost use Rattle.std.specs.Prelude.{◌≡◌, ◌≤◌, IfOk, OnOk, OnErr, length, string_bytes, string_len};
+ghost use Rattle.std.specs.List.{replace_range};
+ghost use Rattle.std.specs.Str.{IsCharBoundary};
+ghost use Rattle.lsp_text.specs.LineStarts.{Indexes};
+
+use crate::in_place::put_in_place;
+use lsp_text::Lines;
+use std::alloc::{AllocError, Global};
+use std::clone::Clone;
+use std::marker::Model;
+
+/// A part of a text with its line starts. Clauses see its bytes.
+#[derive(Debug, Drop)]
+pub struct Leaf {
+    text: String,
+    lines: Lines,
+}
+
+impl Model for Leaf {
+    ghost use Rattle.std.specs.Prelude.{ℕ, List, string_bytes};
+    ghost use Rattle.lsp_text.specs.LineStarts.{Indexes};
+
+    ghost Value = { List ℕ };
+
+    ghost view = { λ leaf. string_bytes leaf.text };
+
+    ghost invariant = { λ leaf. Indexes leaf.lines (string_bytes leaf.text) };
+}
+
+impl Leaf {
+    /// Takes a text and finds its lines. Fails only if it is out of memory.
+    pub fn new(alloc: Global, text: String) -> Result<Self, AllocError>
+        requires { string_len text ≤ 2147483648 }
+        ensures { IfOk result (λ leaf. leaf ≡ string_bytes text) }
+    {
+        let lines = Lines::new(alloc, &text)?;
+        Ok(Leaf { text, lines })
+    }
+
+    /// Returns the text.
+    pub fn text(&self) -> &str
+        ensures { result.now ≡ self.now }
+    {
+        &self.text
+    }
+
+    /// Returns its lines.
+    pub fn lines(&self) -> &Lines
+        ensures { Indexes result.now self.now }
+    {
+        &self.lines
+    }
+
+    /// Replaces the bytes from `start` to `end`. Out of memory changes nothing.
+    pub fn replace_range(&mut self, start: usize, end: usize, new: &str) -> Result<(), AllocError>
+        requires order { start ≤ end }
+        requires at_start { IsCharBoundary self.old start }
+        requires at_end { IsCharBoundary self.old end }
+        requires room { length (replace_range self.old start end new.now) ≤ 2147483648 }
+        ensures changed { OnOk result (self.new ≡ replace_range self.old start end new.now) }
+        ensures unchanged { OnErr result (self.new ≡ self.old) }
+    {
+        put_in_place(&mut self.text, &mut self.lines, start, end, new)
+    }
+}
+
+impl Clone for Leaf {
+    ghost is_clone = { λ leaf copy. copy ≡ leaf };
+
+    fn clone(&self) -> Result<Self, AllocError> {
+        let alloc = *self.text.allocator();
+        let lines = self.lines.clone_in(alloc)?;
+        let text = String::from_str(alloc, &self.text)?;
+        Ok(Leaf { text, lines })
+    }
+}

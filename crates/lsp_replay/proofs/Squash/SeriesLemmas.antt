@@ -1,0 +1,250 @@
+-- What `normalise` writes with squash: a series by its changes, and by the bytes that the code keeps of it.
+use Rattle.std.proofs.Common.{◌≡◌, ℕ, Bool, true, false, List, [], ◌∷◌, ◌++◌, map, length, nat_lt, bytes_eq, Option, Some, None, refl, sym, ap, ◌∙◌, append-nil}
+use Rattle.std.specs.Prelude.{if◌then◌else◌, flat_map, is_none, option_map, Err}
+use Rattle.std.proofs.lemmas.Grind.{flat_map-append}
+use Rattle.lsp_frame.specs.Frame.{frame}
+use Rattle.lsp_message.specs.Message.{reading}
+use Rattle.lsp_message.specs.Params.{ChangeData, DocumentItem}
+use Rattle.lsp_store.specs.Squash.{SquashData, squash_frame, squash_refusal}
+use Rattle.lsp_store.specs.Table.{Refusal, entry_at}
+use Rattle.lsp_store.proofs.LawLemmas.{change_parts}
+use Rattle.lsp_text.specs.Units.{units_in}
+use Rattle.lsp_server.specs.Answer.{reply, changed, dropped, ignored, refused, exits, already_ended}
+use Rattle.lsp_server.specs.Incoming.{incoming_of}
+use Rattle.lsp_server.specs.Step.{edit_from_data, session_encoding}
+use Rattle.lsp_stream.specs.declared.fault.EngineFault.TheVariants.{BodyTooLong}
+use Rattle.lsp_log.specs.Log.{Record}
+use Rattle.lsp_replay.specs.RunOutput.{RunOutput, written_first}
+use Rattle.lsp_replay.specs.Commands.{RecordOutput, canonical_change_body, canonical_if, change_in, continue_with, ends, front_of, line_if, log_config, output_in, unless_bad, written, writes}
+use Rattle.lsp_replay.specs.Session.{Session, Verdict, answered, recorded, bad, judge, opened, outcome_of}
+use Rattle.lsp_replay.specs.Squashed.{SeriesChange, change_if, change_on, joined, series_after, series_written, squash_output, squashed, squashing}
+use Rattle.lsp_replay.specs.inside.Squashed as kept
+use Rattle.lsp_replay.specs.inside.Squashed.{Run, Step, begun_on, end_bytes, faulty, joined_by, longer, run_bytes, squashed_in, squashed_steps, step_if}
+use Rattle.lsp_replay.proofs.Records.ChangeLemmas.{was_accepted}
+
+-- ---- a series
+
+abbrev single_of : SeriesChange → List ℕ
+single_of c = c.single
+
+-- the bytes that are kept of a series
+abbrev kept_run : SeriesChange → List SeriesChange → Run
+kept_run first run = record {
+  front = first.front;
+  singles = flat_map single_of (first ∷ run);
+  squash = joined first.document (first ∷ run);
+}
+
+abbrev kept_of : List SeriesChange → Option Run
+kept_of [] = None
+kept_of (first ∷ run) = Some (kept_run first run)
+
+run_is : (run : List SeriesChange) → series_written run ≡ end_bytes (kept_of run)
+run_is [] = refl
+run_is (first ∷ run) = by (squash_refusal (joined first.document (first ∷ run)))
+  where
+    by : (refusal : Option Refusal)
+        → (if is_none refusal then first.front ++ squash_frame (joined first.document (first ∷ run)) else
+        flat_map single_of (first ∷ run)) ≡ kept.run_written (kept_run first run) refusal
+    by None = refl
+    by (Some refusal) = refl
+
+joined_more : (squash : SquashData) (run : List SeriesChange) (c : SeriesChange) → joined squash (run ++ c ∷ [])
+    ≡ joined_by c.change (joined squash run)
+joined_more squash [] c = refl
+joined_more squash (d ∷ run) c = joined_more (joined_by d.change squash) run c
+
+joined_uri : (squash : SquashData) (run : List SeriesChange) → (joined squash run).uri ≡ squash.uri
+joined_uri squash [] = refl
+joined_uri squash (c ∷ run) = joined_uri (joined_by c.change squash) run
+
+singles_more : (run : List SeriesChange) (c : SeriesChange) → flat_map single_of (run ++ c ∷ [])
+    ≡ flat_map single_of run ++ c.single
+singles_more run c = flat_map-append single_of run (c ∷ [])
+    ∙ ap (λ z. flat_map single_of run ++ z) (append-nil c.single)
+
+kept_more : (first : SeriesChange) (run : List SeriesChange) (c : SeriesChange) → kept_of ((first ∷ run) ++ c ∷ [])
+    ≡ Some (longer (kept_run first run) c.change c.single)
+kept_more first run c = λ i. Some (record {
+  front = first.front;
+  singles = singles_more (first ∷ run) c i;
+  squash = joined_more first.document (first ∷ run) c i;
+})
+
+-- what is kept of a series that a change begins
+abbrev begun_by : SeriesChange → Run
+begun_by c = record { front = c.front; singles = c.single; squash = joined_by c.change c.document }
+
+kept_one : (c : SeriesChange) → kept_of (c ∷ []) ≡ Some (begun_by c)
+kept_one c = λ i. Some (record {
+  front = c.front;
+  singles = append-nil c.single i;
+  squash = joined_by c.change c.document;
+})
+
+-- ---- a record
+
+-- A change is accepted on a document that is open.
+abbrev IsOpen : Session → ChangeData → Type 0
+IsOpen s p = (entry : DocumentItem) × (entry_at s.server.table p.uri ≡ Some entry)
+
+open_at : (s : Session) (r : Record) (p : ChangeData) → change_in (incoming_of (reading r.body)) ≡ Some p
+    → (judge s r).verdict ≡ answered changed → IsOpen s p
+open_at s r p is accepts =
+    let a = was_accepted s r p is accepts in
+    let may = change_parts s.server.config.limits (units_in (session_encoding s.server)) s.server.table p.uri p.version
+    (map edit_from_data p.changes) a.may in
+    (may.entry, may.is_open)
+
+-- `later` says it of the records after this one.
+module _ (s : Session) (r : Record) (t : Session) (rs : List Record)
+    (later : (run : List SeriesChange) → output_in squashing run t rs ≡ squashed_in t (kept_of run) rs) where
+  -- the output from the record on, by a step of the code
+  abbrev by_step : Step → RunOutput
+  by_step step = continue_with step.out step.end (squashed_in t step.run rs)
+
+  abbrev by_bytes : Option Run → Option ChangeData → Verdict → RunOutput
+  by_bytes run change verdict = by_step (step_if s.server r (front_of r.head) run change verdict)
+
+  -- the same, by what is written of the record without squash, and by the change in it
+  abbrev by_output : List SeriesChange → Option SeriesChange → RecordOutput → RunOutput
+  by_output run change given =
+      continue_with (squash_output run change given.out given.end).out
+      (squash_output run change given.out given.end).end
+      (output_in squashing (series_after run change) t rs)
+
+  abbrev each : Option ChangeData → Verdict → RecordOutput
+  each change verdict = unless_bad r verdict (written s.server.config.limits.max_body r (front_of r.head)
+      (canonical_if s.server change verdict))
+
+  abbrev by_changes : List SeriesChange → Option ChangeData → Verdict → RunOutput
+  by_changes run change verdict = by_output run (change_if s r (each change verdict).out change verdict)
+      (each change verdict)
+
+  -- any record but an accepted change
+  other : (run : List SeriesChange) → written_first (series_written run ++ (front_of r.head ++ r.raw))
+      (output_in squashing [] t rs)
+      ≡ written_first (end_bytes (kept_of run) ++ (front_of r.head ++ r.raw)) (squashed_in t None rs)
+  other run =
+      ap (λ b. written_first (b ++ (front_of r.head ++ r.raw)) (output_in squashing [] t rs)) (run_is run)
+      ∙ ap (written_first (end_bytes (kept_of run) ++ (front_of r.head ++ r.raw))) (later [])
+
+  module _ (p : ChangeData) (entry : DocumentItem) where
+    abbrev frame_bytes : List ℕ
+    frame_bytes = front_of r.head ++ frame (canonical_change_body s.server p)
+
+    abbrev c : SeriesChange
+    c = change_on s r frame_bytes p entry
+
+    -- what is written of it without squash, by whether its message is too long
+    abbrev given_if : Bool → RecordOutput
+    given_if over = if over then ends [] (Err (BodyTooLong r.head.place)) else writes frame_bytes
+
+    abbrev changes_if : List SeriesChange → Bool → Option DocumentItem → RunOutput
+    changes_if run over found = by_output run (option_map (change_on s r (given_if over).out p) found) (given_if over)
+
+    begins : written_first [] (output_in squashing (c ∷ []) t rs)
+        ≡ written_first [] (squashed_in t (Some (begun_by c)) rs)
+    begins = ap (written_first []) (later (c ∷ [])) ∙ ap (λ (k : Option Run). written_first [] (squashed_in t k rs))
+        (kept_one c)
+
+    -- no series is open
+    abbrev first_step : Bool → Option DocumentItem → Step
+    first_step over found = if over then faulty (BodyTooLong r.head.place) else record {
+      out = [];
+      end = None;
+      run = begun_on s.server p (front_of r.head) frame_bytes found;
+    }
+
+    first_is : (over : Bool) → changes_if [] over (Some entry) ≡ by_step (first_step over (Some entry))
+    first_is true = refl
+    first_is false = begins
+
+    -- a series is open
+    module _ (first : SeriesChange) (more : List SeriesChange) where
+      abbrev joins_if : Bool → Option DocumentItem → Step
+      joins_if same found = if same then record {
+        out = [];
+        end = None;
+        run = Some (longer (kept_run first more) p frame_bytes);
+      } else record {
+        out = run_bytes (kept_run first more);
+        end = None;
+        run = begun_on s.server p (front_of r.head) frame_bytes found;
+      }
+
+      abbrev next_step : Bool → List ℕ → Option DocumentItem → Step
+      next_step over uri found =
+          if over then faulty (BodyTooLong r.head.place) else joins_if (bytes_eq p.uri uri) found
+
+      joins_is : (same : Bool) → written_first (if same then [] else series_written (first ∷ more))
+          (output_in squashing (if same then (first ∷ more) ++ c ∷ [] else c ∷ []) t rs)
+          ≡ by_step (joins_if same (Some entry))
+      joins_is true =
+          ap (written_first []) (later ((first ∷ more) ++ c ∷ []))
+          ∙ ap (λ (k : Option Run). written_first [] (squashed_in t k rs)) (kept_more first more c)
+      joins_is false =
+          ap (λ b. written_first b (output_in squashing (c ∷ []) t rs)) (run_is (first ∷ more))
+          ∙ ap (written_first (run_bytes (kept_run first more))) (later (c ∷ []))
+          ∙ ap (λ (k : Option Run). written_first (run_bytes (kept_run first more)) (squashed_in t k rs)) (kept_one c)
+
+      next_is : (over : Bool) → changes_if (first ∷ more) over (Some entry)
+          ≡ by_step (next_step over first.document.uri (Some entry))
+      next_is true = refl
+      next_is false = joins_is (bytes_eq p.uri first.document.uri)
+
+  abbrev is_over : ChangeData → Bool
+  is_over p = nat_lt s.server.config.limits.max_body (length (canonical_change_body s.server p))
+
+  accepted : (run : List SeriesChange) (p : ChangeData) (entry : DocumentItem)
+      → entry_at s.server.table p.uri ≡ Some entry
+      → by_changes run (Some p) (answered changed) ≡ by_bytes (kept_of run) (Some p) (answered changed)
+  accepted [] p entry is_open =
+      ap (changes_if p entry [] (is_over p)) is_open ∙ first_is p entry (is_over p)
+      ∙ sym (ap (λ (found : Option DocumentItem). by_step (first_step p entry (is_over p) found)) is_open)
+  accepted (first ∷ more) p entry is_open =
+      ap (changes_if p entry (first ∷ more) (is_over p)) is_open ∙ next_is p entry first more (is_over p)
+      ∙ sym (ap (λ uri. by_step (next_step p entry first more (is_over p) uri (Some entry)))
+      (joined_uri first.document (first ∷ more)))
+      ∙ sym (ap (λ (found : Option DocumentItem). by_step (next_step p entry first more (is_over p)
+      (joined first.document (first ∷ more)).uri found)) is_open)
+
+  same : (run : List SeriesChange) (change : Option ChangeData) (verdict : Verdict)
+      → ((p : ChangeData) → change ≡ Some p → verdict ≡ answered changed → IsOpen s p)
+      → by_changes run change verdict ≡ by_bytes (kept_of run) change verdict
+  same run None bad opens = refl
+  same run (Some p) bad opens = refl
+  same run None recorded opens = other run
+  same run (Some p) recorded opens = other run
+  same run None (answered (reply m)) opens = other run
+  same run None (answered changed) opens = other run
+  same run None (answered dropped) opens = other run
+  same run None (answered ignored) opens = other run
+  same run None (answered (refused refusal)) opens = other run
+  same run None (answered (exits status)) opens = other run
+  same run None (answered already_ended) opens = other run
+  same run (Some p) (answered (reply m)) opens = other run
+  same run (Some p) (answered dropped) opens = other run
+  same run (Some p) (answered ignored) opens = other run
+  same run (Some p) (answered (refused refusal)) opens = other run
+  same run (Some p) (answered (exits status)) opens = other run
+  same run (Some p) (answered already_ended) opens = other run
+  same run (Some p) (answered changed) opens =
+      let found = opens p refl refl in
+      accepted run p found.0 found.1
+
+-- ---- all records
+
+abbrev ended : Session → List ℕ → RunOutput
+ended s bytes = record { out = []; stop = None; last = λ line_due. bytes ++ line_if line_due; outcome = outcome_of s }
+
+series_are : (s : Session) (run : List SeriesChange) (rs : List Record) → output_in squashing run s rs
+    ≡ squashed_in s (kept_of run) rs
+series_are s run [] = ap (ended s) (run_is run)
+series_are s run (r ∷ rs) =
+    same s r (judge s r).session rs (λ next. series_are (judge s r).session next rs) run
+    (change_in (incoming_of (reading r.body))) (judge s r).verdict (open_at s r)
+
+-- What is written by the changes of each series is what the code makes.
+pub squashed_is : squashed_steps ≡ squashed
+squashed_is = λ i. λ settings records. sym (series_are (opened (log_config settings)) [] records) i

@@ -1,0 +1,79 @@
+#!/usr/bin/env python3
+"""An editor's end, in Python: client.py SERVER [ARG ..] starts a language server, opens a text in it, changes the text, asks for a hover,
+and quits. It prints the result of the hover, and ends with the server's status."""
+import json
+import subprocess
+import sys
+
+from laspidru import Client, Framer
+
+URI = "file:///tmp/notes.txt"
+CHANGE = {"range": {"start": {"line": 0, "character": 7}, "end": {"line": 0, "character": 10}}, "text": "2"}
+
+
+def answered(body):
+    """The id of the request that a body is the response to, if it is a response."""
+    try:
+        message = json.loads(body)
+    except ValueError:
+        return None
+    return message.get("id") if isinstance(message, dict) and "method" not in message else None
+
+
+class Editor:
+    def __init__(self, command):
+        self.client, self.framer = Client(), Framer()  # positions count UTF-16 units; client.encoding says so too
+        self.asked, self.responses = 0, {}
+        self.server = subprocess.Popen(command, bufsize=0, stdin=subprocess.PIPE, stdout=subprocess.PIPE)
+        self.send(self.client.start())
+        self.read_until(lambda: self.client.phase == "ready")
+
+    def send(self, frame):
+        try:
+            self.server.stdin.write(frame)
+        except BrokenPipeError:
+            sys.exit("the server ended")
+
+    def read_until(self, is_done):
+        while not is_done():
+            data = self.server.stdout.read(65536)
+            if not data:
+                sys.exit("the server ended")
+            for body in self.framer.receive(data):
+                self.take(body)
+
+    def take(self, body):
+        """What is the editor's own is taken here; all else goes to the client."""
+        if isinstance(answered(body), str):
+            self.responses[answered(body)] = json.loads(body)
+            return
+        event = self.client.deliver(body)
+        if event.kind == "send":
+            self.send(event.frame)
+        elif event.kind == "bad-server":
+            sys.exit(f"the server can't be used: code {event.reason}")
+        # "ignored" is a notification of the server, such as diagnostics; "noted" the response to `shutdown`
+
+    def ask(self, method, params):
+        """A request of the editor's own. Its id is a string: 1 and 2 are the client's."""
+        self.asked += 1
+        name = f"own {self.asked}"
+        body = json.dumps({"jsonrpc": "2.0", "id": name, "method": method, "params": params}).encode()
+        self.send(b"Content-Length: %d\r\n\r\n%s" % (len(body), body))
+        self.read_until(lambda: name in self.responses)
+        return self.responses.pop(name)
+
+    def quit(self):
+        self.send(self.client.shutdown())
+        self.read_until(lambda: self.client.phase == "closed")
+        self.send(self.client.exit())
+        return self.server.wait()
+
+
+editor = Editor(sys.argv[1:])
+editor.send(editor.client.open(URI, "plaintext", 1, "one 😀 two\n"))
+editor.send(editor.client.edit(URI, 2, [CHANGE]))
+hover = editor.ask("textDocument/hover", {"textDocument": {"uri": URI}, "position": {"line": 0, "character": 0}})
+print(json.dumps(hover.get("result"), ensure_ascii=False))
+editor.send(editor.client.close(URI))
+sys.exit(editor.quit())
