@@ -38,7 +38,7 @@ step_lines number (s ∷ steps) =
 -- The line that says how many messages wait for the server, and for the client.
 abbrev pub waiting_line : ℕ → ℕ → List ℕ
 waiting_line to_server to_client =
-    (((codes "waiting " ++ decimal to_server) ++ codes " ") ++ decimal to_client) ++ codes "\n"
+    codes "waiting " ++ (decimal to_server ++ (codes " " ++ (decimal to_client ++ codes "\n")))
 
 -- The line of a document: the name of its end, and its object.
 abbrev pub document_line : List ℕ → DocumentItem → List ℕ
