@@ -1,10 +1,12 @@
 -- The words for what happened at a step, as docs/LSPSYNC.md lists them.
-use Rattle.std.specs.Prelude.{ℕ, ◌++◌, List, Some, None, codes, decimal}
+use Rattle.std.specs.Prelude.{ℕ, ◌++◌, List, Option, Some, None, codes, decimal}
 use Rattle.std.specs.Fmt.{signed_decimal}
 use Rattle.lsp_edit.specs.declared.fault.EditFault.TheVariants.{InsideCharacter, ReversedRange}
 use Rattle.lsp_message.specs.Outgoing.{code_of}
 use Rattle.lsp_store.specs.declared.fault.StoreFault.{StoreFault}
 use Rattle.lsp_store.specs.declared.fault.StoreFault.TheVariants.{AlreadyOpen, TooManyDocuments, TextTooLong, NotOpen, StaleVersion, TooManyChanges, Edit, BodyTooLong}
+use Rattle.lsp_message.specs.declared.outgoing.ErrorCode.{ErrorCode}
+use Rattle.lsp_server.specs.declared.answer.Refusal.{Refusal}
 use Rattle.lsp_server.specs.declared.answer.Refusal.TheVariants as refusal
 use Rattle.lsp_client.specs.declared.fault.ClientFault.{ClientFault}
 use Rattle.lsp_client.specs.declared.fault.ClientFault.TheVariants as fault
@@ -55,15 +57,23 @@ refused_words (fault.WrongPhase phase) = codes "refused C1 " ++ phase_name phase
 refused_words (fault.Store why) = codes "refused " ++ refusal_name why
 refused_words fault.NoMemory = codes "refused C3"
 
+-- The words for a reply: its error, if it is one.
+abbrev pub reply_words : Option ErrorCode → List ℕ
+reply_words None = codes "server reply"
+reply_words (Some code) = codes "server error " ++ signed_decimal (code_of code)
+
+-- The words for a notification that the server refused.
+abbrev pub refusal_words : Refusal → List ℕ
+refusal_words refusal.InvalidParams = codes "server refused M4"
+refusal_words (refusal.Store why) = codes "server refused " ++ refusal_name why
+
 -- The words for what the server did with a message.
 abbrev pub did_words : Did → List ℕ
-did_words (did.Reply None) = codes "server reply"
-did_words (did.Reply (Some code)) = codes "server error " ++ signed_decimal (code_of code)
+did_words (did.Reply error) = reply_words error
 did_words did.Changed = codes "server changed"
 did_words did.Dropped = codes "server dropped"
 did_words did.Ignored = codes "server ignored"
-did_words (did.Refused refusal.InvalidParams) = codes "server refused M4"
-did_words (did.Refused (refusal.Store why)) = codes "server refused " ++ refusal_name why
+did_words (did.Refused why) = refusal_words why
 did_words (did.Exit status) = codes "server exit " ++ decimal status
 
 -- The words for what the client did with a message.

@@ -3,10 +3,11 @@
 ghost use Rattle.std.specs.Prelude.{◌≡◌, OnOk};
 ghost use Rattle.std.specs.Io.KnownBytes.{Appends};
 ghost use Rattle.lsp_simulate.specs.Words.{did_words, happened_words, heard_words, refused_words};
-ghost use Rattle.lsp_simulate.specs.Words.{phase_name, reason_name, refusal_name};
+ghost use Rattle.lsp_simulate.specs.Words.{phase_name, reason_name, refusal_name, refusal_words, reply_words};
 
 use lsp_client::{ClientFault, Phase, Reason};
 use lsp_edit::EditFault;
+use lsp_message::ErrorCode;
 use lsp_pair::{Did, Happened, Heard};
 use lsp_server::Refusal;
 use lsp_store::StoreFault;
@@ -42,16 +43,32 @@ fn write_did<W: Write>(output: &mut W, did: Did) -> io::Result<()>
         (Appends (W.contents output.old) (W.contents output.new) (did_words did)) }
 {
     match did {
-        Did::Reply(None) => write!(output, "server reply"),
-        Did::Reply(Some(code)) => write!(output, "server error {}", code.code()),
+        Did::Reply(error) => write_reply(output, error),
         Did::Changed => write!(output, "server changed"),
         Did::Dropped => write!(output, "server dropped"),
         Did::Ignored => write!(output, "server ignored"),
-        Did::Refused(Refusal::InvalidParams) => write!(output, "server refused M4"),
-        Did::Refused(Refusal::Store(fault)) => {
-            write!(output, "server refused {}", refusal_word(fault))
-        }
+        Did::Refused(refusal) => write_refusal(output, refusal),
         Did::Exit(status) => write!(output, "server exit {status}"),
+    }
+}
+
+fn write_reply<W: Write>(output: &mut W, error: Option<ErrorCode>) -> io::Result<()>
+    ensures { OnOk result
+        (Appends (W.contents output.old) (W.contents output.new) (reply_words error)) }
+{
+    match error {
+        None => write!(output, "server reply"),
+        Some(code) => write!(output, "server error {}", code.code()),
+    }
+}
+
+fn write_refusal<W: Write>(output: &mut W, refusal: Refusal) -> io::Result<()>
+    ensures { OnOk result
+        (Appends (W.contents output.old) (W.contents output.new) (refusal_words refusal)) }
+{
+    match refusal {
+        Refusal::InvalidParams => write!(output, "server refused M4"),
+        Refusal::Store(fault) => write!(output, "server refused {}", refusal_word(fault)),
     }
 }
 
