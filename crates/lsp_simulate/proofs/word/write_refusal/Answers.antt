@@ -3,7 +3,7 @@ use Rattle.std.specs.Io.KnownBytes.{Appends}
 use Rattle.lsp_simulate.proofs.word.write_refusal.Goals as goal
 
 pub returns-in-InvalidParams : goal.returns-in-InvalidParams
-returns-in-InvalidParams g c = rw c.in-InvalidParams.is c.write-in-InvalidParams.ensures.bytes
+returns-in-InvalidParams g c = rw c.in-InvalidParams.is c.write.ensures.bytes
 
 pub returns-in-Store : goal.returns-in-Store
 returns-in-Store g c =
