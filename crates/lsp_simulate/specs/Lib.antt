@@ -1,2 +1,4 @@
+pub mod Run
+pub mod Session
 pub mod Words
 pub mod inside

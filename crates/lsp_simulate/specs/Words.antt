@@ -1,12 +1,91 @@
--- The words for what happened in a session, and the status of a run.
-use Rattle.std.specs.Prelude.{ℕ}
-use Rattle.lsp_simulate.specs.declared.run.RunFault.{RunFault}
-use Rattle.lsp_simulate.specs.declared.run.RunFault.TheVariants.{Pair, Read, Write, NoMemory, BadEvent}
+-- The words for what happened at a step, as docs/LSPSYNC.md lists them.
+use Rattle.std.specs.Prelude.{ℕ, ◌++◌, List, Option, Some, None, codes, decimal}
+use Rattle.std.specs.Fmt.{signed_decimal}
+use Rattle.lsp_edit.specs.declared.fault.EditFault.TheVariants.{InsideCharacter, ReversedRange}
+use Rattle.lsp_message.specs.Outgoing.{code_of}
+use Rattle.lsp_store.specs.declared.fault.StoreFault.{StoreFault}
+use Rattle.lsp_store.specs.declared.fault.StoreFault.TheVariants.{AlreadyOpen, TooManyDocuments, TextTooLong, NotOpen, StaleVersion, TooManyChanges, Edit, BodyTooLong}
+use Rattle.lsp_message.specs.declared.outgoing.ErrorCode.{ErrorCode}
+use Rattle.lsp_server.specs.declared.answer.Refusal.{Refusal}
+use Rattle.lsp_server.specs.declared.answer.Refusal.TheVariants as refusal
+use Rattle.lsp_client.specs.declared.fault.ClientFault.{ClientFault}
+use Rattle.lsp_client.specs.declared.fault.ClientFault.TheVariants as fault
+use Rattle.lsp_client.specs.declared.phase.Phase.{Phase}
+use Rattle.lsp_client.specs.declared.phase.Phase.TheVariants.{New, Asked, Ready, Closing, Closed, Done, Failed}
+use Rattle.lsp_client.specs.declared.phase.Reason.{Reason}
+use Rattle.lsp_client.specs.declared.phase.Reason.TheVariants.{NotAnAnswer, ErrorAnswer, NoSync, BadEncoding}
+use Rattle.lsp_pair.specs.declared.event.Did.{Did}
+use Rattle.lsp_pair.specs.declared.event.Did.TheVariants as did
+use Rattle.lsp_pair.specs.declared.event.Heard.{Heard}
+use Rattle.lsp_pair.specs.declared.event.Heard.TheVariants as heard
+use Rattle.lsp_pair.specs.declared.event.Happened.{Happened}
+use Rattle.lsp_pair.specs.declared.event.Happened.TheVariants as happened
 
--- The exit status after a fault.
-abbrev pub status_of : RunFault → ℕ
-status_of (Pair fault) = 2
-status_of Read = 3
-status_of Write = 3
-status_of NoMemory = 4
-status_of (BadEvent line) = 5
+-- The word of a client's phase.
+abbrev pub phase_name : Phase → List ℕ
+phase_name New = codes "new"
+phase_name Asked = codes "asked"
+phase_name Ready = codes "ready"
+phase_name Closing = codes "closing"
+phase_name Closed = codes "closed"
+phase_name Done = codes "done"
+phase_name (Failed reason) = codes "failed"
+
+-- The word for why a server's answer is none that the protocol allows.
+abbrev pub reason_name : Reason → List ℕ
+reason_name NotAnAnswer = codes "not-an-answer"
+reason_name ErrorAnswer = codes "error-answer"
+reason_name NoSync = codes "no-sync"
+reason_name BadEncoding = codes "bad-encoding"
+
+-- The letters of a refusal, as docs/PROTOCOL.md lists them.
+abbrev pub refusal_name : StoreFault → List ℕ
+refusal_name AlreadyOpen = codes "S1"
+refusal_name TooManyDocuments = codes "S2"
+refusal_name TextTooLong = codes "S3"
+refusal_name NotOpen = codes "S4"
+refusal_name (StaleVersion version) = codes "S5"
+refusal_name TooManyChanges = codes "S6"
+refusal_name (Edit (InsideCharacter change side)) = codes "E1"
+refusal_name (Edit (ReversedRange change)) = codes "E2"
+refusal_name (BodyTooLong len) = codes "S8"
+refusal_name fault = codes "S9"
+
+-- The words for a call that the client refused.
+abbrev pub refused_words : ClientFault → List ℕ
+refused_words (fault.WrongPhase phase) = codes "refused C1 " ++ phase_name phase
+refused_words (fault.Store why) = codes "refused " ++ refusal_name why
+refused_words fault.NoMemory = codes "refused C3"
+
+-- The words for a reply: its error, if it is one.
+abbrev pub reply_words : Option ErrorCode → List ℕ
+reply_words None = codes "server reply"
+reply_words (Some code) = codes "server error " ++ signed_decimal (code_of code)
+
+-- The words for a notification that the server refused.
+abbrev pub refusal_words : Refusal → List ℕ
+refusal_words refusal.InvalidParams = codes "server refused M4"
+refusal_words (refusal.Store why) = codes "server refused " ++ refusal_name why
+
+-- The words for what the server did with a message.
+abbrev pub did_words : Did → List ℕ
+did_words (did.Reply error) = reply_words error
+did_words did.Changed = codes "server changed"
+did_words did.Dropped = codes "server dropped"
+did_words did.Ignored = codes "server ignored"
+did_words (did.Refused why) = refusal_words why
+did_words (did.Exit status) = codes "server exit " ++ decimal status
+
+-- The words for what the client did with a message.
+abbrev pub heard_words : Heard → List ℕ
+heard_words heard.Send = codes "client send"
+heard_words heard.Noted = codes "client noted"
+heard_words heard.Ignored = codes "client ignored"
+heard_words (heard.BadServer reason) = codes "client bad-server " ++ reason_name reason
+
+abbrev pub happened_words : Happened → List ℕ
+happened_words happened.Sent = codes "sent"
+happened_words (happened.Refused why) = refused_words why
+happened_words (happened.Server answer) = did_words answer
+happened_words (happened.Client answer) = heard_words answer
+happened_words happened.Nothing = codes "nothing"

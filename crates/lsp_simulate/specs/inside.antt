@@ -1,2 +1,2 @@
 -- Definitions that only private contracts speak of.
-pub mod Words
+pub mod Session

@@ -1,6 +1,7 @@
 //! `lsp_simulate`: both ends of a session of the Language Server Protocol, driven by lines of JSON.
 //!
 //! - `run`: the program over any reader and writers.
+//! - `session`: the steps of a pair, and the lines of output.
 //! - `script`: the event of a line.
 //! - `word`: the words for what happened.
 //! - `command_line`: the words that the program is called with.
@@ -9,11 +10,13 @@
 mod command_line;
 mod run;
 mod script;
+mod session;
 #[cfg(test)]
 mod tests;
 mod word;
 
-use crate::run::{refuse, report, run};
+use crate::run::{refuse, run};
+use lsp_stream::Told;
 use std::io::{BufReader, BufWriter};
 use std::process::ExitCode;
 use std::{env, io};
@@ -32,7 +35,13 @@ fn answer(rt: &HostRuntime) -> io::Result<u8> {
     let alloc = rt.alloc();
     let given: Vec<String> = env::args(rt)?.collect(alloc)?;
     let words: Vec<&str> = given.iter().map(|word| word.as_str()).collect(alloc)?;
-    let input = BufReader::new(alloc, rt.stdin())?;
-    let mut output = BufWriter::new(alloc, rt.stdout())?;
-    Ok(run(alloc, &words, input, &mut output, &mut rt.stderr()))
+    let mut input = BufReader::new(alloc, rt.stdin())?;
+    let output = BufWriter::new(alloc, rt.stdout())?;
+    Ok(run(
+        alloc,
+        &words,
+        &mut input,
+        &mut Told::new(output),
+        &mut rt.stderr(),
+    ))
 }

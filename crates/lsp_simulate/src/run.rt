@@ -1,26 +1,28 @@
 //! The program over any reader and writers.
 
-ghost use Rattle.std.specs.Prelude.{◌≡◌, ◌≢◌, ◌↔◌};
-ghost use Rattle.lsp_simulate.specs.Words.{status_of};
+ghost use Rattle.std.specs.Prelude.{◌≡◌, ◌≢◌, ◌↔◌, ◌⊎◌, ℕ, Result};
+ghost use Rattle.clap.specs.Values.{kind_of};
+ghost use Rattle.clap.specs.declared.error.kind.ErrorKind.TheVariants.{OutOfMemory};
+ghost use Rattle.clap.specs.declared.error.kind.ErrorKind.TheVariants.{DisplayHelp, DisplayVersion};
+ghost use Rattle.lsp_program.specs.Output.{IsHelp};
+ghost use Rattle.lsp_simulate.specs.Run.{IsDone, IsRun, IsSession, help_status, run_fault, session_status, status_of};
+ghost use Rattle.lsp_simulate.specs.declared.run.RunFault.TheVariants.{NoMemory};
 
 use crate::command_line::{Setting, parse};
-use crate::script::{ScriptFault, event_of};
-use crate::word::write_happened;
+use crate::session::simulate;
 use clap::error as clap_error;
-use lsp_message::push_document;
-use lsp_pair::{Pair, PairFault};
+use lsp_pair::PairFault;
 use lsp_program::{BAD_INPUT, OUT_OF_MEMORY, STREAM_FAULT, USAGE, flush, print_help};
-use lsp_store::{Document, Store};
-use lsp_stream::{EngineFault, Told};
+use lsp_stream::{EngineFault, Sink};
 use std::alloc::{AllocError, Global};
-use std::io::{self, BufRead, ErrorKind, Write};
+use std::io::{BufRead, ErrorKind, Write};
 use thiserror::Error;
 
 /// Why a run ended before its input did.
 #[derive(Clone, Copy, Debug, PartialEq, Eq, Error)]
 pub enum RunFault {
     #[error("{0}")]
-    Pair(PairFault),
+    Pair(#[from] PairFault),
     #[error("read fault")]
     Read,
     #[error("write fault")]
@@ -32,13 +34,17 @@ pub enum RunFault {
 }
 
 impl From<AllocError> for RunFault {
+    ghost from_gives = { λ _ fault. fault ≡ NoMemory };
+
     fn from(_: AllocError) -> RunFault {
         RunFault::NoMemory
     }
 }
 
 impl From<EngineFault> for RunFault {
-    /// Returns the fault of help, or of the last flush: nothing is read there.
+    ghost from_gives = { λ fault given. given ≡ run_fault fault };
+
+    /// Returns the fault of output: nothing is read there.
     fn from(fault: EngineFault) -> RunFault {
         match fault {
             EngineFault::NoMemory => RunFault::NoMemory,
@@ -49,120 +55,94 @@ impl From<EngineFault> for RunFault {
 
 /// Runs the program, and returns its exit status. `words` is its command line, the program's name
 /// first. A fault's line is written to `errors`.
-pub fn run<R: BufRead + Drop, W: Write, E: Write>(
+pub fn run<R: BufRead, W: Sink, E: Write>(
     alloc: Global,
     words: &[&str],
-    input: R,
+    input: &mut R,
     output: &mut W,
     errors: &mut E,
-) -> u8 {
-    let setting = match parse(alloc, words) {
-        Ok(Some(setting)) => setting,
-        Ok(None) => return USAGE,
-        Err(error) => return explain(alloc, &error, output, errors),
-    };
-    let ran = simulate(alloc, setting, input, output);
-    let flushed = flush(&mut Told::new(output)).map_err(RunFault::from);
-    match ran.and(flushed) {
-        Ok(()) => 0,
-        Err(fault) => report(fault, errors),
+) -> u8
+    ensures { IsRun (record {
+      left_before = R.remaining input.old;
+      left = R.remaining input.new;
+      before = W.seen output.old;
+      after = W.seen output.new;
+    }) result }
+{
+    let read = parse(alloc, words);
+    perform(alloc, read, input, output, errors)
+}
+
+/// Runs the session that the words ask for. Words that ask for none are explained, and nothing is
+/// read.
+fn perform<R: BufRead, W: Sink, E: Write>(
+    alloc: Global,
+    read: Result<Option<Setting>, clap::Error>,
+    input: &mut R,
+    output: &mut W,
+    errors: &mut E,
+) -> u8
+    ensures { IsDone read (record {
+      left_before = R.remaining input.old;
+      left = R.remaining input.new;
+      before = W.seen output.old;
+      after = W.seen output.new;
+    }) result }
+{
+    match read {
+        Ok(Some(setting)) => run_session(alloc, setting, input, output, errors),
+        Ok(None) => USAGE,
+        Err(error) => explain(alloc, &error, output, errors),
     }
 }
 
-/// Steps a pair by the events of the lines, and writes what happens. At the end it writes how many
-/// frames wait, and the documents of both ends.
-pub fn simulate<R: BufRead + Drop, W: Write>(
+/// Runs a session, and then flushes the output, also after a fault. The first fault is reported.
+fn run_session<R: BufRead, W: Sink, E: Write>(
     alloc: Global,
     setting: Setting,
-    input: R,
+    input: &mut R,
     output: &mut W,
-) -> Result<(), RunFault> {
-    let pair = Pair::new(alloc, setting.limits, setting.offers, setting.config);
-    let mut pair = pair.map_err(RunFault::Pair)?;
-    let mut number = 0u64;
-    for line in input.split(alloc, b'\n') {
-        number = number.saturating_add(1);
-        match line {
-            Ok(bytes) => step(alloc, &mut pair, number, &bytes, output)?,
-            Err(error) => return Err(read_fault(error.kind())),
-        }
-    }
-    write_end(alloc, &pair, output)
-}
-
-/// Makes the step of one line of input, and writes its line of output.
-fn step<W: Write>(
-    alloc: Global,
-    pair: &mut Pair,
-    number: u64,
-    line: &[u8],
-    output: &mut W,
-) -> Result<(), RunFault> {
-    let event = match event_of(alloc, line) {
-        Ok(event) => event,
-        Err(ScriptFault::BadEvent) => return Err(RunFault::BadEvent { line: number }),
-        Err(ScriptFault::NoMemory) => return Err(RunFault::NoMemory),
-    };
-    let happened = pair.step(&event)?;
-    written(write!(output, "{number} "))?;
-    written(write_happened(output, happened))?;
-    written(writeln!(output))
-}
-
-fn write_end<W: Write>(alloc: Global, pair: &Pair, output: &mut W) -> Result<(), RunFault> {
-    let (to_server, to_client) = pair.waiting();
-    written(writeln!(output, "waiting {to_server} {to_client}"))?;
-    write_documents(alloc, "client", pair.client().store(), output)?;
-    write_documents(alloc, "server", pair.server().store(), output)
-}
-
-/// Writes a line for each document of an end, in order of opening.
-fn write_documents<W: Write>(
-    alloc: Global,
-    end: &str,
-    store: &Store,
-    output: &mut W,
-) -> Result<(), RunFault> {
-    for document in store {
-        let line = document_line(alloc, &document)?;
-        written(write!(output, "{end} "))?;
-        written(output.write_all(&line))?;
-        written(writeln!(output))?;
-    }
-    Ok(())
-}
-
-/// Returns a document as one line of JSON.
-fn document_line(alloc: Global, document: &Document<'_>) -> Result<Vec<u8>, AllocError> {
-    let mut line = Vec::new(alloc);
-    let (uri, language) = (document.uri(), document.language());
-    let text = document.text().to_string(alloc)?;
-    push_document(&mut line, uri, language, document.version(), &text)?;
-    Ok(line)
-}
-
-fn read_fault(kind: ErrorKind) -> RunFault
-    ensures memory { (result ≡ RunFault.NoMemory) ↔ (kind ≡ ErrorKind.OutOfMemory) }
-    ensures read { (result ≡ RunFault.Read) ↔ (kind ≢ ErrorKind.OutOfMemory) }
+    errors: &mut E,
+) -> u8
+    ensures session { IsSession setting (W.seen output.old) (W.seen output.new) result }
 {
-    match kind {
-        ErrorKind::OutOfMemory => RunFault::NoMemory,
-        _ => RunFault::Read,
-    }
+    let ran = simulate(alloc, setting, input, output);
+    let flushed = flush(output);
+    end_session(ran, flushed, errors)
 }
 
-fn written(written: io::Result<()>) -> Result<(), RunFault> {
-    written.map_err(|_| RunFault::Write)
+/// Ends with status 0, or reports the first fault.
+fn end_session<E: Write>(
+    ran: Result<(), RunFault>,
+    flushed: Result<(), EngineFault>,
+    errors: &mut E,
+) -> u8
+    ensures { result ≡ session_status ran flushed }
+{
+    match (ran, flushed) {
+        (Ok(()), Ok(())) => 0,
+        (Ok(()), Err(fault)) => report(RunFault::from(fault), errors),
+        (Err(fault), _) => report(fault, errors),
+    }
 }
 
 /// Prints the text of `clap`'s error: help to the output, and a usage fault to the errors. Returns
 /// the status.
-fn explain<W: Write, E: Write>(
+fn explain<W: Sink, E: Write>(
     alloc: Global,
     error: &clap::Error,
     output: &mut W,
     errors: &mut E,
-) -> u8 {
+) -> u8
+    ensures memory { kind_of error.now ≡ OutOfMemory →
+        (W.seen output.new ≡ W.seen output.old) × (result ≡ 4) }
+    ensures mistake { kind_of error.now ≢ OutOfMemory → kind_of error.now ≢ DisplayHelp
+        → kind_of error.now ≢ DisplayVersion →
+        (W.seen output.new ≡ W.seen output.old) × (result ≡ 2) }
+    ensures help { (kind_of error.now ≡ DisplayHelp) ⊎ (kind_of error.now ≡ DisplayVersion)
+        → (answer : Result ℕ EngineFault)
+        × IsHelp (W.seen output.old) (W.seen output.new) answer × (result ≡ help_status answer) }
+{
     if error.kind() == clap_error::ErrorKind::OutOfMemory {
         return report(RunFault::NoMemory, errors);
     }
@@ -170,7 +150,15 @@ fn explain<W: Write, E: Write>(
         let _ = write!(errors, "{error}");
         return USAGE;
     }
-    match print_help(alloc, error, &mut Told::new(output)) {
+    let answer = print_help(alloc, error, output);
+    end_help(answer, errors)
+}
+
+/// Ends with the status of help, or reports why it couldn't be written.
+fn end_help<E: Write>(answer: Result<u8, EngineFault>, errors: &mut E) -> u8
+    ensures { result ≡ help_status answer }
+{
+    match answer {
         Ok(status) => status,
         Err(fault) => report(RunFault::from(fault), errors),
     }

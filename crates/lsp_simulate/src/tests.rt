@@ -4,6 +4,7 @@ mod events;
 mod faults;
 
 use crate::run::run;
+use lsp_stream::Told;
 use std::alloc::Global;
 use std::io::Cursor;
 
@@ -16,18 +17,18 @@ struct Answer {
 }
 
 fn ran(alloc: Global, words: &[&str], input: &str) -> Answer {
-    let mut output = Vec::new(alloc);
+    let mut output = Told::new(Vec::new(alloc));
     let mut errors = Vec::new(alloc);
     let status = run(
         alloc,
         words,
-        Cursor::new(input.as_bytes()),
+        &mut Cursor::new(input.as_bytes()),
         &mut output,
         &mut errors,
     );
     Answer {
         status,
-        output,
+        output: output.into_inner(),
         errors,
     }
 }

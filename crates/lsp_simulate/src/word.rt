@@ -1,17 +1,23 @@
 //! The words for what happened in a session.
 
-ghost use Rattle.std.specs.Prelude.{◌≡◌};
-ghost use Rattle.lsp_simulate.specs.inside.Words.{phase_name, reason_name, refusal_name};
+ghost use Rattle.std.specs.Prelude.{◌≡◌, OnOk};
+ghost use Rattle.std.specs.Io.KnownBytes.{Appends};
+ghost use Rattle.lsp_simulate.specs.Words.{did_words, happened_words, heard_words, refused_words};
+ghost use Rattle.lsp_simulate.specs.Words.{phase_name, reason_name, refusal_name, refusal_words, reply_words};
 
 use lsp_client::{ClientFault, Phase, Reason};
 use lsp_edit::EditFault;
+use lsp_message::ErrorCode;
 use lsp_pair::{Did, Happened, Heard};
 use lsp_server::Refusal;
 use lsp_store::StoreFault;
 use std::io::{self, Write};
 
 /// Writes the words for what happened.
-pub fn write_happened<W: Write>(output: &mut W, happened: Happened) -> io::Result<()> {
+pub fn write_happened<W: Write>(output: &mut W, happened: Happened) -> io::Result<()>
+    ensures { OnOk result
+        (Appends (W.contents output.old) (W.contents output.new) (happened_words happened)) }
+{
     match happened {
         Happened::Sent => write!(output, "sent"),
         Happened::Refused(fault) => write_refused(output, fault),
@@ -21,7 +27,10 @@ pub fn write_happened<W: Write>(output: &mut W, happened: Happened) -> io::Resul
     }
 }
 
-fn write_refused<W: Write>(output: &mut W, fault: ClientFault) -> io::Result<()> {
+fn write_refused<W: Write>(output: &mut W, fault: ClientFault) -> io::Result<()>
+    ensures { OnOk result
+        (Appends (W.contents output.old) (W.contents output.new) (refused_words fault)) }
+{
     match fault {
         ClientFault::WrongPhase { phase } => write!(output, "refused C1 {}", phase_word(phase)),
         ClientFault::Store(fault) => write!(output, "refused {}", refusal_word(fault)),
@@ -29,22 +38,44 @@ fn write_refused<W: Write>(output: &mut W, fault: ClientFault) -> io::Result<()>
     }
 }
 
-fn write_did<W: Write>(output: &mut W, did: Did) -> io::Result<()> {
+fn write_did<W: Write>(output: &mut W, did: Did) -> io::Result<()>
+    ensures { OnOk result
+        (Appends (W.contents output.old) (W.contents output.new) (did_words did)) }
+{
     match did {
-        Did::Reply(None) => write!(output, "server reply"),
-        Did::Reply(Some(code)) => write!(output, "server error {}", code.code()),
+        Did::Reply(error) => write_reply(output, error),
         Did::Changed => write!(output, "server changed"),
         Did::Dropped => write!(output, "server dropped"),
         Did::Ignored => write!(output, "server ignored"),
-        Did::Refused(Refusal::InvalidParams) => write!(output, "server refused M4"),
-        Did::Refused(Refusal::Store(fault)) => {
-            write!(output, "server refused {}", refusal_word(fault))
-        }
+        Did::Refused(refusal) => write_refusal(output, refusal),
         Did::Exit(status) => write!(output, "server exit {status}"),
     }
 }
 
-fn write_heard<W: Write>(output: &mut W, heard: Heard) -> io::Result<()> {
+fn write_reply<W: Write>(output: &mut W, error: Option<ErrorCode>) -> io::Result<()>
+    ensures { OnOk result
+        (Appends (W.contents output.old) (W.contents output.new) (reply_words error)) }
+{
+    match error {
+        None => write!(output, "server reply"),
+        Some(code) => write!(output, "server error {}", code.code()),
+    }
+}
+
+fn write_refusal<W: Write>(output: &mut W, refusal: Refusal) -> io::Result<()>
+    ensures { OnOk result
+        (Appends (W.contents output.old) (W.contents output.new) (refusal_words refusal)) }
+{
+    match refusal {
+        Refusal::InvalidParams => write!(output, "server refused M4"),
+        Refusal::Store(fault) => write!(output, "server refused {}", refusal_word(fault)),
+    }
+}
+
+fn write_heard<W: Write>(output: &mut W, heard: Heard) -> io::Result<()>
+    ensures { OnOk result
+        (Appends (W.contents output.old) (W.contents output.new) (heard_words heard)) }
+{
     match heard {
         Heard::Send => write!(output, "client send"),
         Heard::Noted => write!(output, "client noted"),

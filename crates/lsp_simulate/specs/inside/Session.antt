@@ -1,0 +1,36 @@
+-- A session on its way.
+use Rattle.std.specs.Prelude.{ℕ, ◌≡◌, ◌++◌, ◌∷◌, [], List, Option}
+use Rattle.std.specs.Io.KnownBytes.{Appends}
+use Rattle.lsp_message.specs.Params.{DocumentItem}
+use Rattle.lsp_pair.specs.declared.event.Happened.{Happened}
+use Rattle.lsp_pair.specs.Events.{EventData}
+use Rattle.lsp_pair.specs.Pair.{PairData, IsStep, new_pair}
+use Rattle.lsp_simulate.specs.declared.command_line.Setting.{Setting}
+use Rattle.lsp_simulate.specs.Session.{Step, AreSteps, document_lines, next_number, pair_setting, step_line, step_lines}
+
+-- A step was made, and this is its line.
+pub record IsStepLine (old new : PairData) (number : ℕ) (line : List ℕ) : Type 0 where
+  pub event : EventData
+  pub happened : Happened
+  pub is_step : IsStep old event happened new
+  pub is : line ≡ step_line number happened
+
+-- The number of the last line of these steps.
+abbrev pub last_number : ℕ → List Step → ℕ
+last_number number [] = number
+last_number number (s ∷ steps) = last_number (next_number number) steps
+
+-- The lines of some steps were written, the last with this number.
+pub record IsUnderWay (setting : Setting) (old new : Option (List ℕ)) (number : ℕ)
+    (pair : PairData) : Type 0 where
+  pub steps : List Step
+  pub are_steps : AreSteps (new_pair (pair_setting setting)) steps pair
+  pub last : number ≡ last_number 0 steps
+  pub written : Appends old new (step_lines 0 steps)
+
+-- The lines of some first documents were written, and these are left.
+pub record AreUnderWay (end : List ℕ) (all : List DocumentItem) (old new : Option (List ℕ))
+    (left : List DocumentItem) : Type 0 where
+  pub lines : List ℕ
+  pub written : Appends old new lines
+  pub rest : lines ++ document_lines end left ≡ document_lines end all
