@@ -1,6 +1,10 @@
 """A server's standard input and output, as frames of JSON-RPC."""
 import json
 import subprocess
+import threading
+
+# A server that is silent for so many seconds is ended.
+LIMIT = 60
 
 
 class Wire:
@@ -19,13 +23,21 @@ class Wire:
         self.send(method=method, params=params)
 
     def receive(self):
+        watch = threading.Timer(LIMIT, self.process.kill)
+        watch.start()
+        try:
+            return json.loads(self.body())
+        finally:
+            watch.cancel()
+
+    def body(self):
         length = None
         while line := self.process.stdout.readline().strip():
             if line.lower().startswith(b"content-length:"):
                 length = int(line.split(b":")[1])
         if length is None:
-            raise EOFError("the server ended")
-        return json.loads(self.process.stdout.read(length))
+            raise EOFError("the server ended, or was silent for too long")
+        return self.process.stdout.read(length)
 
     def request(self, method, params):
         """Returns the response; answers what the server requests before it."""
