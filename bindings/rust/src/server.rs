@@ -44,7 +44,8 @@ impl Default for Settings {
 pub enum EncodingChoice {
     /// The preferred one where the client offers it, else UTF-16.
     Negotiated { prefer: Encoding },
-    /// This one, whatever the client offers.
+    /// This one, whatever the client offers. LSP 3.17 allows one that was offered, or UTF-16: fix another only for logs, or where you
+    /// write the editor too.
     Fixed(Encoding),
 }
 
