@@ -1,5 +1,5 @@
 -- The lexemes of the parts of a change in its usual layout.
-use Rattle.std.proofs.Common.{◌≡◌, ℕ, List, [], ◌∷◌, ◌++◌, take, drop, length, get_or, true, false, Option, Some, None, ◌≤◌, ◌<◌, refl, sym, ap, ap₂, ◌∙◌, arith, codes, ◌==◌, ◌⊎◌, inl, inr, get_or-take, length-take-le, take-append-drop}
+use Rattle.std.proofs.Common.{◌≡◌, ℕ, List, [], ◌∷◌, ◌++◌, take, drop, length, get_or, true, false, Option, Some, None, ◌≤◌, ◌<◌, refl, sym, ap, ap₂, ◌∙◌, arith, codes, ◌==◌, ◌⊎◌, inl, inr, get_or-take, length-take-le, take-append-drop, drop-cons, suc}
 use Rattle.std.proofs.lemmas.Bool.{or_cases, eqb-true}
 use Rattle.std.specs.Prelude.{◌||◌, IfSome, not}
 use Rattle.json.specs.Token.{begin_object, end_object, begin_array, end_array, string, number}
@@ -34,8 +34,19 @@ unfolding lex
 no_bytes [] e = refl
 no_bytes (x ∷ xs) e = let never : ⊥ = omega (arith, eqb-true (length (x ∷ xs)) 0 e) in absurd never
 
-pub one_shorter : (text rest : List ℕ) (byte : ℕ) → text ≡ byte ∷ rest → length rest < length text
-one_shorter text rest byte is = omega (arith, ap length is)
+-- what is left after a blank means the same
+pub blank_read : (text : List ℕ) (i : ℕ) → i < length text → (get_or text i 0 == 32 || get_or text i 0 == 10) ≡ true
+    → lex between (drop (suc i) text) ≡ lex between (drop i text)
+blank_read text i within blank =
+    by_case (or_cases (get_or text i 0 == 32) (get_or text i 0 == 10) blank) where
+    split : drop i text ≡ get_or text i 0 ∷ drop (suc i) text
+    split = drop-cons text i 0 within
+    by_case : ((get_or text i 0 == 32) ≡ true) ⊎ ((get_or text i 0 == 10) ≡ true)
+        → lex between (drop (suc i) text) ≡ lex between (drop i text)
+    by_case (inl e) = sym (ap (lex between) (split ∙ ap (λ x. x ∷ drop (suc i) text) (eqb-true (get_or text i 0) 32 e))
+        ∙ space_read (drop (suc i) text))
+    by_case (inr e) = sym (ap (lex between) (split ∙ ap (λ x. x ∷ drop (suc i) text) (eqb-true (get_or text i 0) 10 e))
+        ∙ line_feed_read (drop (suc i) text))
 
 -- ---- pieces
 

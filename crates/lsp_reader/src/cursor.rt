@@ -3,7 +3,7 @@
 //! A call returns `None` where the text goes on otherwise. The text may be JSON all the same, and
 //! is then read by its tokens.
 
-ghost use Rattle.std.specs.Prelude.{◌≡◌, ◌∷◌, ◌++◌, ◌<◌, ◌≤◌, [], length, take, IfSome, IsTrue, true};
+ghost use Rattle.std.specs.Prelude.{◌≡◌, ◌∷◌, ◌++◌, ◌||◌, ◌==◌, ◌≤◌, [], drop, length, take, IfSome, IsTrue, true};
 ghost use Rattle.json.specs.Print.{escape};
 ghost use Rattle.json.specs.Run.{is_stop};
 ghost use Rattle.json.specs.Token.{string};
@@ -116,23 +116,32 @@ fn after_blanks(text: &str) -> &str
 fn skip_blanks(text: &str) -> &str
     ensures { lex between text.now ≡ lex between result.now }
 {
-    let mut rest = text;
-    'blanks: while let Some(next) = after_blank(rest) {
-        rest = next;
+    match text.split_at_checked(blanks_len(text.as_bytes())) {
+        Some((_, rest)) => rest,
+        None => text,
     }
-    rest
 }
 
-/// Returns the text after one space or line feed.
-#[inline(always)]
-fn after_blank(text: &str) -> Option<&str>
-    ensures blank { IfSome result (λ rest. lex between text.now ≡ lex between rest.now) }
-    ensures shorter { IfSome result (λ rest. length rest.now < length text.now) }
+/// Returns the number of spaces and line feeds at the beginning.
+fn blanks_len(text: &[u8]) -> usize
+    ensures { lex between (drop result text.now) ≡ lex between text.now }
 {
-    match after(text, " ") {
-        Some(rest) => Some(rest),
-        None => after(text, "\n"),
+    let mut len = 0;
+    for byte in text {
+        if !is_blank(*byte) {
+            return len;
+        }
+        len += 1;
     }
+    len
+}
+
+/// Returns whether a byte is a space or a line feed.
+#[inline(always)]
+fn is_blank(byte: u8) -> bool
+    ensures { result ≡ (byte == 32 || byte == 10) }
+{
+    (byte == b' ') | (byte == b'\n')
 }
 
 /// Returns the number of bytes before the first that a string has only as an escape, or its end.
