@@ -18,11 +18,11 @@ mod draft;
 
 use crate::change::{Change, MAX_NEW_TEXT};
 use crate::composed::{MAX_OLD_TEXT, compose_old};
-use crate::delta::Delta;
+use crate::delta::{Delta, Put};
 use crate::ends::ends;
 use crate::fault::EditFault;
 use crate::joined::layer::Layer;
-use crate::joined::{Joined, RUN};
+use crate::joined::{Joined, SERIES};
 use crate::old_text::OldText;
 use crate::pieces::canonical::canonical_of;
 use crate::pieces::{MAX_TEXT, Pieces};
@@ -208,6 +208,7 @@ impl IndexedText {
             → map edit_of changes.now ≡ alone range text → IsOk (text_within max_len self.old
             (meaning (units_in encoding) (chars self.old) (map edit_of changes.now))) }
     {
+        // `?` isn't proved at a value that holds a `&str` beside a struct with a model.
         match self.delta(encoding, changes, max_len) {
             Ok(delta) => {
                 self.apply(delta)?;
@@ -241,12 +242,12 @@ impl IndexedText {
         if len - (stop - start) + new.len() > max_len {
             return Err(TextFault::TooLong);
         }
-        Ok(Delta::Put {
+        Ok(Delta::Put(Put {
             encoding,
             start,
             stop,
             new,
-        })
+        }))
     }
 
     /// Resolves a batch by the text that it leaves.
@@ -311,12 +312,7 @@ impl IndexedText {
         ensures unchanged { OnErr result (self.new ≡ self.old) }
     {
         match delta {
-            Delta::Put {
-                start,
-                stop,
-                new,
-                ..
-            } => self.text.replace_range(start, stop, new),
+            Delta::Put(put) => self.text.replace_range(put.start, put.stop, put.new),
             Delta::Left { left, .. } => {
                 *self = left;
                 Ok(())
@@ -329,7 +325,7 @@ impl IndexedText {
     ///
     /// It has the errors of [`IndexedText::change`], and changes nothing. Costs what each change
     /// costs to apply, and one exact position for each end of a changed gap. Some thousand changes
-    /// are composed in runs, each of which costs some copies of the text. If that fails they are
+    /// are composed in series, each of which costs some copies of the text. If that fails they are
     /// composed once more, to find the error.
     pub fn canonical(
         &self,
@@ -346,7 +342,7 @@ impl IndexedText {
             ⊎ (text_within max_len self.now
             (meaning (units_in encoding) (chars self.now) (map edit_of changes.now)) ≡ Err fault)) }
     {
-        if changes.len() >= 2 * RUN {
+        if changes.len() >= 2 * SERIES {
             let alloc = *self.allocator();
             if let Ok(joined) = Joined::of_batch(alloc, encoding, self, changes, max_len) {
                 return Ok(joined.canonical(encoding)?);
