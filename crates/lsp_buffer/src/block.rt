@@ -10,7 +10,7 @@ ghost use Rattle.lsp_text.specs.Units.{units_in};
 ghost use Rattle.lsp_text.specs.Positions.{exact_position, denoted};
 ghost use Rattle.lsp_buffer.specs.Blocks.{head_of, head_after};
 
-use crate::leaf::Leaf;
+use crate::shared_text::SharedText;
 use lsp_text::{Encoding, InsideCharacter, Lines, Position};
 use std::alloc::{AllocError, Global};
 use std::marker::Model;
@@ -20,7 +20,7 @@ use std::sync::Arc;
 /// text. Copies of the text share it, until one of them changes it. Clauses see its bytes.
 #[derive(Debug, Drop)]
 pub struct Block {
-    leaf: Arc<Leaf>,
+    shared: Arc<SharedText>,
 }
 
 impl Model for Block {
@@ -29,7 +29,7 @@ impl Model for Block {
 
     ghost Value = { List ℕ };
 
-    ghost view = { λ block. arc_value block.leaf };
+    ghost view = { λ block. arc_value block.shared };
 }
 
 impl Block {
@@ -38,8 +38,8 @@ impl Block {
         requires { string_len text ≤ 2147483648 }
         ensures { IfOk result (λ block. block ≡ string_bytes text) }
     {
-        let leaf = Arc::new(alloc, Leaf::new(alloc, text)?)?;
-        Ok(Block { leaf })
+        let shared = Arc::new(alloc, SharedText::new(alloc, text)?)?;
+        Ok(Block { shared })
     }
 
     /// Copies a text and finds its lines. Fails only if it is out of memory.
@@ -55,22 +55,22 @@ impl Block {
     pub fn share(&self) -> Result<Self, AllocError>
         ensures { IfOk result (λ block. block ≡ self.now) }
     {
-        let leaf = Arc::try_clone(&self.leaf)?;
-        Ok(Block { leaf })
+        let shared = Arc::try_clone(&self.shared)?;
+        Ok(Block { shared })
     }
 
     /// Returns the text.
     pub fn text(&self) -> &str
         ensures { result.now ≡ self.now }
     {
-        self.leaf.text()
+        self.shared.text()
     }
 
     /// Returns its lines.
     fn lines(&self) -> &Lines
         ensures { Indexes result.now self.now }
     {
-        self.leaf.lines()
+        self.shared.lines()
     }
 
     /// Returns how many bytes it has.
@@ -155,7 +155,7 @@ impl Block {
         ensures changed { OnOk result (self.new ≡ replace_range self.old start end new.now) }
         ensures unchanged { OnErr result (self.new ≡ self.old) }
     {
-        Arc::make_mut(&mut self.leaf)?.replace_range(start, end, new)
+        Arc::make_mut(&mut self.shared)?.replace_range(start, end, new)
     }
 }
 
