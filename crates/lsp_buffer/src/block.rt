@@ -16,8 +16,9 @@ use std::alloc::{AllocError, Global};
 use std::marker::Model;
 use std::sync::Arc;
 
-/// A part of a text, with the lines of that part alone. It may begin and end inside a line of the
-/// text. Copies of the text share it, until one of them changes it. Clauses see its bytes.
+/// A counted reference to a part of a text, with the lines of that part alone. It may begin and end
+/// inside a line of the text. Copies of the text share the part, until one of them changes it.
+/// Clauses see its bytes.
 #[derive(Debug, Drop)]
 pub struct Block {
     shared: Arc<SharedText>,
@@ -50,8 +51,8 @@ impl Block {
         Block::new(alloc, String::from_str(alloc, text)?)
     }
 
-    /// Returns the same block, which both share. Costs nothing of its text, and fails only if so
-    /// many share it that they can't be counted.
+    /// Returns the same block, which both share. Costs nothing of its text. Fails only if it is
+    /// shared by some 2^63 blocks, which counts as out of memory.
     pub fn share(&self) -> Result<Self, AllocError>
         ensures { IfOk result (λ block. block ≡ self.now) }
     {

@@ -35,8 +35,11 @@ use std::ops::Range;
 #[derive(Debug, Drop)]
 pub struct TextBuffer {
     blocks: Vec<Block>,
+    // The first byte of each block.
     starts: Vec<u32>,
+    // The line that each block begins in.
     lines: Vec<u32>,
+    // The units before each block in that line.
     heads: Heads,
 }
 
@@ -56,7 +59,7 @@ impl Model for TextBuffer {
 
 impl TextBuffer {
     /// Takes a text of at most 2,147,483,648 bytes, without a copy. Fails only if it is out of
-    /// memory. Linear in the text, which is one chunk until its first change.
+    /// memory. Linear in the text, which is one block until its first change.
     pub fn new(alloc: Global, text: String) -> Result<Self, AllocError>
         requires { string_len text ≤ 2147483648 }
         ensures { IfOk result (λ buffer. buffer ≡ string_bytes text) }
@@ -252,7 +255,8 @@ impl TextBuffer {
         &block.text()[offset - self.starts[index] as usize..]
     }
 
-    /// Returns the part of the text from `offset` to `end`, or to the end of the chunk before it.
+    /// Returns the part of the text from `offset` to `end`, or to the end of its block if that comes
+    /// first.
     pub fn chunk_to(&self, offset: usize, end: usize) -> &str
         requires order { offset ≤ end }
         requires at_offset { IsCharBoundary self.now offset }
@@ -302,7 +306,7 @@ impl TextBuffer {
         Ok(())
     }
 
-    /// Returns the text without a copy, if it is in one chunk.
+    /// Returns the text without a copy, if it is in one block.
     pub fn as_str(&self) -> Option<&str>
         ensures { IfSome result (λ text. text.now ≡ self.now) }
     {

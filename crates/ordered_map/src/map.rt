@@ -29,8 +29,11 @@ const MAX_VACANT: usize = 64;
 #[derive(Debug, Drop)]
 pub struct OrderedMap<V> {
     slots: Vec<Slot<V>>,
+    // The slot of each key.
     places: HashMap<String, usize>,
+    // How many of each 256 slots have an entry.
     counts: Vec<usize>,
+    // How many entries there are.
     live: usize,
 }
 
