@@ -10,17 +10,18 @@ ghost use Rattle.lsp_text.specs.Units.{units_in};
 ghost use Rattle.lsp_text.specs.Positions.{exact_position, denoted};
 ghost use Rattle.lsp_buffer.specs.Blocks.{head_of, head_after};
 
-use crate::leaf::Leaf;
+use crate::shared_text::SharedText;
 use lsp_text::{Encoding, InsideCharacter, Lines, Position};
 use std::alloc::{AllocError, Global};
 use std::marker::Model;
 use std::sync::Arc;
 
-/// A part of a text, with the lines of that part alone. It may begin and end inside a line of the
-/// text. Copies of the text share it, until one of them changes it. Clauses see its bytes.
+/// A counted reference to a part of a text, with the lines of that part alone. It may begin and end
+/// inside a line of the text. Copies of the text share the part, until one of them changes it.
+/// Clauses see its bytes.
 #[derive(Debug, Drop)]
 pub struct Block {
-    leaf: Arc<Leaf>,
+    shared: Arc<SharedText>,
 }
 
 impl Model for Block {
@@ -29,7 +30,7 @@ impl Model for Block {
 
     ghost Value = { List ℕ };
 
-    ghost view = { λ block. arc_value block.leaf };
+    ghost view = { λ block. arc_value block.shared };
 }
 
 impl Block {
@@ -38,8 +39,8 @@ impl Block {
         requires { string_len text ≤ 2147483648 }
         ensures { IfOk result (λ block. block ≡ string_bytes text) }
     {
-        let leaf = Arc::new(alloc, Leaf::new(alloc, text)?)?;
-        Ok(Block { leaf })
+        let shared = Arc::new(alloc, SharedText::new(alloc, text)?)?;
+        Ok(Block { shared })
     }
 
     /// Copies a text and finds its lines. Fails only if it is out of memory.
@@ -50,27 +51,27 @@ impl Block {
         Block::new(alloc, String::from_str(alloc, text)?)
     }
 
-    /// Returns the same block, which both share. Costs nothing of its text, and fails only if so
-    /// many share it that they can't be counted.
+    /// Returns the same block, which both share. Costs nothing of its text. Fails only if it is
+    /// shared by some 2^63 blocks, which counts as out of memory.
     pub fn share(&self) -> Result<Self, AllocError>
         ensures { IfOk result (λ block. block ≡ self.now) }
     {
-        let leaf = Arc::try_clone(&self.leaf)?;
-        Ok(Block { leaf })
+        let shared = Arc::try_clone(&self.shared)?;
+        Ok(Block { shared })
     }
 
     /// Returns the text.
     pub fn text(&self) -> &str
         ensures { result.now ≡ self.now }
     {
-        self.leaf.text()
+        self.shared.text()
     }
 
     /// Returns its lines.
     fn lines(&self) -> &Lines
         ensures { Indexes result.now self.now }
     {
-        self.leaf.lines()
+        self.shared.lines()
     }
 
     /// Returns how many bytes it has.
@@ -155,7 +156,7 @@ impl Block {
         ensures changed { OnOk result (self.new ≡ replace_range self.old start end new.now) }
         ensures unchanged { OnErr result (self.new ≡ self.old) }
     {
-        Arc::make_mut(&mut self.leaf)?.replace_range(start, end, new)
+        Arc::make_mut(&mut self.shared)?.replace_range(start, end, new)
     }
 }
 

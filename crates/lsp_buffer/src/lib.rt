@@ -3,7 +3,8 @@
 //! - `text_buffer`: `TextBuffer`, the blocks and, beside them, the first byte and the first line of
 //!   each. `change` replaces bytes inside a block, or in several, which are cut again.
 //! - `block`: `Block`, a few kilobytes of the text with their lines, which copies of the text share.
-//!   A change copies a block first that is shared. `leaf` is what they share.
+//!   A change copies a block first that is shared.
+//! - `shared_text`: `SharedText`, what is shared: a string and its lines.
 //! - `in_place`: one change of a text and its lines, without a copy of the rest.
 //! - `cut`: a text is cut into blocks, after line feeds or inside a long line.
 //! - `sums`: the first bytes and first lines, kept as sums, and the search in them.
@@ -15,8 +16,8 @@ mod block;
 mod cut;
 mod heads;
 mod in_place;
-mod leaf;
 mod seams;
+mod shared_text;
 mod sums;
 mod text_buffer;
 

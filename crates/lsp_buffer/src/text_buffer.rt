@@ -31,14 +31,18 @@ use std::ops::Range;
 /// A text of at most 2,147,483,648 bytes in blocks of some kilobytes each. A change costs its
 /// block, and an addition for each later block. That is so in long lines too: a line may be in
 /// many blocks, and one of many megabytes costs what many lines cost. (A run of carriage returns
-/// alone is never cut.)
+/// alone is never cut.) The first change of a text that [`TextBuffer::new`] took costs the text
+/// once: it is cut into blocks then.
 ///
 /// Clauses see the bytes of the text.
 #[derive(Debug, Drop)]
 pub struct TextBuffer {
     blocks: Vec<Block>,
+    // The first byte of each block.
     starts: Vec<u32>,
+    // The line that each block begins in.
     lines: Vec<u32>,
+    // The units before each block in that line.
     heads: Heads,
 }
 
@@ -58,7 +62,7 @@ impl Model for TextBuffer {
 
 impl TextBuffer {
     /// Takes a text of at most 2,147,483,648 bytes, without a copy. Fails only if it is out of
-    /// memory. Linear in the text, which is one chunk until its first change.
+    /// memory. Linear in the text, which is one block until its first change.
     pub fn new(alloc: Global, text: String) -> Result<Self, AllocError>
         requires { string_len text ≤ 2147483648 }
         ensures { IfOk result (λ buffer. buffer ≡ string_bytes text) }
@@ -69,7 +73,7 @@ impl TextBuffer {
     }
 
     /// Copies a text of at most 2,147,483,648 bytes. Fails only if it is out of memory. Linear in
-    /// the text.
+    /// the text, which is cut into blocks at once.
     pub fn from_str(alloc: Global, text: &str) -> Result<Self, AllocError>
         requires { length text.now ≤ 2147483648 }
         ensures { IfOk result (λ buffer. buffer ≡ text.now) }
@@ -252,7 +256,8 @@ impl TextBuffer {
         &block.text()[offset - self.starts[index] as usize..]
     }
 
-    /// Returns the part of the text from `offset` to `end`, or to the end of the chunk before it.
+    /// Returns the part of the text from `offset` to `end`, or to the end of its block if that is
+    /// nearer.
     pub fn chunk_to(&self, offset: usize, end: usize) -> &str
         requires order { offset ≤ end }
         requires at_offset { IsCharBoundary self.now offset }
@@ -302,7 +307,7 @@ impl TextBuffer {
         Ok(())
     }
 
-    /// Returns the text without a copy, if it is in one chunk.
+    /// Returns the text without a copy, if it is in one block.
     pub fn as_str(&self) -> Option<&str>
         ensures { IfSome result (λ text. text.now ≡ self.now) }
     {
@@ -364,7 +369,8 @@ impl TextBuffer {
     ///
     /// Costs the new text, the blocks of the two ends, and an addition for each later block. Blocks
     /// are cut again if the ends are in two of them, or if one gets too long, and one that gets
-    /// short is joined with the next: then the sums of all blocks are built anew.
+    /// short is joined with the next: then the sums of all blocks are built anew. The one block of
+    /// [`TextBuffer::new`] is too long from 8 kilobytes on: its first change costs the text once.
     pub fn replace_range(&mut self, start: usize, end: usize, new: &str) -> Result<(), AllocError>
         requires order { start ≤ end }
         requires at_start { IsCharBoundary self.old start }

@@ -84,7 +84,7 @@ impl Model for IndexedText {
 
 impl IndexedText {
     /// Finds the lines of a text, which is moved in. Fails only if it is out of memory. Costs a
-    /// search through the text.
+    /// search through the text. It stays one block until its first change.
     pub fn new(alloc: Global, text: String) -> Result<Self, AllocError>
         requires { string_len text ≤ MAX_TEXT }
         ensures { IfOk result (λ kept. kept ≡ string_bytes text) }
@@ -185,8 +185,9 @@ impl IndexedText {
     /// memory. The text is unchanged then.
     ///
     /// One change with a range costs its two positions, its block, and an addition for each later
-    /// block. Any other batch costs that for each change, and [`IndexedText::clone_in`] if its first
-    /// change doesn't replace all.
+    /// block. The first one of a text that came whole, by [`IndexedText::new`] or a change of all,
+    /// costs the text once: it is cut into blocks then. Any other batch costs that for each change,
+    /// and [`IndexedText::clone_in`] if its first change doesn't replace all.
     pub fn change(
         &mut self,
         encoding: Encoding,
@@ -304,8 +305,9 @@ impl IndexedText {
     /// Applies a delta that was made of this text. Fails only if it is out of memory, and then
     /// changes nothing.
     ///
-    /// A range costs its block, and an addition for each later block; any other batch constant
-    /// time.
+    /// A range costs its block, and an addition for each later block; the first one of a text that
+    /// came whole costs the text once, which is cut into blocks then. Any other batch costs
+    /// constant time.
     pub fn apply(&mut self, delta: Delta<'_>) -> Result<(), AllocError>
         requires on { IsOn self.old delta }
         ensures changed { OnOk result (self.new ≡ bytes_after self.old delta.entry) }

@@ -46,10 +46,15 @@ pub const MAX_TEXT: usize = 2_147_483_648;
 #[derive(Drop)]
 pub struct Pieces<'a> {
     alloc: Global,
+    // The text before any change.
     before: OldText<'a>,
+    // What the result is, in parts of that text and of the changes' texts.
     spans: Spans<'a>,
+    // How many bytes the result has.
     len: usize,
+    // How many changes were applied.
     changes: usize,
+    // The result in one copy, once a change of a range was resolved on it.
     current: Option<GapText>,
 }
 

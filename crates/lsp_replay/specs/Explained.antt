@@ -63,14 +63,14 @@ first_advice refusals suspicious =
     codes "Refused messages change nothing. `lspsync replay --at N`: the texts after message N.\n"
 
 -- By whether a record is refused with S1 or S5.
-abbrev pub advice_if_strict : Bool → List ℕ
-advice_if_strict strict = if strict then
+abbrev pub lenient_advice : Bool → List ℕ
+lenient_advice strict_refusal = if strict_refusal then
     codes "Many servers don't refuse what is S1 or S5 here. `--lenient` doesn't either.\n"
     else []
 
 -- All of it, by what is known of all records.
 abbrev pub advice : ℕ → Known → List ℕ
-advice refusals known = first_advice refusals known.suspicious ++ advice_if_strict known.strict
+advice count known = first_advice count known.suspicious ++ lenient_advice known.strict_refusal
 
 -- ---- the engine
 

@@ -35,11 +35,11 @@ pub record Known : Type 0 where
   -- does one of them have notes?
   pub suspicious : Bool
   -- is one of them refused with S1 or S5, which lenient limits never do?
-  pub strict : Bool
+  pub strict_refusal : Bool
 
 -- Before the first record.
 abbrev pub nothing_known : Known
-nothing_known = record { mentions = []; ranged = false; suspicious = false; strict = false }
+nothing_known = record { mentions = []; ranged = false; suspicious = false; strict_refusal = false }
 
 -- Are there notes?
 abbrev pub has_notes : List Note → Bool
@@ -47,10 +47,10 @@ has_notes [] = false
 has_notes (note ∷ notes) = true
 
 -- Is a record refused with S1 or S5?
-abbrev pub is_strict : Verdict → Bool
-is_strict (answered (refused (Store AlreadyOpen))) = true
-is_strict (answered (refused (Store (StaleVersion current)))) = true
-is_strict verdict = false
+abbrev pub is_strict_refusal : Verdict → Bool
+is_strict_refusal (answered (refused (Store AlreadyOpen))) = true
+is_strict_refusal (answered (refused (Store (StaleVersion current)))) = true
+is_strict_refusal verdict = false
 
 -- The documents that were opened, closed or refused last, after a record of one side that asks `m`.
 abbrev pub mentions_after : List Mention → Side → IncomingData → Judged → List Mention
@@ -63,7 +63,7 @@ known_after known s head body j = record {
   mentions = mentions_after known.mentions head.side (incoming_of (reading body)) j;
   ranged = ranged_after known.ranged s head.side body;
   suspicious = known.suspicious || has_notes (notes_of s known.ranged body j.verdict);
-  strict = known.strict || is_strict j.verdict;
+  strict_refusal = known.strict_refusal || is_strict_refusal j.verdict;
 }
 
 -- ---- the output

@@ -29,7 +29,9 @@ pub struct Squash {
     uri: String,
     limits: Limits,
     encoding: Encoding,
+    // The old text, and what the batches made of it.
     joined: Joined,
+    // The document after the batches, without its language.
     reached: Stored,
 }
 

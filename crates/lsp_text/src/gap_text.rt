@@ -138,6 +138,7 @@ impl GapText {
     {
         let GapText { bytes, starts } = self;
         let starts = starts.into_vec(bytes.len());
+        // SAFETY: the bytes are UTF-8 by the type's invariant. It is proved: the call requires it.
         let text = unsafe { String::from_utf8_unchecked(bytes.into_vec()) };
         Ok((text, Lines::of_starts(starts)))
     }

@@ -1,4 +1,4 @@
--- Counts of blocks, as places change.
+-- Counts of blocks, as slots change.
 use Rattle.std.proofs.Common.{◌≡◌, ◌≤◌, ◌<◌, ◌+◌, ◌-◌, ◌*◌, ◌/◌, ℕ, List, [], ◌∷◌, ◌++◌, length, set, min, get_or, slice_get, slice_index, Option, Some, None, String, refl, sym, ap, ◌∙◌, arith, ⊎_elim}
 use Rattle.std.proofs.lemmas.List.{length-append, length-set, get_or-set_same, get_or-set_other, get_or_append_left, get_or_push}
 use Rattle.std.proofs.lemmas.Bool.{cases_eq, cases_lt}
@@ -20,7 +20,7 @@ module _ {X : Type 0} where
   count_small items counts block counted within =
       omega (arith, counted.each block within, live_gap items (256 * block) (256 * (block + 1)) (omega arith))
 
-  -- a block with an item begins within the places
+  -- a block with an item begins within the slots
   pub block_begins : (items : List (Option X)) (counts : List ℕ) (block : ℕ) → AreCounted items counts
       → block < length counts → 0 < slice_index counts block → 256 * block < length items
   block_begins items counts block counted within some =
@@ -36,89 +36,89 @@ module _ {X : Type 0} where
       )))
       (cases_lt (256 * block) (length items))
 
-  -- each place is in a block
-  pub block_within : (items : List (Option X)) (counts : List ℕ) (place : ℕ) → AreCounted items counts
-      → place < length items → place / 256 < length counts
-  block_within items counts place counted within = omega (arith, counted.enough, within)
+  -- each slot is in a block
+  pub block_within : (items : List (Option X)) (counts : List ℕ) (slot : ℕ) → AreCounted items counts
+      → slot < length items → slot / 256 < length counts
+  block_within items counts slot counted within = omega (arith, counted.enough, within)
 
   -- the block of an item has one
-  pub block_has : (items : List (Option X)) (counts : List ℕ) (place : ℕ) (item : X) → AreCounted items counts
-      → slice_get items place ≡ Some (Some item) → 0 < slice_index counts (place / 256)
-  block_has items counts place item counted at =
-      let within : place < length items = slice_get_within items place (Some item) at in
-      let begins : live_to items (256 * (place / 256)) ≤ live_to items place =
-      live_rises items (256 * (place / 256)) place (omega arith) in
-      let ends : live_to items (place + 1) ≤ live_to items (256 * (place / 256 + 1)) =
-      live_rises items (place + 1) (256 * (place / 256 + 1)) (omega arith) in
+  pub block_has : (items : List (Option X)) (counts : List ℕ) (slot : ℕ) (item : X) → AreCounted items counts
+      → slice_get items slot ≡ Some (Some item) → 0 < slice_index counts (slot / 256)
+  block_has items counts slot item counted at =
+      let within : slot < length items = slice_get_within items slot (Some item) at in
+      let begins : live_to items (256 * (slot / 256)) ≤ live_to items slot =
+      live_rises items (256 * (slot / 256)) slot (omega arith) in
+      let ends : live_to items (slot + 1) ≤ live_to items (256 * (slot / 256 + 1)) =
+      live_rises items (slot + 1) (256 * (slot / 256 + 1)) (omega arith) in
       omega (
         arith,
         begins,
         ends,
-        live_next items place (Some item) at,
-        counted.each (place / 256) (block_within items counts place counted within),
+        live_next items slot (Some item) at,
+        counted.each (slot / 256) (block_within items counts slot counted within),
       )
 
   -- ---- an item is taken out
 
-  pub taken_counted : (items : List (Option X)) (counts : List ℕ) (place : ℕ) (item : X) → AreCounted items counts
-      → slice_get items place ≡ Some (Some item)
-      → AreCounted (set items place None) (set counts (place / 256) (slice_index counts (place / 256) - 1))
-  taken_counted items counts place item counted at =
-      let within : place < length items = slice_get_within items place (Some item) at in
-      let block_is : place / 256 < length counts = block_within items counts place counted within in
-      let some : 0 < slice_index counts (place / 256) = block_has items counts place item counted at in
+  pub taken_counted : (items : List (Option X)) (counts : List ℕ) (slot : ℕ) (item : X) → AreCounted items counts
+      → slice_get items slot ≡ Some (Some item)
+      → AreCounted (set items slot None) (set counts (slot / 256) (slice_index counts (slot / 256) - 1))
+  taken_counted items counts slot item counted at =
+      let within : slot < length items = slice_get_within items slot (Some item) at in
+      let block_is : slot / 256 < length counts = block_within items counts slot counted within in
+      let some : 0 < slice_index counts (slot / 256) = block_has items counts slot item counted at in
       record {
         enough = omega (
           arith,
           counted.enough,
-          length-set items place None,
-          length-set counts (place / 256) (slice_index counts (place / 256) - 1),
+          length-set items slot None,
+          length-set counts (slot / 256) (slice_index counts (slot / 256) - 1),
         );
         each = λ block fits.
             let fits_before : block < length counts =
-            omega (arith, fits, length-set counts (place / 256) (slice_index counts (place / 256) - 1)) in
+            omega (arith, fits, length-set counts (slot / 256) (slice_index counts (slot / 256) - 1)) in
             let was : live_to items (256 * (block + 1)) ≡ live_to items (256 * block) + slice_index counts block =
             counted.each block fits_before in
             ⊎_elim
-            (λ (same : block ≡ place / 256).
-            let count : slice_index (set counts (place / 256) (slice_index counts (place / 256) - 1)) (place / 256)
-            ≡ slice_index counts (place / 256) - 1
-            = get_or-set_same counts (place / 256) (slice_index counts (place / 256) - 1) 0 block_is in
-            let was_here : live_to items (256 * (place / 256 + 1)) ≡ live_to items (256 * (place / 256)) + slice_index
-            counts (place / 256) = counted.each (place / 256) block_is in
+            (λ (same : block ≡ slot / 256).
+            let count : slice_index (set counts (slot / 256) (slice_index counts (slot / 256) - 1)) (slot / 256)
+            ≡ slice_index counts (slot / 256) - 1
+            = get_or-set_same counts (slot / 256) (slice_index counts (slot / 256) - 1) 0 block_is in
+            let was_here : live_to items (256 * (slot / 256 + 1)) ≡ live_to items (256 * (slot / 256)) + slice_index
+            counts (slot / 256) = counted.each (slot / 256) block_is in
             rw same
             (omega (
               arith,
               count,
               was_here,
               some,
-              live_taken_after items place item (256 * (place / 256 + 1)) at (omega arith),
-              live_taken_before items place (256 * (place / 256)) (omega arith),
+              live_taken_after items slot item (256 * (slot / 256 + 1)) at (omega arith),
+              live_taken_before items slot (256 * (slot / 256)) (omega arith),
             )))
-            (λ (other : block ≡ place / 256 → ⊥).
-            let count : slice_index (set counts (place / 256) (slice_index counts (place / 256) - 1)) block
+            (λ (other : block ≡ slot / 256 → ⊥).
+            let count : slice_index (set counts (slot / 256) (slice_index counts (slot / 256) - 1)) block
             ≡ slice_index counts block
-            = get_or-set_other counts (place / 256) block (slice_index counts (place / 256) - 1) 0 other in
+            = get_or-set_other counts (slot / 256) block (slice_index counts (slot / 256) - 1) 0 other in
             ⊎_elim
-            (λ (before : block < place / 256).
+            (λ (before : block < slot / 256).
             omega (
               arith,
               count,
               was,
-              live_taken_before items place (256 * (block + 1)) (omega (arith, before)),
-              live_taken_before items place (256 * block) (omega (arith, before)),
+              live_taken_before items slot (256 * (block + 1)) (omega (arith, before)),
+              live_taken_before items slot (256 * block) (omega (arith, before)),
             ))
-            (λ (after : place / 256 ≤ block).
-            let later : place / 256 < block = omega (arith, after, other) in
+            (λ (after : slot / 256 ≤ block).
+            let later : slot / 256 < block = omega (arith, after, other) in
             omega (
               arith,
               count,
               was,
-              live_taken_after items place item (256 * (block + 1)) at (omega (arith, later)),
-              live_taken_after items place item (256 * block) at (omega (arith, later)),
+              live_taken_after items slot item (256 * (block + 1)) at (omega (arith, later)),
+              live_taken_after items slot item (256 * block) at (omega (arith, later)),
             ))
-            (cases_lt block (place / 256)))
-            (cases_eq block (place / 256));
+            (cases_lt block (slot / 256)))
+            (cases_eq block (slot / 256));
       }
 
   -- ---- an item is put in last
@@ -216,15 +216,15 @@ module _ {X : Type 0} where
             (cases_lt block (length counts));
       }
 
-  -- ---- each place has an item
+  -- ---- each slot has an item
 
-  live_min : (items : List (Option X)) (places : ℕ) → length (somes items) ≡ length items → live_to items places
-      ≡ min places (length items)
-  live_min items places all =
+  live_min : (items : List (Option X)) (bound : ℕ) → length (somes items) ≡ length items → live_to items bound
+      ≡ min bound (length items)
+  live_min items bound all =
       ⊎_elim
-      (λ (within : places < length items). omega (arith, within, live_all items places all (omega (arith, within))))
-      (λ (past : length items ≤ places). omega (arith, past, all, live_past items places past))
-      (cases_lt places (length items))
+      (λ (within : bound < length items). omega (arith, within, live_all items bound all (omega (arith, within))))
+      (λ (past : length items ≤ bound). omega (arith, past, all, live_past items bound past))
+      (cases_lt bound (length items))
 
   pub all_counted : (items : List (Option X)) (counts : List ℕ) → length (somes items) ≡ length items
       → length items ≤ 256 * length counts

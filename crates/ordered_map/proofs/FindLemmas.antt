@@ -1,4 +1,4 @@
--- What a key's test finds among the entries, by the place that passes it.
+-- What a key's test finds among the entries, by the slot that passes it.
 use Rattle.std.proofs.Common.{◌≡◌, ◌<◌, ◌+◌, ℕ, zero, suc, Bool, true, false, List, [], ◌∷◌, length, map, set, slice_get, position, Option, Some, None, refl, sym, ap, ◌∙◌, arith, ⊎_elim, nat_lt}
 use Rattle.std.proofs.lemmas.Bool.{cases_Bool, lt-ltb, le-ltb}
 use Rattle.std.proofs.lemmas.Option.{slice_get_within}
@@ -8,35 +8,35 @@ use Rattle.ordered_map.specs.inside.Slots.{somes, live_to}
 use Rattle.ordered_map.proofs.SlotLemmas.{somes_at}
 
 module _ {K V : Type 0} (test : K → Bool) where
-  -- One place alone has a key that passes.
-  pub record IsOnly (items : List (Option (K × V))) (place : ℕ) : Type 0 where
+  -- One slot alone has a key that passes.
+  pub record IsOnly (items : List (Option (K × V))) (slot : ℕ) : Type 0 where
     pub only : (other : ℕ) (entry : K × V) → slice_get items other ≡ Some (Some entry) → test entry.0 ≡ true
-        → other ≡ place
+        → other ≡ slot
 
   -- No key passes.
   pub record HasNone (items : List (Option (K × V))) : Type 0 where
-    pub fails : (place : ℕ) (entry : K × V) → slice_get items place ≡ Some (Some entry) → test entry.0 ≡ false
+    pub fails : (slot : ℕ) (entry : K × V) → slice_get items slot ≡ Some (Some entry) → test entry.0 ≡ false
 
   -- What is found where an entry passes.
-  pub record IsFound (items : List (Option (K × V))) (place : ℕ) (entry : K × V) : Type 0 where
+  pub record IsFound (items : List (Option (K × V))) (slot : ℕ) (entry : K × V) : Type 0 where
     pub value : lookup test (somes items) ≡ Some entry.1
     pub key : lookup_key test (somes items) ≡ Some entry.0
-    pub index : position_or_len test (keys_of (somes items)) ≡ live_to items place
-    pub removed : remove_entry test (somes items) ≡ somes (set items place None)
+    pub index : position_or_len test (keys_of (somes items)) ≡ live_to items slot
+    pub removed : remove_entry test (somes items) ≡ somes (set items slot None)
 
-  later : (first : Option (K × V)) (items : List (Option (K × V))) (place : ℕ) → IsOnly (first ∷ items) (suc place)
-      → IsOnly items place
-  later first items place is = record {
-    only = λ other entry at passes. let next : suc other ≡ suc place = is.only (suc other) entry at passes in
+  later : (first : Option (K × V)) (items : List (Option (K × V))) (slot : ℕ) → IsOnly (first ∷ items) (suc slot)
+      → IsOnly items slot
+  later first items slot is = record {
+    only = λ other entry at passes. let next : suc other ≡ suc slot = is.only (suc other) entry at passes in
         omega (arith, next);
   }
 
-  pub found : (items : List (Option (K × V))) (place : ℕ) (entry : K × V) → slice_get items place ≡ Some (Some entry)
-      → test entry.0 ≡ true → IsOnly items place → IsFound items place entry
-  found [] place entry at passes is = absurd (cc)
+  pub found : (items : List (Option (K × V))) (slot : ℕ) (entry : K × V) → slice_get items slot ≡ Some (Some entry)
+      → test entry.0 ≡ true → IsOnly items slot → IsFound items slot entry
+  found [] slot entry at passes is = absurd (cc)
   found (None ∷ items) zero entry at passes is = absurd (cc)
-  found (None ∷ items) (suc place) entry at passes is =
-      let rest = found items place entry at passes (later None items place is) in
+  found (None ∷ items) (suc slot) entry at passes is =
+      let rest = found items slot entry at passes (later None items slot is) in
       record { value = rest.value; key = rest.key; index = omega (arith, rest.index); removed = rest.removed }
   found (Some first ∷ items) zero entry at passes is =
       let same : first ≡ entry = cc in
@@ -46,10 +46,10 @@ module _ {K V : Type 0} (test : K → Bool) where
         index = rw (same, passes) refl;
         removed = rw (same, passes) refl;
       }
-  found (Some first ∷ items) (suc place) entry at passes is =
-      let rest = found items place entry at passes (later (Some first) items place is) in
+  found (Some first ∷ items) (suc slot) entry at passes is =
+      let rest = found items slot entry at passes (later (Some first) items slot is) in
       let not : test first.0 ≡ false =
-      ⊎_elim (λ (yes : test first.0 ≡ true). absurd (let bad : 0 ≡ suc place = is.only 0 first refl yes in
+      ⊎_elim (λ (yes : test first.0 ≡ true). absurd (let bad : 0 ≡ suc slot = is.only 0 first refl yes in
       omega (arith, bad))) (λ (no : test first.0 ≡ false). no) (cases_Bool (test first.0)) in
       record {
         value = rw not rest.value;
@@ -68,10 +68,10 @@ module _ {K V : Type 0} (test : K → Bool) where
   pub missing : (items : List (Option (K × V))) → HasNone items → IsMissing (somes items)
   missing [] none = record { value = refl; key = refl; index = refl; removed = refl }
   missing (None ∷ items) none =
-      let rest = missing items (record { fails = λ place entry at. none.fails (suc place) entry at }) in
+      let rest = missing items (record { fails = λ slot entry at. none.fails (suc slot) entry at }) in
       record { value = rest.value; key = rest.key; index = rest.index; removed = rest.removed }
   missing (Some first ∷ items) none =
-      let rest = missing items (record { fails = λ place entry at. none.fails (suc place) entry at }) in
+      let rest = missing items (record { fails = λ slot entry at. none.fails (suc slot) entry at }) in
       let not : test first.0 ≡ false = none.fails 0 first refl in
       record {
         value = rw not rest.value;
@@ -82,17 +82,17 @@ module _ {K V : Type 0} (test : K → Bool) where
 
   -- ---- the index
 
-  pub position_found : (items : List (Option (K × V))) (place : ℕ) (entry : K × V) → slice_get items place
-      ≡ Some (Some entry) → IsFound items place entry → position test (keys_of (somes items))
-      ≡ Some (live_to items place)
-  position_found items place entry at is =
-      let within : live_to items place < length (keys_of (somes items)) =
+  pub position_found : (items : List (Option (K × V))) (slot : ℕ) (entry : K × V) → slice_get items slot
+      ≡ Some (Some entry) → IsFound items slot entry → position test (keys_of (somes items))
+      ≡ Some (live_to items slot)
+  position_found items slot entry at is =
+      let within : live_to items slot < length (keys_of (somes items)) =
       omega (
         arith,
-        slice_get_within (somes items) (live_to items place) entry (somes_at items place entry at),
+        slice_get_within (somes items) (live_to items slot) entry (somes_at items slot entry at),
         length_keys_of (somes items),
       ) in
-      rw (is.index, lt-ltb (live_to items place) (length (keys_of (somes items))) within) refl
+      rw (is.index, lt-ltb (live_to items slot) (length (keys_of (somes items))) within) refl
     where
       length_keys_of : (entries : List (K × V)) → length (keys_of entries) ≡ length entries
       length_keys_of [] = refl

@@ -1,7 +1,7 @@
 pub mod SlotLemmas
 pub mod CountLemmas
 pub mod FindLemmas
-pub mod PlaceLemmas
+pub mod KeySlotLemmas
 pub mod PackLemmas
 pub mod MapLemmas
 pub mod UpdateLemmas

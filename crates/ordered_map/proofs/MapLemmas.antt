@@ -9,10 +9,10 @@ use Rattle.std.specs.declared.alloc.Global.{Global}
 use Rattle.ordered_map.specs.Entries.{Entries, is_key, set_value_at, slot_entry, with_value_at}
 use Rattle.ordered_map.specs.declared.slot.Slot.{Slot}
 use Rattle.ordered_map.specs.declared.slot.Slot.TheVariants.{Vacant, Live}
-use Rattle.ordered_map.specs.inside.Slots.{ArePlaced, IsLive, IsOrderedMap, entries_in, keys_in, live_to, slot_key, somes, with_value}
-use Rattle.ordered_map.proofs.SlotLemmas.{IsEntryAt, entries_are, entry_at, key_at, live_keys, slot_of_key, somes-append, somes_at}
+use Rattle.ordered_map.specs.inside.Slots.{AreSlotsOf, IsLive, IsOrderedMap, entries_in, keys_in, live_to, slot_key, somes, with_value}
+use Rattle.ordered_map.proofs.SlotLemmas.{IsEntryAt, entries_are, entry_at, key_at, live_keys, slot_with_key, somes-append, somes_at}
 use Rattle.ordered_map.proofs.FindLemmas.{IsMissing, found, missing, position_found, position_missing}
-use Rattle.ordered_map.proofs.PlaceLemmas.{no_place, only_place}
+use Rattle.ordered_map.proofs.KeySlotLemmas.{no_slot, only_slot}
 
 module _ {V : Type 0} where
   -- ---- slots that change
@@ -103,7 +103,7 @@ module _ {V : Type 0} where
   pub indexed : (slots : List (Slot V)) (slot index : ℕ) → IsLive (keys_in slots) slot → live_to (keys_in slots) slot
       ≡ index → IsIndexed slots slot index
   indexed slots slot index live is =
-      let there = slot_of_key slots slot live.item live.at in
+      let there = slot_with_key slots slot live.item live.at in
       record {
         key = live.item;
         value = there.value;
@@ -126,10 +126,10 @@ module _ {V : Type 0} where
 
   -- ---- an entry of a key
 
-  module _ (slots : List (Slot V)) (counts : List ℕ) (place : List ℕ → Option ℕ) (live : ℕ)
-      (is : IsOrderedMap (keys_in slots) counts place live) (bytes : List ℕ) where
-    -- what is found of a key with a place
-    pub record IsPlaced (slot : ℕ) : Type 0 where
+  module _ (slots : List (Slot V)) (counts : List ℕ) (slot_of_key : List ℕ → Option ℕ) (live : ℕ)
+      (is : IsOrderedMap (keys_in slots) counts slot_of_key live) (bytes : List ℕ) where
+    -- what is found of a key with a slot
+    pub record HasSlot (slot : ℕ) : Type 0 where
       pub key : String Global
       pub value : V
       pub at : slice_get slots slot ≡ Some (Live key value)
@@ -141,10 +141,10 @@ module _ {V : Type 0} where
       pub entry : slice_get (entries_in slots) (live_to (keys_in slots) slot) ≡ Some (key, value)
       pub removed : remove_entry (is_key bytes) (entries_in slots) ≡ entries_in (set slots slot Vacant)
 
-    pub placed_at : (slot : ℕ) → place bytes ≡ Some slot → IsPlaced slot
-    placed_at slot there =
-        let kept = is.placed.there bytes slot there in
-        let full = slot_of_key slots slot kept.key kept.at in
+    pub slot_at : (slot : ℕ) → slot_of_key bytes ≡ Some slot → HasSlot slot
+    slot_at slot there =
+        let kept = is.slots_are.there bytes slot there in
+        let full = slot_with_key slots slot kept.key kept.at in
         let entry : slice_get (map slot_entry slots) slot ≡ Some (Some (kept.key, full.value)) =
         entry_at slots slot kept.key full.value full.at in
         let passes : is_key bytes kept.key ≡ true =
@@ -152,7 +152,7 @@ module _ {V : Type 0} where
         let all = found (is_key bytes) (map slot_entry slots) slot (
           kept.key,
           full.value,
-        ) entry passes (only_place slots place is.placed bytes slot there) in
+        ) entry passes (only_slot slots slot_of_key is.slots_are bytes slot there) in
         let index : position (is_key bytes) (keys_of (somes (map slot_entry slots)))
         ≡ Some (live_to (map slot_entry slots) slot)
         = position_found (is_key bytes) (map slot_entry slots) slot (kept.key, full.value) entry all in
@@ -172,10 +172,10 @@ module _ {V : Type 0} where
           removed = ap (remove_entry (is_key bytes)) (entries_are slots) ∙ (all.removed ∙ sym (vacated slots slot));
         }
 
-    pub not_placed : place bytes ≡ None → IsMissing (is_key bytes) (entries_in slots)
-    not_placed none =
+    pub has_no_slot : slot_of_key bytes ≡ None → IsMissing (is_key bytes) (entries_in slots)
+    has_no_slot none =
         subst (IsMissing (is_key bytes)) (sym (entries_are slots)) (missing (is_key bytes) (map slot_entry slots)
-        (no_place slots place is.placed bytes none))
+        (no_slot slots slot_of_key is.slots_are bytes none))
 
   -- ---- an entry that is put in where its key was
 

@@ -3,7 +3,7 @@ use Rattle.std.proofs.Common.{◌≡◌, ◌<◌, ◌≤◌, ℕ, zero, suc, Boo
 use Rattle.std.specs.declared.alloc.Global.{Global}
 use Rattle.ordered_map.specs.declared.slot.Slot.{Slot}
 use Rattle.ordered_map.specs.declared.slot.Slot.TheVariants.{Vacant, Live}
-use Rattle.ordered_map.specs.inside.Slots.{ArePlaced, AreUnlike, IsKeyAt, entries_in, slot_key, keys_in, somes}
+use Rattle.ordered_map.specs.inside.Slots.{AreSlotsOf, AreUnlike, IsKeyAt, entries_in, slot_key, keys_in, somes}
 
 module _ {V : Type 0} where
   abbrev pub packed : List (Slot V) → List (Slot V)
@@ -77,26 +77,28 @@ module _ {V : Type 0} where
       by (Live first value ∷ slots) unlike (suc slot) (suc other) key second at there equal =
           ap suc (by slots (later (Live first value) slots unlike) slot other key second at there equal)
 
-  module _ (slots : List (Slot V)) (place next : List ℕ → Option ℕ) (placed : ArePlaced (keys_in slots) place) where
-    -- each key has a place already
-    pub packed_placed : (slot : ℕ) (key : String Global) → slice_get (keys_in (packed slots)) slot ≡ Some (Some key)
-        → IsSome (place (string_bytes key))
-    packed_placed slot key at =
+  module _ (slots : List (Slot V)) (slot_of_key next : List ℕ → Option ℕ)
+      (are : AreSlotsOf (keys_in slots) slot_of_key) where
+    -- each key has a slot already
+    pub packed_has_slot : (slot : ℕ) (key : String Global) → slice_get (keys_in (packed slots)) slot ≡ Some (Some key)
+        → IsSome (slot_of_key (string_bytes key))
+    packed_has_slot slot key at =
         let was = unpacked slots slot key at in
-        let there : place (string_bytes key) ≡ Some was.slot = placed.found was.slot key was.at in
+        let there : slot_of_key (string_bytes key) ≡ Some was.slot = are.found was.slot key was.at in
         rw there refl
 
-    -- once the places are set
+    -- once the slots are set
     pub packed_again : ((slot : ℕ) (key : String Global) → slice_get (keys_in (packed slots)) slot ≡ Some (Some key)
         → next (string_bytes key) ≡ Some slot)
-        → ((bytes : List ℕ) → is_some (next bytes) ≡ is_some (place bytes)) → ArePlaced (keys_in (packed slots)) next
+        → ((bytes : List ℕ) → is_some (next bytes) ≡ is_some (slot_of_key bytes))
+        → AreSlotsOf (keys_in (packed slots)) next
     packed_again found same =
         record {
           found = found;
           there = λ bytes slot is.
-              let had : is_some (place bytes) ≡ true = sym (same bytes) ∙ ap is_some is in
-              let was = placed.there bytes (slot_in (place bytes) had) (slot_is (place bytes) had) in
-              let now = kept slots (slot_in (place bytes) had) was.key was.at in
+              let had : is_some (slot_of_key bytes) ≡ true = sym (same bytes) ∙ ap is_some is in
+              let was = are.there bytes (slot_in (slot_of_key bytes) had) (slot_is (slot_of_key bytes) had) in
+              let now = kept slots (slot_in (slot_of_key bytes) had) was.key was.at in
               let goes : next (string_bytes was.key) ≡ Some now.slot = found now.slot was.key now.at in
               let both : Some now.slot ≡ Some slot = sym goes ∙ ap next was.same ∙ is in
               let equal : now.slot ≡ slot = cc in

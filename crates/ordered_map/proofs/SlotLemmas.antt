@@ -1,4 +1,4 @@
--- The items of places, and how many there are.
+-- The items of slots, and how many there are.
 use Rattle.std.proofs.Common.{◌≡◌, ◌≤◌, ◌<◌, ◌+◌, ◌-◌, ℕ, zero, suc, Bool, true, false, List, [], ◌∷◌, ◌++◌, length, map, set, get_or, slice_get, is_some, option_map, Option, Some, None, String, refl, sym, ap, ◌∙◌, arith, add-one, one-add, zero-add}
 use Rattle.std.proofs.lemmas.List.{append-nil, length_push}
 use Rattle.std.proofs.lemmas.Option.{slice_get-map, slice_get_read}
@@ -21,34 +21,34 @@ module _ {X : Type 0} where
   somes-append (None ∷ items) others = somes-append items others
   somes-append (Some item ∷ items) others = ap (λ rest. item ∷ rest) (somes-append items others)
 
-  -- ---- how many items the first places have
+  -- ---- how many items the first slots have
 
   pub live_none : (items : List (Option X)) → live_to items 0 ≡ 0
   live_none [] = refl
   live_none (item ∷ items) = refl
 
-  live_suc : (items : List (Option X)) (place : ℕ) (item : Option X) → slice_get items place ≡ Some item
-      → live_to items (suc place) ≡ live_to items place + here item
-  live_suc [] place item at = absurd (cc)
+  live_suc : (items : List (Option X)) (slot : ℕ) (item : Option X) → slice_get items slot ≡ Some item
+      → live_to items (suc slot) ≡ live_to items slot + here item
+  live_suc [] slot item at = absurd (cc)
   live_suc (first ∷ items) zero item at =
       let same : first ≡ item = cc in
       let none : live_to items 0 ≡ 0 = live_none items in
       rw same (omega (arith, none))
-  live_suc (first ∷ items) (suc place) item at =
-      let rest : live_to items (suc place) ≡ live_to items place + here item = live_suc items place item at in
+  live_suc (first ∷ items) (suc slot) item at =
+      let rest : live_to items (suc slot) ≡ live_to items slot + here item = live_suc items slot item at in
       omega (arith, rest)
 
-  pub live_next : (items : List (Option X)) (place : ℕ) (item : Option X) → slice_get items place ≡ Some item
-      → live_to items (place + 1) ≡ live_to items place + here item
-  live_next items place item at = rw add-one (live_suc items place item at)
+  pub live_next : (items : List (Option X)) (slot : ℕ) (item : Option X) → slice_get items slot ≡ Some item
+      → live_to items (slot + 1) ≡ live_to items slot + here item
+  live_next items slot item at = rw add-one (live_suc items slot item at)
 
-  pub live_past : (items : List (Option X)) (places : ℕ) → length items ≤ places → live_to items places
+  pub live_past : (items : List (Option X)) (bound : ℕ) → length items ≤ bound → live_to items bound
       ≡ length (somes items)
-  live_past [] places past = refl
+  live_past [] bound past = refl
   live_past (None ∷ items) zero past = absurd (omega (arith, past))
   live_past (Some item ∷ items) zero past = absurd (omega (arith, past))
-  live_past (None ∷ items) (suc places) past = omega (arith, live_past items places (omega (arith, past)))
-  live_past (Some item ∷ items) (suc places) past = omega (arith, live_past items places (omega (arith, past)))
+  live_past (None ∷ items) (suc bound) past = omega (arith, live_past items bound (omega (arith, past)))
+  live_past (Some item ∷ items) (suc bound) past = omega (arith, live_past items bound (omega (arith, past)))
 
   pub live_rises : (items : List (Option X)) (few many : ℕ) → few ≤ many → live_to items few ≤ live_to items many
   live_rises [] few many less = omega arith
@@ -56,13 +56,13 @@ module _ {X : Type 0} where
   live_rises (item ∷ items) (suc few) zero less = absurd (omega (arith, less))
   live_rises (item ∷ items) (suc few) (suc many) less = omega (arith, live_rises items few many (omega (arith, less)))
 
-  pub live_below : (items : List (Option X)) (places : ℕ) → live_to items places ≤ places
-  live_below [] places = omega arith
+  pub live_below : (items : List (Option X)) (bound : ℕ) → live_to items bound ≤ bound
+  live_below [] bound = omega arith
   live_below (item ∷ items) zero = omega arith
-  live_below (None ∷ items) (suc places) = omega (arith, live_below items places)
-  live_below (Some item ∷ items) (suc places) = omega (arith, live_below items places)
+  live_below (None ∷ items) (suc bound) = omega (arith, live_below items bound)
+  live_below (Some item ∷ items) (suc bound) = omega (arith, live_below items bound)
 
-  -- later places have at most one item each
+  -- later slots have at most one item each
   pub live_gap : (items : List (Option X)) (few many : ℕ) → few ≤ many → live_to items many + few ≤ live_to items few
       + many
   live_gap [] few many less = omega (arith, less)
@@ -70,28 +70,28 @@ module _ {X : Type 0} where
   live_gap (item ∷ items) (suc few) zero less = absurd (omega (arith, less))
   live_gap (item ∷ items) (suc few) (suc many) less = omega (arith, live_gap items few many (omega (arith, less)))
 
-  pub live_within : (items : List (Option X)) (places : ℕ) → live_to items places ≤ length (somes items)
-  live_within [] places = omega arith
+  pub live_within : (items : List (Option X)) (bound : ℕ) → live_to items bound ≤ length (somes items)
+  live_within [] bound = omega arith
   live_within (item ∷ items) zero = omega arith
-  live_within (None ∷ items) (suc places) = omega (arith, live_within items places)
-  live_within (Some item ∷ items) (suc places) = omega (arith, live_within items places)
+  live_within (None ∷ items) (suc bound) = omega (arith, live_within items bound)
+  live_within (Some item ∷ items) (suc bound) = omega (arith, live_within items bound)
 
-  -- where each place has an item
-  pub live_all : (items : List (Option X)) (places : ℕ) → length (somes items) ≡ length items → places ≤ length items
-      → live_to items places ≡ places
-  live_all [] places all within = omega (arith, within)
+  -- where each slot has an item
+  pub live_all : (items : List (Option X)) (bound : ℕ) → length (somes items) ≡ length items → bound ≤ length items
+      → live_to items bound ≡ bound
+  live_all [] bound all within = omega (arith, within)
   live_all (item ∷ items) zero all within = refl
-  live_all (None ∷ items) (suc places) all within = absurd (omega (arith, all, somes_short items))
-  live_all (Some item ∷ items) (suc places) all within =
-      omega (arith, live_all items places (omega (arith, all)) (omega (arith, within)))
+  live_all (None ∷ items) (suc bound) all within = absurd (omega (arith, all, somes_short items))
+  live_all (Some item ∷ items) (suc bound) all within =
+      omega (arith, live_all items bound (omega (arith, all)) (omega (arith, within)))
 
-  pub all_live : (items : List (Option X)) (place : ℕ) → length (somes items) ≡ length items → place < length items
-      → IsLive items place
-  all_live [] place all within = absurd (omega (arith, within))
-  all_live (None ∷ items) place all within = absurd (omega (arith, all, somes_short items))
+  pub all_live : (items : List (Option X)) (slot : ℕ) → length (somes items) ≡ length items → slot < length items
+      → IsLive items slot
+  all_live [] slot all within = absurd (omega (arith, within))
+  all_live (None ∷ items) slot all within = absurd (omega (arith, all, somes_short items))
   all_live (Some first ∷ items) zero all within = record { item = first; at = refl }
-  all_live (Some first ∷ items) (suc place) all within = let rest =
-      all_live items place (omega (arith, all)) (omega (arith, within)) in record { item = rest.item; at = rest.at }
+  all_live (Some first ∷ items) (suc slot) all within = let rest =
+      all_live items slot (omega (arith, all)) (omega (arith, within)) in record { item = rest.item; at = rest.at }
 
   pub here_some : (item : Option X) → is_some item ≡ true → here item ≡ 1
   here_some None is = absurd (let bad : false ≡ true = is in cc)
@@ -102,58 +102,58 @@ module _ {X : Type 0} where
   here_none (Some item) is = absurd (let bad : true ≡ false = is in cc)
 
   -- an item is in the list of items, after as many as there are before it
-  pub somes_at : (items : List (Option X)) (place : ℕ) (item : X) → slice_get items place ≡ Some (Some item)
-      → slice_get (somes items) (live_to items place) ≡ Some item
-  somes_at [] place item at = absurd (cc)
+  pub somes_at : (items : List (Option X)) (slot : ℕ) (item : X) → slice_get items slot ≡ Some (Some item)
+      → slice_get (somes items) (live_to items slot) ≡ Some item
+  somes_at [] slot item at = absurd (cc)
   somes_at (None ∷ items) zero item at = absurd (cc)
   somes_at (Some first ∷ items) zero item at = let same : first ≡ item = cc in rw same refl
-  somes_at (None ∷ items) (suc place) item at = rw zero-add (somes_at items place item at)
-  somes_at (Some first ∷ items) (suc place) item at = rw one-add (somes_at items place item at)
+  somes_at (None ∷ items) (suc slot) item at = rw zero-add (somes_at items slot item at)
+  somes_at (Some first ∷ items) (suc slot) item at = rw one-add (somes_at items slot item at)
 
   -- ---- an item that is taken out
 
-  pub live_taken_after : (items : List (Option X)) (place : ℕ) (item : X) (places : ℕ) → slice_get items place
-      ≡ Some (Some item) → place < places → live_to (set items place None) places + 1 ≡ live_to items places
-  live_taken_after [] place item places at after = absurd (cc)
-  live_taken_after (first ∷ items) place item zero at after = absurd (omega (arith, after))
-  live_taken_after (first ∷ items) zero item (suc places) at after = let same : first ≡ Some item = cc in
+  pub live_taken_after : (items : List (Option X)) (slot : ℕ) (item : X) (bound : ℕ) → slice_get items slot
+      ≡ Some (Some item) → slot < bound → live_to (set items slot None) bound + 1 ≡ live_to items bound
+  live_taken_after [] slot item bound at after = absurd (cc)
+  live_taken_after (first ∷ items) slot item zero at after = absurd (omega (arith, after))
+  live_taken_after (first ∷ items) zero item (suc bound) at after = let same : first ≡ Some item = cc in
       rw same (omega arith)
-  live_taken_after (first ∷ items) (suc place) item (suc places) at after =
-      omega (arith, live_taken_after items place item places at (omega (arith, after)))
+  live_taken_after (first ∷ items) (suc slot) item (suc bound) at after =
+      omega (arith, live_taken_after items slot item bound at (omega (arith, after)))
 
-  pub live_taken_before : (items : List (Option X)) (place places : ℕ) → places ≤ place
-      → live_to (set items place None) places ≡ live_to items places
-  live_taken_before [] place places before = refl
+  pub live_taken_before : (items : List (Option X)) (slot bound : ℕ) → bound ≤ slot
+      → live_to (set items slot None) bound ≡ live_to items bound
+  live_taken_before [] slot bound before = refl
   live_taken_before (first ∷ items) zero zero before = refl
-  live_taken_before (first ∷ items) (suc place) zero before = refl
-  live_taken_before (first ∷ items) zero (suc places) before = absurd (omega (arith, before))
-  live_taken_before (first ∷ items) (suc place) (suc places) before =
-      omega (arith, live_taken_before items place places (omega (arith, before)))
+  live_taken_before (first ∷ items) (suc slot) zero before = refl
+  live_taken_before (first ∷ items) zero (suc bound) before = absurd (omega (arith, before))
+  live_taken_before (first ∷ items) (suc slot) (suc bound) before =
+      omega (arith, live_taken_before items slot bound (omega (arith, before)))
 
-  pub somes_taken : (items : List (Option X)) (place : ℕ) (item : X) → slice_get items place ≡ Some (Some item)
-      → length (somes (set items place None)) + 1 ≡ length (somes items)
-  somes_taken [] place item at = absurd (cc)
+  pub somes_taken : (items : List (Option X)) (slot : ℕ) (item : X) → slice_get items slot ≡ Some (Some item)
+      → length (somes (set items slot None)) + 1 ≡ length (somes items)
+  somes_taken [] slot item at = absurd (cc)
   somes_taken (first ∷ items) zero item at = let same : first ≡ Some item = cc in rw same (omega arith)
-  somes_taken (None ∷ items) (suc place) item at = somes_taken items place item at
-  somes_taken (Some first ∷ items) (suc place) item at = omega (arith, somes_taken items place item at)
+  somes_taken (None ∷ items) (suc slot) item at = somes_taken items slot item at
+  somes_taken (Some first ∷ items) (suc slot) item at = omega (arith, somes_taken items slot item at)
 
   -- ---- an item that is put in last
 
-  pub live_put_before : (items : List (Option X)) (item : Option X) (places : ℕ) → places ≤ length items
-      → live_to (items ++ item ∷ []) places ≡ live_to items places
+  pub live_put_before : (items : List (Option X)) (item : Option X) (bound : ℕ) → bound ≤ length items
+      → live_to (items ++ item ∷ []) bound ≡ live_to items bound
   live_put_before [] item zero before = refl
-  live_put_before [] item (suc places) before = absurd (omega (arith, before))
+  live_put_before [] item (suc bound) before = absurd (omega (arith, before))
   live_put_before (first ∷ items) item zero before = refl
-  live_put_before (first ∷ items) item (suc places) before =
-      omega (arith, live_put_before items item places (omega (arith, before)))
+  live_put_before (first ∷ items) item (suc bound) before =
+      omega (arith, live_put_before items item bound (omega (arith, before)))
 
-  pub live_put_after : (items : List (Option X)) (item : X) (places : ℕ) → length items < places
-      → live_to (items ++ Some item ∷ []) places ≡ live_to items places + 1
+  pub live_put_after : (items : List (Option X)) (item : X) (bound : ℕ) → length items < bound
+      → live_to (items ++ Some item ∷ []) bound ≡ live_to items bound + 1
   live_put_after [] item zero after = absurd (omega (arith, after))
-  live_put_after [] item (suc places) after = refl
+  live_put_after [] item (suc bound) after = refl
   live_put_after (first ∷ items) item zero after = absurd (omega (arith, after))
-  live_put_after (first ∷ items) item (suc places) after =
-      omega (arith, live_put_after items item places (omega (arith, after)))
+  live_put_after (first ∷ items) item (suc bound) after =
+      omega (arith, live_put_after items item bound (omega (arith, after)))
 
 -- ---- keys and entries of the same slots
 
@@ -175,15 +175,15 @@ module _ {V : Type 0} where
     pub value : V
     pub at : slice_get slots slot ≡ Some (Live key value)
 
-  pub slot_of_key : (slots : List (Slot V)) (slot : ℕ) (key : String Global) → slice_get (keys_in slots) slot
+  pub slot_with_key : (slots : List (Slot V)) (slot : ℕ) (key : String Global) → slice_get (keys_in slots) slot
       ≡ Some (Some key) → IsEntryAt slots slot key
-  slot_of_key [] slot key at = absurd (cc)
-  slot_of_key (Vacant ∷ slots) zero key at = absurd (cc)
-  slot_of_key (Live first value ∷ slots) zero key at = let same : first ≡ key = cc in
+  slot_with_key [] slot key at = absurd (cc)
+  slot_with_key (Vacant ∷ slots) zero key at = absurd (cc)
+  slot_with_key (Live first value ∷ slots) zero key at = let same : first ≡ key = cc in
       record { value = value; at = rw same refl }
-  slot_of_key (Vacant ∷ slots) (suc slot) key at = let rest = slot_of_key slots slot key at in
+  slot_with_key (Vacant ∷ slots) (suc slot) key at = let rest = slot_with_key slots slot key at in
       record { value = rest.value; at = rest.at }
-  slot_of_key (Live first value ∷ slots) (suc slot) key at = let rest = slot_of_key slots slot key at in
+  slot_with_key (Live first value ∷ slots) (suc slot) key at = let rest = slot_with_key slots slot key at in
       record { value = rest.value; at = rest.at }
 
   pub length_keys : (slots : List (Slot V)) → length (keys_in slots) ≡ length slots
@@ -191,18 +191,18 @@ module _ {V : Type 0} where
   length_keys (first ∷ slots) = ap suc (length_keys slots)
 
   -- what is read at an index
-  pub key_read : (slots : List (Slot V)) (place : ℕ) (slot : Slot V) → place < length slots
-      → slot ≡ get_or slots place slot → slice_get (keys_in slots) place ≡ Some (slot_key slot)
-  key_read slots place slot within is =
-      slice_get-map slot_key slots place ∙ ap (option_map slot_key) (slice_get_read slots (length slots) place slot refl
-      within is)
+  pub key_read : (slots : List (Slot V)) (slot : ℕ) (content : Slot V) → slot < length slots
+      → content ≡ get_or slots slot content → slice_get (keys_in slots) slot ≡ Some (slot_key content)
+  key_read slots slot content within is =
+      slice_get-map slot_key slots slot
+      ∙ ap (option_map slot_key) (slice_get_read slots (length slots) slot content refl within is)
 
-  pub live_read : (slots : List (Slot V)) (place : ℕ) (slot : Slot V) → place < length slots
-      → slot ≡ get_or slots place slot → is_some (slot_key slot) ≡ true → IsLive (keys_in slots) place
-  live_read slots place slot within is some = by (slot_key slot) some (key_read slots place slot within is)
+  pub live_read : (slots : List (Slot V)) (slot : ℕ) (content : Slot V) → slot < length slots
+      → content ≡ get_or slots slot content → is_some (slot_key content) ≡ true → IsLive (keys_in slots) slot
+  live_read slots slot content within is some = by (slot_key content) some (key_read slots slot content within is)
     where
-      by : (key : Option (String Global)) → is_some key ≡ true → slice_get (keys_in slots) place ≡ Some key
-          → IsLive (keys_in slots) place
+      by : (key : Option (String Global)) → is_some key ≡ true → slice_get (keys_in slots) slot ≡ Some key
+          → IsLive (keys_in slots) slot
       by None none at = absurd (let bad : false ≡ true = none in cc)
       by (Some key) there at = record { item = key; at = at }
 
@@ -228,12 +228,12 @@ module _ {V : Type 0} where
   count_keys (Vacant ∷ slots) = count_keys slots
   count_keys (Live key value ∷ slots) = ap suc (count_keys slots)
 
-  pub live_keys : (slots : List (Slot V)) (places : ℕ) → live_to (keys_in slots) places ≡ live_to (map slot_entry slots)
-      places
-  live_keys [] places = refl
+  pub live_keys : (slots : List (Slot V)) (bound : ℕ) → live_to (keys_in slots) bound ≡ live_to (map slot_entry slots)
+      bound
+  live_keys [] bound = refl
   live_keys (first ∷ slots) zero = refl
-  live_keys (Vacant ∷ slots) (suc places) = ap (λ n. 0 + n) (live_keys slots places)
-  live_keys (Live key value ∷ slots) (suc places) = ap (λ n. 1 + n) (live_keys slots places)
+  live_keys (Vacant ∷ slots) (suc bound) = ap (λ n. 0 + n) (live_keys slots bound)
+  live_keys (Live key value ∷ slots) (suc bound) = ap (λ n. 1 + n) (live_keys slots bound)
 
 -- ---- the last slot of some
 

@@ -12,86 +12,86 @@ use Rattle.ordered_map.specs.declared.slot.Slot.TheVariants.{Vacant, Live}
 use Rattle.ordered_map.specs.inside.Slots.{AreCounted, IsLive, IsOrderedMap, entries_in, keys_in, somes}
 use Rattle.ordered_map.proofs.CountLemmas.{all_counted}
 use Rattle.ordered_map.proofs.FindLemmas.{IsMissing}
-use Rattle.ordered_map.proofs.MapLemmas.{entries_moved, entries_put, keys_put, keys_vacated, not_placed, placed_at}
+use Rattle.ordered_map.proofs.MapLemmas.{entries_moved, entries_put, keys_put, keys_vacated, has_no_slot, slot_at}
 use Rattle.ordered_map.proofs.PackLemmas.{packed, packed_again, packed_all, packed_count}
-use Rattle.ordered_map.proofs.PlaceLemmas.{placed_moved, placed_put, placed_taken, put_before}
+use Rattle.ordered_map.proofs.KeySlotLemmas.{slots_moved, slots_put, slots_taken, put_before}
 use Rattle.ordered_map.proofs.SlotLemmas.{length_keys, somes-append, somes_short, somes_taken}
 
-module _ {V : Type 0} (slots : List (Slot V)) (counts : List ℕ) (place next : List ℕ → Option ℕ) (live : ℕ)
-    (is : IsOrderedMap (keys_in slots) counts place live) (after : List (Slot V)) (counted : List ℕ) where
+module _ {V : Type 0} (slots : List (Slot V)) (counts : List ℕ) (slot_of_key next : List ℕ → Option ℕ) (live : ℕ)
+    (is : IsOrderedMap (keys_in slots) counts slot_of_key live) (after : List (Slot V)) (counted : List ℕ) where
   -- nothing changes
-  pub same_map : after ≡ slots → counted ≡ counts → ((bytes : List ℕ) → next bytes ≡ place bytes)
+  pub same_map : after ≡ slots → counted ≡ counts → ((bytes : List ℕ) → next bytes ≡ slot_of_key bytes)
       → IsOrderedMap (keys_in after) counted next live
   same_map same_slots same_counts same =
       rw (same_slots, same_counts)
       (record {
         counted = is.counted;
-        placed = record {
-          found = λ slot key here. same (string_bytes key) ∙ is.placed.found slot key here;
-          there = λ bytes slot found. is.placed.there bytes slot (sym (same bytes) ∙ found);
+        slots_are = record {
+          found = λ slot key here. same (string_bytes key) ∙ is.slots_are.found slot key here;
+          there = λ bytes slot found. is.slots_are.there bytes slot (sym (same bytes) ∙ found);
         };
         live_is = is.live_is;
       })
 
   -- an entry is taken out
-  module _ (bytes : List ℕ) (slot : ℕ) (found : place bytes ≡ Some slot) where
+  module _ (bytes : List ℕ) (slot : ℕ) (found : slot_of_key bytes ≡ Some slot) where
     pub some_live : 1 ≤ live
     some_live =
-        let there = placed_at slots counts place live is bytes slot found in
+        let there = slot_at slots counts slot_of_key live is bytes slot found in
         omega (arith, is.live_is, somes_taken (keys_in slots) slot there.key there.key_at)
 
-    pub taken_map : ((others : List ℕ) → next others ≡ update bytes_eq place bytes None others)
+    pub taken_map : ((others : List ℕ) → next others ≡ update bytes_eq slot_of_key bytes None others)
         → after ≡ set slots slot Vacant → AreCounted (keys_in after) counted → IsOrderedMap (keys_in after) counted next
         (live - 1)
     taken_map updates vacated are =
-        let there = placed_at slots counts place live is bytes slot found in
+        let there = slot_at slots counts slot_of_key live is bytes slot found in
         let keys : keys_in after ≡ set (keys_in slots) slot None = rw vacated (keys_vacated slots slot) in
         record {
           counted = are;
-          placed = rw keys (placed_taken (keys_in slots) place next is.placed bytes slot found updates);
+          slots_are = rw keys (slots_taken (keys_in slots) slot_of_key next is.slots_are bytes slot found updates);
           live_is = rw keys (omega (arith, is.live_is, somes_taken (keys_in slots) slot there.key there.key_at));
         }
 
     pub taken_entries : after ≡ set slots slot Vacant → entries_in after ≡ remove_entry (is_key bytes)
         (entries_in slots)
     taken_entries vacated =
-        let there = placed_at slots counts place live is bytes slot found in
+        let there = slot_at slots counts slot_of_key live is bytes slot found in
         ap entries_in vacated ∙ sym there.removed
 
   -- an entry is put in last
   module _ (key : String Global) (value : V) (updates : (others : List ℕ) → next others
-      ≡ update bytes_eq place (string_bytes key) (Some (length slots)) others) where
-    sets : (others : List ℕ) → next others ≡ update bytes_eq place (string_bytes key) (Some (length (keys_in slots)))
-        others
-    sets others = updates others ∙ ap (λ n. update bytes_eq place (string_bytes key) (Some n) others)
+      ≡ update bytes_eq slot_of_key (string_bytes key) (Some (length slots)) others) where
+    sets : (others : List ℕ) → next others
+        ≡ update bytes_eq slot_of_key (string_bytes key) (Some (length (keys_in slots))) others
+    sets others = updates others ∙ ap (λ n. update bytes_eq slot_of_key (string_bytes key) (Some n) others)
         (sym (length_keys slots))
 
-    pub put_map : place (string_bytes key) ≡ None → after ≡ slots ++ Live key value ∷ []
+    pub put_map : slot_of_key (string_bytes key) ≡ None → after ≡ slots ++ Live key value ∷ []
         → AreCounted (keys_in slots ++ Some key ∷ []) counted → (more : ℕ) → more ≡ live + 1
         → IsOrderedMap (keys_in after) counted next more
     put_map none put are more one =
         let keys : keys_in after ≡ keys_in slots ++ Some key ∷ [] = rw put (keys_put slots key value) in
         record {
           counted = rw keys are;
-          placed = rw keys (placed_put (keys_in slots) place next is.placed key none sets);
+          slots_are = rw keys (slots_put (keys_in slots) slot_of_key next is.slots_are key none sets);
           live_is = rw (
             keys,
             somes-append,
           ) (omega (arith, one, is.live_is, length-append (somes (keys_in slots)) (key ∷ [])));
         }
 
-    pub put_entries : place (string_bytes key) ≡ None → after ≡ slots ++ Live key value ∷ [] → entries_in after
+    pub put_entries : slot_of_key (string_bytes key) ≡ None → after ≡ slots ++ Live key value ∷ [] → entries_in after
         ≡ remove_entry (is_key (string_bytes key)) (entries_in slots) ++ (key, value) ∷ []
     put_entries none put =
         let gone : IsMissing (is_key (string_bytes key)) (entries_in slots) =
-        not_placed slots counts place live is (string_bytes key) none in
+        has_no_slot slots counts slot_of_key live is (string_bytes key) none in
         ap entries_in put ∙ (entries_put slots key value ∙ ap (λ rest. rest ++ (key, value) ∷ []) (sym gone.removed))
 
     -- and the one of its key is taken out
-    module _ (slot : ℕ) (found : place (string_bytes key) ≡ Some slot) where
+    module _ (slot : ℕ) (found : slot_of_key (string_bytes key) ≡ Some slot) where
       pub moved_live : (pushed : List (Slot V)) → pushed ≡ slots ++ Live key value ∷ [] → IsLive (keys_in pushed) slot
       moved_live pushed put =
-          let there = placed_at slots counts place live is (string_bytes key) slot found in
+          let there = slot_at slots counts slot_of_key live is (string_bytes key) slot found in
           let within : slot < length (keys_in slots) =
           slice_get_within (keys_in slots) slot (Some there.key) there.key_at in
           rw (
@@ -100,12 +100,12 @@ module _ {V : Type 0} (slots : List (Slot V)) (counts : List ℕ) (place next : 
           ) (record { item = there.key; at = put_before (keys_in slots) (Some key) slot within ∙ there.key_at })
 
       pub moved_within : slot < length slots
-      moved_within = (placed_at slots counts place live is (string_bytes key) slot found).within
+      moved_within = (slot_at slots counts slot_of_key live is (string_bytes key) slot found).within
 
       pub moved_map : after ≡ set (slots ++ Live key value ∷ []) slot Vacant → AreCounted (keys_in after) counted
           → IsOrderedMap (keys_in after) counted next live
       moved_map put are =
-          let there = placed_at slots counts place live is (string_bytes key) slot found in
+          let there = slot_at slots counts slot_of_key live is (string_bytes key) slot found in
           let within : slot < length (keys_in slots) =
           slice_get_within (keys_in slots) slot (Some there.key) there.key_at in
           let keys : keys_in after ≡ set (keys_in slots ++ Some key ∷ []) slot None =
@@ -119,21 +119,21 @@ module _ {V : Type 0} (slots : List (Slot V)) (counts : List ℕ) (place next : 
           ap length (somes-append (keys_in slots) (Some key ∷ [])) ∙ length-append (somes (keys_in slots)) (key ∷ []) in
           record {
             counted = are;
-            placed = rw keys (placed_moved (keys_in slots) place next is.placed key slot found sets);
+            slots_are = rw keys (slots_moved (keys_in slots) slot_of_key next is.slots_are key slot found sets);
             live_is = rw keys (omega (arith, is.live_is, fewer, more));
           }
 
       pub moved_entries : after ≡ set (slots ++ Live key value ∷ []) slot Vacant → entries_in after
           ≡ remove_entry (is_key (string_bytes key)) (entries_in slots) ++ (key, value) ∷ []
       moved_entries put =
-          let there = placed_at slots counts place live is (string_bytes key) slot found in
+          let there = slot_at slots counts slot_of_key live is (string_bytes key) slot found in
           ap entries_in put ∙ (entries_moved slots key value slot there.within ∙ ap (λ rest. rest ++ (key, value) ∷ [])
           (sym there.removed))
 
   -- the slots are packed
   pub packed_map : after ≡ packed slots → ((slot : ℕ) (key : String Global) → slice_get (keys_in after) slot
       ≡ Some (Some key) → next (string_bytes key) ≡ Some slot)
-      → ((bytes : List ℕ) → is_some (next bytes) ≡ is_some (place bytes)) → length counted ≡ length counts
+      → ((bytes : List ℕ) → is_some (next bytes) ≡ is_some (slot_of_key bytes)) → length counted ≡ length counts
       → ((block : ℕ) → block < length counted → slice_index counted block ≡ min 256 (length after - 256 * block))
       → IsOrderedMap (keys_in after) counted next live
   packed_map pack found same as_many are =
@@ -152,7 +152,7 @@ module _ {V : Type 0} (slots : List (Slot V)) (counts : List ℕ) (place next : 
               as_many,
             ))
             (λ block within. are block within ∙ ap (λ n. min 256 (n - 256 * block)) (sym (length_keys after)));
-        placed = rw pack (packed_again slots place next is.placed found_packed same);
+        slots_are = rw pack (packed_again slots slot_of_key next is.slots_are found_packed same);
         live_is = is.live_is ∙ sym count;
       }
 

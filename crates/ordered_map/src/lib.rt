@@ -4,14 +4,14 @@
 //! - `map`: `OrderedMap`, the entries in slots, and the slot of each key in a hash map.
 //! - `slot`: `Slot`, an entry, or what is left where one was removed.
 //! - `counts`: how many slots of each block have an entry; the slot of an index and back.
-//! - `places`: the slot of each key, once slots are packed.
+//! - `key_slots`: the slot of each key, once slots are packed.
 //! - `iter`: the entries, one after another.
 #![tactic(auto)]
 
 mod counts;
 mod iter;
+mod key_slots;
 mod map;
-mod places;
 mod slot;
 
 pub use iter::Iter;

@@ -9,7 +9,7 @@ ghost use Rattle.ordered_map.specs.Entries.{is_key};
 
 use crate::counts::{count_next, index_of, recount, slot_of, vacate};
 use crate::iter::Iter;
-use crate::places::renumber;
+use crate::key_slots::renumber;
 use crate::slot::Slot;
 use std::alloc::{AllocError, Global};
 use std::collections::HashMap;
@@ -29,8 +29,11 @@ const MAX_VACANT: usize = 64;
 #[derive(Debug, Drop)]
 pub struct OrderedMap<V> {
     slots: Vec<Slot<V>>,
-    places: HashMap<String, usize>,
+    // The slot of each key.
+    slot_of_key: HashMap<String, usize>,
+    // How many of each 256 slots have an entry.
     counts: Vec<usize>,
+    // How many entries there are.
     live: usize,
 }
 
@@ -46,7 +49,7 @@ impl<V> Model for OrderedMap<V> {
     ghost view = { λ ordered. record { entries = filter_map slot_entry ordered.slots.items } };
 
     ghost invariant = { λ ordered. IsOrderedMap (keys_in ordered.slots.items) ordered.counts.items
-        (get_by_text ordered.places) ordered.live };
+        (get_by_text ordered.slot_of_key) ordered.live };
 }
 
 impl<V> OrderedMap<V> {
@@ -58,7 +61,7 @@ impl<V> OrderedMap<V> {
     {
         OrderedMap {
             slots: Vec::new(alloc),
-            places: HashMap::new(alloc),
+            slot_of_key: HashMap::new(alloc),
             counts: Vec::new(alloc),
             live: 0,
         }
@@ -105,7 +108,7 @@ impl<V> OrderedMap<V> {
         ensures value { option_map (λ entry. entry.1.now) result
             ≡ lookup (is_key key.now) self.now.entries }
     {
-        let slot = *self.places.get(key)?;
+        let slot = *self.slot_of_key.get(key)?;
         self.slots[slot].entry()
     }
 
@@ -121,7 +124,7 @@ impl<V> OrderedMap<V> {
         ensures entry { IfSome result (λ entry. slice_get self.now.entries entry.0
             ≡ Some (entry.1.now, entry.2.now)) }
     {
-        let slot = *self.places.get(key)?;
+        let slot = *self.slot_of_key.get(key)?;
         let (key, value) = self.slots[slot].entry()?;
         let index = index_of(&self.slots, &self.counts, self.live, slot);
         Some((index, key, value))
@@ -178,7 +181,7 @@ impl<V: Drop> OrderedMap<V> {
     {
         self.slots.reserve(1)?;
         self.counts.reserve(1)?;
-        let replaced = self.places.insert(key.clone()?, self.slots.len())?;
+        let replaced = self.slot_of_key.insert(key.clone()?, self.slots.len())?;
         count_next(&mut self.counts, &self.slots);
         let vacant = self.slots.len() - self.live;
         self.slots.push_reserved(Slot::Live(key, value));
@@ -198,7 +201,7 @@ impl<V: Drop> OrderedMap<V> {
         ensures entries { self.new.entries ≡ remove_entry (is_key key.now) self.old.entries }
         ensures unchanged { IfNone result (self.new ≡ self.old) }
     {
-        let slot = self.places.remove(key)?;
+        let slot = self.slot_of_key.remove(key)?;
         let removed = vacate(&mut self.slots, &mut self.counts, slot);
         self.live -= 1;
         self.pack_if_sparse();
@@ -223,7 +226,7 @@ impl<V: Drop> OrderedMap<V> {
         ensures { self.new ≡ self.old }
     {
         self.slots.retain(|slot| slot.is_live());
-        renumber(&self.slots, &mut self.places);
+        renumber(&self.slots, &mut self.slot_of_key);
         recount(&mut self.counts, self.slots.len());
     }
 }

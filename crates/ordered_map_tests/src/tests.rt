@@ -83,8 +83,8 @@ fn plain_write(plain: &mut [(String, u32)], index: usize, value: u32) -> bool {
 fn has_entry(map: &OrderedMap<u32>, index: usize, key: &str, value: u32) -> bool {
     let at = matches!(map.get_index(index), Some((name, number))
         if name.as_str() == key && *number == value);
-    let full = matches!(map.get_full(key), Some((place, name, number))
-        if place == index && name.as_str() == key && *number == value);
+    let full = matches!(map.get_full(key), Some((found, name, number))
+        if found == index && name.as_str() == key && *number == value);
     at && full && map.contains_key(key) && map.get(key).copied() == Some(value)
 }
 

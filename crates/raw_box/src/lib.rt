@@ -33,6 +33,8 @@ impl<T: Drop, A: Allocator> RawBox<T, A> {
         ensures { result.value ≡ self.value }
     {
         let RawBox { pointer, alloc } = self;
+        // SAFETY: `pointer` is of a box, which `self` owned (`also_owns`). It is proved: the call
+        // requires it.
         unsafe { Box::from_raw(alloc, pointer) }
     }
 }

@@ -8,20 +8,21 @@ use Rattle.lsp_text.specs.Starts.{AreStarts}
 use Rattle.lsp_text.specs.Units.{units_in}
 use Rattle.lsp_buffer.specs.Blocks.{AreBlocks, carried, ends_of, head_after, heads_from, sums_from}
 
--- A position is at the end of a text or after it, if that is in this line, with so many units.
+-- A text ends in this line, after so many units of it. The position is there or later.
 abbrev pub IsAtOrAfter : ℕ → ℕ → Position → Type 0
 IsAtOrAfter line head p = (line < p.line) ⊎ ((p.line ≡ line) × (head ≤ p.character))
 
--- It is before the end.
+-- The position is before the end of such a text.
 abbrev pub IsBefore : ℕ → ℕ → Position → Type 0
 IsBefore line head p = (p.line < line) ⊎ ((p.line ≡ line) × (p.character < head))
 
--- A position of a text, as it is counted from such a place on.
+-- A position of a whole text, counted from the end of its front on, which is in this line after so
+-- many units.
 abbrev pub position_after : ℕ → ℕ → Position → Position
 position_after line head p =
     record { line = p.line - line; character = p.character - carried (p.line - line) head }
 
--- And back.
+-- A position that is counted so, as one of the whole text.
 abbrev pub position_from : ℕ → ℕ → Position → Position
 position_from line head p =
     record { line = line + p.line; character = carried p.line head + p.character }
@@ -30,30 +31,30 @@ position_from line head p =
 abbrev pub mark : ℕ → ℕ → ℕ
 mark line units = line * 4294967296 + units
 
--- Those of the first lines of blocks and the units before them.
+-- The marks at which blocks begin, by the line of each and the units before it there.
 abbrev pub marks_of : List ℕ → List ℕ → List ℕ
 marks_of [] heads = []
 marks_of (line ∷ lines) [] = []
 marks_of (line ∷ lines) (head ∷ heads) = mark line head ∷ marks_of lines heads
 
--- They can be searched.
+-- They can be searched: there are as many lines as heads, and the marks ascend from 0.
 pub record AreMarks (lines heads : List ℕ) : Type 0 where
   pub counts : length lines ≡ length heads
   pub starts : AreStarts (marks_of lines heads)
 
--- A list for each encoding.
+-- A list of numbers for each encoding.
 pub record Rows : Type 0 where
   pub utf8 : List ℕ
   pub utf16 : List ℕ
   pub utf32 : List ℕ
 
--- That of one of them.
+-- The list of one encoding.
 abbrev pub row_of : Rows → Encoding → List ℕ
 row_of rows Utf8 = rows.utf8
 row_of rows Utf16 = rows.utf16
 row_of rows Utf32 = rows.utf32
 
--- The units of the line at the end of blocks, if so many are before the first.
+-- The units of the line at the end of blocks, if so many are before the first block.
 abbrev pub heads_end : (ℕ → ℕ) → ℕ → List (List ℕ) → ℕ
 heads_end units head [] = head
 heads_end units head (block ∷ blocks) = heads_end units (head_after units head block) blocks
@@ -69,7 +70,7 @@ pub record WereSums (blocks : List (List ℕ)) (index : ℕ) (lines : List ℕ) 
   pub lines_are : lines ≡ sums_from 0 (map ends_of blocks)
   pub heads_were : heads ≡ heads_from (units_in encoding) 0 (set blocks index old)
 
--- Those of all encodings.
+-- The same of the heads of each encoding.
 abbrev pub WereHeads : List (List ℕ) → ℕ → List ℕ → (Encoding → List ℕ) → Type 0
 WereHeads blocks index lines heads =
     (encoding : Encoding) → WereSums blocks index lines encoding (heads encoding)

@@ -9,7 +9,7 @@ use Rattle.lsp_log.specs.declared.record.Side.TheVariants.{Client}
 use Rattle.lsp_replay.specs.declared.session.Verdict as declared
 use Rattle.lsp_replay.specs.declared.session.known.About.{About}
 use Rattle.lsp_replay.specs.declared.session.known.Noted.{Noted}
-use Rattle.lsp_replay.specs.Lines.{Known, has_notes, is_strict, uri_of}
+use Rattle.lsp_replay.specs.Lines.{Known, has_notes, is_strict_refusal, uri_of}
 use Rattle.lsp_replay.specs.Mentions.{is_mention, last_for, mentioned}
 use Rattle.lsp_replay.specs.Notes.{notes_if, notes_of}
 use Rattle.lsp_replay.specs.Session.{Session, is_change}
@@ -54,7 +54,7 @@ known_by known ranged number about verdict = record {
   ranged = ranged;
   suspicious = known.suspicious
       || has_notes (notes_if about.notes.items (verdict_view verdict));
-  strict = known.strict || is_strict (verdict_view verdict);
+  strict_refusal = known.strict_refusal || is_strict_refusal (verdict_view verdict);
 }
 
 -- Of a record with this head and body, before which the session was `s`.

@@ -5,7 +5,7 @@ ghost use Rattle.std.specs.Prelude.{◌≡◌, ◌++◌, refl, OnOk, false, opti
 ghost use Rattle.lsp_message.specs.Message.{reading};
 ghost use Rattle.lsp_server.specs.Incoming.{incoming_of};
 ghost use Rattle.lsp_replay.specs.Commands.{change_in};
-ghost use Rattle.lsp_replay.specs.Explained.{advice, advice_if_strict, document_words, explaining, explanation, first_advice, remark, see_words};
+ghost use Rattle.lsp_replay.specs.Explained.{advice, document_words, explaining, explanation, first_advice, lenient_advice, remark, see_words};
 ghost use Rattle.lsp_replay.specs.Lines.{nothing_known};
 ghost use Rattle.lsp_replay.specs.inside.Lines.{lines_in};
 ghost use Rattle.lsp_replay.specs.Session.{opened};
@@ -165,7 +165,7 @@ fn push_advice(buffer: &mut Vec<u8>, refusals: u64, known: &Known) -> Result<(),
     ensures { OnOk result (buffer.new.items ≡ buffer.old.items ++ advice refusals known.now) }
 {
     push_words(buffer, first_advice(refusals, known.is_suspicious()))?;
-    push_words(buffer, advice_if_strict(known.is_strict()))
+    push_words(buffer, lenient_advice(known.has_strict_refusal()))
 }
 
 /// Returns what to do first, after so many refusals.
@@ -183,10 +183,10 @@ fn first_advice(refusals: u64, suspicious: bool) -> &'static str
 }
 
 /// Returns what to try where something was refused with S1 or S5.
-fn advice_if_strict(strict: bool) -> &'static str
-    ensures { result.now ≡ advice_if_strict strict }
+fn lenient_advice(strict_refusal: bool) -> &'static str
+    ensures { result.now ≡ lenient_advice strict_refusal }
 {
-    if strict {
+    if strict_refusal {
         "Many servers don't refuse what is S1 or S5 here. `--lenient` doesn't either.\n"
     } else {
         ""

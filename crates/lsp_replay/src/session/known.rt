@@ -2,7 +2,7 @@
 //! `trace` and `check --explain`.
 
 ghost use Rattle.std.specs.Prelude.{◌≡◌, IfOk, OnOk, option_map};
-ghost use Rattle.lsp_replay.specs.Lines.{has_notes, is_strict, nothing_known};
+ghost use Rattle.lsp_replay.specs.Lines.{has_notes, is_strict_refusal, nothing_known};
 ghost use Rattle.lsp_replay.specs.Mentions.{is_mention, last_for};
 ghost use Rattle.lsp_replay.specs.inside.Known.{IsLearned, known_by};
 ghost use Rattle.lsp_replay.specs.inside.Verdicts.{verdict_view};
@@ -49,7 +49,7 @@ pub struct Known {
     // Whether a record has notes.
     suspicious: bool,
     // Whether one is refused with S1 or S5, which lenient limits never do.
-    strict: bool,
+    strict_refusal: bool,
 }
 
 impl Model for Known {
@@ -61,7 +61,7 @@ impl Model for Known {
       mentions = known.mentions.newest.items;
       ranged = known.ranged;
       suspicious = known.suspicious;
-      strict = known.strict;
+      strict_refusal = known.strict_refusal;
     } };
 }
 
@@ -74,7 +74,7 @@ impl Known {
             mentions: Mentions::new(alloc),
             ranged: false,
             suspicious: false,
-            strict: false,
+            strict_refusal: false,
         }
     }
 
@@ -93,10 +93,10 @@ impl Known {
     }
 
     /// Returns whether a record is refused with S1 or S5.
-    pub fn is_strict(&self) -> bool
-        ensures { result ≡ self.now.strict }
+    pub fn has_strict_refusal(&self) -> bool
+        ensures { result ≡ self.now.strict_refusal }
     {
-        self.strict
+        self.strict_refusal
     }
 
     /// Learns of a record with this number that was judged. `ranged` says whether ranges are asked
@@ -122,7 +122,7 @@ impl Known {
         let notes = notes_if(notes, &verdict);
         self.ranged = ranged;
         self.suspicious = self.suspicious || has_notes(notes.as_slice());
-        self.strict = self.strict || is_strict(&verdict);
+        self.strict_refusal = self.strict_refusal || is_strict_refusal(&verdict);
         Ok(Noted {
             verdict,
             uri,
@@ -163,8 +163,8 @@ fn has_notes(notes: &[Note]) -> bool
 }
 
 /// Returns whether a record is refused with S1 or S5.
-fn is_strict(verdict: &Verdict) -> bool
-    ensures { result ≡ is_strict (verdict_view verdict.now) }
+fn is_strict_refusal(verdict: &Verdict) -> bool
+    ensures { result ≡ is_strict_refusal (verdict_view verdict.now) }
 {
     matches!(
         verdict,

@@ -27,7 +27,9 @@ pub struct Batches {
     uri: String,
     limits: Limits,
     encoding: Encoding,
+    // The document's version after the batches.
     version: i32,
+    // The old text, and what the batches made of it.
     joined: Joined,
 }
 

@@ -20,7 +20,7 @@ what the server sent. A record counts as refused where its word is `refused CAUS
 `error` other than -32601. Then the status is 1.
 
 With `--explain` a line of an error, a refusal or `exit 1` also has the document, the reason and the
-message to see, one of a suspicious message notes, and a last line says what to do next.
+message to see, one of a suspicious message notes, and one or two last lines say what to do next.
 
 Example, a session with two changes that a server must refuse:
   ./lspsync check < examples/stale-version.log

@@ -24,23 +24,23 @@ module _ {X : Type 0} where
   somes (None ∷ items) = somes items
   somes (Some item ∷ items) = item ∷ somes items
 
-  -- How many items a place has.
+  -- How many items a slot has.
   abbrev pub here : Option X → ℕ
   here None = 0
   here (Some item) = 1
 
-  -- How many of the first places have an item.
+  -- How many of the slots before a bound have an item.
   abbrev pub live_to : List (Option X) → ℕ → ℕ
-  live_to [] places = 0
+  live_to [] bound = 0
   live_to (item ∷ items) zero = 0
-  live_to (item ∷ items) (suc places) = here item + live_to items places
+  live_to (item ∷ items) (suc bound) = here item + live_to items bound
 
-  -- There is an item at a place.
-  pub record IsLive (items : List (Option X)) (place : ℕ) : Type 0 where
+  -- There is an item in a slot.
+  pub record IsLive (items : List (Option X)) (slot : ℕ) : Type 0 where
     pub item : X
-    pub at : slice_get items place ≡ Some (Some item)
+    pub at : slice_get items slot ≡ Some (Some item)
 
-  -- Each count is of a block of 256 places, and no place is after the last block.
+  -- Each count is of a block of 256 slots, and no slot is after the last block.
   pub record AreCounted (items : List (Option X)) (counts : List ℕ) : Type 0 where
     pub enough : length items ≤ 256 * length counts
     pub each : (block : ℕ) → block < length counts
@@ -67,16 +67,16 @@ pub record IsKeyAt (keys : List (Option (String Global))) (slot : ℕ) (bytes : 
   pub at : slice_get keys slot ≡ Some (Some key)
   pub same : string_bytes key ≡ bytes
 
--- The place of each key is its slot, and nothing else has a place.
-pub record ArePlaced (keys : List (Option (String Global))) (place : List ℕ → Option ℕ) : Type
-    0 where
+-- Each key is found in its slot, and nothing else is found.
+pub record AreSlotsOf (keys : List (Option (String Global)))
+    (slot_of_key : List ℕ → Option ℕ) : Type 0 where
   pub found : (slot : ℕ) (key : String Global) → slice_get keys slot ≡ Some (Some key)
-      → place (string_bytes key) ≡ Some slot
-  pub there : (bytes : List ℕ) (slot : ℕ) → place bytes ≡ Some slot → IsKeyAt keys slot bytes
+      → slot_of_key (string_bytes key) ≡ Some slot
+  pub there : (bytes : List ℕ) (slot : ℕ) → slot_of_key bytes ≡ Some slot → IsKeyAt keys slot bytes
 
 -- What holds of the parts of an ordered map.
 pub record IsOrderedMap (keys : List (Option (String Global))) (counts : List ℕ)
-    (place : List ℕ → Option ℕ) (live : ℕ) : Type 0 where
+    (slot_of_key : List ℕ → Option ℕ) (live : ℕ) : Type 0 where
   pub counted : AreCounted keys counts
-  pub placed : ArePlaced keys place
+  pub slots_are : AreSlotsOf keys slot_of_key
   pub live_is : live ≡ length (somes keys)

@@ -3,31 +3,32 @@ use Rattle.std.proofs.lemmas.List.{get_or_read}
 use Rattle.std.proofs.lemmas.Option.{get_or_from_slice_get}
 use Rattle.std.specs.HashMap.{get_by_text}
 use Rattle.ordered_map.specs.Entries.{slot_entry}
-use Rattle.ordered_map.proofs.MapLemmas.{not_placed, placed_at, seen}
+use Rattle.ordered_map.proofs.MapLemmas.{has_no_slot, slot_at, seen}
 use Rattle.ordered_map.proofs.map.OrderedMap.get_key_value.Goals as goal
 
 pub returns-in_err-slot-clause-key : goal.returns-in_err-slot-clause-key
 returns-in_err-slot-clause-key g c =
     rw (c.from_residual.ensures, ← c.self.view_is)
-    (sym (not_placed c.self.inside.slots.items c.self.inside.counts.items (get_by_text c.self.inside.places)
+    (sym (has_no_slot c.self.inside.slots.items c.self.inside.counts.items (get_by_text c.self.inside.slot_of_key)
     c.self.inside.live c.self.invariant c.args.key.now (sym c.in_err-slot.ensures.value)).key)
 
 pub returns-in_err-slot-clause-value : goal.returns-in_err-slot-clause-value
 returns-in_err-slot-clause-value g c =
     rw (c.from_residual.ensures, ← c.self.view_is)
-    (sym (not_placed c.self.inside.slots.items c.self.inside.counts.items (get_by_text c.self.inside.places)
+    (sym (has_no_slot c.self.inside.slots.items c.self.inside.counts.items (get_by_text c.self.inside.slot_of_key)
     c.self.inside.live c.self.invariant c.args.key.now (sym c.in_err-slot.ensures.value)).value)
 
 pub index-requires : goal.index-requires
 index-requires g c = omega (
   arith,
-  (placed_at c.self.inside.slots.items c.self.inside.counts.items (get_by_text c.self.inside.places) c.self.inside.live
-      c.self.invariant c.args.key.now c.in_ok-slot.field-0.now (sym c.in_ok-slot.ensures.value)).within,
+  (slot_at c.self.inside.slots.items c.self.inside.counts.items (get_by_text c.self.inside.slot_of_key)
+      c.self.inside.live c.self.invariant c.args.key.now c.in_ok-slot.field-0.now
+      (sym c.in_ok-slot.ensures.value)).within,
 )
 
 pub returns-clause-key : goal.returns-clause-key
 returns-clause-key g c =
-    let there = placed_at c.self.inside.slots.items c.self.inside.counts.items (get_by_text c.self.inside.places)
+    let there = slot_at c.self.inside.slots.items c.self.inside.counts.items (get_by_text c.self.inside.slot_of_key)
     c.self.inside.live c.self.invariant c.args.key.now c.in_ok-slot.field-0.now (sym c.in_ok-slot.ensures.value) in
     let read = c.entry.ensures ∙ ap slot_entry (c.index.ensures ∙ get_or_from_slice_get c.self.inside.slots.items
     c.in_ok-slot.field-0.now _ c.index.result.now there.at) in
@@ -35,7 +36,7 @@ returns-clause-key g c =
 
 pub returns-clause-value : goal.returns-clause-value
 returns-clause-value g c =
-    let there = placed_at c.self.inside.slots.items c.self.inside.counts.items (get_by_text c.self.inside.places)
+    let there = slot_at c.self.inside.slots.items c.self.inside.counts.items (get_by_text c.self.inside.slot_of_key)
     c.self.inside.live c.self.invariant c.args.key.now c.in_ok-slot.field-0.now (sym c.in_ok-slot.ensures.value) in
     let read = c.entry.ensures ∙ ap slot_entry (c.index.ensures ∙ get_or_from_slice_get c.self.inside.slots.items
     c.in_ok-slot.field-0.now _ c.index.result.now there.at) in

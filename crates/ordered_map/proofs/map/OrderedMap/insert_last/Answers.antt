@@ -15,7 +15,7 @@ use Rattle.ordered_map.proofs.map.OrderedMap.insert_last.Goals as goal
 
 pub invariant_of-self-in_err-replaced : goal.invariant_of-self-in_err-replaced
 invariant_of-self-in_err-replaced g c =
-    same_map c.self.inside.slots.items c.self.inside.counts.items (get_by_text c.self.inside.places)
+    same_map c.self.inside.slots.items c.self.inside.counts.items (get_by_text c.self.inside.slot_of_key)
     (get_by_text c.insert.new.self) c.self.inside.live c.self.invariant c.reserve.new.self.items
     c.reserve-2.new.self.items c.reserve.ensures.items c.reserve-2.ensures.items
     (λ bytes. ap (λ (entries : List (String Global × ℕ)). lookup
@@ -43,12 +43,12 @@ vacate-requires-clause-counted g c =
 pub vacate-requires-clause-live : goal.vacate-requires-clause-live
 vacate-requires-clause-live g c =
     rw c.deref_mut.ensures.value (moved_live c.self.inside.slots.items c.self.inside.counts.items
-    (get_by_text c.self.inside.places) (get_by_text c.insert.new.self) c.self.inside.live c.self.invariant
+    (get_by_text c.self.inside.slot_of_key) (get_by_text c.insert.new.self) c.self.inside.live c.self.invariant
     c.push_reserved.new.self.items c.count_next.new.counts.items c.args.key c.args.value
-    (inserted_at c.self.inside.places c.insert.new.self c.args.key c.in_ok-clone.field-0 c.len.result
+    (inserted_at c.self.inside.slot_of_key c.insert.new.self c.args.key c.in_ok-clone.field-0 c.len.result
     (length c.self.inside.slots.items) c.in_ok-clone.ensures.cases (omega (arith, ap length c.reserve.ensures.items))
     c.in_ok-replaced.ensures.updates) c.in-Some.slot
-    (ap (get_by_text c.self.inside.places) (sym c.in_ok-clone.ensures.cases)
+    (ap (get_by_text c.self.inside.slot_of_key) (sym c.in_ok-clone.ensures.cases)
     ∙ (sym c.in_ok-replaced.ensures.old ∙ c.in-Some.is)) c.push_reserved.new.self.items (c.push_reserved.ensures.items
     ∙ ap (λ (slots : List (Slot g.row.V.Denot)). slots ++ Live c.args.key c.args.value ∷ []) c.reserve.ensures.items))
 
@@ -61,12 +61,12 @@ vacate-requires-clause-within g c =
     )
     (omega (
       arith,
-      moved_within c.self.inside.slots.items c.self.inside.counts.items (get_by_text c.self.inside.places)
+      moved_within c.self.inside.slots.items c.self.inside.counts.items (get_by_text c.self.inside.slot_of_key)
           (get_by_text c.insert.new.self) c.self.inside.live c.self.invariant c.push_reserved.new.self.items
-          c.count_next.new.counts.items c.args.key c.args.value (inserted_at c.self.inside.places c.insert.new.self
+          c.count_next.new.counts.items c.args.key c.args.value (inserted_at c.self.inside.slot_of_key c.insert.new.self
           c.args.key c.in_ok-clone.field-0 c.len.result (length c.self.inside.slots.items) c.in_ok-clone.ensures.cases
           (omega (arith, ap length c.reserve.ensures.items)) c.in_ok-replaced.ensures.updates) c.in-Some.slot
-          (ap (get_by_text c.self.inside.places) (sym c.in_ok-clone.ensures.cases)
+          (ap (get_by_text c.self.inside.slot_of_key) (sym c.in_ok-clone.ensures.cases)
           ∙ (sym c.in_ok-replaced.ensures.old ∙ c.in-Some.is)),
       length-append c.self.inside.slots.items (Live c.args.key c.args.value ∷ []),
     ))
@@ -90,12 +90,12 @@ invariant_of-self-in-Some g c =
     (sym slots_are)
     (subst (λ (counts : List ℕ). IsOrderedMap (keys_in c.vacate.new.slots) counts (get_by_text c.insert.new.self)
     c.self.inside.live) (sym counts_are)
-    (moved_map c.self.inside.slots.items c.self.inside.counts.items (get_by_text c.self.inside.places)
+    (moved_map c.self.inside.slots.items c.self.inside.counts.items (get_by_text c.self.inside.slot_of_key)
     (get_by_text c.insert.new.self) c.self.inside.live c.self.invariant c.vacate.new.slots c.vacate.new.counts
-    c.args.key c.args.value (inserted_at c.self.inside.places c.insert.new.self c.args.key c.in_ok-clone.field-0
+    c.args.key c.args.value (inserted_at c.self.inside.slot_of_key c.insert.new.self c.args.key c.in_ok-clone.field-0
     c.len.result (length c.self.inside.slots.items) c.in_ok-clone.ensures.cases
     (omega (arith, ap length c.reserve.ensures.items)) c.in_ok-replaced.ensures.updates) c.in-Some.slot
-    (ap (get_by_text c.self.inside.places) (sym c.in_ok-clone.ensures.cases)
+    (ap (get_by_text c.self.inside.slot_of_key) (sym c.in_ok-clone.ensures.cases)
     ∙ (sym c.in_ok-replaced.ensures.old ∙ c.in-Some.is)) (c.vacate.ensures.slots
     ∙ ap (λ (slots : List (Slot g.row.V.Denot)). set slots c.in-Some.slot Vacant) (c.deref_mut.ensures.value
     ∙ (c.push_reserved.ensures.items ∙ ap (λ (slots : List (Slot g.row.V.Denot)). slots ++ Live c.args.key c.args.value
@@ -120,12 +120,12 @@ invariant_of-self-in-Some-2 g c =
     (sym slots_are)
     (subst (λ (counts : List ℕ). IsOrderedMap (keys_in c.vacate.new.slots) counts (get_by_text c.insert.new.self)
     c.self.inside.live) (sym counts_are)
-    (moved_map c.self.inside.slots.items c.self.inside.counts.items (get_by_text c.self.inside.places)
+    (moved_map c.self.inside.slots.items c.self.inside.counts.items (get_by_text c.self.inside.slot_of_key)
     (get_by_text c.insert.new.self) c.self.inside.live c.self.invariant c.vacate.new.slots c.vacate.new.counts
-    c.args.key c.args.value (inserted_at c.self.inside.places c.insert.new.self c.args.key c.in_ok-clone.field-0
+    c.args.key c.args.value (inserted_at c.self.inside.slot_of_key c.insert.new.self c.args.key c.in_ok-clone.field-0
     c.len.result (length c.self.inside.slots.items) c.in_ok-clone.ensures.cases
     (omega (arith, ap length c.reserve.ensures.items)) c.in_ok-replaced.ensures.updates) c.in-Some.slot
-    (ap (get_by_text c.self.inside.places) (sym c.in_ok-clone.ensures.cases)
+    (ap (get_by_text c.self.inside.slot_of_key) (sym c.in_ok-clone.ensures.cases)
     ∙ (sym c.in_ok-replaced.ensures.old ∙ c.in-Some.is)) (c.vacate.ensures.slots
     ∙ ap (λ (slots : List (Slot g.row.V.Denot)). set slots c.in-Some.slot Vacant) (c.deref_mut.ensures.value
     ∙ (c.push_reserved.ensures.items ∙ ap (λ (slots : List (Slot g.row.V.Denot)). slots ++ Live c.args.key c.args.value
@@ -133,12 +133,12 @@ invariant_of-self-in-Some-2 g c =
 
 pub invariant_of-self-in_default : goal.invariant_of-self-in_default
 invariant_of-self-in_default g c =
-    put_map c.self.inside.slots.items c.self.inside.counts.items (get_by_text c.self.inside.places)
+    put_map c.self.inside.slots.items c.self.inside.counts.items (get_by_text c.self.inside.slot_of_key)
     (get_by_text c.insert.new.self) c.self.inside.live c.self.invariant c.push_reserved.new.self.items
-    c.count_next.new.counts.items c.args.key c.args.value (inserted_at c.self.inside.places c.insert.new.self c.args.key
-    c.in_ok-clone.field-0 c.len.result (length c.self.inside.slots.items) c.in_ok-clone.ensures.cases
+    c.count_next.new.counts.items c.args.key c.args.value (inserted_at c.self.inside.slot_of_key c.insert.new.self
+    c.args.key c.in_ok-clone.field-0 c.len.result (length c.self.inside.slots.items) c.in_ok-clone.ensures.cases
     (omega (arith, ap length c.reserve.ensures.items)) c.in_ok-replaced.ensures.updates)
-    (ap (get_by_text c.self.inside.places) (sym c.in_ok-clone.ensures.cases)
+    (ap (get_by_text c.self.inside.slot_of_key) (sym c.in_ok-clone.ensures.cases)
     ∙ (sym c.in_ok-replaced.ensures.old ∙ c.in_default.is)) (c.push_reserved.ensures.items
     ∙ ap (λ (slots : List (Slot g.row.V.Denot)). slots ++ Live c.args.key c.args.value ∷ []) c.reserve.ensures.items)
     (rw (c.deref.ensures.value, c.reserve.ensures.items) at (c.count_next.ensures c.args.key))
@@ -166,12 +166,12 @@ returns-clause-inserted g c =
           )) in
           ap (λ (ordered : Entries g.row.V.Denot). ordered.entries) (c.pack_if_sparse.ensures ∙ w.self-is)
           ∙ (ap entries_in slots_are ∙ moved_entries c.self.inside.slots.items c.self.inside.counts.items
-          (get_by_text c.self.inside.places) (get_by_text c.insert.new.self) c.self.inside.live c.self.invariant
+          (get_by_text c.self.inside.slot_of_key) (get_by_text c.insert.new.self) c.self.inside.live c.self.invariant
           w.vacate.new.slots w.vacate.new.counts c.args.key c.args.value
-          (inserted_at c.self.inside.places c.insert.new.self c.args.key c.in_ok-clone.field-0 c.len.result
+          (inserted_at c.self.inside.slot_of_key c.insert.new.self c.args.key c.in_ok-clone.field-0 c.len.result
           (length c.self.inside.slots.items) c.in_ok-clone.ensures.cases
           (omega (arith, ap length c.reserve.ensures.items)) c.in_ok-replaced.ensures.updates) w.in-Some.slot
-          (ap (get_by_text c.self.inside.places) (sym c.in_ok-clone.ensures.cases)
+          (ap (get_by_text c.self.inside.slot_of_key) (sym c.in_ok-clone.ensures.cases)
           ∙ (sym c.in_ok-replaced.ensures.old ∙ w.in-Some.is)) (w.vacate.ensures.slots
           ∙ ap (λ (slots : List (Slot g.row.V.Denot)). set slots w.in-Some.slot Vacant) (w.deref_mut.ensures.value
           ∙ (c.push_reserved.ensures.items
@@ -186,12 +186,12 @@ returns-clause-inserted g c =
           )) in
           ap (λ (ordered : Entries g.row.V.Denot). ordered.entries) (c.pack_if_sparse.ensures ∙ w.self-is)
           ∙ (ap entries_in slots_are ∙ moved_entries c.self.inside.slots.items c.self.inside.counts.items
-          (get_by_text c.self.inside.places) (get_by_text c.insert.new.self) c.self.inside.live c.self.invariant
+          (get_by_text c.self.inside.slot_of_key) (get_by_text c.insert.new.self) c.self.inside.live c.self.invariant
           w.vacate.new.slots w.vacate.new.counts c.args.key c.args.value
-          (inserted_at c.self.inside.places c.insert.new.self c.args.key c.in_ok-clone.field-0 c.len.result
+          (inserted_at c.self.inside.slot_of_key c.insert.new.self c.args.key c.in_ok-clone.field-0 c.len.result
           (length c.self.inside.slots.items) c.in_ok-clone.ensures.cases
           (omega (arith, ap length c.reserve.ensures.items)) c.in_ok-replaced.ensures.updates) w.in-Some.slot
-          (ap (get_by_text c.self.inside.places) (sym c.in_ok-clone.ensures.cases)
+          (ap (get_by_text c.self.inside.slot_of_key) (sym c.in_ok-clone.ensures.cases)
           ∙ (sym c.in_ok-replaced.ensures.old ∙ w.in-Some.is)) (w.vacate.ensures.slots
           ∙ ap (λ (slots : List (Slot g.row.V.Denot)). set slots w.in-Some.slot Vacant) (w.deref_mut.ensures.value
           ∙ (c.push_reserved.ensures.items
@@ -199,12 +199,12 @@ returns-clause-inserted g c =
           c.reserve.ensures.items))))
       | in_default w ↦
           ap (λ (ordered : Entries g.row.V.Denot). ordered.entries) (c.pack_if_sparse.ensures ∙ w.self-is)
-          ∙ put_entries c.self.inside.slots.items c.self.inside.counts.items (get_by_text c.self.inside.places)
+          ∙ put_entries c.self.inside.slots.items c.self.inside.counts.items (get_by_text c.self.inside.slot_of_key)
           (get_by_text c.insert.new.self) c.self.inside.live c.self.invariant c.push_reserved.new.self.items
-          c.count_next.new.counts.items c.args.key c.args.value (inserted_at c.self.inside.places c.insert.new.self
+          c.count_next.new.counts.items c.args.key c.args.value (inserted_at c.self.inside.slot_of_key c.insert.new.self
           c.args.key c.in_ok-clone.field-0 c.len.result (length c.self.inside.slots.items) c.in_ok-clone.ensures.cases
           (omega (arith, ap length c.reserve.ensures.items)) c.in_ok-replaced.ensures.updates)
-          (ap (get_by_text c.self.inside.places) (sym c.in_ok-clone.ensures.cases)
+          (ap (get_by_text c.self.inside.slot_of_key) (sym c.in_ok-clone.ensures.cases)
           ∙ (sym c.in_ok-replaced.ensures.old ∙ w.in_default.is)) (c.push_reserved.ensures.items
           ∙ ap (λ (slots : List (Slot g.row.V.Denot)). slots ++ Live c.args.key c.args.value ∷ [])
           c.reserve.ensures.items)

@@ -36,7 +36,7 @@ invariant_of-self-lent g c w =
     let there = indexed c.self.inside.slots.items c.in-Some.slot c.args.index
     (rw c.deref.ensures.value at c.in-Some.ensures.found) (rw c.deref.ensures.value at c.in-Some.ensures.index) in
     subst (λ (keys : List (Option (String Global))). IsOrderedMap keys c.self.inside.counts.items
-    (get_by_text c.self.inside.places) c.self.inside.live)
+    (get_by_text c.self.inside.slot_of_key) c.self.inside.live)
     (sym (keys_kept c.self.inside.slots.items c.in-Some.slot there.key there.value w c.index_mut.result.now there.at
     (c.index_mut.ensures.value ∙ get_or_from_slice_get c.self.inside.slots.items c.in-Some.slot _ c.index_mut.result.now
     there.at)))

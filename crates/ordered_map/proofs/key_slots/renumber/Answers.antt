@@ -2,16 +2,16 @@ use Rattle.std.proofs.Common.{◌≡◌, ◌<◌, ◌∙◌, None, Some, ap, ari
 use Rattle.std.proofs.lemmas.Option.{slice_get_within}
 use Rattle.std.specs.HashMap.{get_by_text}
 use Rattle.ordered_map.specs.inside.Slots.{keys_in}
-use Rattle.ordered_map.proofs.PlaceLemmas.{numbered_live, numbered_vacant}
+use Rattle.ordered_map.proofs.KeySlotLemmas.{numbered_live, numbered_vacant}
 use Rattle.ordered_map.proofs.SlotLemmas.{key_of_slot, key_read, length_keys, no_key_of_slot}
-use Rattle.ordered_map.proofs.places.renumber.Goals.{in-Some, in_default}
-use Rattle.ordered_map.proofs.places.renumber.Goals as goal
+use Rattle.ordered_map.proofs.key_slots.renumber.Goals.{in-Some, in_default}
+use Rattle.ordered_map.proofs.key_slots.renumber.Goals as goal
 
 pub loop-index-preserved : goal.loop-index-preserved
 loop-index-preserved g c =
     let keys = keys_in c.args.slots.now in
-    let old = get_by_text c.args.places.now in
-    let place = get_by_text c.loop-index.places in
+    let old = get_by_text c.args.slot_of_key.now in
+    let slot_of_key = get_by_text c.loop-index.slot_of_key in
     let read = key_read c.args.slots.now c.loop-index.index c.loop-index-item.result c.loop-index-test.true
     c.loop-index-item.is in
     elim c.match-entry.branch [
@@ -19,13 +19,13 @@ loop-index-preserved g c =
           let here : slice_get keys c.loop-index.index ≡ Some (Some w.in-Some.key.now) =
           read ∙ ap (λ key. Some key) (key_of_slot c.loop-index-item.result w.in-Some.key.now w.in-Some.field-0-1.now
           w.in-Some.ensures) in
-          rw w.places-is
-          (numbered_live keys old place (get_by_text w.set_place.new.places) c.loop-index.index c.loop-index.invariant
-          c.requires.unlike w.in-Some.key.now here (c.requires.placed c.loop-index.index w.in-Some.key.now here)
-          (rw w.deref.ensures at w.set_place.ensures))
+          rw w.slot_of_key-is
+          (numbered_live keys old slot_of_key (get_by_text w.set_slot.new.slot_of_key) c.loop-index.index c.loop-index.invariant
+          c.requires.unlike w.in-Some.key.now here (c.requires.has_slot c.loop-index.index w.in-Some.key.now here)
+          (rw w.deref.ensures at w.set_slot.ensures))
       | in_default w ↦
-          rw w.places-is
-          (numbered_vacant keys old place place c.loop-index.index c.loop-index.invariant
+          rw w.slot_of_key-is
+          (numbered_vacant keys old slot_of_key slot_of_key c.loop-index.index c.loop-index.invariant
           (read ∙ ap (λ key. Some key) (no_key_of_slot c.loop-index-item.result w.in_default.ensures)))
     ]
 

@@ -1,4 +1,4 @@
-//! A part of a text with its lines.
+//! `SharedText`, what the blocks of several texts share: a string and its lines.
 ghost use Rattle.std.specs.Prelude.{◌≡◌, ◌≤◌, IfOk, OnOk, OnErr, length, string_bytes, string_len};
 ghost use Rattle.std.specs.List.{replace_range};
 ghost use Rattle.std.specs.Str.{IsCharBoundary};
@@ -10,32 +10,32 @@ use std::alloc::{AllocError, Global};
 use std::clone::Clone;
 use std::marker::Model;
 
-/// A part of a text with its line starts. Clauses see its bytes.
+/// What the blocks of several texts share: a string, and its lines. Clauses see its bytes.
 #[derive(Debug, Drop)]
-pub struct Leaf {
+pub struct SharedText {
     text: String,
     lines: Lines,
 }
 
-impl Model for Leaf {
+impl Model for SharedText {
     ghost use Rattle.std.specs.Prelude.{ℕ, List, string_bytes};
     ghost use Rattle.lsp_text.specs.LineStarts.{Indexes};
 
     ghost Value = { List ℕ };
 
-    ghost view = { λ leaf. string_bytes leaf.text };
+    ghost view = { λ shared. string_bytes shared.text };
 
-    ghost invariant = { λ leaf. Indexes leaf.lines (string_bytes leaf.text) };
+    ghost invariant = { λ shared. Indexes shared.lines (string_bytes shared.text) };
 }
 
-impl Leaf {
+impl SharedText {
     /// Takes a text and finds its lines. Fails only if it is out of memory.
     pub fn new(alloc: Global, text: String) -> Result<Self, AllocError>
         requires { string_len text ≤ 2147483648 }
-        ensures { IfOk result (λ leaf. leaf ≡ string_bytes text) }
+        ensures { IfOk result (λ shared. shared ≡ string_bytes text) }
     {
         let lines = Lines::new(alloc, &text)?;
-        Ok(Leaf { text, lines })
+        Ok(SharedText { text, lines })
     }
 
     /// Returns the text.
@@ -65,13 +65,13 @@ impl Leaf {
     }
 }
 
-impl Clone for Leaf {
-    ghost is_clone = { λ leaf copy. copy ≡ leaf };
+impl Clone for SharedText {
+    ghost is_clone = { λ shared copy. copy ≡ shared };
 
     fn clone(&self) -> Result<Self, AllocError> {
         let alloc = *self.text.allocator();
         let lines = self.lines.clone_in(alloc)?;
         let text = String::from_str(alloc, &self.text)?;
-        Ok(Leaf { text, lines })
+        Ok(SharedText { text, lines })
     }
 }
