@@ -49,7 +49,7 @@ define IN_THE_REPOSITORY
 To change it (docs/DEVELOPING.md)
   make ready           what is to be mended before a push (CRATE="lsp_store ..")           rt                          under a minute
   make pages           its part on pages: links, files, versions, definitions that grew    python3                     seconds
-  make gate            .ci/run: all proofs, tests, programs and must-fail edits            rt                          46 minutes, later less
+  make gate            .ci/run: all proofs, tests, programs and must-fail edits            rt                          90 minutes, later less
   make minutes         the gate, and where its minutes and its memory go                   rt, python3                 as the gate
   make edits           must-fail edits, also those that the gate leaves out (CRATE)        rt, python3                 minutes a crate
   make refused         out of memory at each request that a test makes (CRATE)             rt, after the gate          seconds

@@ -175,6 +175,11 @@ export interface Server extends OpenDocuments {}
 
 /** A server's end of a session, without input and output of its own. */
 export class Server {
+  /**
+   * `encoding`, by default utf-16, is taken where the client offers it, else utf-16. With `isFixed` it is taken whatever is offered. LSP
+   * 3.17 allows one that was offered, or utf-16: fix another only for logs, or where you write the editor too. `isFull` asks for whole
+   * texts.
+   */
   constructor(options?: Limits & { encoding?: Encoding; isFixed?: boolean; isFull?: boolean });
 
   /** What the server does with each message that ends in these bytes. A faulty frame throws FrameFault. */

@@ -38,9 +38,11 @@ fn main() {
     println!("cargo:rerun-if-env-changed=PKG_CONFIG_PATH");
     let folder = folder();
     if !folder.as_ref().is_some_and(|it| it.join(ARCHIVE).exists()) {
-        println!("cargo:warning=no {ARCHIVE}: set LASPIDRU_LIB_DIR to its folder, or install the library (docs/rust.md, Install)");
+        println!("cargo:warning=no {ARCHIVE}: set LASPIDRU_LIB_DIR to its folder, or install the library");
     }
     if let Some(folder) = folder {
+        // (a program is linked anew once the archive is another)
+        println!("cargo:rerun-if-changed={}", folder.join(ARCHIVE).display());
         println!("cargo:rustc-link-search=native={}", folder.display());
     }
     println!("cargo:rustc-link-lib=static=laspidru");

@@ -108,6 +108,20 @@ function CASES.text_over_the_limit()
     assert(#said == 0, said[1])
 end
 
+function CASES.message_over_the_limit()
+    local session = start({ max_body = 4096 })
+    session:attach(0)
+    set("short")
+    has(session, "short\n")
+    set(('"'):rep(3000)) -- (6,000 bytes in the message)
+    heard("isn't sent: the text is longer than max_text, or its message than max_body")
+    has(session, "short\n")
+    set("short again")
+    has(session, "short again\n")
+    heard("is sent again")
+    assert(#said == 0, said[1])
+end
+
 function CASES.opened_over_the_limit()
     local session = start({ max_text = 20 })
     set("this line is longer than the limit")

@@ -2,8 +2,9 @@
 import re
 
 NAME = r"[A-Za-z_][A-Za-z0-9_']*"
-USE_NAMES = re.compile(r"(?:pub |ghost )*use (Rattle\.[A-Za-z0-9_.]+)\.\{([^}]*)\}")
-USE_MODULE = re.compile(rf"(?:pub |ghost )*use (Rattle\.[A-Za-z0-9_.]+)(?: as ({NAME}))?\s*$")
+USE = re.compile(r"(?:pub |ghost |unfoldable )*use ")
+USE_NAMES = re.compile(rf"{USE.pattern}([A-Za-z][A-Za-z0-9_.]+)\.\{{([^}}]*)\}}")
+USE_MODULE = re.compile(rf"{USE.pattern}([A-Za-z][A-Za-z0-9_.]+)(?: as ({NAME}))?\s*$")
 HEAD = re.compile(r"\s{0,2}((?:(?:abbrev|unfoldable|pub|record|data|syntax) )+)([^\s:(]+)")
 VARIANTS = re.compile(r"\s+((?:[\w']+ )+): ")
 EQUATION = re.compile(r"(?<![=≡<>!])=(?![=>≡])")
@@ -28,7 +29,8 @@ class Scope:
         self.names, self.modules = {}, {}
         for line in text.split("\n"):
             line = line.strip().rstrip(";")
-            if not re.match(r"(pub |ghost )*use ", line) or public_only and not line.startswith("pub "):
+            use = USE.match(line)
+            if not use or public_only and "pub " not in use[0]:
                 continue
             if use := USE_NAMES.match(line):
                 for item in filter(None, (it.strip() for it in use[2].split(","))):
@@ -100,7 +102,7 @@ class Module:
         comment, current = [], None
         for number, line in enumerate(text.split("\n"), 1):
             word = line.strip()
-            if not word or re.match(r"(pub )?(use|mod) ", word) or word.startswith("-- ----"):
+            if not word or USE.match(word) or re.match(r"(pub )?mod ", word) or word.startswith("-- ----"):
                 comment = []
                 continue
             if word.startswith("--"):

@@ -105,6 +105,11 @@ class Closure:
     def kit_definitions(self):
         return [it for it in self.kit if isinstance(it, Definition)]
 
+    @property
+    def named(self):
+        """Returns what is named of the kit and not read, but for the variants of its types."""
+        return [it for it in self.kit if isinstance(it, Kit) and not it.is_variant]
+
     def chain(self, one):
         """Returns the names by which a definition was reached, the clause first."""
         names = []

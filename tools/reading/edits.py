@@ -4,6 +4,7 @@ import re
 import shutil
 
 FUNCTION = re.compile(r'( *)((?:[\w()"]+ )*)fn (\w+)')
+NAMED = re.compile(r"\b(?:fn (\w+)|(?:const|static) (\w+):)")
 
 # What calls a method of a trait beside its name.
 OPERATORS = {"from": r"\?|\binto\b", "fmt": r"!\(", "eq": "[=!]=", "next": r"\bfor\b", "cmp": "[<>]", "partial_cmp": "[<>]"}
@@ -174,6 +175,12 @@ def files_of(folder):
     parts = [at for part in ("src", "specs", "proofs") for at in os.walk(f"{folder}/{part}")]
     paths = sorted(os.path.relpath(f"{at}/{it}", folder) for at, _, names in parts for it in names)
     return {it: text_of(f"{folder}/{it}") for it in paths}
+
+
+def named_in(folder):
+    """Returns the names of the functions and constants of a crate, by one of which an edit's name begins."""
+    sources = [text for path, text in files_of(folder).items() if path.startswith("src/") and path.endswith(".rt")]
+    return {one or two for text in sources for one, two in NAMED.findall(text)}
 
 
 def copied(kept, other):

@@ -110,6 +110,9 @@ class Pages:
         closure = self.closure_of(page)
         if closure.size > page.most:
             yield f"the page \"{page.title}\" has {closure.size} lines, and its row says at most {page.most}"
+        for it in closure.named if self.repository.kit else ():
+            if not self.repository.is_found(it):
+                yield f"the page \"{page.title}\" names `{it.name}`, which is found nowhere"
         for name in page.given:
             if name not in closure.given:
                 yield f"the page \"{page.title}\" doesn't need `{name}`, which its row gives"

@@ -50,18 +50,31 @@ def print_rest(pages, closure, page):
     for name in sorted(closure.given):
         token, teller = pages.tokens.get(name), pages.teller_of(name, page)
         print(f"`{name}`: " + (token.told() if token else f"tools/definitions --of {teller.of[0]}" if teller else "on no page"))
-    kit = closure.kit_definitions
-    if kit:
-        heading("of Rattle's crates")
-    by_file = collections.defaultdict(list)
-    for one in kit:
-        by_file[f"{one.crate}/specs/{short(one.module.name).replace('.', '/')}.antt"].append(one)
-    for file, held in sorted(by_file.items()):
-        print(f"{file}, {sum(it.size for it in held)} lines: " + ", ".join(sorted(it.name for it in held)))
+    print_kit(closure)
     files = len({it.module.name for it in closure.definitions})
     types = sum(it.size for it in closure.types)
     print(f"\n{closure.size} lines in {len(closure.definitions)} definitions of {files} files; types {types}; "
-          f"given {len(closure.given)}; kit {sum(it.size for it in kit)}")
+          f"given {len(closure.given)}; kit {sum(it.size for it in closure.kit_definitions) if closure.repository.kit else 'not read'}")
+
+
+def print_kit(closure):
+    """Prints what the page needs of Rattle's crates: definitions by file, and what is named alone."""
+    if closure.kit:
+        heading("of Rattle's crates")
+    by_file = collections.defaultdict(list)
+    for one in closure.kit_definitions:
+        by_file[f"{one.crate}/specs/{short(one.module.name).replace('.', '/')}.antt"].append(one)
+    for file, held in sorted(by_file.items()):
+        print(f"{file}, {sum(it.size for it in held)} lines: " + ", ".join(sorted(it.name for it in held)))
+    said = lambda which: ", ".join(sorted({it.said for it in closure.named if which(it)}))
+    is_known = closure.repository.is_found
+    for what, which in (
+        ("types of their code", lambda it: is_known(it) and it.is_of_type),
+        ("of the logic below them", lambda it: is_known(it) and it.is_of_logic),
+        ("not read, since `rt` isn't here", lambda it: not is_known(it)),
+    ):
+        if names := said(which):
+            print(f"{what}: {names}")
 
 
 # ---- tables

@@ -31,10 +31,22 @@ def kit_folder():
 
 
 class Kit:
-    """A name that the repository doesn't define: a definition of the kit, or something that is built in."""
+    """A name that is named and not read: of the kit's logic, a type of a kit's crate, or a name that is found nowhere."""
 
-    def __init__(self, name):
-        self.name = name
+    def __init__(self, module, last, said=None):
+        self.name, self.module, self.last, self.said = f"{module}.{last}", module, last, said or last
+
+    @property
+    def is_of_logic(self):
+        return not self.module.startswith("Rattle.")
+
+    @property
+    def is_of_type(self):
+        return ".declared." in self.module
+
+    @property
+    def is_variant(self):
+        return self.module.endswith(".TheVariants")
 
 
 class Repository:
@@ -42,7 +54,8 @@ class Repository:
         self.top, self.kit = top, kit_folder()
         self.modules, self.files, self.functions, self.ranks = {}, [], [], {}
         self.types, self.kit_modules, self.spoken = collections.defaultdict(list), {}, {}
-        for crate in sorted(os.listdir(f"{top}/crates")):
+        self.crates = sorted(os.listdir(f"{top}/crates"))
+        for crate in self.crates:
             self.read_crate(crate, f"{top}/crates/{crate}")
         self.read_ranks()
 
@@ -99,13 +112,16 @@ class Repository:
         """Returns a module of the repository or of the kit."""
         if name in self.modules:
             return self.modules[name]
-        crate, _, inner = name.rpartition(".")
-        passed_on = self.modules[f"{crate}.Lib"].exports.modules if f"{crate}.Lib" in self.modules else {}
-        if inner in passed_on:
-            return self.module(passed_on[inner])
         if name not in self.kit_modules:
-            self.kit_modules[name] = self.read_kit(name)
+            self.kit_modules[name] = self.passed_on(name) or self.read_kit(name)
         return self.kit_modules[name]
+
+    def passed_on(self, name):
+        """Returns the module of another crate that a crate's `Lib` passes on under this name, or one below it."""
+        parts = name.split(".")
+        lib = self.module(".".join([*parts[:3], "Lib"])) if len(parts) > 3 and parts[3] != "Lib" else None
+        other = lib.exports.modules.get(parts[3]) if lib else None
+        return self.module(".".join([other, *parts[4:]])) if other else None
 
     def read_kit(self, name):
         parts = name.split(".")
@@ -127,10 +143,10 @@ class Repository:
             return None
         if ".declared." in module:
             one = self.declared(module, name)
-            return (one, module.endswith("TheVariants")) if one else (Kit(f"{module}.{name}"), False)
+            return (one, module.endswith("TheVariants")) if one else (Kit(module, name), False)
         held, seen = self.module(module), (*seen, (module, name))
         if held is None:
-            return Kit(f"{module}.{name}"), False
+            return Kit(module, name), False
         if name in held.definitions:
             return held.definitions[name], False
         if name in held.variants:
@@ -142,7 +158,7 @@ class Repository:
             found = self.find(other, name, seen)
             if found and not isinstance(found[0], Kit):
                 return found
-        return None if module in self.modules else (Kit(f"{module}.{name}"), False)
+        return Kit(module, name), False
 
     def resolve(self, scope, module, chain, bound=()):
         """Returns what the head of a dotted chain stands for, if it is neither bound nor a field."""
@@ -154,10 +170,19 @@ class Repository:
         if module and first in module.variants:
             return module.variants[first], True
         if first in scope.names:
-            return self.find(*scope.names[first])
+            return self.named(first, *scope.names[first])
         if first in scope.modules and rest:
-            return self.find(scope.modules[first], rest[0])
+            return self.named(rest[0], scope.modules[first], rest[0])
         return None
+
+    def named(self, said, module, name):
+        """Returns what `find` does; what isn't read is called as the text calls it."""
+        found, is_variant = self.find(module, name) or (Kit(module, name), False)
+        return (Kit(found.module, found.last, said) if isinstance(found, Kit) else found), is_variant
+
+    def is_found(self, kit):
+        """Says whether a name that isn't read is known all the same."""
+        return kit.is_of_logic or kit.is_of_type and kit.module.split(".")[1] not in self.crates
 
     def names(self, text, scope, module=None, bound=frozenset()):
         """Yields what the names in a text stand for; fields, labels and bound names are none."""

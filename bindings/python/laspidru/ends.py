@@ -242,7 +242,9 @@ class ServerEvent(NamedTuple):
 
 class Server(_End):
     """A server's end of a session: bytes or bodies go in, and it keeps the open documents. The defaults are those of
-    `lspsync serve`. With `lenient` a change of any version is taken, and an open document may be opened again."""
+    `lspsync serve`. `encoding` is taken where the client offers it, else UTF-16; with `is_fixed` it is taken whatever is offered. LSP
+    3.17 allows one that was offered, or UTF-16: fix another only for logs, or where you write the editor too. `is_full` asks for
+    whole texts. With `lenient` a change of any version is taken, and an open document may be opened again."""
 
     _names = "server"
 

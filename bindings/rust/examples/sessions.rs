@@ -39,6 +39,7 @@ fn code(refusal: Refusal) -> u32 {
         Refusal::StaleVersion => 17,
         Refusal::TooManyChanges => 18,
         Refusal::InvalidParams => 19,
+        refusal => panic!("a refusal without a number: {refusal:?}"),
     }
 }
 
@@ -97,6 +98,7 @@ impl Session {
             Answer::Ignored => (3, 0, 0, 0),
             Answer::Refused(refusal) => (4, code(refusal), 0, 0),
             Answer::Exit(status) => (5, 0, status, 0),
+            answer => return Err(format!("an answer without a number: {answer:?}").into()),
         };
         Ok(format!("server {kind} {reason} {status} {error}"))
     }
@@ -122,6 +124,7 @@ impl Session {
             Delivered::BadServer(Reason::NotAnAnswer) => (7, 29),
             Delivered::BadServer(Reason::ErrorAnswer) => (7, 30),
             Delivered::BadServer(Reason::NoSync) => (7, 31),
+            delivered => return Err(format!("a delivery without a number: {delivered:?}").into()),
         };
         Ok(format!("client {kind} {reason}"))
     }

@@ -53,6 +53,7 @@ pub enum Phase {
 
 /// Why a session can't continue.
 #[derive(Clone, Copy, Debug, PartialEq, Eq)]
+#[non_exhaustive]
 pub enum Reason {
     /// No message, a response to no request of the client, or one that can't be read.
     NotAnAnswer,
@@ -66,6 +67,7 @@ pub enum Reason {
 
 /// What a client did with a message of the server.
 #[derive(Clone, Debug, PartialEq, Eq)]
+#[non_exhaustive]
 pub enum Delivered {
     /// A frame to send: `initialized`, or an error response to a request.
     Send(Vec<u8>),
@@ -85,9 +87,9 @@ pub enum ClientError {
     WrongPhase,
     /// The documents refuse it, or its message would be too long.
     Refused(Refusal),
-    /// An end of a change's range lies inside a character.
+    /// An end of the range of the change at this index, counted from 0, lies inside a character.
     InsideCharacter { change: usize, at_end: bool },
-    /// A change's range starts after its end.
+    /// The range of the change at this index, counted from 0, starts after its end.
     ReversedRange { change: usize },
     /// The same call can be made again.
     OutOfMemory,
@@ -101,12 +103,11 @@ impl fmt::Display for ClientError {
     fn fmt(&self, f: &mut fmt::Formatter<'_>) -> fmt::Result {
         match self {
             ClientError::WrongPhase => write!(f, "not in this phase of the session"),
-            ClientError::Refused(refusal) => write!(f, "refused: {refusal:?}"),
+            ClientError::Refused(refusal) => write!(f, "refused: {refusal}"),
             ClientError::InsideCharacter { change, at_end } => {
-                let side = if *at_end { "end" } else { "start" };
-                write!(f, "change {change}: the {side} of its range lies inside a character")
+                write!(f, "{}", Error::InsideCharacter { change: *change, at_end: *at_end })
             }
-            ClientError::ReversedRange { change } => write!(f, "change {change}: the range is reversed"),
+            ClientError::ReversedRange { change } => write!(f, "{}", Error::ReversedRange { change: *change }),
             ClientError::OutOfMemory => write!(f, "out of memory"),
             ClientError::BadLimit => write!(f, "a limit is out of its range"),
             ClientError::Frame(error) => write!(f, "{error}"),

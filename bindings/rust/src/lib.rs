@@ -1,4 +1,4 @@
-//! Texts that are kept as LSP 3.17 says, and both ends of a session, by a library that is proved (docs/rust.md).
+//! Texts that are kept as LSP 3.17 says, and both ends of a session, by a library that is proved.
 //!
 //! ```
 //! use laspidru::{Change, Document, Encoding, Position, Range};
@@ -76,7 +76,7 @@ pub struct TextEdit {
     pub new_text: String,
 }
 
-/// Why a call was refused. It changed nothing.
+/// Why a call was refused. It changed nothing. Changes and text edits are named by their index in the list, counted from 0.
 #[derive(Clone, Copy, Debug, PartialEq, Eq)]
 #[non_exhaustive]
 pub enum Error {
@@ -84,11 +84,11 @@ pub enum Error {
     OutOfMemory,
     /// A text has more than 1,073,741,824 bytes.
     TooLong,
-    /// An end of a change's or a text edit's range lies inside a character.
+    /// An end of the range of the change or text edit at this index lies inside a character.
     InsideCharacter { change: usize, at_end: bool },
-    /// A change's or a text edit's range starts after its end.
+    /// The range of the change or text edit at this index starts after its end.
     ReversedRange { change: usize },
-    /// The second text edit starts before the first one ends.
+    /// The text edit at the index `second` starts before the one at `first` ends.
     Overlap { first: usize, second: usize },
     /// A position or an offset lies inside a character, or an offset inside a CRLF or past the end.
     NoPlace,
@@ -101,10 +101,10 @@ impl fmt::Display for Error {
             Error::TooLong => write!(f, "the text is too long"),
             Error::InsideCharacter { change, at_end } => {
                 let side = if *at_end { "end" } else { "start" };
-                write!(f, "change {change}: the {side} of its range lies inside a character")
+                write!(f, "change at index {change}: the {side} of its range lies inside a character")
             }
-            Error::ReversedRange { change } => write!(f, "change {change}: the range is reversed"),
-            Error::Overlap { first, second } => write!(f, "text edits {first} and {second} overlap"),
+            Error::ReversedRange { change } => write!(f, "change at index {change}: the range is reversed"),
+            Error::Overlap { first, second } => write!(f, "text edits at the indexes {first} and {second} overlap"),
             Error::NoPlace => write!(f, "no position of the text"),
         }
     }

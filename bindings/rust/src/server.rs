@@ -46,7 +46,8 @@ impl Default for Settings {
 pub enum EncodingChoice {
     /// The preferred one where the client offers it, else UTF-16.
     Negotiated { prefer: Encoding },
-    /// This one, whatever the client offers.
+    /// This one, whatever the client offers. LSP 3.17 allows one that was offered, or UTF-16: fix another only for logs, or where you
+    /// write the editor too.
     Fixed(Encoding),
 }
 
@@ -61,6 +62,7 @@ pub enum ChangeForm {
 
 /// What a server answers to a message.
 #[derive(Clone, Debug, PartialEq, Eq)]
+#[non_exhaustive]
 pub enum Answer {
     /// A frame to send, with its header. An error reply has its code (LSP 3.17, ErrorCodes).
     Reply { frame: Vec<u8>, code: Option<i32> },
@@ -78,10 +80,11 @@ pub enum Answer {
 
 /// Why a document notification of the client, or a client's call on a document, was refused.
 #[derive(Clone, Copy, Debug, PartialEq, Eq)]
+#[non_exhaustive]
 pub enum Refusal {
     /// The params are not those of the notification.
     InvalidParams,
-    /// A text has more than `max_text` bytes.
+    /// A text has more than `max_text` bytes, or a message to be sent more than `max_body`.
     TooLong,
     /// An end of a range lies inside a character.
     InsideCharacter,
@@ -97,6 +100,22 @@ pub enum Refusal {
     StaleVersion,
     /// There are more than `max_changes` changes, or too long ones.
     TooManyChanges,
+}
+
+impl fmt::Display for Refusal {
+    fn fmt(&self, f: &mut fmt::Formatter<'_>) -> fmt::Result {
+        f.write_str(match self {
+            Refusal::InvalidParams => "the parameters can't be read",
+            Refusal::TooLong => "a text or its message has more bytes than the limit allows",
+            Refusal::InsideCharacter => "an end of a range lies inside a character",
+            Refusal::ReversedRange => "a range starts after its end",
+            Refusal::NotOpen => "the document is not open",
+            Refusal::AlreadyOpen => "the document is open already",
+            Refusal::TooManyDocuments => "as many documents are open as the limit allows",
+            Refusal::StaleVersion => "the version is not greater than the current one",
+            Refusal::TooManyChanges => "there are more changes than the limit allows, or too long ones",
+        })
+    }
 }
 
 /// Why there is no server, or no answer. Then nothing changed.
@@ -132,9 +151,9 @@ impl std::error::Error for ServerError {}
 pub enum MessageError {
     /// The documents refuse the changes, or their message would be too long.
     Refused(Refusal),
-    /// An end of a change's range lies inside a character.
+    /// An end of the range of the change at this index, counted from 0, lies inside a character.
     InsideCharacter { change: usize, at_end: bool },
-    /// A change's range starts after its end.
+    /// The range of the change at this index, counted from 0, starts after its end.
     ReversedRange { change: usize },
     /// The same call can be made again.
     OutOfMemory,
@@ -143,7 +162,7 @@ pub enum MessageError {
 impl fmt::Display for MessageError {
     fn fmt(&self, f: &mut fmt::Formatter<'_>) -> fmt::Result {
         match *self {
-            MessageError::Refused(refusal) => write!(f, "refused: {refusal:?}"),
+            MessageError::Refused(refusal) => write!(f, "refused: {refusal}"),
             MessageError::InsideCharacter { change, at_end } => write!(f, "{}", Error::InsideCharacter { change, at_end }),
             MessageError::ReversedRange { change } => write!(f, "{}", Error::ReversedRange { change }),
             MessageError::OutOfMemory => write!(f, "out of memory"),

@@ -143,7 +143,8 @@ typedef struct laspidru_length {
 } laspidru_length;
 
 /* How a server is set up. `encoding` is the one that it prefers, and takes where the client offers it, else UTF-16; where
-   `is_fixed`, the one that it takes whatever is offered. Where `is_full` it asks for whole texts, else for ranges. */
+   `is_fixed`, the one that it takes whatever is offered. LSP 3.17 allows one that was offered, or UTF-16: fix another only for
+   logs, or where you write the editor too. Where `is_full` it asks for whole texts, else for ranges. */
 typedef struct laspidru_settings {
     laspidru_size max_body;    /* 4,096 to 1,073,741,824 bytes of a message of its stream; laspidru_server_handle takes any body */
     laspidru_size max_text;    /* up to 1,073,741,824 bytes */
@@ -289,8 +290,10 @@ laspidru_u32 laspidru_server_new(laspidru_handle *server, const laspidru_setting
 
 /* Takes bytes of the next piece of the client's stream: all of them, or those up to the end of one message, which it handles.
    `taken` says how many. Once the message is whole, `answer` is what laspidru_server_handle answers, and the body can be
-   copied until the next call; before, it stays as it is. With a code after LASPIDRU_ENDED no byte was taken, except that
-   with LASPIDRU_OUT_OF_MEMORY a message may be whole. Then the next call handles it first. */
+   copied until the next call; before, it stays as it is. With LASPIDRU_FAILED and LASPIDRU_BAD_FRAME no byte was taken. With
+   LASPIDRU_OUT_OF_MEMORY `taken->bytes` may be more than 0: a message is whole then, and the next call handles it first, also
+   with a `piece_len` of 0. With LASPIDRU_EMPTY, LASPIDRU_OTHER_KIND and LASPIDRU_ENDED (of a client LASPIDRU_WRONG_PHASE)
+   nothing is written. */
 laspidru_u32 laspidru_server_take(laspidru_handle *server, const unsigned char *piece, laspidru_size piece_len,
     laspidru_taken *taken, laspidru_answer *answer);
 

@@ -43,7 +43,7 @@ fn main() -> Result<ExitCode, Box<dyn Error>> {
                 Answer::Reply { frame, code } => output.write_all(&reply(&server, &body, frame, code)?)?,
                 Answer::Refused(reason) => eprintln!("refused: {reason:?}"),
                 Answer::Exit(status) => return Ok(ExitCode::from(status)),
-                Answer::Changed | Answer::Dropped | Answer::Ignored => {}
+                _ => {} // changed, dropped or ignored
             }
         }
         output.flush()?;

@@ -10,8 +10,8 @@ local Session = {}
 Session.__index = Session
 
 local WHY = {
-    TOO_LONG = "the text is longer than max_text",
-    TOO_MANY_CHANGES = "the message would be longer than max_body",
+    TOO_LONG = "the text is longer than max_text, or its message than max_body",
+    TOO_MANY_CHANGES = "there are too many changes, or too long ones",
     TOO_MANY_DOCUMENTS = "as many documents are open as may be",
     NOT_UTF8 = "it isn't text in UTF-8",
     OUT_OF_MEMORY = "there is no memory left",
