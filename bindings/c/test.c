@@ -44,6 +44,7 @@ static const char sample[] = "a\r\nb\xf0\x9f\x98\x80";
 #include "test/servers.h"
 #include "test/logs.h"
 #include "test/ends.h"
+#include "test/positions.h"
 #include "test/streams.h"
 #include "test/edits.h"
 #include "test/memory.h"
@@ -70,6 +71,7 @@ int main(void) {
     test_bad_servers();
     test_ends_of_other_kinds();
     test_both_ends();
+    test_positions_of_ends();
     test_server_take();
     test_server_take_faults();
     test_client_take();

@@ -45,6 +45,9 @@ uint32_t laspidru_client_frame(laspidru_handle *, size_t, char *, size_t, size_t
 uint32_t laspidru_client_state(laspidru_handle *, laspidru_state *);
 uint32_t laspidru_client_document(laspidru_handle *, const char *, size_t, laspidru_opened *);
 uint32_t laspidru_client_text(laspidru_handle *, const char *, size_t, size_t, char *, size_t, size_t *);
+uint32_t laspidru_client_offset(laspidru_handle *, const char *, size_t, uint32_t, laspidru_position, size_t *);
+uint32_t laspidru_client_position(laspidru_handle *, const char *, size_t, uint32_t, size_t, laspidru_position *);
+uint32_t laspidru_client_line(laspidru_handle *, const char *, size_t, uint32_t, laspidru_line *);
 ]])
 
 -- The library's path: the one that LASPIDRU_LIBRARY names, or the one beside this file, or a name that the loader searches for.
@@ -393,12 +396,15 @@ function Client:document_count()
     return tonumber(state_of(self).documents)
 end
 
+-- Whether a call found its document open. Another refusal is raised.
+local function is_open(code)
+    if code ~= 14 then demand(code) end
+    return code ~= 14
+end
+
 local function opened_at(self, uri)
     local opened = ffi.new("laspidru_opened")
-    local code = C.laspidru_client_document(self.handle, text_of(uri, "a URI"), #uri, opened)
-    if code == 14 then return nil end
-    demand(code)
-    return opened
+    return is_open(C.laspidru_client_document(self.handle, text_of(uri, "a URI"), #uri, opened)) and opened or nil
 end
 
 -- The version of the open document of a URI, or nil.
@@ -412,6 +418,34 @@ function Client:text(uri)
     local opened, handle = opened_at(self, uri), self.handle
     if not opened then return nil end
     return copied(function(...) return C.laspidru_client_text(handle, uri, #uri, 0, ...) end, tonumber(opened.bytes))
+end
+
+-- A line, counted from 0, of the open document of a URI, without its line end, or nil. The rest of the text is not read.
+function Client:line(uri, line)
+    local handle, range = self.handle, ffi.new("laspidru_line")
+    if not is_open(C.laspidru_client_line(handle, text_of(uri, "a URI"), #uri, uint(line), range)) then return nil end
+    local len = tonumber(range.end_ - range.start)
+    return copied(function(...) return C.laspidru_client_text(handle, uri, #uri, range.start, ...) end, len)
+end
+
+-- The number of the encoding that was agreed on; of UTF-16 before.
+local function units_of(self)
+    local units = state_of(self).encoding
+    return units > 0 and units or ENCODINGS["utf-16"]
+end
+
+-- The byte offset, counted from 0, of a position in the open document of a URI, or nil. One after the line's end is the line's end.
+function Client:offset(uri, position)
+    local place, offset = ffi.new("laspidru_position", uint(position.line), uint(position.character)), ffi.new("size_t[1]")
+    local code = C.laspidru_client_offset(self.handle, text_of(uri, "a URI"), #uri, units_of(self), place, offset)
+    return is_open(code) and tonumber(offset[0]) or nil
+end
+
+-- The exact position of a byte offset in the open document of a URI, or nil.
+function Client:position(uri, offset)
+    local place, at = ffi.new("laspidru_position"), number(offset, 0, 2 ^ 53)
+    if not is_open(C.laspidru_client_position(self.handle, text_of(uri, "a URI"), #uri, units_of(self), at, place)) then return nil end
+    return { line = place.line, character = place.character }
 end
 
 return { Document = Document, Client = Client }

@@ -39,7 +39,8 @@ NAPI_MODULE_INIT() {
         {"openAt", 0, open_at, 0, 0, 0, napi_default, 0},     {"edit", 0, edit, 0, 0, 0, napi_default, 0},
         {"closeAt", 0, close_at, 0, 0, 0, napi_default, 0},   {"deliver", 0, deliver, 0, 0, 0, napi_default, 0},
         {"state", 0, state_of, 0, 0, 0, napi_default, 0},     {"document", 0, document_at, 0, 0, 0, napi_default, 0},
-        {"encoding", 0, encoding_of, 0, 0, 0, napi_default, 0},
+        {"offsetAt", 0, offset_at, 0, 0, 0, napi_default, 0}, {"positionAt", 0, position_at, 0, 0, 0, napi_default, 0},
+        {"lineAt", 0, line_at, 0, 0, 0, napi_default, 0},     {"encoding", 0, encoding_of, 0, 0, 0, napi_default, 0},
         {"batchOfEditsAt", 0, batch_of_edits_at, 0, 0, 0, napi_default, 0},
         {"canonicalMessage", 0, canonical_message, 0, 0, 0, napi_default, 0},
     };

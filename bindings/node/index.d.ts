@@ -23,7 +23,7 @@ export interface TextEdit {
 /**
  * What a refused call throws; it changed nothing. A value of another type is a TypeError without a code.
  *
- * - `INSIDE_CHARACTER`: a position or an offset lies inside a surrogate pair.
+ * - `INSIDE_CHARACTER`: a position or an offset lies inside a surrogate pair; a byte offset also inside a CRLF or past the end.
  * - `REVERSED_RANGE`: a range of a change or a text edit starts after its end.
  * - `OVERLAP`: two text edits overlap.
  * - `OUT_OF_RANGE`: no such line, or a number that is no integer from 0 to 2^32 - 1.
@@ -139,6 +139,29 @@ export class Framer {
   readonly isAtRest: boolean;
 }
 
+export type Encoding = 'utf-8' | 'utf-16' | 'utf-32';
+
+/** What both ends have of their open documents. Each call returns undefined where no document of the URI is open. */
+export interface OpenDocuments {
+  version(uri: string): number | undefined;
+  text(uri: string): string | undefined;
+
+  /** A line, counted from 0, without its line end. The rest of the text is not read. */
+  lineAt(uri: string, line: number): string | undefined;
+
+  /**
+   * The byte offset of a position, in the UTF-8 of the text. One after the line's end is the line's end. Positions count units of the
+   * session's encoding, or of this one.
+   */
+  byteOffset(uri: string, position: Position, encoding?: Encoding): number | undefined;
+
+  /** The exact position of a byte offset, in the session's encoding or in this one. */
+  position(uri: string, byteOffset: number, encoding?: Encoding): Position | undefined;
+
+  /** A position of the session's encoding in another one. In `utf-16` its character is an index in `lineAt(uri, ..)`. */
+  positionIn(uri: string, position: Position, encoding: Encoding): Position | undefined;
+}
+
 /** What a server did with a message, whose body it has. */
 export type ServerEvent = { body: Uint8Array } & (
   /** `frame` is to be sent. A request that the server doesn't handle has the error -32601: it is yours, and your answer goes in its place. */
@@ -148,6 +171,8 @@ export type ServerEvent = { body: Uint8Array } & (
   | { kind: 'exited'; status: 0 | 1 }
 );
 
+export interface Server extends OpenDocuments {}
+
 /** A server's end of a session, without input and output of its own. */
 export class Server {
   /**
@@ -155,7 +180,7 @@ export class Server {
    * 3.17 allows one that was offered, or utf-16: fix another only for logs, or where you write the editor too. `isFull` asks for whole
    * texts.
    */
-  constructor(options?: Limits & { encoding?: 'utf-8' | 'utf-16' | 'utf-32'; isFixed?: boolean; isFull?: boolean });
+  constructor(options?: Limits & { encoding?: Encoding; isFixed?: boolean; isFull?: boolean });
 
   /** What the server does with each message that ends in these bytes. A faulty frame throws FrameFault. */
   receive(bytes: Uint8Array): ServerEvent[];
@@ -164,7 +189,7 @@ export class Server {
   handle(body: Uint8Array): ServerEvent;
 
   /** The encoding of positions, once `initialize` was answered. */
-  readonly encoding: 'utf-8' | 'utf-16' | 'utf-32' | undefined;
+  readonly encoding: Encoding | undefined;
 
   /** The canonical batch of what text edits mean on the open document of a URI: the changes of the didChange that reports them. */
   batchOfEdits(uri: string, edits: TextEdit[]): TextDocumentContentChangeEvent[];
@@ -173,8 +198,6 @@ export class Server {
   canonicalMessage(uri: string, version: number, changes: TextDocumentContentChangeEvent[]): Buffer;
 
   readonly documentCount: number;
-  version(uri: string): number | undefined;
-  text(uri: string): string | undefined;
 }
 
 /** What a client did with a message of the server, whose body it has. */
@@ -183,6 +206,8 @@ export type ClientEvent = { body: Uint8Array } & (
   | { kind: 'noted' | 'ignored' }
   | { kind: 'bad-server'; reason: 'NOT_AN_ANSWER' | 'ERROR_ANSWER' | 'NO_SYNC' | 'BAD_ENCODING' }
 );
+
+export interface Client extends OpenDocuments {}
 
 /** A client's end of a session: it keeps an editor's documents, and each call returns the bytes to send. UTF-16 is always offered. */
 export class Client {
@@ -204,10 +229,8 @@ export class Client {
 
   readonly phase: 'new' | 'asked' | 'ready' | 'closing' | 'closed' | 'done' | 'failed';
   /** The encoding that was agreed on. */
-  readonly encoding: 'utf-8' | 'utf-16' | 'utf-32' | undefined;
+  readonly encoding: Encoding | undefined;
   readonly documentCount: number;
-  version(uri: string): number | undefined;
-  text(uri: string): string | undefined;
 }
 
 export interface LogOptions {
@@ -220,7 +243,7 @@ export interface LogOptions {
   /** 1 to 1,048,576 changes in a message; 65,536 where it isn't given. */
   maxChanges?: number;
   /** What positions of a log of version 1 count; `utf-16` where it isn't given. */
-  encoding?: 'utf-8' | 'utf-16' | 'utf-32';
+  encoding?: Encoding;
   /** Whether a change of any version is taken, and an open document may be opened again. */
   lenient?: boolean;
 }

@@ -330,15 +330,74 @@ const CLIENT_KINDS = { 0: 'send', 3: 'ignored', 6: 'noted', 7: 'bad-server' };
 const PHASES = ['new', 'asked', 'ready', 'closing', 'closed', 'done', 'failed'];
 const NAMES = { 8: 'utf-8', 16: 'utf-16', 32: 'utf-32' };
 
+/** A byte offset as it is, where the library can take it. */
+function byteOffsetOf(value) {
+  if (typeof value !== 'number') throw new TypeError('a byte offset is no number');
+  if (!Number.isSafeInteger(value) || value < 0) throw refusal('OUT_OF_RANGE', `${value} is no byte offset`);
+  return value;
+}
+
+/** What both ends have of their open documents. Each call returns undefined where no document of the URI is open. */
+class End {
+  #end;
+  #isClient;
+
+  constructor(end, isClient) {
+    this.#end = end;
+    this.#isClient = isClient;
+  }
+
+  /** The number of an encoding, or else of the session's; of UTF-16 before one is agreed on. */
+  #units(name = this.encoding ?? 'utf-16') {
+    if (!Object.hasOwn(ENCODINGS, name)) throw refusal('BAD_ENCODING');
+    return ENCODINGS[name];
+  }
+
+  /** The version of the open document of a URI. */
+  version(uri) {
+    return addon.document(this.#end, this.#isClient, utf8(uri), false)?.[0];
+  }
+
+  /** The text of the open document of a URI. */
+  text(uri) {
+    return addon.document(this.#end, this.#isClient, utf8(uri), true)?.[1];
+  }
+
+  /** A line, counted from 0, of the open document of a URI, without its line end. The rest of the text is not read. */
+  lineAt(uri, line) {
+    return addon.lineAt(this.#end, this.#isClient, utf8(uri), uint(line));
+  }
+
+  /** The byte offset of a position in the open document of a URI: in the UTF-8 of its text. One after the line's end is the line's end.
+   * Positions count units of the session's encoding, or of this one. */
+  byteOffset(uri, { line, character }, encoding) {
+    return addon.offsetAt(this.#end, this.#isClient, utf8(uri), this.#units(encoding), uint(line), uint(character));
+  }
+
+  /** The exact position of a byte offset in the open document of a URI, in the session's encoding or in this one. */
+  position(uri, byteOffset, encoding) {
+    const found = addon.positionAt(this.#end, this.#isClient, utf8(uri), this.#units(encoding), byteOffsetOf(byteOffset));
+    return found && { line: found[0], character: found[1] };
+  }
+
+  /** A position of the session's encoding in another one. In 'utf-16' its character is an index in `lineAt(uri, ..)`. */
+  positionIn(uri, position, encoding) {
+    const byteOffset = this.byteOffset(uri, position);
+    return byteOffset === undefined ? undefined : this.position(uri, byteOffset, encoding);
+  }
+}
+
 /** A server's end of a session, without input and output of its own. */
-class Server {
+class Server extends End {
   #server;
   #framer;
 
   constructor({ encoding = 'utf-16', isFixed = false, isFull = false, lenient = false, ...limits } = {}) {
     if (!Object.hasOwn(ENCODINGS, encoding)) throw refusal('BAD_ENCODING');
     const numbers = [...limitsOf(limits), ENCODINGS[encoding], isFixed ? 1 : 0, isFull ? 1 : 0, lenient ? 1 : 0];
-    this.#server = addon.newServer(Uint32Array.from(numbers));
+    const server = addon.newServer(Uint32Array.from(numbers));
+    super(server, false);
+    this.#server = server;
     this.#framer = new Framer({ maxBody: numbers[0] });
   }
 
@@ -381,26 +440,18 @@ class Server {
   get documentCount() {
     return addon.documents(this.#server);
   }
-
-  /** The version of the open document of a URI, or undefined. */
-  version(uri) {
-    return addon.document(this.#server, false, utf8(uri), false)?.[0];
-  }
-
-  /** The text of the open document of a URI, or undefined. */
-  text(uri) {
-    return addon.document(this.#server, false, utf8(uri), true)?.[1];
-  }
 }
 
 /** A client's end of a session: it keeps an editor's documents, and each call returns the bytes to send. */
-class Client {
+class Client extends End {
   #client;
   #framer;
 
   constructor({ utf8 = false, utf32 = false, lenient = false, ...limits } = {}) {
     const numbers = [...limitsOf(limits), utf8 ? 1 : 0, utf32 ? 1 : 0, lenient ? 1 : 0];
-    this.#client = addon.newClient(Uint32Array.from(numbers));
+    const client = addon.newClient(Uint32Array.from(numbers));
+    super(client, true);
+    this.#client = client;
     this.#framer = new Framer({ maxBody: numbers[0] });
   }
 
@@ -459,16 +510,6 @@ class Client {
 
   get documentCount() {
     return addon.state(this.#client)[3];
-  }
-
-  /** The version of the open document of a URI, or undefined. */
-  version(uri) {
-    return addon.document(this.#client, true, utf8(uri), false)?.[0];
-  }
-
-  /** The text of the open document of a URI, or undefined. */
-  text(uri) {
-    return addon.document(this.#client, true, utf8(uri), true)?.[1];
   }
 }
 

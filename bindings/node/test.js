@@ -333,6 +333,35 @@ assert.deepStrictEqual([serving.version('a'), serving.text('a')], [1, 'abc']);
 assert.deepStrictEqual(serving.receive(written).map(({ kind }) => kind), ['changed']);
 assert.deepStrictEqual([serving.version('a'), serving.text('a')], [2, 'xybc']);
 
+// Positions and lines of open documents, at both ends.
+for (const [encoding, last] of [['utf-8', 5], ['utf-16', 3], ['utf-32', 2]]) {
+  const [serving, editing] = [new Server({ encoding }), new Client({ utf8: true, utf32: true })];
+  editing.receive(serving.receive(editing.start())[0].frame);
+  serving.receive(editing.open('a', 'c', 1, 'a\r\nb\u{1F600}'));
+  for (const end of [serving, editing]) {
+    assert.strictEqual(end.encoding, encoding);
+    assert.deepStrictEqual([at(1, last), at(1, 99), at(9, 0), at(0, 9)].map((place) => end.byteOffset('a', place)), [8, 8, 8, 1]);
+    assert.deepStrictEqual([end.position('a', 8), end.position('a', 8, 'utf-16'), end.position('a', 3)], [at(1, last), at(1, 3), at(1, 0)]);
+    assert.deepStrictEqual([end.byteOffset('a', at(1, 3), 'utf-16'), end.byteOffset('a', at(1, 2), 'utf-32')], [8, 8]);
+    assert.deepStrictEqual(end.positionIn('a', at(9, 9), 'utf-16'), at(1, 3));
+    assert.deepStrictEqual([end.lineAt('a', 0), end.lineAt('a', 1)], ['a', 'b\u{1F600}']);
+    for (const offset of [2, 5, 9]) assert.throws(() => end.position('a', offset), { name: 'RangeError', code: 'INSIDE_CHARACTER' });
+    assert.throws(() => end.byteOffset('a', at(1, 2), 'utf-16'), { code: 'INSIDE_CHARACTER' });
+    assert.throws(() => end.lineAt('a', 2), { code: 'OUT_OF_RANGE' });
+    for (const number of [-1, 0.5, NaN, 2 ** 53]) {
+      assert.throws(() => end.lineAt('a', number), { code: 'OUT_OF_RANGE' });
+      assert.throws(() => end.position('a', number), { code: 'OUT_OF_RANGE' });
+      assert.throws(() => end.byteOffset('a', at(0, number)), { code: 'OUT_OF_RANGE' });
+    }
+    assert.throws(() => end.position('a', 0, 'utf-7'), { code: 'BAD_ENCODING' });
+    assert.throws(() => end.position('a', '0'), TypeError);
+    assert.throws(() => end.lineAt(1, 0), TypeError);
+    assert.deepStrictEqual([end.lineAt('b', 0), end.byteOffset('b', at(0, 0)), end.position('b', 0), end.positionIn('b', at(0, 0), 'utf-8')],
+      [undefined, undefined, undefined, undefined]);
+  }
+}
+assert.deepStrictEqual([new Client().lineAt('a', 0), new Server().byteOffset('a', at(0, 0))], [undefined, undefined]);
+
 const framer = new Framer({ maxBody: 4096 });
 assert.deepStrictEqual(framer.receive(Buffer.concat([framed('x'), framed(''), Buffer.from('Content-Le')])).map(String), ['x', '']);
 assert.throws(() => framer.receive(Buffer.from('ngth: 1\r\n\r\nyContent-Length 2')), (error) => error instanceof FrameFault &&

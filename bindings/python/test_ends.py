@@ -6,7 +6,7 @@ import threading
 import unittest
 
 import laspidru
-from laspidru import Client, FrameFault, Framer, LaspidruError, Server
+from laspidru import Client, Document, FrameFault, Framer, LaspidruError, Server
 from test_laspidru import at, change
 
 URIS = ["file:///a", "file:///b", ""]
@@ -27,6 +27,14 @@ def opened_server(text):
 
 def text_edit(start, end, text):
     return {"range": {"start": at(0, start), "end": at(0, end)}, "newText": text}
+
+
+def outcome(call, *arguments):
+    """What a call returns, or the code of its refusal."""
+    try:
+        return call(*arguments)
+    except LaspidruError as error:
+        return error.code
 
 
 class Pair:
@@ -181,6 +189,39 @@ class Tests(unittest.TestCase):
         self.refuses(laspidru.NOT_OPEN, server.batch_of_edits, "b", [])
         self.assertRaises(TypeError, server.batch_of_edits, "a", [{"newText": ""}])
         self.assertEqual((server.version("a"), server.text("a")), (1, "abc"))
+
+    def test_positions(self):
+        """Both ends have what a document of the same text has, in each encoding."""
+        text = "a\r\nb\U0001F600"
+        for encoding in laspidru.ENCODINGS:
+            client, server, document = Client(utf8=True, utf32=True), Server(encoding), Document(text, encoding)
+            client.receive(server.receive(client.start())[0].frame)
+            server.receive(client.open("a", "c", 1, text))
+            for end in (client, server):
+                self.assertEqual(end.encoding, encoding)
+                for place in [at(line, character) for line in range(4) for character in range(8)]:
+                    self.assertEqual(outcome(end.line, "a", place["line"]), outcome(document.line, place["line"]))
+                    self.assertEqual(outcome(end.byte_offset, "a", place), outcome(document.byte_offset, place))
+                    self.assertEqual(outcome(end.position_in, "a", place, "utf-32"), outcome(document.position_in, place, "utf-32"))
+                for offset in range(11):
+                    for units in (None, "utf-8", "utf-16"):
+                        self.assertEqual(outcome(end.position, "a", offset, units), outcome(document.position, offset, units))
+
+    def test_refused_positions(self):
+        server = opened_server("a\r\nb\U0001F600")
+        self.assertEqual(server.byte_offset("a", at(1, 3)), 8)
+        self.assertEqual(server.byte_offset("a", at(1, 2), "utf-32"), 8)
+        self.refuses(laspidru.INSIDE_CHARACTER, server.byte_offset, "a", at(1, 2))
+        self.refuses(laspidru.INSIDE_CHARACTER, server.position, "a", 2)
+        self.refuses(laspidru.OUT_OF_RANGE, server.line, "a", 2)
+        self.refuses(laspidru.OUT_OF_RANGE, server.line, "a", -1)
+        self.refuses(laspidru.OUT_OF_RANGE, server.position, "a", -1)
+        self.refuses(laspidru.BAD_ENCODING, server.position, "a", 0, "utf-7")
+        self.refuses(laspidru.BAD_ENCODING, server.position, "a", 0, "")
+        self.refuses(laspidru.NOT_UTF8, server.line, "\ud800", 0)
+        for found in (server.line("b", 0), server.byte_offset("b", at(0, 0)), server.position("b", 0),
+                      server.position_in("b", at(0, 0), "utf-8"), Client().line("a", 0), Client().position("a", 0)):
+            self.assertIsNone(found)
 
     def test_canonical_message(self):
         server = opened_server("abc")

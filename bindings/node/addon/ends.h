@@ -255,42 +255,107 @@ static napi_value documents(napi_env env, napi_callback_info info) {
     return code == LASPIDRU_OK ? made(env, napi_create_double(env, (double)len, &out), &out) : refuse(env, code);
 }
 
-/* The text of an open document, of so many bytes: a string, or NULL. */
-static napi_value string_at(napi_env env, laspidru_handle *end, int is_client, const void *uri, size_t uri_len, size_t len) {
+/* An end, and the URI of a document of it. */
+typedef struct {
+    laspidru_handle *end;
+    bool is_client;
+    const void *uri;
+    size_t uri_len;
+} named;
+
+/* The first three arguments: end, isClient, uri. */
+static int named_of(napi_env env, const napi_value *found, named *it) {
+    return end_of(env, found[0], &it->end) && napi_get_value_bool(env, found[1], &it->is_client) == napi_ok &&
+           elements(env, found[2], napi_uint8_array, &it->uri, &it->uri_len);
+}
+
+/* So many bytes of the text of an open document: a string, or NULL. */
+static napi_value string_at(napi_env env, const named *it, size_t start, size_t len) {
     napi_value out = NULL;
     laspidru_size copied = 0;
     unsigned char *bytes = malloc(len + 1);
     if (bytes == NULL)
         return NULL;
-    laspidru_u32 code = is_client ? laspidru_client_text(end, uri, uri_len, 0, bytes, len, &copied)
-                                  : laspidru_server_text(end, uri, uri_len, 0, bytes, len, &copied);
+    laspidru_u32 code = it->is_client ? laspidru_client_text(it->end, it->uri, it->uri_len, start, bytes, len, &copied)
+                                      : laspidru_server_text(it->end, it->uri, it->uri_len, start, bytes, len, &copied);
     if (code != LASPIDRU_OK || napi_create_string_utf8(env, (const char *)bytes, copied, &out) != napi_ok)
         out = NULL;
     free(bytes);
     return out;
 }
 
+/* Undefined where no document of the URI is open. For another code it throws. */
+static napi_value nothing_or_refuse(napi_env env, laspidru_u32 code) {
+    return code == LASPIDRU_NOT_OPEN ? NULL : refuse(env, code);
+}
+
 /* document(end, isClient, uri, withText): [version, and where it is asked for the text] of an open document, or undefined */
 static napi_value document_at(napi_env env, napi_callback_info info) {
     napi_value found[MOST_ARGUMENTS], text = NULL;
-    laspidru_handle *end;
-    laspidru_opened it;
-    bool is_client, with_text;
-    const void *uri;
-    size_t uri_len;
-    if (!arguments(env, info, 4, found) || !end_of(env, found[0], &end) ||
-        napi_get_value_bool(env, found[1], &is_client) != napi_ok || !elements(env, found[2], napi_uint8_array, &uri, &uri_len) ||
-        napi_get_value_bool(env, found[3], &with_text) != napi_ok)
+    laspidru_opened opened;
+    bool with_text;
+    named it;
+    if (!arguments(env, info, 4, found) || !named_of(env, found, &it) || napi_get_value_bool(env, found[3], &with_text) != napi_ok)
         return refuse_arguments(env);
-    laspidru_u32 code =
-        is_client ? laspidru_client_document(end, uri, uri_len, &it) : laspidru_server_document(end, uri, uri_len, &it);
-    if (code == LASPIDRU_NOT_OPEN)
-        return NULL;
+    laspidru_u32 code = it.is_client ? laspidru_client_document(it.end, it.uri, it.uri_len, &opened)
+                                     : laspidru_server_document(it.end, it.uri, it.uri_len, &opened);
     if (code != LASPIDRU_OK)
-        return refuse(env, code);
-    if (with_text && (text = string_at(env, end, is_client, uri, uri_len, it.bytes)) == NULL)
+        return nothing_or_refuse(env, code);
+    if (with_text && (text = string_at(env, &it, 0, opened.bytes)) == NULL)
         return refuse(env, LASPIDRU_OUT_OF_MEMORY);
-    return array_of(env, (const double[]){it.version}, 1, text);
+    return array_of(env, (const double[]){opened.version}, 1, text);
+}
+
+/* offsetAt(end, isClient, uri, encoding, line, character): a byte offset in an open document, or undefined */
+static napi_value offset_at(napi_env env, napi_callback_info info) {
+    napi_value found[MOST_ARGUMENTS], out = NULL;
+    laspidru_u32 encoding;
+    laspidru_position place;
+    laspidru_size at = 0;
+    named it;
+    if (!arguments(env, info, 6, found) || !named_of(env, found, &it) ||
+        napi_get_value_uint32(env, found[3], &encoding) != napi_ok ||
+        napi_get_value_uint32(env, found[4], &place.line) != napi_ok ||
+        napi_get_value_uint32(env, found[5], &place.character) != napi_ok)
+        return refuse_arguments(env);
+    laspidru_u32 code = it.is_client ? laspidru_client_offset(it.end, it.uri, it.uri_len, encoding, place, &at)
+                                     : laspidru_server_offset(it.end, it.uri, it.uri_len, encoding, place, &at);
+    if (code != LASPIDRU_OK)
+        return nothing_or_refuse(env, code);
+    return made(env, napi_create_double(env, (double)at, &out), &out);
+}
+
+/* positionAt(end, isClient, uri, encoding, byteOffset): [line, character] in an open document, or undefined */
+static napi_value position_at(napi_env env, napi_callback_info info) {
+    napi_value found[MOST_ARGUMENTS];
+    laspidru_u32 encoding;
+    laspidru_position place;
+    int64_t at;
+    named it;
+    if (!arguments(env, info, 5, found) || !named_of(env, found, &it) ||
+        napi_get_value_uint32(env, found[3], &encoding) != napi_ok || napi_get_value_int64(env, found[4], &at) != napi_ok || at < 0)
+        return refuse_arguments(env);
+    laspidru_u32 code = it.is_client ? laspidru_client_position(it.end, it.uri, it.uri_len, encoding, (laspidru_size)at, &place)
+                                     : laspidru_server_position(it.end, it.uri, it.uri_len, encoding, (laspidru_size)at, &place);
+    if (code != LASPIDRU_OK)
+        return nothing_or_refuse(env, code);
+    return array_of(env, (const double[]){place.line, place.character}, 2, NULL);
+}
+
+/* lineAt(end, isClient, uri, number): a line of an open document without its line end, or undefined */
+static napi_value line_at(napi_env env, napi_callback_info info) {
+    napi_value found[MOST_ARGUMENTS];
+    laspidru_u32 number;
+    laspidru_line range;
+    named it;
+    if (!arguments(env, info, 4, found) || !named_of(env, found, &it) || napi_get_value_uint32(env, found[3], &number) != napi_ok)
+        return refuse_arguments(env);
+    laspidru_u32 code = it.is_client ? laspidru_client_line(it.end, it.uri, it.uri_len, number, &range)
+                                     : laspidru_server_line(it.end, it.uri, it.uri_len, number, &range);
+    if (code != LASPIDRU_OK)
+        return nothing_or_refuse(env, code);
+    napi_value out = string_at(env, &it, range.start, range.end - range.start);
+    return out != NULL ? out : refuse(env, LASPIDRU_OUT_OF_MEMORY);
 }
 
 /* encoding(server): its number; 0 before one is chosen */

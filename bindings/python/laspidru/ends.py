@@ -4,13 +4,13 @@ from __future__ import annotations
 
 import ctypes
 import threading
-from ctypes import byref, c_bool, c_size_t, c_uint32
+from ctypes import byref, c_bool, c_size_t, c_uint32, create_string_buffer
 from typing import Any, Dict, List, NamedTuple, Optional, Sequence, Tuple
 
 from ._library import (BAD_FRAME, BAD_LIMIT, ENDED, LIBRARY, NOT_OPEN, OK, OUT_OF_MEMORY, UTF16, WRONG_PHASE, Answer,
-                       ClientSettings, Fault, FrameFault, Handle, LaspidruError, Opened, Settings, State, Taken, TextEditsFault, batch,
-                       batch_of_edits, changes_of, copy_out, demand, demand_change, demand_edits, encoding_name, encoding_number,
-                       limits, number, some_bytes, utf8, version_number)
+                       ClientSettings, Fault, FrameFault, Handle, LaspidruError, Line, Opened, Place, Settings, State, Taken,
+                       TextEditsFault, batch, batch_of_edits, changes_of, copy_out, demand, demand_change, demand_edits, encoding_name,
+                       encoding_number, limits, number, place_of, some_bytes, utf8, version_number)
 
 PHASES = ("new", "asked", "ready", "closing", "closed", "done", "failed")
 _SERVER_KINDS = ("replied", "changed", "dropped", "ignored", "refused", "exited")
@@ -94,6 +94,13 @@ class Framer:
         return body
 
 
+def _is_open(code: int) -> bool:
+    """Whether a call found its document open. Another refusal raises."""
+    if code != NOT_OPEN:
+        demand(code)
+    return code != NOT_OPEN
+
+
 class _End:
     """What both ends have: open documents, and a stream of messages."""
 
@@ -156,10 +163,7 @@ class _End:
     def _opened(self, uri: str) -> Optional[Opened]:
         data, opened = utf8(uri), Opened()
         code = self._function("document")(byref(self._handle), data, len(data), byref(opened))
-        if code == NOT_OPEN:
-            return None
-        demand(code)
-        return opened
+        return opened if _is_open(code) else None
 
     def version(self, uri: str) -> Optional[int]:
         """The version of the open document of a URI, which is compared byte for byte; None where none is open."""
@@ -175,6 +179,50 @@ class _End:
                 return None
             data = utf8(uri)
             return copy_out(self._function("text"), opened.bytes, byref(self._handle), data, len(data)).decode()
+
+    @property
+    def encoding(self) -> Optional[str]:
+        """The encoding of positions that both ends agreed on."""
+        raise NotImplementedError
+
+    def _units(self, encoding: Optional[str]) -> int:
+        """The number of an encoding, or else of the session's; of UTF-16 before one is agreed on."""
+        return encoding_number(encoding if encoding is not None else self.encoding or "utf-16")
+
+    def byte_offset(self, uri: str, position: Any, encoding: Optional[str] = None) -> Optional[int]:
+        """The byte offset of a position in the open document of a URI; None where none is open. A position after the line's end is
+        the line's end. Positions count units of the session's encoding, or of this one."""
+        name, place, units, offset = utf8(uri), place_of(position), self._units(encoding), c_size_t()
+        with self._lock:
+            code = self._function("offset")(byref(self._handle), name, len(name), units, place, byref(offset))
+        return offset.value if _is_open(code) else None
+
+    def position(self, uri: str, byte_offset: int, encoding: Optional[str] = None) -> Optional[Dict[str, int]]:
+        """The exact position of a byte offset in the open document of a URI, as LSP writes it, in the session's encoding or in this
+        one; None where none is open."""
+        name, units, place = utf8(uri), self._units(encoding), Place()
+        byte_offset = number(byte_offset, 64)
+        with self._lock:
+            code = self._function("position")(byref(self._handle), name, len(name), units, byte_offset, byref(place))
+        return {"line": place.line, "character": place.character} if _is_open(code) else None
+
+    def position_in(self, uri: str, position: Any, encoding: str) -> Optional[Dict[str, int]]:
+        """A position of the session's encoding in another one; None where no document of the URI is open. In "utf-32" its character
+        is an index in `line(uri, ..)`."""
+        byte_offset = self.byte_offset(uri, position)
+        return None if byte_offset is None else self.position(uri, byte_offset, encoding)
+
+    def line(self, uri: str, line: int) -> Optional[str]:
+        """A line, counted from 0, of the open document of a URI, without its line end; None where none is open. The rest of the text
+        is not read."""
+        name, count, found, copied = utf8(uri), number(line, 32), Line(), c_size_t()
+        with self._lock:
+            if not _is_open(self._function("line")(byref(self._handle), name, len(name), count, byref(found))):
+                return None
+            room = found.end - found.start
+            out = create_string_buffer(max(room, 1))
+            demand(self._function("text")(byref(self._handle), name, len(name), found.start, out, room, byref(copied)))
+        return out.raw[:copied.value].decode()
 
 
 class ServerEvent(NamedTuple):

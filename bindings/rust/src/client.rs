@@ -3,7 +3,7 @@
 use crate::framer::FrameError;
 use crate::received::{NotTaken, Received};
 use crate::server::{refusal, Refusal};
-use crate::{batch, ffi, Change, Encoding, Error, DEFAULT_LIMITS};
+use crate::{batch, ffi, Change, Encoding, Error, Position, DEFAULT_LIMITS};
 use std::fmt;
 
 /// How a client is set up. UTF-16 is always offered.
@@ -250,6 +250,27 @@ impl Client {
     /// A copy of the text of the open document of a URI, which is compared byte for byte.
     pub fn text(&self, uri: &str) -> Option<String> {
         self.handle.text(ffi::End::Client, uri)
+    }
+
+    /// A line, counted from 0, of the open document of a URI, without its line end; none where no document of the URI is open,
+    /// or it has no such line. The rest of the text is not read.
+    pub fn line(&self, uri: &str, number: u32) -> Option<String> {
+        self.handle.line(ffi::End::Client, uri, number)
+    }
+
+    /// The byte offset of a position in the open document of a URI; none where no document of the URI is open. A position after
+    /// the line's end is the line's end. Positions count units of [`Client::encoding`].
+    pub fn offset(&self, uri: &str, position: Position) -> Result<Option<usize>, Error> {
+        self.handle.offset(ffi::End::Client, uri, self.units(), position)
+    }
+
+    /// The exact position of a byte offset in the open document of a URI; none where no document of the URI is open.
+    pub fn position(&self, uri: &str, offset: usize) -> Result<Option<Position>, Error> {
+        self.handle.position(ffi::End::Client, uri, self.units(), offset)
+    }
+
+    fn units(&self) -> u32 {
+        self.encoding().unwrap_or(Encoding::Utf16) as u32
     }
 
     fn call(&mut self, call: ffi::Lifecycle) -> Result<Vec<u8>, ClientError> {

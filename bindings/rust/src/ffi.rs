@@ -3,7 +3,7 @@
 mod codes;
 mod functions;
 
-use crate::Position;
+use crate::{Error, Position};
 pub use codes::*;
 use functions::*;
 use std::cell::RefCell;
@@ -471,14 +471,55 @@ impl Handle {
     /// A copy of the text of the open document of a URI at an end.
     pub fn text(&self, end: End, uri: &str) -> Option<String> {
         let len = self.opened(end, uri)?.bytes;
+        Some(self.part(end, uri, 0, len))
+    }
+
+    /// A copy of a part of that text, which begins and ends between characters.
+    fn part(&self, end: End, uri: &str, start: usize, len: usize) -> String {
         let bytes = copied(len, |out, copied| {
-            let handle = &mut *self.0.borrow_mut();
+            let (handle, name, count) = (&mut *self.0.borrow_mut(), uri.as_ptr(), uri.len());
             match end {
-                End::Server => unsafe { laspidru_server_text(handle, uri.as_ptr(), uri.len(), 0, out, len, copied) },
-                End::Client => unsafe { laspidru_client_text(handle, uri.as_ptr(), uri.len(), 0, out, len, copied) },
+                End::Server => unsafe { laspidru_server_text(handle, name, count, start, out, len, copied) },
+                End::Client => unsafe { laspidru_client_text(handle, name, count, start, out, len, copied) },
             }
         });
-        Some(String::from_utf8(bytes).expect("the library keeps UTF-8"))
+        String::from_utf8(bytes).expect("the library keeps UTF-8")
+    }
+
+    /// A line of the open document of a URI at an end, if there is one, without its line end.
+    pub fn line(&self, end: End, uri: &str, number: u32) -> Option<String> {
+        let (name, count, mut line) = (uri.as_ptr(), uri.len(), Line::default());
+        let code = match end {
+            End::Server => unsafe { laspidru_server_line(&mut *self.0.borrow_mut(), name, count, number, &mut line) },
+            End::Client => unsafe { laspidru_client_line(&mut *self.0.borrow_mut(), name, count, number, &mut line) },
+        };
+        match code {
+            OK => Some(self.part(end, uri, line.start, line.end - line.start)),
+            NOT_OPEN | OUT_OF_RANGE => None,
+            code => unreachable!("code {code} of a full handle and a URI in UTF-8"),
+        }
+    }
+
+    /// The byte offset of a position in the open document of a URI at an end.
+    pub fn offset(&self, end: End, uri: &str, encoding: u32, position: Position) -> Result<Option<usize>, Error> {
+        let (handle, name, count) = (&mut *self.0.borrow_mut(), uri.as_ptr(), uri.len());
+        let mut offset = 0;
+        let code = match end {
+            End::Server => unsafe { laspidru_server_offset(handle, name, count, encoding, position, &mut offset) },
+            End::Client => unsafe { laspidru_client_offset(handle, name, count, encoding, position, &mut offset) },
+        };
+        in_open(code, offset)
+    }
+
+    /// The exact position of a byte offset in the open document of a URI at an end.
+    pub fn position(&self, end: End, uri: &str, encoding: u32, offset: usize) -> Result<Option<Position>, Error> {
+        let (handle, name, count) = (&mut *self.0.borrow_mut(), uri.as_ptr(), uri.len());
+        let mut position = Position::default();
+        let code = match end {
+            End::Server => unsafe { laspidru_server_position(handle, name, count, encoding, offset, &mut position) },
+            End::Client => unsafe { laspidru_client_position(handle, name, count, encoding, offset, &mut position) },
+        };
+        in_open(code, position)
     }
 
     pub fn log_run(&self, command: Command, settings: &LogSettings, log: &[u8], ending: &mut Ending) -> u32 {
@@ -493,6 +534,16 @@ impl Handle {
 
     pub fn output_copy(&self, len: usize) -> Vec<u8> {
         copied(len, |out, copied| unsafe { laspidru_output_copy(&mut *self.0.borrow_mut(), 0, out, len, copied) })
+    }
+}
+
+/// What a call has of an open document; none where no document of its URI is open.
+fn in_open<T>(code: u32, found: T) -> Result<Option<T>, Error> {
+    match code {
+        OK => Ok(Some(found)),
+        NOT_OPEN => Ok(None),
+        INSIDE_CHARACTER => Err(Error::NoPlace),
+        code => unreachable!("code {code} of a full handle, an encoding and a URI in UTF-8"),
     }
 }
 

@@ -2,7 +2,9 @@
 
 use crate::framer::FrameError;
 use crate::received::{NotTaken, Received};
-use crate::{batch, changes_of, demand_edits, ffi, passed_edits, Change, Encoding, Error, TextEdit, DEFAULT_LIMITS};
+use crate::{
+    batch, changes_of, demand_edits, ffi, passed_edits, Change, Encoding, Error, Position, TextEdit, DEFAULT_LIMITS,
+};
 use std::fmt;
 
 /// How a server is set up. The default is that of `lspsync serve`.
@@ -265,7 +267,7 @@ impl Server {
     pub fn batch_of_edits(&self, uri: &str, edits: &[TextEdit]) -> Result<Option<Vec<Change>>, Error> {
         let (passed, texts) = passed_edits(edits);
         let (mut fault, found) = (ffi::EditsFault::default(), ffi::Handle::empty());
-        let units = self.encoding().unwrap_or(Encoding::Utf16) as u32;
+        let units = self.units();
         match self.handle.server_batch_of_edits(uri, units, &passed, texts.as_bytes(), &found, &mut fault) {
             ffi::NOT_OPEN => Ok(None),
             code => demand_edits(code, &fault).map(|()| Some(changes_of(&found))),
@@ -277,7 +279,7 @@ impl Server {
     pub fn canonical_message(&self, uri: &str, version: i32, changes: &[Change]) -> Result<Vec<u8>, MessageError> {
         let (edits, texts) = batch(changes);
         let (mut fault, output) = (ffi::Fault::default(), ffi::Handle::empty());
-        let units = self.encoding().unwrap_or(Encoding::Utf16) as u32;
+        let units = self.units();
         match self.handle.server_canonical_message(uri, version, units, &edits, &texts, &output, &mut fault) {
             (ffi::OK, len) => Ok(output.output_copy(len)),
             (ffi::OUT_OF_MEMORY, _) => Err(MessageError::OutOfMemory),
@@ -304,6 +306,27 @@ impl Server {
     /// A copy of the text of the open document of a URI, which is compared byte for byte.
     pub fn text(&self, uri: &str) -> Option<String> {
         self.handle.text(ffi::End::Server, uri)
+    }
+
+    /// A line, counted from 0, of the open document of a URI, without its line end; none where no document of the URI is open,
+    /// or it has no such line. The rest of the text is not read.
+    pub fn line(&self, uri: &str, number: u32) -> Option<String> {
+        self.handle.line(ffi::End::Server, uri, number)
+    }
+
+    /// The byte offset of a position in the open document of a URI; none where no document of the URI is open. A position after
+    /// the line's end is the line's end. Positions count units of [`Server::encoding`].
+    pub fn offset(&self, uri: &str, position: Position) -> Result<Option<usize>, Error> {
+        self.handle.offset(ffi::End::Server, uri, self.units(), position)
+    }
+
+    /// The exact position of a byte offset in the open document of a URI; none where no document of the URI is open.
+    pub fn position(&self, uri: &str, offset: usize) -> Result<Option<Position>, Error> {
+        self.handle.position(ffi::End::Server, uri, self.units(), offset)
+    }
+
+    fn units(&self) -> u32 {
+        self.encoding().unwrap_or(Encoding::Utf16) as u32
     }
 }
 

@@ -3,7 +3,7 @@
 use laspidru::client::{Client, ClientError, Delivered, Phase, Reason};
 use laspidru::framer::{FrameError, Framer};
 use laspidru::server::{Answer, ChangeForm, EncodingChoice, Refusal, Server, ServerError};
-use laspidru::{client, server, Change, Encoding, Position, Range};
+use laspidru::{client, server, Change, Document, Encoding, Error, Position, Range};
 use std::collections::VecDeque;
 
 /// Numbers that look random.
@@ -150,6 +150,54 @@ fn ready() -> Client {
     let body = br#"{"jsonrpc":"2.0","id":1,"result":{"capabilities":{"positionEncoding":"utf-8","textDocumentSync":2}}}"#;
     assert!(matches!(client.deliver(body), Ok(Delivered::Send(_))));
     client
+}
+
+/// Both ends, with this text open, in this encoding.
+fn opened(text: &str, encoding: Encoding) -> Pair {
+    let choice = EncodingChoice::Negotiated { prefer: encoding };
+    let server = Server::new(&server::Settings { choice, ..Default::default() }).unwrap();
+    let client = Client::new(&client::Settings { utf8: true, utf32: true, ..Default::default() }).unwrap();
+    let mut pair = Pair { client, server, to_server: VecDeque::new(), to_client: VecDeque::new() };
+    let start = pair.client.start().unwrap();
+    pair.send(start);
+    pair.carry_all();
+    let open = pair.client.open("a", "c", 1, text).unwrap();
+    pair.send(open);
+    pair.carry_all();
+    pair
+}
+
+#[test]
+fn positions_are_those_of_a_document() {
+    let text = "a\r\nb\u{1F600}";
+    for encoding in [Encoding::Utf8, Encoding::Utf16, Encoding::Utf32] {
+        let (pair, document) = (opened(text, encoding), Document::new(text, encoding).unwrap());
+        assert_eq!((pair.client.encoding(), pair.server.encoding()), (Some(encoding), Some(encoding)));
+        for line in 0..4 {
+            let wanted = document.line(line);
+            assert_eq!((pair.client.line("a", line), pair.server.line("a", line)), (wanted.clone(), wanted));
+            for character in 0..8 {
+                let position = Position { line, character };
+                let wanted = document.offset(position).map(Some);
+                assert_eq!((pair.client.offset("a", position), pair.server.offset("a", position)), (wanted, wanted));
+            }
+        }
+        for offset in 0..11 {
+            let wanted = document.position(offset).map(Some);
+            assert_eq!((pair.client.position("a", offset), pair.server.position("a", offset)), (wanted, wanted));
+        }
+    }
+}
+
+#[test]
+fn positions_that_there_are_not() {
+    let pair = opened("\u{1F600}", Encoding::Utf16);
+    let inside = Position { line: 0, character: 1 };
+    assert_eq!((pair.server.offset("a", inside), pair.client.offset("a", inside)), (Err(Error::NoPlace), Err(Error::NoPlace)));
+    assert_eq!((pair.server.position("a", 5), pair.client.position("a", 1)), (Err(Error::NoPlace), Err(Error::NoPlace)));
+    assert_eq!((pair.server.line("a", 1), pair.server.line("b", 0), pair.client.line("", 0)), (None, None, None));
+    assert_eq!((pair.server.offset("b", inside), pair.client.offset("b", inside)), (Ok(None), Ok(None)));
+    assert_eq!((pair.server.position("b", 0), pair.client.position("b", 0)), (Ok(None), Ok(None)));
 }
 
 #[test]

@@ -327,6 +327,19 @@ laspidru_u32 laspidru_server_document(laspidru_handle *server, const unsigned ch
 laspidru_u32 laspidru_server_text(laspidru_handle *server, const unsigned char *uri, laspidru_size uri_len,
     laspidru_size start, unsigned char *out, laspidru_size out_len, laspidru_size *copied);
 
+/* The byte offset of a position in the open document of a URI, as laspidru_document_offset has it. So a request's position is
+   resolved, as that of textDocument/hover: its `encoding` is the one of laspidru_server_encoding. */
+laspidru_u32 laspidru_server_offset(laspidru_handle *server, const unsigned char *uri, laspidru_size uri_len,
+    laspidru_u32 encoding, laspidru_position position, laspidru_size *offset);
+
+/* The exact position of a byte offset in an open document. */
+laspidru_u32 laspidru_server_position(laspidru_handle *server, const unsigned char *uri, laspidru_size uri_len,
+    laspidru_u32 encoding, laspidru_size offset, laspidru_position *position);
+
+/* Where a line of an open document, counted from 0, starts, and where it ends without its line end. */
+laspidru_u32 laspidru_server_line(laspidru_handle *server, const unsigned char *uri, laspidru_size uri_len,
+    laspidru_u32 line, laspidru_line *range);
+
 /* As laspidru_document_batch_of_edits, on the open document of a URI, for a formatter's or a code action's text edits. The
    document stays as it is until the client reports them. */
 laspidru_u32 laspidru_server_batch_of_edits(laspidru_handle *server, const unsigned char *uri, laspidru_size uri_len,
@@ -421,6 +434,15 @@ laspidru_u32 laspidru_client_document(laspidru_handle *client, const unsigned ch
 /* Copies the bytes of an open document's text from `start` on, as many as `out` holds, and says how many. */
 laspidru_u32 laspidru_client_text(laspidru_handle *client, const unsigned char *uri, laspidru_size uri_len,
     laspidru_size start, unsigned char *out, laspidru_size out_len, laspidru_size *copied);
+
+/* The byte offset of a position in an open document, the exact position of a byte offset, and where a line starts and ends: as
+   laspidru_server_offset, laspidru_server_position and laspidru_server_line. */
+laspidru_u32 laspidru_client_offset(laspidru_handle *client, const unsigned char *uri, laspidru_size uri_len,
+    laspidru_u32 encoding, laspidru_position position, laspidru_size *offset);
+laspidru_u32 laspidru_client_position(laspidru_handle *client, const unsigned char *uri, laspidru_size uri_len,
+    laspidru_u32 encoding, laspidru_size offset, laspidru_position *position);
+laspidru_u32 laspidru_client_line(laspidru_handle *client, const unsigned char *uri, laspidru_size uri_len,
+    laspidru_u32 line, laspidru_line *range);
 
 /* Four commands on the bytes of a log, each as lspsync's of the same name. The output goes into the empty handle `output`:
    what a server answers to each record, */

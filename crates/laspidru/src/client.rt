@@ -10,6 +10,7 @@ mod delivery;
 mod documents;
 mod editing;
 mod lifecycle;
+mod positions;
 mod stream;
 
 use crate::answers::limits_of;

@@ -1,9 +1,6 @@
 //! The functions on documents.
 
-ghost use Rattle.std.specs.Prelude.{◌≡◌, ◌≢◌, ◌<◌, ◌≤◌, List, None, Ok, Some, IfErr, IfNone, IfOk};
-ghost use Rattle.std.specs.Prelude.{IfSome, OnSome, length, ℕ};
-ghost use Rattle.std.specs.Str.{chars};
-ghost use Rattle.lsp_text.specs.TextLines.{line_ends};
+ghost use Rattle.std.specs.Prelude.{◌≡◌, ◌≢◌, ◌≤◌, None, Ok, Some, IfErr, IfOk, length};
 ghost use Rattle.laspidru.specs.declared.object.Object.TheVariants.{Document};
 ghost use Rattle.laspidru.specs.Batches.{IsLeft, batch_asked, fitting, left_by, refused_edit};
 ghost use Rattle.laspidru.specs.Codes.{IsAnswer, IsAnswerOrNoMemory, IsRefusedOr, both, unless};
@@ -12,15 +9,15 @@ ghost use Rattle.laspidru.specs.Objects.{document_of, encoding_at, in_use, line_
 ghost use Rattle.laspidru.specs.Objects.{offset_asked, position_at, rest_asked, text_asked};
 
 use crate::bytes::{copy_text, utf8_text};
-use crate::changes::{changes_of, encoding_of, fits, position_of, refusal_of, report};
+use crate::changes::{changes_of, encoding_of, fits, refusal_of, report};
 use crate::codes::{
     BAD_ENCODING, EMPTY, IN_USE, INSIDE_CHARACTER, NOT_UTF8, OK, OTHER_KIND, OUT_OF_MEMORY,
-    OUT_OF_RANGE, REVERSED_RANGE, TOO_LONG,
+    REVERSED_RANGE, TOO_LONG,
 };
 use crate::handle::Handle;
 use crate::object::Object;
 use crate::place::{Edit, Fault, Line, Place, Size};
-use lsp_buffer::TextBuffer;
+use crate::positions::{text_line, text_offset, text_position};
 use lsp_edit::{IndexedText, MAX_OLD_TEXT};
 use lsp_text::Encoding;
 use std::alloc::{AllocError, Global};
@@ -181,19 +178,6 @@ pub extern "C" fn laspidru_document_size(alloc: Global, handle: &mut Handle, out
     code
 }
 
-/// Returns the byte offsets at which a line starts and ends, if the text has the line.
-fn line_of(text: &TextBuffer, line: u32) -> Option<Line>
-    ensures some { IfSome result (λ found. IsLine line found text.now) }
-    ensures there { OnSome result (line ≤ line_ends (chars text.now)) }
-    ensures none { IfNone result (line_ends (chars text.now) < line) }
-{
-    let found = text.line(line)?;
-    Some(Line {
-        start: found.start,
-        end: found.end,
-    })
-}
-
 /// Returns where a line of an object's text starts and ends.
 fn object_line(object: &Object, line: u32, out: &mut Line) -> u32
     ensures answer { IsAnswer (line_asked line (document_of object.now)) result
@@ -203,11 +187,7 @@ fn object_line(object: &Object, line: u32, out: &mut Line) -> u32
     let Object::Document(document) = object else {
         return OTHER_KIND;
     };
-    let Some(found) = line_of(document.text(), line) else {
-        return OUT_OF_RANGE;
-    };
-    *out = found;
-    OK
+    text_line(document.text(), line, out)
 }
 
 /// Returns the byte offsets at which a line starts, and at which it ends without its line end.
@@ -277,13 +257,7 @@ fn object_offset(object: &Object, encoding: Encoding, position: Place, out: &mut
     let Object::Document(document) = object else {
         return OTHER_KIND;
     };
-    match document.text().resolve(encoding, position_of(position)) {
-        Ok(offset) => {
-            *out = offset;
-            OK
-        }
-        Err(_) => INSIDE_CHARACTER,
-    }
+    text_offset(document.text(), encoding, position, out)
 }
 
 /// Returns the byte offset that a position denotes (LSP 3.17, Position). After the last line that
@@ -324,16 +298,7 @@ fn object_position(object: &Object, encoding: Encoding, offset: usize, out: &mut
     let Object::Document(document) = object else {
         return OTHER_KIND;
     };
-    let text = document.text();
-    if !text.is_place(offset) {
-        return INSIDE_CHARACTER;
-    }
-    let found = text.position(encoding, offset);
-    *out = Place {
-        line: found.line,
-        character: found.character,
-    };
-    OK
+    text_position(document.text(), encoding, offset, out)
 }
 
 /// Returns the exact position of a byte offset. Codes, in this order: BAD_ENCODING, EMPTY,

@@ -7,16 +7,16 @@
 //!
 //! - `document`: the functions on documents; `batch`: those on canonical batches; `edits`: those
 //!   on text edits; `framer`: those on framers; `log`: those on logs.
-//! - `server`: the functions on servers, with those on its stream (`stream`), on text edits
-//!   (`edits`) and on canonical messages (`message`).
+//! - `server`: the functions on servers, with those on its stream (`stream`), on positions and
+//!   lines (`positions`), on text edits (`edits`) and on canonical messages (`message`).
 //! - `client`: the functions on clients, with those of its lifecycle (`lifecycle`), on documents
-//!   (`editing`, `documents`), on bodies (`delivery`) and on its stream (`stream`).
+//!   (`editing`, `documents`, `positions`), on bodies (`delivery`) and on its stream (`stream`).
 //! - `handle`: a handle that C holds; `object`: the object in it; `session`: a server with its last
 //!   reply; `editor`: a client with its last frame; `stream`: the stream of either.
 //! - `codes`: the codes that the functions return, and `laws` their numbers; `place`: the plain
 //!   structs that C passes and gets.
 //! - `changes`: a batch as C passes it, and the report of its fault; `bytes`: bytes that C passes
-//!   or gets.
+//!   or gets; `positions`: positions, byte offsets and lines of a text.
 //! - `answers`: a server's settings and its answers; `reports`: a client's; `taken`: what is taken
 //!   of a stream; `endings`: the settings of a command on a log, and its ending.
 //! - `command`: the commands over bytes; `log_reader`: a log in memory, as a command reads it.
@@ -40,6 +40,7 @@ mod log;
 mod log_reader;
 mod object;
 mod place;
+mod positions;
 mod reports;
 mod server;
 mod session;

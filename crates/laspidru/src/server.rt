@@ -12,6 +12,7 @@ ghost use Rattle.laspidru.specs.Servers.{session_of, text_of, uri_asked};
 
 mod edits;
 mod message;
+mod positions;
 mod stream;
 
 use crate::answers::{Answer, Opened, Settings, answer_of, config_of};

@@ -141,6 +141,29 @@ extern "C" {
         out_len: usize,
         copied: *mut usize,
     ) -> u32;
+    pub fn laspidru_server_offset(
+        server: *mut Raw,
+        uri: *const u8,
+        uri_len: usize,
+        encoding: u32,
+        position: Position,
+        offset: *mut usize,
+    ) -> u32;
+    pub fn laspidru_server_position(
+        server: *mut Raw,
+        uri: *const u8,
+        uri_len: usize,
+        encoding: u32,
+        offset: usize,
+        position: *mut Position,
+    ) -> u32;
+    pub fn laspidru_server_line(
+        server: *mut Raw,
+        uri: *const u8,
+        uri_len: usize,
+        line: u32,
+        range: *mut Line,
+    ) -> u32;
     pub fn laspidru_log_check(
         output: *mut Raw,
         settings: *const LogSettings,
@@ -229,5 +252,28 @@ extern "C" {
         out: *mut u8,
         out_len: usize,
         copied: *mut usize,
+    ) -> u32;
+    pub fn laspidru_client_offset(
+        client: *mut Raw,
+        uri: *const u8,
+        uri_len: usize,
+        encoding: u32,
+        position: Position,
+        offset: *mut usize,
+    ) -> u32;
+    pub fn laspidru_client_position(
+        client: *mut Raw,
+        uri: *const u8,
+        uri_len: usize,
+        encoding: u32,
+        offset: usize,
+        position: *mut Position,
+    ) -> u32;
+    pub fn laspidru_client_line(
+        client: *mut Raw,
+        uri: *const u8,
+        uri_len: usize,
+        line: u32,
+        range: *mut Line,
     ) -> u32;
 }

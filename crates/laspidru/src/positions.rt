@@ -1,0 +1,80 @@
+//! Positions, byte offsets and lines of a text.
+
+ghost use Rattle.std.specs.Prelude.{◌≡◌, ◌≢◌, ◌<◌, ◌≤◌, IfNone, IfSome, Ok, OnSome};
+ghost use Rattle.std.specs.Str.{chars};
+ghost use Rattle.lsp_text.specs.TextLines.{line_ends};
+ghost use Rattle.laspidru.specs.Codes.{IsAnswer};
+ghost use Rattle.laspidru.specs.Objects.{IsLine, IsPositionAt, line_asked, offset_asked};
+ghost use Rattle.laspidru.specs.Objects.{position_at};
+
+use crate::changes::position_of;
+use crate::codes::{INSIDE_CHARACTER, OK, OUT_OF_RANGE};
+use crate::place::{Line, Place};
+use lsp_buffer::TextBuffer;
+use lsp_text::Encoding;
+
+/// Writes the byte offset that a position denotes in a text to `out`.
+pub(crate) fn text_offset(
+    text: &TextBuffer,
+    encoding: Encoding,
+    position: Place,
+    out: &mut usize,
+) -> u32
+    ensures answer { IsAnswer (offset_asked (position_at position) (Ok encoding) (Ok text.now))
+        result (λ offset. out.new ≡ offset) }
+    ensures unchanged { result ≢ OK → out.new ≡ out.old }
+{
+    match text.resolve(encoding, position_of(position)) {
+        Ok(offset) => {
+            *out = offset;
+            OK
+        }
+        Err(_) => INSIDE_CHARACTER,
+    }
+}
+
+/// Writes the exact position of a byte offset of a text to `out`.
+pub(crate) fn text_position(
+    text: &TextBuffer,
+    encoding: Encoding,
+    offset: usize,
+    out: &mut Place,
+) -> u32
+    ensures answer { IsPositionAt offset encoding text.now result out.new }
+    ensures unchanged { result ≢ OK → out.new ≡ out.old }
+{
+    if !text.is_place(offset) {
+        return INSIDE_CHARACTER;
+    }
+    let found = text.position(encoding, offset);
+    *out = Place {
+        line: found.line,
+        character: found.character,
+    };
+    OK
+}
+
+/// Returns the byte offsets at which a line starts and ends, if the text has the line.
+fn line_of(text: &TextBuffer, line: u32) -> Option<Line>
+    ensures some { IfSome result (λ found. IsLine line found text.now) }
+    ensures there { OnSome result (line ≤ line_ends (chars text.now)) }
+    ensures none { IfNone result (line_ends (chars text.now) < line) }
+{
+    let found = text.line(line)?;
+    Some(Line {
+        start: found.start,
+        end: found.end,
+    })
+}
+
+/// Writes the byte offsets at which a line of a text starts and ends to `out`.
+pub(crate) fn text_line(text: &TextBuffer, line: u32, out: &mut Line) -> u32
+    ensures answer { IsAnswer (line_asked line (Ok text.now)) result (IsLine line out.new) }
+    ensures unchanged { result ≢ OK → out.new ≡ out.old }
+{
+    let Some(found) = line_of(text, line) else {
+        return OUT_OF_RANGE;
+    };
+    *out = found;
+    OK
+}
