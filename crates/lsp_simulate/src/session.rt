@@ -1,9 +1,8 @@
 //! A session: the steps of a pair by lines of events, and the lines of output.
 
-ghost use Rattle.std.specs.Prelude.{◌≡◌, ◌≢◌, ◌↔◌, ◌⊎◌, IfErr, IfOk, OnOk, codes, string_bytes};
-ghost use Rattle.std.specs.Io.KnownBytes.{Appends};
-ghost use Rattle.lsp_simulate.specs.Session.{WroteSession, document_line, document_lines};
-ghost use Rattle.lsp_simulate.specs.Session.{end_lines, step_line, waiting_line};
+ghost use Rattle.std.specs.Prelude.{◌≡◌, ◌≢◌, ◌↔◌, ◌⊎◌, IfErr, IfOk, string_bytes};
+ghost use Rattle.lsp_simulate.specs.Session.{WroteLines, WroteSession, document_line};
+ghost use Rattle.lsp_simulate.specs.Session.{document_lines, end_lines, step_line, waiting_line};
 ghost use Rattle.lsp_simulate.specs.inside.Session.{IsStepLine};
 
 use crate::command_line::Setting;
@@ -19,15 +18,15 @@ use std::alloc::{AllocError, Global};
 use std::io::{self, BufRead, ErrorKind, Write};
 
 /// Steps a pair by the events of the lines, and writes what happens. At the end it writes how many
-/// frames wait, and the documents of both ends.
+/// frames wait, and the documents of both ends. The lines of the steps before a fault stay written.
 pub fn simulate<R: BufRead, W: Sink>(
     alloc: Global,
     setting: Setting,
     input: &mut R,
     output: &mut W,
 ) -> Result<(), RunFault>
-    ensures { OnOk result
-        (WroteSession setting (W.seen output.old).written (W.seen output.new).written) }
+    ensures { WroteSession setting result
+        (W.seen output.old).written (W.seen output.new).written }
 {
     let mut pair = Pair::new(alloc, setting.limits, setting.offers, setting.config)?;
     let mut turns = Turns::new(MAX_TURNS);
@@ -82,8 +81,8 @@ fn write_end<W: Sink>(
     output: &mut W,
     turns: &mut Turns,
 ) -> Result<(), RunFault>
-    ensures { OnOk result
-        (Appends (W.seen output.old).written (W.seen output.new).written (end_lines pair.now)) }
+    ensures { WroteLines result (end_lines pair.now)
+        (W.seen output.old).written (W.seen output.new).written }
 {
     let (to_server, to_client) = pair.waiting();
     let line = waiting_line(alloc, to_server, to_client)?;
@@ -107,8 +106,8 @@ fn write_documents<W: Sink>(
     output: &mut W,
     turns: &mut Turns,
 ) -> Result<(), RunFault>
-    ensures { OnOk result (Appends (W.seen output.old).written (W.seen output.new).written
-        (document_lines end.now store.now.table)) }
+    ensures { WroteLines result (document_lines end.now store.now.table)
+        (W.seen output.old).written (W.seen output.new).written }
 {
     for document in store {
         let line = document_line(alloc, end, &document)?;
@@ -134,6 +133,7 @@ fn document_line(alloc: Global, end: &str, document: &Document<'_>) -> Result<Ve
 fn read_fault(kind: ErrorKind) -> RunFault
     ensures memory { (result ≡ RunFault.NoMemory) ↔ (kind ≡ ErrorKind.OutOfMemory) }
     ensures read { (result ≡ RunFault.Read) ↔ (kind ≢ ErrorKind.OutOfMemory) }
+    ensures error { (result ≡ RunFault.NoMemory) ⊎ (result ≡ RunFault.Read) }
 {
     match kind {
         ErrorKind::OutOfMemory => RunFault::NoMemory,

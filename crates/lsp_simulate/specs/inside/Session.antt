@@ -4,9 +4,9 @@ use Rattle.std.specs.Io.KnownBytes.{Appends}
 use Rattle.lsp_message.specs.Params.{DocumentItem}
 use Rattle.lsp_pair.specs.declared.event.Happened.{Happened}
 use Rattle.lsp_pair.specs.Events.{EventData}
-use Rattle.lsp_pair.specs.Pair.{PairData, IsStep, new_pair}
+use Rattle.lsp_pair.specs.Pair.{PairData, IsFitting, IsStep, new_pair}
 use Rattle.lsp_simulate.specs.declared.command_line.Setting.{Setting}
-use Rattle.lsp_simulate.specs.Session.{Step, AreSteps, document_lines, next_number, pair_setting, step_line, step_lines}
+use Rattle.lsp_simulate.specs.Session.{AreLines, AreSteps, Step, document_lines, next_number, pair_setting, step_line, step_lines}
 
 -- A step was made, and this is its line.
 pub record IsStepLine (old new : PairData) (number : ℕ) (line : List ℕ) : Type 0 where
@@ -23,6 +23,7 @@ last_number number (s ∷ steps) = last_number (next_number number) steps
 -- The lines of some steps were written, the last with this number.
 pub record IsUnderWay (setting : Setting) (old new : Option (List ℕ)) (number : ℕ)
     (pair : PairData) : Type 0 where
+  pub fits : IsFitting (pair_setting setting)
   pub steps : List Step
   pub are_steps : AreSteps (new_pair (pair_setting setting)) steps pair
   pub last : number ≡ last_number 0 steps
@@ -32,5 +33,6 @@ pub record IsUnderWay (setting : Setting) (old new : Option (List ℕ)) (number 
 pub record AreUnderWay (end : List ℕ) (all : List DocumentItem) (old new : Option (List ℕ))
     (left : List DocumentItem) : Type 0 where
   pub lines : List ℕ
+  pub whole : AreLines lines
   pub written : Appends old new lines
   pub rest : lines ++ document_lines end left ≡ document_lines end all
