@@ -4,7 +4,9 @@ use Rattle.std.proofs.KnownBytes.{Appends-nil, Appends-trans}
 use Rattle.std.specs.Io.KnownBytes.{Appends}
 use Rattle.lsp_stream.specs.declared.fault.EngineFault.{EngineFault}
 use Rattle.lsp_stream.specs.declared.fault.EngineFault.TheVariants as engine
-use Rattle.lsp_stream.specs.Turns.{AppendsFront}
+use Rattle.lsp_stream.specs.Ports.{Rose, WriterState}
+use Rattle.lsp_stream.specs.Turns.{AppendsFront, Spends, StaysWell, WritesWithin}
+use Rattle.lsp_program.specs.Output.{allowed_turns}
 use Rattle.lsp_message.specs.Outgoing.{document_text}
 use Rattle.lsp_message.specs.Params.{DocumentItem}
 use Rattle.lsp_pair.specs.declared.event.Happened.{Happened}
@@ -16,8 +18,8 @@ use Rattle.lsp_simulate.specs.declared.run.RunFault.{RunFault}
 use Rattle.lsp_simulate.specs.declared.run.RunFault.TheVariants.{Pair, Read, Write, NoMemory, BadEvent}
 use Rattle.lsp_simulate.specs.Run.{run_fault}
 use Rattle.lsp_simulate.specs.Words.{happened_words}
-use Rattle.lsp_simulate.specs.Session.{AppendsLines, AreLines, AreSteps, IsRefused, RanSteps, Step, WroteLines, WroteSession, WroteSteps, document_line, document_lines, end_lines, next_number, pair_setting, step_line, step_lines, waiting_line}
-use Rattle.lsp_simulate.specs.inside.Session.{AreUnderWay, IsStepLine, IsUnderWay, last_number}
+use Rattle.lsp_simulate.specs.Session.{AppendsLines, AreLines, AreSteps, HasFailed, IsRefused, RanSteps, Step, WroteSession, WroteSteps, document_line, document_lines, end_lines, next_number, pair_setting, step_line, step_lines, waiting_line}
+use Rattle.lsp_simulate.specs.inside.Session.{AreUnderWay, IsStepLine, IsUnderWay, WroteLines, last_number}
 
 -- ---- whole lines
 
@@ -102,27 +104,66 @@ lines_before old new lines rest some = (
 
 -- ---- lines between others
 
-wrote_after : (result : Result (Unit {0}) RunFault) (old mid new : Option (List ℕ)) (before lines : List ℕ)
+wrote_after : (result : Result (Unit {0}) EngineFault) (old mid new : Option (List ℕ)) (before lines : List ℕ)
     → Appends old mid before → AreLines before → WroteLines result lines mid new
     → WroteLines result (before ++ lines) old new
 wrote_after (Ok done) old mid new before lines wrote whole more = Appends-trans old mid new before lines wrote more
-wrote_after (Err NoMemory) old mid new before lines wrote whole more =
-    lines_after old mid new before lines wrote whole more
-wrote_after (Err Write) old mid new before lines wrote whole more = front_after old mid new before lines wrote more
-wrote_after (Err Read) old mid new before lines wrote whole more = more
-wrote_after (Err (Pair fault)) old mid new before lines wrote whole more = more
-wrote_after (Err (BadEvent line)) old mid new before lines wrote whole more = more
+wrote_after (Err fault) old mid new before lines wrote whole (inl more) =
+    inl (more.0, lines_after old mid new before lines wrote whole more.1)
+wrote_after (Err fault) old mid new before lines wrote whole (inr more) =
+    inr (more.0, front_after old mid new before lines wrote more.1)
 
-wrote_before : (fault : RunFault) (old new : Option (List ℕ)) (lines rest : List ℕ)
+wrote_before : (fault : EngineFault) (old new : Option (List ℕ)) (lines rest : List ℕ)
     → WroteLines (Err fault) lines old new → WroteLines (Err fault) (lines ++ rest) old new
-wrote_before NoMemory old new lines rest some = lines_before old new lines rest some
-wrote_before Write old new lines rest some = front_before old new lines rest some
-wrote_before Read old new lines rest some = some
-wrote_before (Pair fault) old new lines rest some = some
-wrote_before (BadEvent line) old new lines rest some = some
+wrote_before fault old new lines rest (inl some) = inl (some.0, lines_before old new lines rest some.1)
+wrote_before fault old new lines rest (inr some) = inr (some.0, front_before old new lines rest some.1)
+
+-- ---- calls in turn
+
+pub spends_more : (a b c left mid right : ℕ) → Spends a b left mid → Spends b c mid right → Spends a c left right
+spends_more a b c left mid right first second = record {
+  within = omega (arith, first.within, second.within);
+  least = omega (arith, first.least, second.least);
+  most = omega (arith, first.most, second.most);
+  exact = λ h. omega (arith, h, first.exact, second.exact, second.least);
+}
+
+rose_after : (a b c : ℕ) → a ≤ b → Rose b c → Rose a c
+rose_after a b c least rose = λ h. let more : b < c = rose h in omega (arith, more, least)
+
+pub within_after : (before mid after : WriterState) (left between right : ℕ) (result : Result (Unit {0}) EngineFault)
+    → Spends before.calls mid.calls left between → StaysWell before.failed mid.failed
+    → WritesWithin between right mid after result → WritesWithin left right before after result
+within_after before mid after left between right (Ok done) spent well calls = record {
+  well = λ was. calls.well (well was);
+  failed = tt;
+  well_else = tt;
+  none_left = tt;
+  spent = spends_more before.calls mid.calls after.calls left between right spent calls.spent;
+}
+within_after before mid after left between right (Err fault) spent well calls = record {
+  well = tt;
+  failed = λ is. (
+    (calls.failed is).0,
+    rose_after before.calls mid.calls after.calls spent.least (calls.failed is).1,
+  );
+  well_else = λ other was. calls.well_else other (well was);
+  none_left = calls.none_left;
+  spent = spends_more before.calls mid.calls after.calls left between right spent calls.spent;
+}
+
+has_failed : (before mid after : WriterState) (between right : ℕ) (fault : EngineFault)
+    → Spends before.calls mid.calls allowed_turns between
+    → WritesWithin {A = Unit {0}} between right mid after (Err fault)
+    → (fault ≡ engine.Write) ⊎ (fault ≡ engine.TooManyTurns) → HasFailed before after
+has_failed before mid after between right fault spent calls (inl is) =
+    inl ((calls.failed is).0, rose_after before.calls mid.calls after.calls spent.least (calls.failed is).1)
+has_failed before mid after between right fault spent calls (inr is) =
+    inr (subst (λ (n : ℕ). Spends before.calls after.calls allowed_turns n) (calls.none_left is)
+    (spends_more before.calls mid.calls after.calls allowed_turns between right spent calls.spent))
 
 -- What a fault of writing is for the session.
-pub write_fault : (fault : EngineFault) (given : RunFault) → given ≡ run_fault fault
+write_fault : (fault : EngineFault) (given : RunFault) → given ≡ run_fault fault
     → (fault ≡ engine.Write) ⊎ (fault ≡ engine.TooManyTurns) → given ≡ Write
 write_fault fault given is (inl at) = is ∙ ap run_fault at
 write_fault fault given is (inr at) = is ∙ ap run_fault at
@@ -160,46 +201,80 @@ next_last number (s ∷ steps) = next_last (next_number number) steps ∙ next_a
 
 -- ---- a session on its way
 
-pub begun : (setting : Setting) (old : Option (List ℕ)) (pair : PairData) → IsFitting (pair_setting setting)
-    → pair ≡ new_pair (pair_setting setting) → IsUnderWay setting old old 0 pair
-begun setting old pair fits is =
-    record { fits = fits; steps = []; are_steps = is; last = refl; written = Appends-nil old }
+pub begun : (setting : Setting) (before : WriterState) (left : ℕ) (pair : PairData) → IsFitting (pair_setting setting)
+    → pair ≡ new_pair (pair_setting setting) → left ≡ allowed_turns → IsUnderWay setting before before left 0 pair
+begun setting before left pair fits is all = record {
+  fits = fits;
+  steps = [];
+  are_steps = is;
+  last = refl;
+  written = Appends-nil before.written;
+  spent = record {
+    within = omega (arith, all);
+    least = omega arith;
+    most = omega (arith, all);
+    exact = λ _. omega (arith, all);
+  };
+}
 
 abbrev made : (pair after : PairData) (number : ℕ) (line : List ℕ) → IsStepLine pair after number line → Step
 made pair after number line step = record { event = step.event; happened = step.happened }
 
-line_more : (setting : Setting) (old mid : Option (List ℕ)) (number next : ℕ) (pair after : PairData)
-    (line : List ℕ) (way : IsUnderWay setting old mid number pair) → next ≡ next_number number
-    → (step : IsStepLine pair after next line)
-    → step_lines 0 way.steps ++ line ≡ step_lines 0 (way.steps ++ made pair after next line step ∷ [])
-line_more setting old mid number next pair after line way counted step =
-    let last : next ≡ next_number (last_number 0 way.steps) = counted ∙ ap next_number way.last in
-    let is : line ≡ step_line (next_number (last_number 0 way.steps)) step.happened =
-    step.is ∙ ap (λ n. step_line n step.happened) last in
-    ap (λ z. step_lines 0 way.steps ++ z) is ∙ sym (lines_more 0 way.steps (made pair after next line step))
+module _ (setting : Setting) (before mid : WriterState) (left number next : ℕ) (pair : PairData)
+    (way : IsUnderWay setting before mid left number pair) (counted : next ≡ next_number number) where
+  line_more : (after : PairData) (line : List ℕ) (step : IsStepLine pair after next line)
+      → step_lines 0 way.steps ++ line ≡ step_lines 0 (way.steps ++ made pair after next line step ∷ [])
+  line_more after line step =
+      let last : next ≡ next_number (last_number 0 way.steps) = counted ∙ ap next_number way.last in
+      let is : line ≡ step_line (next_number (last_number 0 way.steps)) step.happened =
+      step.is ∙ ap (λ n. step_line n step.happened) last in
+      ap (λ z. step_lines 0 way.steps ++ z) is ∙ sym (lines_more 0 way.steps (made pair after next line step))
 
-pub stepped : (setting : Setting) (old mid new : Option (List ℕ)) (number next : ℕ) (pair after : PairData)
-    (line : List ℕ) → IsUnderWay setting old mid number pair → next ≡ next_number number
-    → IsStepLine pair after next line → Appends mid new line → IsUnderWay setting old new next after
-stepped setting old mid new number next pair after line way counted step wrote =
-    let s : Step = made pair after next line step in
-    record {
-      fits = way.fits;
-      steps = way.steps ++ s ∷ [];
-      are_steps = steps_more (new_pair (pair_setting setting)) way.steps pair s after way.are_steps step.is_step;
-      last = counted ∙ ap next_number way.last ∙ sym (last_more 0 way.steps s);
-      written = subst (λ (z : List ℕ). Appends old new z)
-          (line_more setting old mid number next pair after line way counted step)
-          (Appends-trans old mid new (step_lines 0 way.steps) line way.written wrote);
-    }
+  are_more : (after : PairData) (line : List ℕ) (step : IsStepLine pair after next line)
+      → AreSteps (new_pair (pair_setting setting)) (way.steps ++ made pair after next line step ∷ []) after
+  are_more after line step =
+      steps_more (new_pair (pair_setting setting)) way.steps pair (made pair after next line step) after way.are_steps
+      step.is_step
+
+  pub stepped : (after : PairData) (line : List ℕ) (new : WriterState) (right : ℕ) → IsStepLine pair after next line
+      → Appends mid.written new.written line → Spends mid.calls new.calls left right
+      → IsUnderWay setting before new right next after
+  stepped after line new right step wrote spent = record {
+    fits = way.fits;
+    steps = way.steps ++ made pair after next line step ∷ [];
+    are_steps = are_more after line step;
+    last = counted ∙ ap next_number way.last ∙ sym (last_more 0 way.steps (made pair after next line step));
+    written = subst (λ (z : List ℕ). Appends before.written new.written z) (line_more after line step)
+        (Appends-trans before.written mid.written new.written (step_lines 0 way.steps) line way.written wrote);
+    spent = spends_more before.calls mid.calls new.calls allowed_turns left right way.spent spent;
+  }
+
+  -- The line of a step was cut short.
+  cut_short : (after : PairData) (line : List ℕ) (new : WriterState) → IsStepLine pair after next line
+      → AppendsFront mid.written new.written line → HasFailed before new → RanSteps setting (Err Write) before new
+  cut_short after line new step some failed = record {
+    fits = way.fits;
+    steps = way.steps ++ made pair after next line step ∷ [];
+    pair = after;
+    are_steps = are_more after line step;
+    written = (
+      subst (λ (z : List ℕ). AppendsFront before.written new.written (z ++ end_lines after))
+          (line_more after line step)
+          (front_before before.written new.written (step_lines 0 way.steps ++ line) (end_lines after)
+          (front_after before.written mid.written new.written (step_lines 0 way.steps) line way.written some)),
+      failed,
+    );
+  }
+
+  pub unwritten : (after : PairData) (line : List ℕ) (new : WriterState) (right : ℕ) (fault : EngineFault)
+      (given : RunFault) → given ≡ run_fault fault → IsStepLine pair after next line
+      → (fault ≡ engine.Write) ⊎ (fault ≡ engine.TooManyTurns) → AppendsFront mid.written new.written line
+      → WritesWithin {A = Unit {0}} left right mid new (Err fault) → WroteSession setting (Err given) before new
+  unwritten after line new right fault given is step why some calls =
+      subst (λ (f : RunFault). WroteSession setting (Err f) before new) (sym (write_fault fault given is why))
+      (cut_short after line new step some (has_failed before mid new left right fault way.spent calls why))
 
 -- ---- how a session ends
-
-ran : (setting : Setting) (result : Result (Unit {0}) RunFault) (old mid new : Option (List ℕ)) (number : ℕ)
-    (pair : PairData) (way : IsUnderWay setting old mid number pair) → WroteSteps result way.steps pair old new
-    → RanSteps setting result old new
-ran setting result old mid new number pair way wrote =
-    record { fits = way.fits; steps = way.steps; pair = pair; are_steps = way.are_steps; written = wrote }
 
 pub refused : {T : Type 0} (setting : Setting) (result : Result T PairFault) (fault : PairFault) → result ≡ Err fault
     → ((result ≡ Err NotUtf16) ↔ (is_utf16 setting.config.choice ≡ false))
@@ -209,71 +284,59 @@ pub refused : {T : Type 0} (setting : Setting) (result : Result T PairFault) (fa
 refused setting result NotUtf16 is encoding limits = encoding.0 is
 refused setting result LimitsTooSmall is encoding limits = limits.0 is
 
-out_of_memory : (setting : Setting) (old new : Option (List ℕ)) (number : ℕ) (pair : PairData)
-    → IsUnderWay setting old new number pair → RanSteps setting (Err NoMemory) old new
-out_of_memory setting old new number pair way =
-    ran setting (Err NoMemory) old new new number pair way
-    (step_lines 0 way.steps, end_lines pair, refl, whole_steps 0 way.steps, way.written)
+module _ (setting : Setting) (before now : WriterState) (left number : ℕ) (pair : PairData)
+    (way : IsUnderWay setting before now left number pair) where
+  ran : (result : Result (Unit {0}) RunFault) (after : WriterState) → WroteSteps result way.steps pair before after
+      → RanSteps setting result before after
+  ran result after wrote =
+      record { fits = way.fits; steps = way.steps; pair = pair; are_steps = way.are_steps; written = wrote }
 
-bad_event : (setting : Setting) (old new : Option (List ℕ)) (number next : ℕ) (pair : PairData)
-    → IsUnderWay setting old new number pair → next ≡ next_number number
-    → RanSteps setting (Err (BadEvent next)) old new
-bad_event setting old new number next pair way counted =
-    let all : 0 + length way.steps ≡ length way.steps = omega arith in
-    ran setting (Err (BadEvent next)) old new new number pair way
-    (counted ∙ ap next_number way.last ∙ next_last 0 way.steps ∙ ap next_number all, way.written)
+  out_of_memory : RanSteps setting (Err NoMemory) before now
+  out_of_memory =
+      ran (Err NoMemory) now
+      (step_lines 0 way.steps, end_lines pair, refl, whole_steps 0 way.steps, way.written)
 
-pub stopped : (setting : Setting) (old new : Option (List ℕ)) (number next : ℕ) (pair : PairData) (fault : RunFault)
-    → IsUnderWay setting old new number pair → next ≡ next_number number
-    → (fault ≡ NoMemory) ⊎ (fault ≡ BadEvent next) → WroteSession setting (Err fault) old new
-stopped setting old new number next pair fault way counted (inl is) =
-    subst (λ (f : RunFault). WroteSession setting (Err f) old new) (sym is)
-    (out_of_memory setting old new number pair way)
-stopped setting old new number next pair fault way counted (inr is) =
-    subst (λ (f : RunFault). WroteSession setting (Err f) old new) (sym is)
-    (bad_event setting old new number next pair way counted)
+  bad_event : (next : ℕ) → next ≡ next_number number → RanSteps setting (Err (BadEvent next)) before now
+  bad_event next counted =
+      let all : 0 + length way.steps ≡ length way.steps = omega arith in
+      ran (Err (BadEvent next)) now
+      (counted ∙ ap next_number way.last ∙ next_last 0 way.steps ∙ ap next_number all, way.written)
 
-pub unread : (setting : Setting) (old new : Option (List ℕ)) (number : ℕ) (pair : PairData) (fault : RunFault)
-    → IsUnderWay setting old new number pair → (fault ≡ NoMemory) ⊎ (fault ≡ Read)
-    → WroteSession setting (Err fault) old new
-unread setting old new number pair fault way (inl is) =
-    subst (λ (f : RunFault). WroteSession setting (Err f) old new) (sym is)
-    (out_of_memory setting old new number pair way)
-unread setting old new number pair fault way (inr is) =
-    subst (λ (f : RunFault). WroteSession setting (Err f) old new) (sym is)
-    (ran setting (Err Read) old new new number pair way way.written)
+  pub stopped : (next : ℕ) (fault : RunFault) → next ≡ next_number number
+      → (fault ≡ NoMemory) ⊎ (fault ≡ BadEvent next) → WroteSession setting (Err fault) before now
+  stopped next fault counted (inl is) =
+      subst (λ (f : RunFault). WroteSession setting (Err f) before now) (sym is) out_of_memory
+  stopped next fault counted (inr is) =
+      subst (λ (f : RunFault). WroteSession setting (Err f) before now) (sym is) (bad_event next counted)
 
-pub cut_short : (setting : Setting) (old mid new : Option (List ℕ)) (number next : ℕ) (pair after : PairData)
-    (line : List ℕ) → IsUnderWay setting old mid number pair → next ≡ next_number number
-    → IsStepLine pair after next line → AppendsFront mid new line → RanSteps setting (Err Write) old new
-cut_short setting old mid new number next pair after line way counted step some =
-    let s : Step = made pair after next line step in
-    record {
-      fits = way.fits;
-      steps = way.steps ++ s ∷ [];
-      pair = after;
-      are_steps = steps_more (new_pair (pair_setting setting)) way.steps pair s after way.are_steps step.is_step;
-      written = subst (λ (z : List ℕ). AppendsFront old new (z ++ end_lines after))
-          (line_more setting old mid number next pair after line way counted step)
-          (front_before old new (step_lines 0 way.steps ++ line) (end_lines after)
-          (front_after old mid new (step_lines 0 way.steps) line way.written some));
-    }
+  pub unread : (fault : RunFault) → (fault ≡ NoMemory) ⊎ (fault ≡ Read) → WroteSession setting (Err fault) before now
+  unread fault (inl is) =
+      subst (λ (f : RunFault). WroteSession setting (Err f) before now) (sym is) out_of_memory
+  unread fault (inr is) =
+      subst (λ (f : RunFault). WroteSession setting (Err f) before now) (sym is) (ran (Err Read) now way.written)
 
-pub ended : (setting : Setting) (old mid new : Option (List ℕ)) (number : ℕ) (pair : PairData)
-    (result : Result (Unit {0}) RunFault) → IsUnderWay setting old mid number pair
-    → WroteLines result (end_lines pair) mid new → WroteSession setting result old new
-ended setting old mid new number pair (Ok done) way wrote =
-    ran setting (Ok done) old mid new number pair way
-    (Appends-trans old mid new (step_lines 0 way.steps) (end_lines pair) way.written wrote)
-ended setting old mid new number pair (Err NoMemory) way wrote =
-    ran setting (Err NoMemory) old mid new number pair way
-    (lines_after old mid new (step_lines 0 way.steps) (end_lines pair) way.written (whole_steps 0 way.steps) wrote)
-ended setting old mid new number pair (Err Write) way wrote =
-    ran setting (Err Write) old mid new number pair way
-    (front_after old mid new (step_lines 0 way.steps) (end_lines pair) way.written wrote)
-ended setting old mid new number pair (Err Read) way wrote = absurd wrote
-ended setting old mid new number pair (Err (Pair fault)) way wrote = absurd wrote
-ended setting old mid new number pair (Err (BadEvent line)) way wrote = absurd wrote
+  pub ended : (after : WriterState) → Appends now.written after.written (end_lines pair)
+      → RanSteps setting (Ok tt) before after
+  ended after wrote =
+      ran (Ok tt) after
+      (Appends-trans before.written now.written after.written (step_lines 0 way.steps) (end_lines pair) way.written
+      wrote)
+
+  pub not_ended : (after : WriterState) (right : ℕ) (fault : EngineFault) (given : RunFault) → given ≡ run_fault fault
+      → WroteLines (Err fault) (end_lines pair) now.written after.written
+      → WritesWithin {A = Unit {0}} left right now after (Err fault) → WroteSession setting (Err given) before after
+  not_ended after right fault given is (inl some) calls =
+      subst (λ (f : RunFault). WroteSession setting (Err f) before after) (sym (is ∙ ap run_fault some.0))
+      (ran (Err NoMemory) after
+      (lines_after before.written now.written after.written (step_lines 0 way.steps) (end_lines pair) way.written
+      (whole_steps 0 way.steps) some.1))
+  not_ended after right fault given is (inr some) calls =
+      subst (λ (f : RunFault). WroteSession setting (Err f) before after) (sym (write_fault fault given is some.0))
+      (ran (Err Write) after (
+        front_after before.written now.written after.written (step_lines 0 way.steps) (end_lines pair) way.written
+            some.1,
+        has_failed before now after left right fault way.spent calls some.0,
+      ))
 
 -- ---- documents
 
@@ -334,14 +397,14 @@ pub end_cut : (pair : PairData) (old new : Option (List ℕ)) → AppendsFront o
     → AppendsFront old new (end_lines pair)
 end_cut pair old new some = front_before old new (waits pair) (clients pair ++ servers pair) some
 
-pub end_between : (pair : PairData) (fault : RunFault) (old mid new : Option (List ℕ)) → Appends old mid (waits pair)
+pub end_between : (pair : PairData) (fault : EngineFault) (old mid new : Option (List ℕ)) → Appends old mid (waits pair)
     → WroteLines (Err fault) (clients pair) mid new → WroteLines (Err fault) (end_lines pair) old new
 end_between pair fault old mid new wrote some =
     wrote_after (Err fault) old mid new (waits pair) (clients pair ++ servers pair) wrote
     (whole_waiting (length pair.to_server) (length pair.to_client))
     (wrote_before fault mid new (clients pair) (servers pair) some)
 
-pub end_after : (pair : PairData) (result : Result (Unit {0}) RunFault) (old first second new : Option (List ℕ))
+pub end_after : (pair : PairData) (result : Result (Unit {0}) EngineFault) (old first second new : Option (List ℕ))
     → Appends old first (waits pair) → Appends first second (clients pair)
     → WroteLines result (servers pair) second new → WroteLines result (end_lines pair) old new
 end_after pair result old first second new wrote between more =

@@ -49,7 +49,7 @@ pub record IsSession (setting : Setting) (before after : WriterState) (status : 
   pub flushed : Result (Unit {0}) EngineFault
   -- the writer between the session and the flush
   pub writer : WriterState
-  pub wrote : WroteSession setting result before.written writer.written
+  pub wrote : WroteSession setting result before writer
   pub kept : Keeps writer.written after.written
   pub flush : IsFlushed writer after flushed
   pub ends : status ≡ session_status result flushed

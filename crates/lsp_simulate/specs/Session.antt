@@ -1,7 +1,9 @@
 -- What a session writes: a line for each step of a pair, and then how the pair ends.
 use Rattle.std.specs.Prelude.{ℕ, ◌≡◌, ◌⊎◌, ◌+◌, ◌-◌, ◌^◌, ◌++◌, ◌∷◌, [], true, false, List, length, min, codes, decimal, Option, Result, Ok, Err}
-use Rattle.std.specs.Io.KnownBytes.{Appends, Keeps}
-use Rattle.lsp_stream.specs.Turns.{AppendsFront}
+use Rattle.std.specs.Io.KnownBytes.{Appends}
+use Rattle.lsp_stream.specs.Ports.{Rose, WriterState}
+use Rattle.lsp_stream.specs.Turns.{AppendsFront, Spends}
+use Rattle.lsp_program.specs.Output.{allowed_turns}
 use Rattle.lsp_message.specs.Outgoing.{document_text}
 use Rattle.lsp_message.specs.Params.{DocumentItem}
 use Rattle.lsp_pair.specs.declared.event.Happened.{Happened}
@@ -83,40 +85,44 @@ abbrev pub AppendsLines : Option (List ℕ) → Option (List ℕ) → List ℕ �
 AppendsLines old new lines =
     (front rest : List ℕ) × (lines ≡ front ++ rest) × AreLines front × Appends old new front
 
--- What was written of some lines, by how that ended: all of them; if memory ran out, some first
--- lines; if the writer failed, some first bytes. No other fault comes in writing.
-abbrev pub WroteLines : Result (Unit {0}) RunFault → List ℕ → Option (List ℕ) → Option (List ℕ) →
-    Type 0
-WroteLines (Ok _) lines old new = Appends old new lines
-WroteLines (Err NoMemory) lines old new = AppendsLines old new lines
-WroteLines (Err Write) lines old new = AppendsFront old new lines
-WroteLines (Err fault) lines old new = ⊥
+-- The writer failed: its last call did, or each call that was allowed was made.
+abbrev pub HasFailed : WriterState → WriterState → Type 0
+HasFailed before after =
+    ((after.failed ≡ true) × Rose before.calls after.calls)
+    ⊎ Spends before.calls after.calls allowed_turns 0
 
--- What was written of a session that made these steps, by how it ended. After a failed read their
--- lines, and so after a line of the input that is no event: it is the next one after those of the
--- steps.
-abbrev pub WroteSteps : Result (Unit {0}) RunFault → List Step → PairData → Option (List ℕ) →
-    Option (List ℕ) → Type 0
-WroteSteps (Err Read) steps pair old new = Appends old new (step_lines 0 steps)
-WroteSteps (Err (BadEvent line)) steps pair old new =
-    (line ≡ next_number (length steps)) × Appends old new (step_lines 0 steps)
-WroteSteps result steps pair old new =
-    WroteLines result (step_lines 0 steps ++ end_lines pair) old new
+-- What was written of a session that made these steps, by how it ended. At its end all lines are;
+-- where memory ran out some first lines, and where the writer failed some first bytes. After a
+-- failed read the lines of the steps are, and so after a line of the input that is no event: it is
+-- the next one after those of the steps.
+abbrev pub WroteSteps : Result (Unit {0}) RunFault → List Step → PairData → WriterState →
+    WriterState → Type 0
+WroteSteps (Ok _) steps pair before after =
+    Appends before.written after.written (step_lines 0 steps ++ end_lines pair)
+WroteSteps (Err NoMemory) steps pair before after =
+    AppendsLines before.written after.written (step_lines 0 steps ++ end_lines pair)
+WroteSteps (Err Write) steps pair before after =
+    AppendsFront before.written after.written (step_lines 0 steps ++ end_lines pair)
+    × HasFailed before after
+WroteSteps (Err (BadEvent line)) steps pair before after =
+    (line ≡ next_number (length steps))
+    × Appends before.written after.written (step_lines 0 steps)
+WroteSteps (Err fault) steps pair before after =
+    Appends before.written after.written (step_lines 0 steps)
 
 -- A session ran: some steps of a pair, from a new one on. Which events the lines of the input mean,
 -- no clause says.
 pub record RanSteps (setting : Setting) (result : Result (Unit {0}) RunFault)
-    (old new : Option (List ℕ)) : Type 0 where
+    (before after : WriterState) : Type 0 where
   pub fits : IsFitting (pair_setting setting)
   pub steps : List Step
   -- the pair after them
   pub pair : PairData
   pub are_steps : AreSteps (new_pair (pair_setting setting)) steps pair
-  pub written : WroteSteps result steps pair old new
+  pub written : WroteSteps result steps pair before after
 
 -- What a session wrote, by how it ended. A refused setting writes nothing.
-abbrev pub WroteSession : Setting → Result (Unit {0}) RunFault → Option (List ℕ) →
-    Option (List ℕ) → Type 0
-WroteSession setting (Err (Pair fault)) old new =
-    IsRefused (pair_setting setting) fault × Keeps old new
-WroteSession setting result old new = RanSteps setting result old new
+abbrev pub WroteSession : Setting → Result (Unit {0}) RunFault → WriterState → WriterState → Type 0
+WroteSession setting (Err (Pair fault)) before after =
+    IsRefused (pair_setting setting) fault × (after ≡ before)
+WroteSession setting result before after = RanSteps setting result before after

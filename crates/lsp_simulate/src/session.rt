@@ -1,9 +1,10 @@
 //! A session: the steps of a pair by lines of events, and the lines of output.
 
 ghost use Rattle.std.specs.Prelude.{◌≡◌, ◌≢◌, ◌↔◌, ◌⊎◌, IfErr, IfOk, string_bytes};
-ghost use Rattle.lsp_simulate.specs.Session.{WroteLines, WroteSession, document_line};
-ghost use Rattle.lsp_simulate.specs.Session.{document_lines, end_lines, step_line, waiting_line};
-ghost use Rattle.lsp_simulate.specs.inside.Session.{IsStepLine};
+ghost use Rattle.lsp_stream.specs.Turns.{WritesWithin};
+ghost use Rattle.lsp_simulate.specs.Session.{WroteSession, document_line, document_lines};
+ghost use Rattle.lsp_simulate.specs.Session.{end_lines, step_line, waiting_line};
+ghost use Rattle.lsp_simulate.specs.inside.Session.{IsStepLine, WroteLines};
 
 use crate::command_line::Setting;
 use crate::run::RunFault;
@@ -13,7 +14,7 @@ use lsp_message::push_document;
 use lsp_pair::{Happened, Pair};
 use lsp_program::MAX_TURNS;
 use lsp_store::{Document, Store};
-use lsp_stream::{Sink, Turns, write_given};
+use lsp_stream::{EngineFault, Sink, Turns, write_given};
 use std::alloc::{AllocError, Global};
 use std::io::{self, BufRead, ErrorKind, Write};
 
@@ -25,8 +26,7 @@ pub fn simulate<R: BufRead, W: Sink>(
     input: &mut R,
     output: &mut W,
 ) -> Result<(), RunFault>
-    ensures { WroteSession setting result
-        (W.seen output.old).written (W.seen output.new).written }
+    ensures { WroteSession setting result (W.seen output.old) (W.seen output.new) }
 {
     let mut pair = Pair::new(alloc, setting.limits, setting.offers, setting.config)?;
     let mut turns = Turns::new(MAX_TURNS);
@@ -41,7 +41,8 @@ pub fn simulate<R: BufRead, W: Sink>(
             Err(error) => return Err(read_fault(error.kind())),
         }
     }
-    write_end(alloc, &pair, output, &mut turns)
+    write_end(alloc, &pair, output, &mut turns)?;
+    Ok(())
 }
 
 /// Makes the step of one line of input, and returns its line of output.
@@ -80,9 +81,11 @@ fn write_end<W: Sink>(
     pair: &Pair,
     output: &mut W,
     turns: &mut Turns,
-) -> Result<(), RunFault>
-    ensures { WroteLines result (end_lines pair.now)
+) -> Result<(), EngineFault>
+    ensures wrote { WroteLines result (end_lines pair.now)
         (W.seen output.old).written (W.seen output.new).written }
+    ensures calls { WritesWithin turns.old.left turns.new.left
+        (W.seen output.old) (W.seen output.new) result }
 {
     let (to_server, to_client) = pair.waiting();
     let line = waiting_line(alloc, to_server, to_client)?;
@@ -105,9 +108,11 @@ fn write_documents<W: Sink>(
     store: &Store,
     output: &mut W,
     turns: &mut Turns,
-) -> Result<(), RunFault>
-    ensures { WroteLines result (document_lines end.now store.now.table)
+) -> Result<(), EngineFault>
+    ensures wrote { WroteLines result (document_lines end.now store.now.table)
         (W.seen output.old).written (W.seen output.new).written }
+    ensures calls { WritesWithin turns.old.left turns.new.left
+        (W.seen output.old) (W.seen output.new) result }
 {
     for document in store {
         let line = document_line(alloc, end, &document)?;
