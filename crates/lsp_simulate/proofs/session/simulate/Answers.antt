@@ -11,7 +11,7 @@ returns-in_err-pair g c =
     rw (p.1, p.2) (
       refused c.args.setting c.new.result c.in_err-pair.field-0.0 c.in_err-pair.was c.new.ensures.encoding
           c.new.ensures.limits,
-      refl,
+      refl {a = g.W.Sink.seen c.args.output.now},
     )
 
 pub loop-line-init : goal.loop-line-init

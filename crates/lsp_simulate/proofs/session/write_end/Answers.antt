@@ -19,7 +19,8 @@ returns-in_err-write_given-clause-wrote g c =
     let p = err_from_is_err_and c.from_residual-in_err-write_given.result
     c.from_residual-in_err-write_given.ensures.1 in
     let is : c.as_bytes.result.now ≡ waits c.args.pair.now =
-    c.as_bytes.ensures.value ∙ c.in_ok-line.ensures ∙ ap (λ (n : ℕ × ℕ). waiting_line n.0 n.1) c.waiting.ensures in
+    c.as_bytes.ensures.value ∙ c.in_ok-line.ensures
+    ∙ ap (λ (n : ℕ × ℕ). waiting_line n.0 n.1) c.waiting-to_server.ensures in
     let before = (g.W.Sink.seen c.args.output.now).written in
     let after = (g.W.Sink.seen c.write_given.new.writer).written in
     rw (p.1, p.2) (inr (
@@ -33,7 +34,8 @@ returns-in_err-write_documents-clause-wrote g c =
     let p = err_from_is_err_and c.from_residual-in_err-write_documents.result
     c.from_residual-in_err-write_documents.ensures.1 in
     let is : c.as_bytes.result.now ≡ waits c.args.pair.now =
-    c.as_bytes.ensures.value ∙ c.in_ok-line.ensures ∙ ap (λ (n : ℕ × ℕ). waiting_line n.0 n.1) c.waiting.ensures in
+    c.as_bytes.ensures.value ∙ c.in_ok-line.ensures
+    ∙ ap (λ (n : ℕ × ℕ). waiting_line n.0 n.1) c.waiting-to_server.ensures in
     let clients : c.store.result.now.table ≡ c.args.pair.now.client.table =
     ap (λ (s : StoreData). s.table) c.store.ensures ∙ ap (λ (d : ClientData). d.table) c.client.ensures in
     let before = (g.W.Sink.seen c.args.output.now).written in
@@ -58,7 +60,8 @@ returns-in_err-write_documents-clause-calls g c =
 pub returns-clause-wrote : goal.returns-clause-wrote
 returns-clause-wrote g c =
     let is : c.as_bytes.result.now ≡ waits c.args.pair.now =
-    c.as_bytes.ensures.value ∙ c.in_ok-line.ensures ∙ ap (λ (n : ℕ × ℕ). waiting_line n.0 n.1) c.waiting.ensures in
+    c.as_bytes.ensures.value ∙ c.in_ok-line.ensures
+    ∙ ap (λ (n : ℕ × ℕ). waiting_line n.0 n.1) c.waiting-to_server.ensures in
     let clients : c.store.result.now.table ≡ c.args.pair.now.client.table =
     ap (λ (s : StoreData). s.table) c.store.ensures ∙ ap (λ (d : ClientData). d.table) c.client.ensures in
     let servers : c.store-2.result.now.table ≡ c.args.pair.now.server.table =
