@@ -1,12 +1,172 @@
 -- A session that is written line by line.
-use Rattle.std.proofs.Common.{◌≡◌, ℕ, List, [], ◌∷◌, ◌++◌, Option, refl, sym, ap, ◌∙◌, subst, append_assoc, append-nil}
+use Rattle.std.proofs.Common.{◌≡◌, ◌⊎◌, ◌↔◌, ◌≤◌, ◌<◌, ◌^◌, inl, inr, ℕ, ◌+◌, suc, true, false, List, [], ◌∷◌, ◌++◌, length, codes, decimal, Option, Result, Ok, Err, refl, sym, ap, ◌∙◌, subst, arith, append_assoc, append-nil}
 use Rattle.std.proofs.KnownBytes.{Appends-nil, Appends-trans}
 use Rattle.std.specs.Io.KnownBytes.{Appends}
+use Rattle.lsp_stream.specs.declared.fault.EngineFault.{EngineFault}
+use Rattle.lsp_stream.specs.declared.fault.EngineFault.TheVariants as engine
+use Rattle.lsp_stream.specs.Ports.{Rose, WriterState}
+use Rattle.lsp_stream.specs.Turns.{AppendsFront, Spends, StaysWell, WritesWithin}
+use Rattle.lsp_program.specs.Output.{allowed_turns}
+use Rattle.lsp_message.specs.Outgoing.{document_text}
 use Rattle.lsp_message.specs.Params.{DocumentItem}
-use Rattle.lsp_pair.specs.Pair.{PairData, IsStep, new_pair}
+use Rattle.lsp_pair.specs.declared.event.Happened.{Happened}
+use Rattle.lsp_pair.specs.declared.setting.PairFault.{PairFault}
+use Rattle.lsp_pair.specs.declared.setting.PairFault.TheVariants.{NotUtf16, LimitsTooSmall}
+use Rattle.lsp_pair.specs.Pair.{PairData, IsFitting, IsStep, are_within, is_utf16, new_pair}
 use Rattle.lsp_simulate.specs.declared.command_line.Setting.{Setting}
-use Rattle.lsp_simulate.specs.Session.{Step, AreSteps, WroteSession, document_line, document_lines, end_lines, next_number, pair_setting, step_line, step_lines}
-use Rattle.lsp_simulate.specs.inside.Session.{AreUnderWay, IsStepLine, IsUnderWay, last_number}
+use Rattle.lsp_simulate.specs.declared.run.RunFault.{RunFault}
+use Rattle.lsp_simulate.specs.declared.run.RunFault.TheVariants.{Pair, Read, Write, NoMemory, BadEvent}
+use Rattle.lsp_simulate.specs.Run.{run_fault}
+use Rattle.lsp_simulate.specs.Words.{happened_words}
+use Rattle.lsp_simulate.specs.Session.{AppendsLines, AreLines, AreSteps, HasFailed, IsRefused, RanSteps, Step, WroteSession, WroteSteps, document_line, document_lines, end_lines, next_number, pair_setting, step_line, step_lines, waiting_line}
+use Rattle.lsp_simulate.specs.inside.Session.{AreUnderWay, IsStepLine, IsUnderWay, WroteLines, last_number}
+
+-- ---- whole lines
+
+abbrev EndsLine : List ℕ → Type 0
+EndsLine bytes = (front : List ℕ) × (bytes ≡ front ++ codes "\n")
+
+ends_line : (xs ys : List ℕ) → EndsLine ys → EndsLine (xs ++ ys)
+ends_line xs ys end =
+    (xs ++ end.0, ap (λ z. xs ++ z) end.1 ∙ sym (append_assoc xs end.0 (codes "\n")))
+
+lines-append : (xs ys : List ℕ) → AreLines xs → AreLines ys → AreLines (xs ++ ys)
+lines-append xs ys whole (inl none) =
+    subst AreLines (sym (append-nil xs) ∙ ap (λ z. xs ++ z) (sym none)) whole
+lines-append xs ys whole (inr end) = inr (ends_line xs ys end)
+
+whole_step : (number : ℕ) (happened : Happened) → AreLines (step_line number happened)
+whole_step number happened = inr ((decimal number ++ codes " ") ++ happened_words happened, refl)
+
+whole_steps : (number : ℕ) (steps : List Step) → AreLines (step_lines number steps)
+whole_steps number [] = inl refl
+whole_steps number (s ∷ steps) =
+    lines-append (step_line (next_number number) s.happened) (step_lines (next_number number) steps)
+    (whole_step (next_number number) s.happened) (whole_steps (next_number number) steps)
+
+whole_document : (end : List ℕ) (item : DocumentItem) → AreLines (document_line end item)
+whole_document end item = inr ((end ++ 32 ∷ []) ++ document_text item, refl)
+
+whole_documents : (end : List ℕ) (items : List DocumentItem) → AreLines (document_lines end items)
+whole_documents end [] = inl refl
+whole_documents end (item ∷ items) =
+    lines-append (document_line end item) (document_lines end items) (whole_document end item)
+    (whole_documents end items)
+
+whole_waiting : (to_server to_client : ℕ) → AreLines (waiting_line to_server to_client)
+whole_waiting m n =
+    inr (ends_line (codes "waiting ") (decimal m ++ (codes " " ++ (decimal n ++ codes "\n")))
+    (ends_line (decimal m) (codes " " ++ (decimal n ++ codes "\n"))
+    (ends_line (codes " ") (decimal n ++ codes "\n") (ends_line (decimal n) (codes "\n") ([], refl)))))
+
+-- ---- some first bytes, and some first lines
+
+front_after : (old mid new : Option (List ℕ)) (before bytes : List ℕ) → Appends old mid before
+    → AppendsFront mid new bytes → AppendsFront old new (before ++ bytes)
+front_after old mid new before bytes wrote some = (
+  before ++ some.0,
+  some.1,
+  ap (λ z. before ++ z) some.2 ∙ sym (append_assoc before some.0 some.1),
+  Appends-trans old mid new before some.0 wrote some.3,
+)
+
+front_before : (old new : Option (List ℕ)) (bytes rest : List ℕ) → AppendsFront old new bytes
+    → AppendsFront old new (bytes ++ rest)
+front_before old new bytes rest some = (
+  some.0,
+  some.1 ++ rest,
+  ap (λ z. z ++ rest) some.2 ∙ append_assoc some.0 some.1 rest,
+  some.3,
+)
+
+pub no_lines : (old : Option (List ℕ)) (lines : List ℕ) → AppendsLines old old lines
+no_lines old lines = ([], lines, refl, inl refl, Appends-nil old)
+
+lines_after : (old mid new : Option (List ℕ)) (before lines : List ℕ) → Appends old mid before → AreLines before
+    → AppendsLines mid new lines → AppendsLines old new (before ++ lines)
+lines_after old mid new before lines wrote whole some = (
+  before ++ some.0,
+  some.1,
+  ap (λ z. before ++ z) some.2 ∙ sym (append_assoc before some.0 some.1),
+  lines-append before some.0 whole some.3,
+  Appends-trans old mid new before some.0 wrote some.4,
+)
+
+lines_before : (old new : Option (List ℕ)) (lines rest : List ℕ) → AppendsLines old new lines
+    → AppendsLines old new (lines ++ rest)
+lines_before old new lines rest some = (
+  some.0,
+  some.1 ++ rest,
+  ap (λ z. z ++ rest) some.2 ∙ append_assoc some.0 some.1 rest,
+  some.3,
+  some.4,
+)
+
+-- ---- lines between others
+
+wrote_after : (result : Result (Unit {0}) EngineFault) (old mid new : Option (List ℕ)) (before lines : List ℕ)
+    → Appends old mid before → AreLines before → WroteLines result lines mid new
+    → WroteLines result (before ++ lines) old new
+wrote_after (Ok done) old mid new before lines wrote whole more = Appends-trans old mid new before lines wrote more
+wrote_after (Err fault) old mid new before lines wrote whole (inl more) =
+    inl (more.0, lines_after old mid new before lines wrote whole more.1)
+wrote_after (Err fault) old mid new before lines wrote whole (inr more) =
+    inr (more.0, front_after old mid new before lines wrote more.1)
+
+wrote_before : (fault : EngineFault) (old new : Option (List ℕ)) (lines rest : List ℕ)
+    → WroteLines (Err fault) lines old new → WroteLines (Err fault) (lines ++ rest) old new
+wrote_before fault old new lines rest (inl some) = inl (some.0, lines_before old new lines rest some.1)
+wrote_before fault old new lines rest (inr some) = inr (some.0, front_before old new lines rest some.1)
+
+-- ---- calls in turn
+
+pub spends_more : (a b c left mid right : ℕ) → Spends a b left mid → Spends b c mid right → Spends a c left right
+spends_more a b c left mid right first second = record {
+  within = omega (arith, first.within, second.within);
+  least = omega (arith, first.least, second.least);
+  most = omega (arith, first.most, second.most);
+  exact = λ h. omega (arith, h, first.exact, second.exact, second.least);
+}
+
+rose_after : (a b c : ℕ) → a ≤ b → Rose b c → Rose a c
+rose_after a b c least rose = λ h. let more : b < c = rose h in omega (arith, more, least)
+
+pub within_after : (before mid after : WriterState) (left between right : ℕ) (result : Result (Unit {0}) EngineFault)
+    → Spends before.calls mid.calls left between → StaysWell before.failed mid.failed
+    → WritesWithin between right mid after result → WritesWithin left right before after result
+within_after before mid after left between right (Ok done) spent well calls = record {
+  well = λ was. calls.well (well was);
+  failed = tt;
+  well_else = tt;
+  none_left = tt;
+  spent = spends_more before.calls mid.calls after.calls left between right spent calls.spent;
+}
+within_after before mid after left between right (Err fault) spent well calls = record {
+  well = tt;
+  failed = λ is. (
+    (calls.failed is).0,
+    rose_after before.calls mid.calls after.calls spent.least (calls.failed is).1,
+  );
+  well_else = λ other was. calls.well_else other (well was);
+  none_left = calls.none_left;
+  spent = spends_more before.calls mid.calls after.calls left between right spent calls.spent;
+}
+
+has_failed : (before mid after : WriterState) (between right : ℕ) (fault : EngineFault)
+    → Spends before.calls mid.calls allowed_turns between
+    → WritesWithin {A = Unit {0}} between right mid after (Err fault)
+    → (fault ≡ engine.Write) ⊎ (fault ≡ engine.TooManyTurns) → HasFailed before after
+has_failed before mid after between right fault spent calls (inl is) =
+    inl ((calls.failed is).0, rose_after before.calls mid.calls after.calls spent.least (calls.failed is).1)
+has_failed before mid after between right fault spent calls (inr is) =
+    inr (subst (λ (n : ℕ). Spends before.calls after.calls allowed_turns n) (calls.none_left is)
+    (spends_more before.calls mid.calls after.calls allowed_turns between right spent calls.spent))
+
+-- What a fault of writing is for the session.
+write_fault : (fault : EngineFault) (given : RunFault) → given ≡ run_fault fault
+    → (fault ≡ engine.Write) ⊎ (fault ≡ engine.TooManyTurns) → given ≡ Write
+write_fault fault given is (inl at) = is ∙ ap run_fault at
+write_fault fault given is (inr at) = is ∙ ap run_fault at
 
 -- ---- one step more
 
@@ -30,51 +190,176 @@ lines_more number (t ∷ steps) s =
     ∙ sym (append_assoc (step_line next t.happened) (step_lines next steps)
     (step_line (next_number (last_number next steps)) s.happened))
 
-pub begun : (setting : Setting) (old : Option (List ℕ)) (pair : PairData) → pair ≡ new_pair (pair_setting setting)
-    → IsUnderWay setting old old 0 pair
-begun setting old pair is = record { steps = []; are_steps = is; last = refl; written = Appends-nil old }
+next_add : (n m : ℕ) → next_number (next_number n + m) ≡ next_number (n + suc m)
+next_add n m = omega arith
 
-pub stepped : (setting : Setting) (old mid new : Option (List ℕ)) (number next : ℕ) (pair after : PairData)
-    (line : List ℕ) → IsUnderWay setting old mid number pair → next ≡ next_number number
-    → IsStepLine pair after next line → Appends mid new line → IsUnderWay setting old new next after
-stepped setting old mid new number next pair after line way counted step wrote =
-    let s : Step = record { event = step.event; happened = step.happened } in
-    let last : next ≡ next_number (last_number 0 way.steps) = counted ∙ ap next_number way.last in
-    let is : line ≡ step_line (next_number (last_number 0 way.steps)) s.happened =
-    step.is ∙ ap (λ n. step_line n s.happened) last in
-    let all : Appends old new (step_lines 0 way.steps ++ line) =
-    Appends-trans old mid new (step_lines 0 way.steps) line way.written wrote in
-    record {
-      steps = way.steps ++ s ∷ [];
-      are_steps = steps_more (new_pair (pair_setting setting)) way.steps pair s after way.are_steps step.is_step;
-      last = last ∙ sym (last_more 0 way.steps s);
-      written = subst (λ (z : List ℕ). Appends old new z)
-          (ap (λ z. step_lines 0 way.steps ++ z) is ∙ sym (lines_more 0 way.steps s)) all;
-    }
+-- The number after the last one of some steps.
+next_last : (number : ℕ) (steps : List Step)
+    → next_number (last_number number steps) ≡ next_number (number + length steps)
+next_last number [] = let none : number ≡ number + 0 = omega arith in ap next_number none
+next_last number (s ∷ steps) = next_last (next_number number) steps ∙ next_add number (length steps)
 
-pub ended : (setting : Setting) (old mid new : Option (List ℕ)) (number : ℕ) (pair : PairData)
-    → IsUnderWay setting old mid number pair → Appends mid new (end_lines pair) → WroteSession setting old new
-ended setting old mid new number pair way wrote = record {
-  steps = way.steps;
-  pair = pair;
-  are_steps = way.are_steps;
-  written = Appends-trans old mid new (step_lines 0 way.steps) (end_lines pair) way.written wrote;
+-- ---- a session on its way
+
+pub begun : (setting : Setting) (before : WriterState) (left : ℕ) (pair : PairData) → IsFitting (pair_setting setting)
+    → pair ≡ new_pair (pair_setting setting) → left ≡ allowed_turns → IsUnderWay setting before before left 0 pair
+begun setting before left pair fits is all = record {
+  fits = fits;
+  steps = [];
+  are_steps = is;
+  last = refl;
+  written = Appends-nil before.written;
+  spent = record {
+    within = omega (arith, all);
+    least = omega arith;
+    most = omega (arith, all);
+    exact = λ _. omega (arith, all);
+  };
 }
+
+abbrev made : (pair after : PairData) (number : ℕ) (line : List ℕ) → IsStepLine pair after number line → Step
+made pair after number line step = record { event = step.event; happened = step.happened }
+
+module _ (setting : Setting) (before mid : WriterState) (left number next : ℕ) (pair : PairData)
+    (way : IsUnderWay setting before mid left number pair) (counted : next ≡ next_number number) where
+  line_more : (after : PairData) (line : List ℕ) (step : IsStepLine pair after next line)
+      → step_lines 0 way.steps ++ line ≡ step_lines 0 (way.steps ++ made pair after next line step ∷ [])
+  line_more after line step =
+      let last : next ≡ next_number (last_number 0 way.steps) = counted ∙ ap next_number way.last in
+      let is : line ≡ step_line (next_number (last_number 0 way.steps)) step.happened =
+      step.is ∙ ap (λ n. step_line n step.happened) last in
+      ap (λ z. step_lines 0 way.steps ++ z) is ∙ sym (lines_more 0 way.steps (made pair after next line step))
+
+  are_more : (after : PairData) (line : List ℕ) (step : IsStepLine pair after next line)
+      → AreSteps (new_pair (pair_setting setting)) (way.steps ++ made pair after next line step ∷ []) after
+  are_more after line step =
+      steps_more (new_pair (pair_setting setting)) way.steps pair (made pair after next line step) after way.are_steps
+      step.is_step
+
+  pub stepped : (after : PairData) (line : List ℕ) (new : WriterState) (right : ℕ) → IsStepLine pair after next line
+      → Appends mid.written new.written line → Spends mid.calls new.calls left right
+      → IsUnderWay setting before new right next after
+  stepped after line new right step wrote spent = record {
+    fits = way.fits;
+    steps = way.steps ++ made pair after next line step ∷ [];
+    are_steps = are_more after line step;
+    last = counted ∙ ap next_number way.last ∙ sym (last_more 0 way.steps (made pair after next line step));
+    written = subst (λ (z : List ℕ). Appends before.written new.written z) (line_more after line step)
+        (Appends-trans before.written mid.written new.written (step_lines 0 way.steps) line way.written wrote);
+    spent = spends_more before.calls mid.calls new.calls allowed_turns left right way.spent spent;
+  }
+
+  -- The line of a step was cut short.
+  cut_short : (after : PairData) (line : List ℕ) (new : WriterState) → IsStepLine pair after next line
+      → AppendsFront mid.written new.written line → HasFailed before new → RanSteps setting (Err Write) before new
+  cut_short after line new step some failed = record {
+    fits = way.fits;
+    steps = way.steps ++ made pair after next line step ∷ [];
+    pair = after;
+    are_steps = are_more after line step;
+    written = (
+      subst (λ (z : List ℕ). AppendsFront before.written new.written (z ++ end_lines after))
+          (line_more after line step)
+          (front_before before.written new.written (step_lines 0 way.steps ++ line) (end_lines after)
+          (front_after before.written mid.written new.written (step_lines 0 way.steps) line way.written some)),
+      failed,
+    );
+  }
+
+  pub unwritten : (after : PairData) (line : List ℕ) (new : WriterState) (right : ℕ) (fault : EngineFault)
+      (given : RunFault) → given ≡ run_fault fault → IsStepLine pair after next line
+      → (fault ≡ engine.Write) ⊎ (fault ≡ engine.TooManyTurns) → AppendsFront mid.written new.written line
+      → WritesWithin {A = Unit {0}} left right mid new (Err fault) → WroteSession setting (Err given) before new
+  unwritten after line new right fault given is step why some calls =
+      subst (λ (f : RunFault). WroteSession setting (Err f) before new) (sym (write_fault fault given is why))
+      (cut_short after line new step some (has_failed before mid new left right fault way.spent calls why))
+
+-- ---- how a session ends
+
+pub refused : {T : Type 0} (setting : Setting) (result : Result T PairFault) (fault : PairFault) → result ≡ Err fault
+    → ((result ≡ Err NotUtf16) ↔ (is_utf16 setting.config.choice ≡ false))
+    → ((result ≡ Err LimitsTooSmall)
+    ↔ ((is_utf16 setting.config.choice ≡ true) × (are_within setting.limits setting.config.limits ≡ false)))
+    → IsRefused (pair_setting setting) fault
+refused setting result NotUtf16 is encoding limits = encoding.0 is
+refused setting result LimitsTooSmall is encoding limits = limits.0 is
+
+module _ (setting : Setting) (before now : WriterState) (left number : ℕ) (pair : PairData)
+    (way : IsUnderWay setting before now left number pair) where
+  ran : (result : Result (Unit {0}) RunFault) (after : WriterState) → WroteSteps result way.steps pair before after
+      → RanSteps setting result before after
+  ran result after wrote =
+      record { fits = way.fits; steps = way.steps; pair = pair; are_steps = way.are_steps; written = wrote }
+
+  out_of_memory : RanSteps setting (Err NoMemory) before now
+  out_of_memory =
+      ran (Err NoMemory) now
+      (step_lines 0 way.steps, end_lines pair, refl, whole_steps 0 way.steps, way.written)
+
+  bad_event : (next : ℕ) → next ≡ next_number number → RanSteps setting (Err (BadEvent next)) before now
+  bad_event next counted =
+      let all : 0 + length way.steps ≡ length way.steps = omega arith in
+      ran (Err (BadEvent next)) now
+      (counted ∙ ap next_number way.last ∙ next_last 0 way.steps ∙ ap next_number all, way.written)
+
+  pub stopped : (next : ℕ) (fault : RunFault) → next ≡ next_number number
+      → (fault ≡ NoMemory) ⊎ (fault ≡ BadEvent next) → WroteSession setting (Err fault) before now
+  stopped next fault counted (inl is) =
+      subst (λ (f : RunFault). WroteSession setting (Err f) before now) (sym is) out_of_memory
+  stopped next fault counted (inr is) =
+      subst (λ (f : RunFault). WroteSession setting (Err f) before now) (sym is) (bad_event next counted)
+
+  pub unread : (fault : RunFault) → (fault ≡ NoMemory) ⊎ (fault ≡ Read) → WroteSession setting (Err fault) before now
+  unread fault (inl is) =
+      subst (λ (f : RunFault). WroteSession setting (Err f) before now) (sym is) out_of_memory
+  unread fault (inr is) =
+      subst (λ (f : RunFault). WroteSession setting (Err f) before now) (sym is) (ran (Err Read) now way.written)
+
+  pub ended : (after : WriterState) → Appends now.written after.written (end_lines pair)
+      → RanSteps setting (Ok tt) before after
+  ended after wrote =
+      ran (Ok tt) after
+      (Appends-trans before.written now.written after.written (step_lines 0 way.steps) (end_lines pair) way.written
+      wrote)
+
+  pub not_ended : (after : WriterState) (right : ℕ) (fault : EngineFault) (given : RunFault) → given ≡ run_fault fault
+      → WroteLines (Err fault) (end_lines pair) now.written after.written
+      → WritesWithin {A = Unit {0}} left right now after (Err fault) → WroteSession setting (Err given) before after
+  not_ended after right fault given is (inl some) calls =
+      subst (λ (f : RunFault). WroteSession setting (Err f) before after) (sym (is ∙ ap run_fault some.0))
+      (ran (Err NoMemory) after
+      (lines_after before.written now.written after.written (step_lines 0 way.steps) (end_lines pair) way.written
+      (whole_steps 0 way.steps) some.1))
+  not_ended after right fault given is (inr some) calls =
+      subst (λ (f : RunFault). WroteSession setting (Err f) before after) (sym (write_fault fault given is some.0))
+      (ran (Err Write) after (
+        front_after before.written now.written after.written (step_lines 0 way.steps) (end_lines pair) way.written
+            some.1,
+        has_failed before now after left right fault way.spent calls some.0,
+      ))
 
 -- ---- documents
 
 pub no_documents : (end : List ℕ) (all : List DocumentItem) (old : Option (List ℕ)) → AreUnderWay end all old old all
-no_documents end all old = record { lines = []; written = Appends-nil old; rest = refl }
+no_documents end all old = record { lines = []; whole = inl refl; written = Appends-nil old; rest = refl }
+
+-- The lines before a document, its own, and those after it are all of them.
+document_rest : (end : List ℕ) (all : List DocumentItem) (old mid : Option (List ℕ)) (left after : List DocumentItem)
+    (item : DocumentItem) (line : List ℕ) (way : AreUnderWay end all old mid left) → left ≡ item ∷ after
+    → line ≡ document_line end item → way.lines ++ (line ++ document_lines end after) ≡ document_lines end all
+document_rest end all old mid left after item line way first is =
+    ap (λ z. way.lines ++ (z ++ document_lines end after)) is
+    ∙ ap (λ z. way.lines ++ document_lines end z) (sym first) ∙ way.rest
 
 pub one_document : (end : List ℕ) (all : List DocumentItem) (old mid new : Option (List ℕ))
     (left after : List DocumentItem) (item : DocumentItem) (line : List ℕ) → AreUnderWay end all old mid left
     → left ≡ item ∷ after → line ≡ document_line end item → Appends mid new line → AreUnderWay end all old new after
 one_document end all old mid new left after item line way first is wrote = record {
   lines = way.lines ++ line;
+  whole = lines-append way.lines line way.whole (subst AreLines (sym is) (whole_document end item));
   written = Appends-trans old mid new way.lines line way.written wrote;
   rest = append_assoc way.lines line (document_lines end after)
-      ∙ ap (λ z. way.lines ++ (z ++ document_lines end after)) is
-      ∙ ap (λ z. way.lines ++ document_lines end z) (sym first) ∙ way.rest;
+      ∙ document_rest end all old mid left after item line way first is;
 }
 
 pub all_documents : (end : List ℕ) (all : List DocumentItem) (old new : Option (List ℕ)) (left : List DocumentItem)
@@ -82,3 +367,48 @@ pub all_documents : (end : List ℕ) (all : List DocumentItem) (old new : Option
 all_documents end all old new left way none =
     subst (λ (z : List ℕ). Appends old new z)
     (sym (append-nil way.lines) ∙ ap (λ z. way.lines ++ document_lines end z) (sym none) ∙ way.rest) way.written
+
+pub some_documents : (end : List ℕ) (all : List DocumentItem) (old new : Option (List ℕ)) (left : List DocumentItem)
+    → AreUnderWay end all old new left → AppendsLines old new (document_lines end all)
+some_documents end all old new left way = (way.lines, document_lines end left, sym way.rest, way.whole, way.written)
+
+pub cut_document : (end : List ℕ) (all : List DocumentItem) (old mid new : Option (List ℕ))
+    (left after : List DocumentItem) (item : DocumentItem) (line : List ℕ) → AreUnderWay end all old mid left
+    → left ≡ item ∷ after → line ≡ document_line end item → AppendsFront mid new line
+    → AppendsFront old new (document_lines end all)
+cut_document end all old mid new left after item line way first is some =
+    subst (λ (z : List ℕ). AppendsFront old new z)
+    (document_rest end all old mid left after item line way first is)
+    (front_after old mid new way.lines (line ++ document_lines end after) way.written
+    (front_before mid new line (document_lines end after) some))
+
+-- ---- how a pair ends
+
+abbrev pub waits : PairData → List ℕ
+waits pair = waiting_line (length pair.to_server) (length pair.to_client)
+
+abbrev clients : PairData → List ℕ
+clients pair = document_lines (codes "client") pair.client.table
+
+abbrev servers : PairData → List ℕ
+servers pair = document_lines (codes "server") pair.server.table
+
+pub end_cut : (pair : PairData) (old new : Option (List ℕ)) → AppendsFront old new (waits pair)
+    → AppendsFront old new (end_lines pair)
+end_cut pair old new some = front_before old new (waits pair) (clients pair ++ servers pair) some
+
+pub end_between : (pair : PairData) (fault : EngineFault) (old mid new : Option (List ℕ)) → Appends old mid (waits pair)
+    → WroteLines (Err fault) (clients pair) mid new → WroteLines (Err fault) (end_lines pair) old new
+end_between pair fault old mid new wrote some =
+    wrote_after (Err fault) old mid new (waits pair) (clients pair ++ servers pair) wrote
+    (whole_waiting (length pair.to_server) (length pair.to_client))
+    (wrote_before fault mid new (clients pair) (servers pair) some)
+
+pub end_after : (pair : PairData) (result : Result (Unit {0}) EngineFault) (old first second new : Option (List ℕ))
+    → Appends old first (waits pair) → Appends first second (clients pair)
+    → WroteLines result (servers pair) second new → WroteLines result (end_lines pair) old new
+end_after pair result old first second new wrote between more =
+    wrote_after result old first new (waits pair) (clients pair ++ servers pair) wrote
+    (whole_waiting (length pair.to_server) (length pair.to_client))
+    (wrote_after result first second new (clients pair) (servers pair) between
+    (whole_documents (codes "client") pair.client.table) more)

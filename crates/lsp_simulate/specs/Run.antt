@@ -1,5 +1,5 @@
 -- What the program does with its words, and the status that it ends with.
-use Rattle.std.specs.Prelude.{ℕ, ◌≡◌, ◌⊎◌, List, Option, Some, None, Result, Ok, Err, OnOk}
+use Rattle.std.specs.Prelude.{ℕ, ◌≡◌, ◌⊎◌, List, Option, Some, None, Result, Ok, Err}
 use Rattle.std.specs.Io.KnownBytes.{Keeps}
 use Rattle.clap.specs.Values.{kind_of}
 use Rattle.clap.specs.declared.error.Error.{Error}
@@ -49,7 +49,7 @@ pub record IsSession (setting : Setting) (before after : WriterState) (status : 
   pub flushed : Result (Unit {0}) EngineFault
   -- the writer between the session and the flush
   pub writer : WriterState
-  pub wrote : OnOk result (WroteSession setting before.written writer.written)
+  pub wrote : WroteSession setting result before writer
   pub kept : Keeps writer.written after.written
   pub flush : IsFlushed writer after flushed
   pub ends : status ≡ session_status result flushed

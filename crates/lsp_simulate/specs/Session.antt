@@ -1,12 +1,19 @@
 -- What a session writes: a line for each step of a pair, and then how the pair ends.
-use Rattle.std.specs.Prelude.{ℕ, ◌≡◌, ◌+◌, ◌-◌, ◌^◌, ◌++◌, ◌∷◌, [], List, length, min, codes, decimal, Option}
+use Rattle.std.specs.Prelude.{ℕ, ◌≡◌, ◌⊎◌, ◌+◌, ◌-◌, ◌^◌, ◌++◌, ◌∷◌, [], true, false, List, length, min, codes, decimal, Option, Result, Ok, Err}
 use Rattle.std.specs.Io.KnownBytes.{Appends}
+use Rattle.lsp_stream.specs.Ports.{Rose, WriterState}
+use Rattle.lsp_stream.specs.Turns.{AppendsFront, Spends}
+use Rattle.lsp_program.specs.Output.{allowed_turns}
 use Rattle.lsp_message.specs.Outgoing.{document_text}
 use Rattle.lsp_message.specs.Params.{DocumentItem}
 use Rattle.lsp_pair.specs.declared.event.Happened.{Happened}
+use Rattle.lsp_pair.specs.declared.setting.PairFault.{PairFault}
+use Rattle.lsp_pair.specs.declared.setting.PairFault.TheVariants.{NotUtf16, LimitsTooSmall}
 use Rattle.lsp_pair.specs.Events.{Setting as PairSetting, EventData}
-use Rattle.lsp_pair.specs.Pair.{PairData, IsStep, new_pair}
+use Rattle.lsp_pair.specs.Pair.{PairData, IsFitting, IsStep, are_within, is_utf16, new_pair}
 use Rattle.lsp_simulate.specs.declared.command_line.Setting.{Setting}
+use Rattle.lsp_simulate.specs.declared.run.RunFault.{RunFault}
+use Rattle.lsp_simulate.specs.declared.run.RunFault.TheVariants.{Pair, Read, Write, NoMemory, BadEvent}
 use Rattle.lsp_simulate.specs.Words.{happened_words}
 
 -- A step: an event, and what happened.
@@ -62,10 +69,60 @@ pair_setting setting = record {
   config = setting.config;
 }
 
--- All lines of a session were written: those of the steps of a pair, from a new one on, and of how
--- it ends. Which events the lines of the input mean, no clause says.
-pub record WroteSession (setting : Setting) (old new : Option (List ℕ)) : Type 0 where
+-- A pair refuses this setting, with this fault.
+abbrev pub IsRefused : PairSetting → PairFault → Type 0
+IsRefused setting NotUtf16 = is_utf16 setting.config.choice ≡ false
+IsRefused setting LimitsTooSmall =
+    (is_utf16 setting.config.choice ≡ true)
+    × (are_within setting.limits setting.config.limits ≡ false)
+
+-- Whole lines: nothing, or bytes of which the last is a line end.
+abbrev pub AreLines : List ℕ → Type 0
+AreLines bytes = (bytes ≡ []) ⊎ ((front : List ℕ) × (bytes ≡ front ++ codes "\n"))
+
+-- Some first lines were written, each whole.
+abbrev pub AppendsLines : Option (List ℕ) → Option (List ℕ) → List ℕ → Type 0
+AppendsLines old new lines =
+    (front rest : List ℕ) × (lines ≡ front ++ rest) × AreLines front × Appends old new front
+
+-- The writer failed: its last call did, or each call that was allowed was made.
+abbrev pub HasFailed : WriterState → WriterState → Type 0
+HasFailed before after =
+    ((after.failed ≡ true) × Rose before.calls after.calls)
+    ⊎ Spends before.calls after.calls allowed_turns 0
+
+-- What was written of a session that made these steps, by how it ended. At its end all lines are;
+-- where memory ran out some first lines, and where the writer failed some first bytes. After a
+-- failed read the lines of the steps are, and so after a line of the input that is no event: it is
+-- the next one after those of the steps.
+abbrev pub WroteSteps : Result (Unit {0}) RunFault → List Step → PairData → WriterState →
+    WriterState → Type 0
+WroteSteps (Ok _) steps pair before after =
+    Appends before.written after.written (step_lines 0 steps ++ end_lines pair)
+WroteSteps (Err NoMemory) steps pair before after =
+    AppendsLines before.written after.written (step_lines 0 steps ++ end_lines pair)
+WroteSteps (Err Write) steps pair before after =
+    AppendsFront before.written after.written (step_lines 0 steps ++ end_lines pair)
+    × HasFailed before after
+WroteSteps (Err (BadEvent line)) steps pair before after =
+    (line ≡ next_number (length steps))
+    × Appends before.written after.written (step_lines 0 steps)
+WroteSteps (Err fault) steps pair before after =
+    Appends before.written after.written (step_lines 0 steps)
+
+-- A session ran: some steps of a pair, from a new one on. Which events the lines of the input mean,
+-- no clause says.
+pub record RanSteps (setting : Setting) (result : Result (Unit {0}) RunFault)
+    (before after : WriterState) : Type 0 where
+  pub fits : IsFitting (pair_setting setting)
   pub steps : List Step
+  -- the pair after them
   pub pair : PairData
   pub are_steps : AreSteps (new_pair (pair_setting setting)) steps pair
-  pub written : Appends old new (step_lines 0 steps ++ end_lines pair)
+  pub written : WroteSteps result steps pair before after
+
+-- What a session wrote, by how it ended. A refused setting writes nothing.
+abbrev pub WroteSession : Setting → Result (Unit {0}) RunFault → WriterState → WriterState → Type 0
+WroteSession setting (Err (Pair fault)) before after =
+    IsRefused (pair_setting setting) fault × (after ≡ before)
+WroteSession setting result before after = RanSteps setting result before after

@@ -6,7 +6,7 @@ ghost use Rattle.clap.specs.declared.error.kind.ErrorKind.TheVariants.{OutOfMemo
 ghost use Rattle.clap.specs.declared.error.kind.ErrorKind.TheVariants.{DisplayHelp, DisplayVersion};
 ghost use Rattle.lsp_program.specs.Output.{IsHelp};
 ghost use Rattle.lsp_simulate.specs.Run.{IsDone, IsRun, IsSession, help_status, run_fault, session_status, status_of};
-ghost use Rattle.lsp_simulate.specs.declared.run.RunFault.TheVariants.{NoMemory};
+ghost use Rattle.lsp_simulate.specs.declared.run.RunFault.TheVariants.{NoMemory, Pair};
 
 use crate::command_line::{Setting, parse};
 use crate::session::simulate;
@@ -22,7 +22,7 @@ use thiserror::Error;
 #[derive(Clone, Copy, Debug, PartialEq, Eq, Error)]
 pub enum RunFault {
     #[error("{0}")]
-    Pair(#[from] PairFault),
+    Pair(PairFault),
     #[error("read fault")]
     Read,
     #[error("write fault")]
@@ -31,6 +31,14 @@ pub enum RunFault {
     NoMemory,
     #[error("bad event at line {line}")]
     BadEvent { line: u64 },
+}
+
+impl From<PairFault> for RunFault {
+    ghost from_gives = { λ fault given. given ≡ Pair fault };
+
+    fn from(fault: PairFault) -> RunFault {
+        RunFault::Pair(fault)
+    }
 }
 
 impl From<AllocError> for RunFault {

@@ -1,10 +1,10 @@
 //! A session: the steps of a pair by lines of events, and the lines of output.
 
-ghost use Rattle.std.specs.Prelude.{◌≡◌, ◌≢◌, ◌↔◌, ◌⊎◌, IfErr, IfOk, OnOk, codes, string_bytes};
-ghost use Rattle.std.specs.Io.KnownBytes.{Appends};
+ghost use Rattle.std.specs.Prelude.{◌≡◌, ◌≢◌, ◌↔◌, ◌⊎◌, IfErr, IfOk, string_bytes};
+ghost use Rattle.lsp_stream.specs.Turns.{WritesWithin};
 ghost use Rattle.lsp_simulate.specs.Session.{WroteSession, document_line, document_lines};
 ghost use Rattle.lsp_simulate.specs.Session.{end_lines, step_line, waiting_line};
-ghost use Rattle.lsp_simulate.specs.inside.Session.{IsStepLine};
+ghost use Rattle.lsp_simulate.specs.inside.Session.{IsStepLine, WroteLines};
 
 use crate::command_line::Setting;
 use crate::run::RunFault;
@@ -14,20 +14,19 @@ use lsp_message::push_document;
 use lsp_pair::{Happened, Pair};
 use lsp_program::MAX_TURNS;
 use lsp_store::{Document, Store};
-use lsp_stream::{Sink, Turns, write_given};
+use lsp_stream::{EngineFault, Sink, Turns, write_given};
 use std::alloc::{AllocError, Global};
 use std::io::{self, BufRead, ErrorKind, Write};
 
 /// Steps a pair by the events of the lines, and writes what happens. At the end it writes how many
-/// frames wait, and the documents of both ends.
+/// frames wait, and the documents of both ends. The lines of the steps before a fault stay written.
 pub fn simulate<R: BufRead, W: Sink>(
     alloc: Global,
     setting: Setting,
     input: &mut R,
     output: &mut W,
 ) -> Result<(), RunFault>
-    ensures { OnOk result
-        (WroteSession setting (W.seen output.old).written (W.seen output.new).written) }
+    ensures { WroteSession setting result (W.seen output.old) (W.seen output.new) }
 {
     let mut pair = Pair::new(alloc, setting.limits, setting.offers, setting.config)?;
     let mut turns = Turns::new(MAX_TURNS);
@@ -42,7 +41,8 @@ pub fn simulate<R: BufRead, W: Sink>(
             Err(error) => return Err(read_fault(error.kind())),
         }
     }
-    write_end(alloc, &pair, output, &mut turns)
+    write_end(alloc, &pair, output, &mut turns)?;
+    Ok(())
 }
 
 /// Makes the step of one line of input, and returns its line of output.
@@ -81,9 +81,11 @@ fn write_end<W: Sink>(
     pair: &Pair,
     output: &mut W,
     turns: &mut Turns,
-) -> Result<(), RunFault>
-    ensures { OnOk result
-        (Appends (W.seen output.old).written (W.seen output.new).written (end_lines pair.now)) }
+) -> Result<(), EngineFault>
+    ensures wrote { WroteLines result (end_lines pair.now)
+        (W.seen output.old).written (W.seen output.new).written }
+    ensures calls { WritesWithin turns.old.left turns.new.left
+        (W.seen output.old) (W.seen output.new) result }
 {
     let (to_server, to_client) = pair.waiting();
     let line = waiting_line(alloc, to_server, to_client)?;
@@ -106,9 +108,11 @@ fn write_documents<W: Sink>(
     store: &Store,
     output: &mut W,
     turns: &mut Turns,
-) -> Result<(), RunFault>
-    ensures { OnOk result (Appends (W.seen output.old).written (W.seen output.new).written
-        (document_lines end.now store.now.table)) }
+) -> Result<(), EngineFault>
+    ensures wrote { WroteLines result (document_lines end.now store.now.table)
+        (W.seen output.old).written (W.seen output.new).written }
+    ensures calls { WritesWithin turns.old.left turns.new.left
+        (W.seen output.old) (W.seen output.new) result }
 {
     for document in store {
         let line = document_line(alloc, end, &document)?;
@@ -134,6 +138,7 @@ fn document_line(alloc: Global, end: &str, document: &Document<'_>) -> Result<Ve
 fn read_fault(kind: ErrorKind) -> RunFault
     ensures memory { (result ≡ RunFault.NoMemory) ↔ (kind ≡ ErrorKind.OutOfMemory) }
     ensures read { (result ≡ RunFault.Read) ↔ (kind ≢ ErrorKind.OutOfMemory) }
+    ensures error { (result ≡ RunFault.NoMemory) ⊎ (result ≡ RunFault.Read) }
 {
     match kind {
         ErrorKind::OutOfMemory => RunFault::NoMemory,

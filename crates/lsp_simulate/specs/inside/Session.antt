@@ -1,12 +1,17 @@
 -- A session on its way.
-use Rattle.std.specs.Prelude.{ℕ, ◌≡◌, ◌++◌, ◌∷◌, [], List, Option}
+use Rattle.std.specs.Prelude.{ℕ, ◌≡◌, ◌⊎◌, ◌++◌, ◌∷◌, [], List, Option, Result, Ok, Err}
 use Rattle.std.specs.Io.KnownBytes.{Appends}
+use Rattle.lsp_stream.specs.declared.fault.EngineFault.{EngineFault}
+use Rattle.lsp_stream.specs.declared.fault.EngineFault.TheVariants.{NoMemory, TooManyTurns, Write}
+use Rattle.lsp_stream.specs.Ports.{WriterState}
+use Rattle.lsp_stream.specs.Turns.{AppendsFront, Spends}
+use Rattle.lsp_program.specs.Output.{allowed_turns}
 use Rattle.lsp_message.specs.Params.{DocumentItem}
 use Rattle.lsp_pair.specs.declared.event.Happened.{Happened}
 use Rattle.lsp_pair.specs.Events.{EventData}
-use Rattle.lsp_pair.specs.Pair.{PairData, IsStep, new_pair}
+use Rattle.lsp_pair.specs.Pair.{PairData, IsFitting, IsStep, new_pair}
 use Rattle.lsp_simulate.specs.declared.command_line.Setting.{Setting}
-use Rattle.lsp_simulate.specs.Session.{Step, AreSteps, document_lines, next_number, pair_setting, step_line, step_lines}
+use Rattle.lsp_simulate.specs.Session.{AppendsLines, AreLines, AreSteps, Step, document_lines, next_number, pair_setting, step_line, step_lines}
 
 -- A step was made, and this is its line.
 pub record IsStepLine (old new : PairData) (number : ℕ) (line : List ℕ) : Type 0 where
@@ -20,17 +25,29 @@ abbrev pub last_number : ℕ → List Step → ℕ
 last_number number [] = number
 last_number number (s ∷ steps) = last_number (next_number number) steps
 
--- The lines of some steps were written, the last with this number.
-pub record IsUnderWay (setting : Setting) (old new : Option (List ℕ)) (number : ℕ)
+-- The lines of some steps were written, the last with this number, and so many turns are left.
+pub record IsUnderWay (setting : Setting) (before now : WriterState) (left number : ℕ)
     (pair : PairData) : Type 0 where
+  pub fits : IsFitting (pair_setting setting)
   pub steps : List Step
   pub are_steps : AreSteps (new_pair (pair_setting setting)) steps pair
   pub last : number ≡ last_number 0 steps
-  pub written : Appends old new (step_lines 0 steps)
+  pub written : Appends before.written now.written (step_lines 0 steps)
+  pub spent : Spends before.calls now.calls allowed_turns left
+
+-- What was written of some lines, by how that ended: all of them; if memory ran out, some first
+-- lines; if the writer failed, some first bytes. No other fault comes in writing.
+abbrev pub WroteLines : Result (Unit {0}) EngineFault → List ℕ → Option (List ℕ) →
+    Option (List ℕ) → Type 0
+WroteLines (Ok _) lines old new = Appends old new lines
+WroteLines (Err fault) lines old new =
+    ((fault ≡ NoMemory) × AppendsLines old new lines)
+    ⊎ (((fault ≡ Write) ⊎ (fault ≡ TooManyTurns)) × AppendsFront old new lines)
 
 -- The lines of some first documents were written, and these are left.
 pub record AreUnderWay (end : List ℕ) (all : List DocumentItem) (old new : Option (List ℕ))
     (left : List DocumentItem) : Type 0 where
   pub lines : List ℕ
+  pub whole : AreLines lines
   pub written : Appends old new lines
   pub rest : lines ++ document_lines end left ≡ document_lines end all
