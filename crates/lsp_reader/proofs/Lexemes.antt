@@ -39,14 +39,15 @@ pub blank_read : (text : List ℕ) (i : ℕ) → i < length text → (get_or tex
     → lex between (drop (suc i) text) ≡ lex between (drop i text)
 blank_read text i within blank =
     by_case (or_cases (get_or text i 0 == 32) (get_or text i 0 == 10) blank) where
-    split : drop i text ≡ get_or text i 0 ∷ drop (suc i) text
-    split = drop-cons text i 0 within
-    by_case : ((get_or text i 0 == 32) ≡ true) ⊎ ((get_or text i 0 == 10) ≡ true)
-        → lex between (drop (suc i) text) ≡ lex between (drop i text)
-    by_case (inl e) = sym (ap (lex between) (split ∙ ap (λ x. x ∷ drop (suc i) text) (eqb-true (get_or text i 0) 32 e))
-        ∙ space_read (drop (suc i) text))
-    by_case (inr e) = sym (ap (lex between) (split ∙ ap (λ x. x ∷ drop (suc i) text) (eqb-true (get_or text i 0) 10 e))
-        ∙ line_feed_read (drop (suc i) text))
+      split : drop i text ≡ get_or text i 0 ∷ drop (suc i) text
+      split = drop-cons text i 0 within
+
+      by_case : ((get_or text i 0 == 32) ≡ true) ⊎ ((get_or text i 0 == 10) ≡ true)
+          → lex between (drop (suc i) text) ≡ lex between (drop i text)
+      by_case (inl e) = sym (ap (lex between) (split ∙ ap (λ x. x ∷ drop (suc i) text) (eqb-true (get_or text i 0) 32 e))
+          ∙ space_read (drop (suc i) text))
+      by_case (inr e) = sym (ap (lex between) (split ∙ ap (λ x. x ∷ drop (suc i) text) (eqb-true (get_or text i 0) 10 e))
+          ∙ line_feed_read (drop (suc i) text))
 
 -- ---- pieces
 
