@@ -1,5 +1,5 @@
 -- A text with a gap at its last change.
-use Rattle.std.specs.Prelude.{ℕ, ◌≡◌, ◌-◌, ◌<◌, ◌≤◌, ◌==◌, ◌||◌, true, List, ◌++◌, length, map}
+use Rattle.std.specs.Prelude.{ℕ, ◌≡◌, ◌-◌, ◌<◌, ◌≤◌, true, List, ◌++◌, length, map}
 use Rattle.std.specs.Str.{is_utf8}
 use Rattle.lsp_text.specs.LineStarts.{line_starts}
 

@@ -1,6 +1,6 @@
 -- Units counted byte by byte: the first byte of a character's UTF-8 counts for all its units, the
 -- others for none.
-use Rattle.std.specs.Prelude.{ℕ, ◌≡◌, ◌+◌, ◌-◌, ◌==◌, if◌then◌else◌, nat_lt, [], ◌∷◌}
+use Rattle.std.specs.Prelude.{ℕ, if◌then◌else◌, nat_lt}
 
 -- The units of the character whose UTF-8 begins with this byte, in UTF-16; 0 for a byte inside a
 -- character.

@@ -1,11 +1,11 @@
 -- Counts of blocks, as slots change.
-use Rattle.std.proofs.Common.{◌≡◌, ◌≤◌, ◌<◌, ◌+◌, ◌-◌, ◌*◌, ◌/◌, ℕ, List, [], ◌∷◌, ◌++◌, length, set, min, get_or, slice_get, slice_index, Option, Some, None, String, refl, sym, ap, ◌∙◌, arith, ⊎_elim}
+use Rattle.std.proofs.Common.{◌≡◌, ◌≤◌, ◌<◌, ◌+◌, ◌-◌, ◌*◌, ◌/◌, ℕ, List, [], ◌∷◌, ◌++◌, length, set, min, slice_get, slice_index, Option, Some, None, String, refl, arith, ⊎_elim}
 use Rattle.std.proofs.lemmas.List.{length-append, length-set, get_or-set_same, get_or-set_other, get_or_append_left, get_or_push}
 use Rattle.std.proofs.lemmas.Bool.{cases_eq, cases_lt}
 use Rattle.std.proofs.lemmas.Option.{slice_get_within}
 use Rattle.std.specs.declared.alloc.Global.{Global}
 use Rattle.ordered_map.specs.declared.slot.Slot.{Slot}
-use Rattle.ordered_map.specs.inside.Slots.{AreCounted, here, keys_in, live_to, somes}
+use Rattle.ordered_map.specs.inside.Slots.{AreCounted, keys_in, live_to, somes}
 use Rattle.ordered_map.proofs.SlotLemmas.{live_next, live_gap, live_past, live_rises, live_within, live_taken_after, live_taken_before, live_put_before, live_put_after, live_all, length_keys}
 
 module _ {X : Type 0} where

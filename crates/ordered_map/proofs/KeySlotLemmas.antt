@@ -9,8 +9,7 @@ use Rattle.std.specs.declared.alloc.Global.{Global}
 use Rattle.ordered_map.specs.Entries.{is_key, slot_entry}
 use Rattle.ordered_map.specs.declared.slot.Slot.{Slot}
 use Rattle.ordered_map.specs.declared.slot.Slot.TheVariants.{Vacant, Live}
-use Rattle.ordered_map.specs.inside.Slots.{AreSlotsOf, AreUnlike, IsKeyAt, keys_in, somes}
-use Rattle.ordered_map.proofs.SlotLemmas.{key_at}
+use Rattle.ordered_map.specs.inside.Slots.{AreSlotsOf, AreUnlike, keys_in}
 use Rattle.ordered_map.proofs.FindLemmas.{IsOnly, HasNone}
 
 -- ---- slots of a list

@@ -1,9 +1,9 @@
 -- Slots that are packed: those with an entry, in their order.
-use Rattle.std.proofs.Common.{◌≡◌, ◌<◌, ◌≤◌, ℕ, zero, suc, Bool, true, false, List, [], ◌∷◌, length, map, filter, slice_get, is_some, IsSome, Option, Some, None, String, string_bytes, refl, sym, ap, ◌∙◌, subst, arith}
+use Rattle.std.proofs.Common.{◌≡◌, ℕ, zero, suc, true, false, List, [], ◌∷◌, length, filter, slice_get, is_some, IsSome, Option, Some, None, String, string_bytes, refl, sym, ap, ◌∙◌, subst, arith}
 use Rattle.std.specs.declared.alloc.Global.{Global}
 use Rattle.ordered_map.specs.declared.slot.Slot.{Slot}
 use Rattle.ordered_map.specs.declared.slot.Slot.TheVariants.{Vacant, Live}
-use Rattle.ordered_map.specs.inside.Slots.{AreSlotsOf, AreUnlike, IsKeyAt, entries_in, slot_key, keys_in, somes}
+use Rattle.ordered_map.specs.inside.Slots.{AreSlotsOf, AreUnlike, entries_in, slot_key, keys_in, somes}
 
 module _ {V : Type 0} where
   abbrev pub packed : List (Slot V) → List (Slot V)

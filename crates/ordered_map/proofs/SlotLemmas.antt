@@ -1,5 +1,5 @@
 -- The items of slots, and how many there are.
-use Rattle.std.proofs.Common.{◌≡◌, ◌≤◌, ◌<◌, ◌+◌, ◌-◌, ℕ, zero, suc, Bool, true, false, List, [], ◌∷◌, ◌++◌, length, map, set, get_or, slice_get, is_some, option_map, Option, Some, None, String, refl, sym, ap, ◌∙◌, arith, add-one, one-add, zero-add}
+use Rattle.std.proofs.Common.{◌≡◌, ◌≤◌, ◌<◌, ◌+◌, ◌-◌, ℕ, zero, suc, true, false, List, [], ◌∷◌, ◌++◌, length, map, set, get_or, slice_get, is_some, option_map, Option, Some, None, String, refl, sym, ap, ◌∙◌, arith, add-one, one-add, zero-add}
 use Rattle.std.proofs.lemmas.List.{append-nil, length_push}
 use Rattle.std.proofs.lemmas.Option.{slice_get-map, slice_get_read}
 use Rattle.std.specs.declared.alloc.Global.{Global}

@@ -1,5 +1,5 @@
 -- What only proofs and private contracts use of `Progress`.
-use Rattle.std.specs.Prelude.{ℕ, ◌≡◌, ◌+◌, ◌≤◌, ◌<◌, not, if◌then◌else◌, List, [], ◌∷◌, ◌++◌, length, take, Result, Ok, Err}
+use Rattle.std.specs.Prelude.{ℕ, ◌≡◌, ◌+◌, ◌<◌, List, ◌++◌, length, take, Result, Ok, Err}
 use Rattle.lsp_frame.specs.Header.{Line, AreLines, header_of, BeginsHeader}
 use Rattle.lsp_frame.specs.declared.fault.HeaderFault.{HeaderFault}
 use Rattle.lsp_frame.specs.declared.fault.HeaderFault.TheVariants.{MissingLength, RepeatedHeader, BadLength, BodyTooLong, BadCharset, BadHeader}

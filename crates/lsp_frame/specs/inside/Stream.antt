@@ -1,5 +1,5 @@
 -- What only proofs and private contracts use of `Stream`.
-use Rattle.std.specs.Prelude.{ℕ, ◌≡◌, ◌≤◌, ◌<◌, ◌⊎◌, List, [], ◌∷◌, ◌++◌, length, ◌-◌}
+use Rattle.std.specs.Prelude.{ℕ, ◌≡◌, List, length, ◌-◌}
 use Rattle.std.specs.Prelude.{false}
 use Rattle.lsp_frame.specs.Frame.{IsHopeless}
 use Rattle.lsp_frame.specs.Faults.{IsDecided, place_after}

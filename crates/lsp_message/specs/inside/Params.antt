@@ -1,7 +1,6 @@
 -- What only proofs and private contracts use of `Params`.
-use Rattle.std.specs.Prelude.{ℕ, ◌^◌, ℤ, [], ◌∷◌, ◌||◌, if◌then◌else◌, ◌<◌, IsSomeAnd}
+use Rattle.std.specs.Prelude.{IsSomeAnd}
 use Rattle.serde_json.specs.Data.{Items, Members}
-use Rattle.lsp_message.specs.Values.{◌>>=◌}
 use Rattle.lsp_message.specs.Params.{change_by, HasChanges}
 
 -- Reading these members and items takes memory.

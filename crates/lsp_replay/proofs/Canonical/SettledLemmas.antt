@@ -1,5 +1,5 @@
 -- The canonical message of a change that is accepted asks for its canonical batch, which does the same.
-use Rattle.std.proofs.Common.{◌≡◌, ℕ, ℤ, ◌≤◌, List, [], ◌∷◌, map, length, Option, Some, None, refl, sym, ap, ◌∙◌, subst, arith}
+use Rattle.std.proofs.Common.{◌≡◌, ℕ, ℤ, ◌≤◌, List, map, length, Option, Some, None, refl, sym, ap, ◌∙◌, subst, arith}
 use Rattle.std.specs.Prelude.{Ok}
 use Rattle.std.specs.Str.{chars}
 use Rattle.std.proofs.lemmas.Str.{scalars-chars}

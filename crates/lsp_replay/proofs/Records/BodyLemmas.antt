@@ -1,7 +1,5 @@
 -- A record that is read once is judged, appended and joined as one that is judged from its bytes.
-use Rattle.std.proofs.Common.{◌≡◌, ◌≢◌, ℕ, List, map, string_bytes, Option, Some, None, refl, sym, ap, ◌∙◌, subst, IfOk}
-use Rattle.std.specs.Prelude.{Result, Ok, Err}
-use Rattle.std.specs.declared.alloc.AllocError.{AllocError}
+use Rattle.std.proofs.Common.{◌≡◌, ℕ, List, Option, Some, None, refl, sym, ap, ◌∙◌, subst}
 use Rattle.lsp_edit.specs.Edited as given
 use Rattle.lsp_log.specs.declared.record.Version.{Version}
 use Rattle.lsp_log.specs.declared.record.Head.{Head}
@@ -9,25 +7,18 @@ use Rattle.lsp_log.specs.declared.record.Side.{Side}
 use Rattle.lsp_log.specs.declared.record.Side.TheVariants.{Client, Server}
 use Rattle.lsp_message.specs.Message.{reading}
 use Rattle.lsp_message.specs.Params.{ChangeData}
-use Rattle.lsp_message.specs.Seen.{change_view}
-use Rattle.lsp_message.specs.declared.params.ChangeParams.{ChangeParams}
 use Rattle.lsp_server.specs.Incoming.{incoming_of, did_change}
-use Rattle.lsp_server.specs.Step.{session_encoding}
-use Rattle.lsp_server.specs.declared.phase.Phase.TheVariants.{Running}
 use Rattle.lsp_store.specs.Squash.{SquashData}
-use Rattle.lsp_store.specs.Table.{Refusal, change_refusal}
-use Rattle.lsp_text.specs.Units.{units_in}
 use Rattle.lsp_replay.specs.declared.session.joining.Writing.{Writing}
 use Rattle.lsp_replay.specs.declared.session.joining.Writing.TheVariants.{AsItIs, TooLong, Continues, Begins}
 use Rattle.lsp_replay.specs.declared.session.writing.Appended.{Appended}
-use Rattle.lsp_replay.specs.Commands.{canonical_change_body, canonical_if, canonical_of_record, change_in}
-use Rattle.lsp_replay.specs.Session.{Session, Verdict, encoding_for, judge_from, judge_client}
-use Rattle.lsp_replay.specs.inside.Bodies.{BodyData, from_client, from_server, IsReceived, body_read, canonical_read, change_of, judge_read}
-use Rattle.lsp_replay.specs.inside.Joining.{IsChangeWriting, IsOpenAfter, IsWriting, refusal_of}
+use Rattle.lsp_replay.specs.Commands.{canonical_if, canonical_of_record, change_in}
+use Rattle.lsp_replay.specs.Session.{Session, encoding_for, judge_from}
+use Rattle.lsp_replay.specs.inside.Bodies.{BodyData, from_client, from_server, body_read, canonical_read, change_of, judge_read}
+use Rattle.lsp_replay.specs.inside.Joining.{IsWriting}
 use Rattle.lsp_replay.specs.inside.Session.{judge_at}
 use Rattle.lsp_replay.specs.inside.Verdicts.{IsAppended}
-use Rattle.lsp_replay.proofs.Canonical.CanonicalLogLemmas.{edits_of, heard_has_none}
-use Rattle.lsp_replay.proofs.Squash.JoiningLemmas.{change_open, change_writing, running_accepted, running_refused}
+use Rattle.lsp_replay.proofs.Canonical.CanonicalLogLemmas.{heard_has_none}
 use Rattle.lsp_replay.proofs.Records.JudgeLemmas.{asks_change}
 
 -- ---- a record is judged as its bytes are

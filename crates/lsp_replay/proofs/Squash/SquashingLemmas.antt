@@ -1,5 +1,5 @@
 -- What a record gives with squash, by what is known of how it is written.
-use Rattle.std.proofs.Common.{◌≡◌, ◌≢◌, ℕ, ◌<◌, Bool, true, false, List, [], ◌∷◌, ◌++◌, length, Option, Some, None, refl, sym, ap, ◌∙◌, append_assoc, subst, nat_lt, le-ltb, lt-ltb}
+use Rattle.std.proofs.Common.{◌≡◌, ◌≢◌, ℕ, ◌<◌, Bool, true, false, List, [], ◌++◌, length, Option, Some, None, refl, sym, ap, ◌∙◌, append_assoc, subst, nat_lt, le-ltb, lt-ltb}
 use Rattle.std.specs.Prelude.{if◌then◌else◌}
 use Rattle.lsp_frame.specs.Frame.{frame}
 use Rattle.lsp_message.specs.Params.{ChangeData}
@@ -10,11 +10,9 @@ use Rattle.lsp_log.specs.Log.{Record}
 use Rattle.lsp_stream.specs.declared.fault.EngineFault.TheVariants.{BadLog, BodyTooLong}
 use Rattle.lsp_message.specs.Message.{reading}
 use Rattle.lsp_server.specs.Incoming.{incoming_of}
-use Rattle.lsp_replay.specs.RunOutput.{written_first}
-use Rattle.lsp_replay.specs.inside.RunOutput.{after}
-use Rattle.lsp_replay.specs.Commands.{change_in, front_of, continue_with, canonical_if, canonical_change_body}
+use Rattle.lsp_replay.specs.Commands.{change_in, front_of, canonical_if, canonical_change_body}
 use Rattle.lsp_replay.specs.Session.{Session, Verdict, answered, recorded, bad, judge}
-use Rattle.lsp_replay.specs.inside.Squashed.{OpenSeries, Step, begun, change_output, end_bytes, faulty, longer, other_step, open_bytes, series_of, squash_step, squashed_in, step_if}
+use Rattle.lsp_replay.specs.inside.Squashed.{OpenSeries, begun, change_output, end_bytes, faulty, longer, other_step, open_bytes, series_of, squash_step, step_if}
 use Rattle.lsp_replay.specs.inside.Joining.{IsChange, IsLonger, IsOther, IsBegun}
 
 -- any record but an accepted change

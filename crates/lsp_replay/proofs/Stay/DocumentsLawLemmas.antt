@@ -1,5 +1,5 @@
 -- What `normalise` writes of the records that stay: a log of which `replay` reports the same.
-use Rattle.std.proofs.Common.{◌≡◌, ℕ, Bool, true, false, ◌||◌, List, [], ◌∷◌, ◌++◌, length, Option, Some, None, refl, sym, ap, ◌∙◌, subst, ⊎_elim}
+use Rattle.std.proofs.Common.{◌≡◌, ℕ, Bool, true, false, ◌||◌, List, [], ◌∷◌, ◌++◌, length, Option, None, refl, sym, ap, ◌∙◌, subst, ⊎_elim}
 use Rattle.std.specs.Prelude.{Result, Ok, Err, IfOk}
 use Rattle.std.specs.Io.KnownBytes.{Consumes}
 use Rattle.lsp_frame.specs.Limits.{AreInRange}
@@ -22,7 +22,7 @@ use Rattle.lsp_replay.specs.Session.{Session, opened}
 use Rattle.lsp_replay.specs.Squashed.{normalised_if, squashed}
 use Rattle.lsp_replay.specs.inside.Squashed.{squashed_steps}
 use Rattle.lsp_replay.specs.inside.Documents.{each_documents_engine, each_of_kept, squashed_documents_engine, squashed_of_kept}
-use Rattle.lsp_replay.proofs.Stay.KeptLogLemmas.{IsReportedAs, are_kept, each_located, kept_due, kept_stop, left_due, located_all, located_due, reported, squash_located}
+use Rattle.lsp_replay.proofs.Stay.KeptLogLemmas.{IsReportedAs, are_kept, each_located, kept_due, kept_stop, located_all, located_due, reported, squash_located}
 use Rattle.lsp_replay.proofs.Canonical.NormalisedLemmas.{canonical_log_law, version_is}
 use Rattle.lsp_replay.proofs.Records.NumberedLemmas.{alike_self}
 use Rattle.lsp_replay.proofs.Squash.SquashedLemmas.{stops_alike}

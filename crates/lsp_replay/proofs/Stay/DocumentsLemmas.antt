@@ -1,6 +1,6 @@
 -- What `normalise` writes of the records that stay, a record at a time, and over all records.
-use Rattle.std.proofs.Common.{◌≡◌, ◌≢◌, ◌⊎◌, inl, inr, ℕ, Bool, true, false, ◌||◌, List, [], ◌∷◌, ◌++◌, Option, Some, None, refl, sym, ap, ◌∙◌, subst}
-use Rattle.std.specs.Prelude.{not, if◌then◌else◌, Result, Ok, Err}
+use Rattle.std.proofs.Common.{◌≡◌, ◌≢◌, ◌⊎◌, inl, inr, ℕ, Bool, true, false, List, [], ◌∷◌, ◌++◌, Option, Some, None, refl, sym, ap, ◌∙◌, subst}
+use Rattle.std.specs.Prelude.{if◌then◌else◌, Result, Err}
 use Rattle.lsp_replay.specs.declared.outcome.Outcome.{Outcome}
 use Rattle.lsp_stream.specs.declared.fault.EngineFault.{EngineFault}
 use Rattle.lsp_stream.specs.declared.fault.EngineFault.TheVariants.{BadLog, NoMemory}
@@ -16,7 +16,7 @@ use Rattle.lsp_replay.specs.Documents.{Kept, Selection, after_kept, after_left_o
 use Rattle.lsp_replay.specs.Commands.{RecordOutput, canonical_of_record, continue_with, ends, front_of, normalising, unless_bad, writes, written}
 use Rattle.lsp_replay.specs.Run.{IsEngineRun}
 use Rattle.lsp_replay.specs.RunOutput.{RunOutput, stopped, written_first}
-use Rattle.lsp_replay.specs.Session.{Session, Verdict, answered, bad, judge, recorded}
+use Rattle.lsp_replay.specs.Session.{Session, Verdict, bad, judge}
 use Rattle.lsp_replay.specs.inside.Bodies.{BodyData, body_read}
 use Rattle.lsp_replay.specs.inside.Documents.{each_of_kept, squashed_of_kept}
 use Rattle.lsp_replay.specs.inside.Engine.{IsLoopRun}

@@ -1,12 +1,10 @@
 -- The records that stay, as a log of their own.
 use Rattle.std.proofs.Common.{◌≡◌, ◌≢◌, ℕ, ◌+◌, Bool, true, false, ◌||◌, List, [], ◌∷◌, ◌++◌, length, Option, Some, None, refl, sym, ap, ◌∙◌, subst, nat_lt, ⊎_elim}
 use Rattle.std.specs.Prelude.{if◌then◌else◌, Result, Err}
-use Rattle.std.proofs.lemmas.Bool.{cases_Bool}
 use Rattle.lsp_frame.specs.Faults.{place_after}
 use Rattle.lsp_frame.specs.Frame.{frame}
 use Rattle.lsp_message.specs.Message.{reading}
 use Rattle.lsp_message.specs.Params.{ChangeData}
-use Rattle.lsp_server.specs.Answer.{AnswerData, Sent}
 use Rattle.lsp_server.specs.Incoming.{incoming_of}
 use Rattle.lsp_server.specs.Step.{ServerData}
 use Rattle.lsp_stream.specs.declared.fault.EngineFault.{EngineFault}
@@ -23,7 +21,7 @@ use Rattle.lsp_replay.specs.RunOutput.{RunOutput}
 use Rattle.lsp_replay.specs.Session.{Session, Verdict, answered, bad, judge, recorded}
 use Rattle.lsp_replay.specs.inside.Squashed.{OpenSeries, Step, squash_step, squashed_in}
 use Rattle.lsp_replay.proofs.Records.ChangeLemmas.{IsChangeKind, IsOtherKind, kind_of}
-use Rattle.lsp_replay.proofs.Stay.LeftOutLemmas.{IsHarmless, harmless, stays_alike}
+use Rattle.lsp_replay.proofs.Stay.LeftOutLemmas.{harmless, stays_alike}
 use Rattle.lsp_replay.proofs.Canonical.NormalisedLemmas.{went_on}
 use Rattle.lsp_replay.proofs.Records.NumberedLemmas.{IsAlike, alike_both, judged_alike}
 use Rattle.lsp_replay.proofs.Squash.SquashedLemmas.{stop_on}

@@ -1,6 +1,6 @@
 -- A record that is left out changes nothing of a session but its counts.
 use Rattle.std.proofs.Common.{◌≡◌, ◌≢◌, ℕ, Bool, true, false, ◌&&◌, ◌||◌, List, Option, Some, None, is_some, refl, sym, ap, ◌∙◌, subst}
-use Rattle.std.specs.Prelude.{not, if◌then◌else◌, option_map}
+use Rattle.std.specs.Prelude.{if◌then◌else◌, option_map}
 use Rattle.serde_json.specs.Data.{Data}
 use Rattle.lsp_message.specs.Message.{IdData, Reading, reading}
 use Rattle.lsp_message.specs.Message as read
@@ -9,7 +9,7 @@ use Rattle.lsp_message.specs.Params.{ChangeData}
 use Rattle.lsp_message.specs.declared.outgoing.ErrorCode.TheVariants.{MethodNotFound}
 use Rattle.lsp_server.specs.declared.phase.Phase.{Phase}
 use Rattle.lsp_server.specs.declared.phase.Phase.TheVariants.{New, Running, Down, Ended}
-use Rattle.lsp_server.specs.Answer.{AnswerData, Sent, reply, dropped, ignored, as_sent}
+use Rattle.lsp_server.specs.Answer.{AnswerData, reply, dropped, ignored, as_sent}
 use Rattle.lsp_server.specs.Incoming.{IncomingData, not_json, not_a_message, response, initialize, shutdown, other_request, exit, did_open, did_change, did_close, other_notification, incoming_of}
 use Rattle.lsp_server.specs.Step.{ServerData, Step, stays, step_in, step_on}
 use Rattle.lsp_stream.specs.Ports.{one_more}
@@ -18,9 +18,9 @@ use Rattle.lsp_log.specs.declared.record.Version.TheVariants.{One, Two}
 use Rattle.lsp_log.specs.declared.record.Side.{Side}
 use Rattle.lsp_log.specs.declared.record.Side.TheVariants.{Client, Server}
 use Rattle.lsp_log.specs.Log.{Record}
-use Rattle.lsp_replay.specs.Documents.{is_answer_to, is_kept_method, message_stays, record_stays}
+use Rattle.lsp_replay.specs.Documents.{is_answer_to, message_stays, record_stays}
 use Rattle.lsp_replay.specs.Commands.{canonical_if, change_in}
-use Rattle.lsp_replay.specs.Session.{Session, Verdict, answered, recorded, bad, Judged, judged, judge, judge_from, judge_client, handled, judge_server, encoding_for, encoding_in, counted, count_if, result_for, is_change, is_early, is_ended, is_new, is_refused, is_running, expected_of, expected_after}
+use Rattle.lsp_replay.specs.Session.{Session, answered, recorded, bad, Judged, judged, judge, judge_from, judge_client, handled, judge_server, encoding_for, encoding_in, counted, count_if, result_for, is_change, is_early, is_ended, is_new, is_refused, is_running, expected_of}
 use Rattle.lsp_replay.proofs.Records.NumberedLemmas.{IsAlike}
 
 -- What becomes of a record that is left out.

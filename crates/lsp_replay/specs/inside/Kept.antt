@@ -4,7 +4,7 @@ use Rattle.std.specs.Str.{bytes_eq}
 use Rattle.lsp_message.specs.Params.{DocumentItem}
 use Rattle.lsp_server.specs.Incoming.{IncomingData, did_close}
 use Rattle.lsp_store.specs.Table.{entry_at}
-use Rattle.lsp_replay.specs.inside.Bodies.{BodyData, from_client, from_server}
+use Rattle.lsp_replay.specs.inside.Bodies.{BodyData, from_client}
 
 -- The text of the document with this URI, if it is open.
 abbrev pub text_at : List DocumentItem → List ℕ → Option (List ℕ)

@@ -1,5 +1,5 @@
 -- What only proofs and private contracts use of `Run`.
-use Rattle.std.specs.Prelude.{ℕ, ◌≡◌, ◌≢◌, ◌&&◌, false}
+use Rattle.std.specs.Prelude.{false}
 use Rattle.lsp_replay.specs.declared.commands.Settings.{Settings}
 use Rattle.lsp_replay.specs.Commands.{as_log, canonical_log}
 use Rattle.lsp_replay.specs.Squashed.{squashed}

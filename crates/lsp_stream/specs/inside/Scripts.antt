@@ -1,5 +1,5 @@
 -- What only proofs and private contracts use of `Scripts`.
-use Rattle.std.specs.Prelude.{ℕ, ◌≡◌, ◌≢◌, ◌+◌, ◌-◌, ◌^◌, [], ◌∷◌}
+use Rattle.std.specs.Prelude.{◌≡◌, ◌≢◌}
 use Rattle.std.specs.declared.io.Error.{Error}
 use Rattle.std.specs.declared.io.ErrorKind.TheVariants.{Interrupted}
 use Rattle.std.specs.IoError.{error_kind}

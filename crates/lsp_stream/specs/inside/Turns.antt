@@ -1,5 +1,5 @@
 -- What only proofs and private contracts use of `Turns`.
-use Rattle.std.specs.Prelude.{◌≡◌, ◌≢◌, ◌⊎◌, Bool, true, ℕ, ◌+◌, ◌<◌, ◌≤◌, ◌^◌, ◌++◌, Result, IfErr, OnOk}
+use Rattle.std.specs.Prelude.{◌≡◌, ◌≢◌, Bool, true, Result, IfErr, OnOk}
 use Rattle.lsp_stream.specs.declared.fault.EngineFault.{EngineFault}
 use Rattle.lsp_stream.specs.declared.fault.EngineFault.TheVariants.{Write, TooManyTurns}
 use Rattle.lsp_stream.specs.Ports.{WriterState}

@@ -1,5 +1,5 @@
 -- What only proofs and private contracts use of `GapData`.
-use Rattle.std.specs.Prelude.{ℕ, ◌≡◌, ◌-◌, ◌<◌, ◌≤◌, ◌==◌, ◌||◌, true, List, ◌++◌, length, take, drop, slice_index}
+use Rattle.std.specs.Prelude.{ℕ, ◌≡◌, ◌-◌, ◌<◌, ◌≤◌, ◌==◌, ◌||◌, true, List, length, take, drop, slice_index}
 use Rattle.lsp_text.specs.TextLines.{line_feed, carriage_return}
 use Rattle.lsp_text.specs.Gapped.{GapData, without_gap}
 

@@ -1,5 +1,5 @@
 -- What only proofs and private contracts use of `Splice`.
-use Rattle.std.specs.Prelude.{ℕ, ◌≡◌, ◌+◌, ◌≤◌, List}
+use Rattle.std.specs.Prelude.{ℕ, ◌≡◌, List}
 use Rattle.lsp_text.specs.LineStarts.{line_starts}
 use Rattle.lsp_text.specs.Splice.{IsReplaced}
 

@@ -1,4 +1,4 @@
-use Rattle.std.proofs.Common.{rules, List, ℕ, ℤ, ◌≡◌, ◌++◌, ◌∙◌, codes, OnOk, subst, w32, to_z, of_z}
+use Rattle.std.proofs.Common.{rules, ℤ, ◌≡◌, ◌++◌, ◌∙◌, codes, OnOk, subst, w32, to_z, of_z}
 use Rattle.std.proofs.lemmas.Int.{to_z-of_z}
 use Rattle.std.specs.Fmt.{signed_decimal}
 use Rattle.std.specs.Io.KnownBytes.{Appends}

@@ -1,6 +1,5 @@
 use Rattle.std.proofs.Common.{◌≡◌, ◌<◌, ◌+◌, ◌*◌, ◌∙◌, arith, length, slice_index, sym}
 use Rattle.ordered_map.specs.inside.Slots.{here, keys_in, live_to, slot_key}
-use Rattle.ordered_map.proofs.CountLemmas.{block_within}
 use Rattle.ordered_map.proofs.SlotLemmas.{here_none, here_some, key_read, length_keys, live_below, live_next, live_none}
 use Rattle.ordered_map.proofs.counts.live_before.Goals.{then-is_live, else-is_live}
 use Rattle.ordered_map.proofs.counts.live_before.Goals as goal

@@ -1,4 +1,4 @@
-use Rattle.std.proofs.Common.{◌≡◌, ◌<◌, ◌+◌, ◌*◌, ◌∙◌, arith, length, sym}
+use Rattle.std.proofs.Common.{◌≡◌, ◌+◌, ◌*◌, ◌∙◌, arith, sym}
 use Rattle.ordered_map.specs.inside.Slots.{here, keys_in, live_to, slot_key}
 use Rattle.ordered_map.proofs.SlotLemmas.{here_none, here_some, key_read, length_keys, live_next, live_past, live_read}
 use Rattle.ordered_map.proofs.counts.live_from.Goals.{then-is_live+else-left-eq0, else-is_live}

@@ -1,4 +1,4 @@
-use Rattle.std.proofs.Common.{◌≡◌, subst, refl, false}
+use Rattle.std.proofs.Common.{subst, refl, false}
 use Rattle.lsp_stream.specs.Ports.{ports}
 use Rattle.lsp_replay.specs.Engine.{WroteRecords}
 use Rattle.lsp_replay.specs.inside.Engine.{IsLoopRun}

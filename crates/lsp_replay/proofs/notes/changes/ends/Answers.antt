@@ -1,4 +1,3 @@
-use Rattle.std.proofs.Common.{sym}
 use Rattle.std.specs.Str.{chars}
 use Rattle.lsp_text.specs.Units.{units_in}
 use Rattle.lsp_edit.specs.declared.fault.EditFault.TheVariants.{ReversedRange}

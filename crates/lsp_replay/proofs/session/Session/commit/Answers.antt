@@ -2,7 +2,6 @@ use Rattle.std.proofs.Common.{ap, ◌∙◌}
 use Rattle.lsp_server.specs.declared.answer.Answer.{Answer}
 use Rattle.lsp_replay.specs.declared.session.Verdict.TheVariants.{Answered}
 use Rattle.lsp_replay.specs.inside.Verdicts.{verdict_view}
-use Rattle.lsp_replay.specs.contracts.session.Session.{the_view}
 use Rattle.lsp_replay.proofs.Records.TakenLemmas.{committed}
 use Rattle.lsp_replay.proofs.session.Session.commit.Goals as goal
 

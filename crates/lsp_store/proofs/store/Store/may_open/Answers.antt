@@ -1,4 +1,4 @@
-use Rattle.std.proofs.Common.{◌≡◌, ◌∙◌, ℕ, sym, ap, arith}
+use Rattle.std.proofs.Common.{◌≡◌, ◌∙◌, sym, ap, arith}
 use Rattle.lsp_frame.specs.Limits.{LimitsData}
 use Rattle.lsp_message.specs.Params.{DocumentItem}
 use Rattle.lsp_store.proofs.Tables.StoreLemmas.{taken_refused, many_refused, long_refused, open_accepted, limits_are}

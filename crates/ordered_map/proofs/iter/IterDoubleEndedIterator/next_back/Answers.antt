@@ -1,5 +1,5 @@
 use Rattle.std.proofs.Common.{◌∙◌, ap, length, rules, sym}
-use Rattle.ordered_map.proofs.SlotLemmas.{HasLast, last_live, last_vacant}
+use Rattle.ordered_map.proofs.SlotLemmas.{last_live, last_vacant}
 use Rattle.ordered_map.proofs.iter.IterDoubleEndedIterator.next_back.Goals as goal
 
 pub overflow_sub-self : goal.overflow_sub-self

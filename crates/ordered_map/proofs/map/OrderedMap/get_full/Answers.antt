@@ -1,4 +1,4 @@
-use Rattle.std.proofs.Common.{◌≡◌, ◌∙◌, None, Some, ap, arith, slice_get, sym}
+use Rattle.std.proofs.Common.{◌∙◌, Some, ap, arith, slice_get, sym}
 use Rattle.std.proofs.lemmas.Option.{get_or_from_slice_get, none-some, some_pair_parts}
 use Rattle.std.specs.HashMap.{get_by_text}
 use Rattle.ordered_map.specs.Entries.{is_key, slot_entry}

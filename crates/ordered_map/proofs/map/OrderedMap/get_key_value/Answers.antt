@@ -1,5 +1,4 @@
 use Rattle.std.proofs.Common.{◌∙◌, ap, arith, sym}
-use Rattle.std.proofs.lemmas.List.{get_or_read}
 use Rattle.std.proofs.lemmas.Option.{get_or_from_slice_get}
 use Rattle.std.specs.HashMap.{get_by_text}
 use Rattle.ordered_map.specs.Entries.{slot_entry}

@@ -1,4 +1,4 @@
-use Rattle.std.proofs.Common.{◌≡◌, ◌∙◌, ◌++◌, ◌-◌, ℕ, List, [], ◌∷◌, Some, String, Global, ap, arith, bytes_eq, length, set, string_bytes, subst, sym}
+use Rattle.std.proofs.Common.{◌≡◌, ◌∙◌, ◌++◌, ◌-◌, ℕ, List, [], ◌∷◌, String, Global, ap, arith, bytes_eq, length, set, string_bytes, subst, sym}
 use Rattle.std.proofs.lemmas.List.{length-append, with_items_is}
 use Rattle.std.specs.HashMap.{get_by_text}
 use Rattle.std.specs.Map.{lookup, remove_entry}

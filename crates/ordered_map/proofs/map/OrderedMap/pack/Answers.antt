@@ -3,7 +3,6 @@ use Rattle.std.proofs.lemmas.Fn.{filter_same}
 use Rattle.std.proofs.lemmas.List.{with_items_is}
 use Rattle.std.specs.HashMap.{get_by_text}
 use Rattle.std.specs.Vec.{with_items}
-use Rattle.ordered_map.specs.Entries.{Entries}
 use Rattle.ordered_map.specs.inside.Slots.{IsOrderedMap, entries_in, keys_in, slot_key}
 use Rattle.ordered_map.proofs.PackLemmas.{packed, packed_entries, packed_has_slot, packed_unlike}
 use Rattle.ordered_map.proofs.KeySlotLemmas.{are_unlike}

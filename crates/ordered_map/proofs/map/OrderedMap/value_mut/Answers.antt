@@ -4,7 +4,7 @@ use Rattle.std.specs.HashMap.{get_by_text}
 use Rattle.ordered_map.specs.Entries.{slot_entry}
 use Rattle.ordered_map.specs.declared.slot.Slot.{Slot}
 use Rattle.ordered_map.specs.declared.slot.Slot.TheVariants.{Live}
-use Rattle.ordered_map.specs.inside.Slots.{IsOrderedMap, entries_in, slot_key}
+use Rattle.ordered_map.specs.inside.Slots.{IsOrderedMap, entries_in}
 use Rattle.ordered_map.proofs.MapLemmas.{indexed, keys_kept, view_written}
 use Rattle.ordered_map.proofs.SlotLemmas.{count_keys}
 use Rattle.ordered_map.proofs.map.OrderedMap.value_mut.Goals as goal

@@ -1,8 +1,8 @@
-use Rattle.std.proofs.Common.{◌≡◌, sym, ◌∙◌, option_map, string_bytes}
+use Rattle.std.proofs.Common.{sym, ◌∙◌, option_map, string_bytes}
 use Rattle.lsp_replay.specs.Parts.{part_of}
 use Rattle.lsp_replay.specs.inside.Parts.{last_of}
 use Rattle.lsp_replay.specs.inside.Verdicts.{verdict_view}
-use Rattle.lsp_replay.proofs.Reports.PartLemmas.{part_continues, part_ends}
+use Rattle.lsp_replay.proofs.Reports.PartLemmas.{part_ends}
 use Rattle.lsp_replay.proofs.handler.partial.ReplayPartHandler.handle.Goals as goal
 
 pub returns-clause-ok : goal.returns-clause-ok
