@@ -12,12 +12,12 @@ loop-index-preserved g c =
     let keys = keys_in c.args.slots.now in
     let old = get_by_text c.args.slot_of_key.now in
     let slot_of_key = get_by_text c.loop-index.slot_of_key in
-    let read = key_read c.args.slots.now c.loop-index.index c.loop-index-item.result c.loop-index-test.true
-    c.loop-index-item.is in
+    let read = key_read c.args.slots.now c.loop-index.index c.index-slots-index.result c.loop-index-test.true
+    c.index-slots-index.is in
     elim c.match-entry.branch [
       | in-Some w ↦
           let here : slice_get keys c.loop-index.index ≡ Some (Some w.in-Some.key.now) =
-          read ∙ ap (λ key. Some key) (key_of_slot c.loop-index-item.result w.in-Some.key.now w.in-Some.field-0-1.now
+          read ∙ ap (λ key. Some key) (key_of_slot c.index-slots-index.result w.in-Some.key.now w.in-Some.field-0-1.now
           w.in-Some.ensures) in
           rw w.slot_of_key-is
           (numbered_live keys old slot_of_key (get_by_text w.set_slot.new.slot_of_key) c.loop-index.index c.loop-index.invariant
@@ -26,7 +26,7 @@ loop-index-preserved g c =
       | in_default w ↦
           rw w.slot_of_key-is
           (numbered_vacant keys old slot_of_key slot_of_key c.loop-index.index c.loop-index.invariant
-          (read ∙ ap (λ key. Some key) (no_key_of_slot c.loop-index-item.result w.in_default.ensures)))
+          (read ∙ ap (λ key. Some key) (no_key_of_slot c.index-slots-index.result w.in_default.ensures)))
     ]
 
 pub returns-clause-found : goal.returns-clause-found
