@@ -156,10 +156,8 @@ impl TextBuffer {
         let index = block_at(&self.lines, heads, position);
         let block = &self.blocks[index];
         let inner = position_after(self.lines[index], heads[index], position);
-        match block.resolve(encoding, inner) {
-            Ok(offset) => Ok(self.starts[index] as usize + offset),
-            Err(fault) => Err(fault),
-        }
+        let offset = block.resolve(encoding, inner)?;
+        Ok(self.starts[index] as usize + offset)
     }
 
     /// Returns the exact position of a byte offset (LSP 3.17, Position). Costs a binary search over

@@ -3,6 +3,7 @@ use Rattle.std.proofs.lemmas.Grind.{common_steps}
 use Rattle.std.specs.List.{concat}
 use Rattle.std.specs.Str.{chars}
 use Rattle.std.proofs.lemmas.List.{get_or_default}
+use Rattle.std.proofs.lemmas.Result.{err_from_is_err_and}
 use Rattle.lsp_text.specs.declared.position.Position.{Position}
 use Rattle.lsp_text.specs.Positions.{denoted}
 use Rattle.lsp_text.specs.Text.{place_of}
@@ -90,8 +91,8 @@ position_after-inner-requires c =
           c.self.invariant.sums,
     )))).low
 
-pub index-requires-in-Ok : goal.index-requires-in-Ok
-index-requires-in-Ok c = omega (
+pub index-requires-2 : goal.index-requires-2
+index-requires-2 c = omega (
   arith,
   (shown_within c.self.inside.blocks.items c.self.inside.starts.items c.self.inside.lines.items
       (row_of c.self.inside.heads) c.args.self.now c.self.invariant c.self.view_is c.args.encoding
@@ -101,75 +102,75 @@ index-requires-in-Ok c = omega (
   c.self.inside.starts.ok.0,
 )
 
-pub returns-in-Ok-clause-value : goal.returns-in-Ok-clause-value
-returns-in-Ok-clause-value c =
+pub returns-clause-value : goal.returns-clause-value
+returns-clause-value c =
     resolved_found c.args.self.now (concat (take c.block_at-index.result c.self.inside.blocks.items))
     c.index-block.result.now (concat (drop (c.block_at-index.result + 1) c.self.inside.blocks.items)) c.args.encoding
     c.args.position c.index.result.now (slice_index c.of-heads.result.now c.block_at-index.result)
-    c.index-in-Ok.result.now (Some c.in-Ok.offset)
+    c.index-2.result.now (Some c.in_ok-offset.offset)
     (found_shown c.self.inside.blocks.items c.self.inside.starts.items c.self.inside.lines.items
     (row_of c.self.inside.heads) c.args.self.now c.self.invariant c.self.view_is c.args.encoding c.block_at-index.result
-    c.index-block.result.now c.args.position c.index.result.now c.index-in-Ok.result.now c.deref.result.now
+    c.index-block.result.now c.args.position c.index.result.now c.index-2.result.now c.deref.result.now
     c.of-heads.result.now
     c.index-block.ensures c.deref.ensures.value c.of-heads.ensures (omega arith) c.block_at-index.ensures
-    c.index.ensures c.index-in-Ok.ensures)
-    (c.in-Ok.ensures ∙ ap (λ (q : Position). option_map (place_of (chars c.index-block.result.now))
+    c.index.ensures c.index-2.ensures)
+    (c.in_ok-offset.ensures ∙ ap (λ (q : Position). option_map (place_of (chars c.index-block.result.now))
     (denoted (units_in c.args.encoding) (chars c.index-block.result.now) q)) c.position_after-inner.ensures)
 
-pub returns-in-Ok-clause-place : goal.returns-in-Ok-clause-place
-returns-in-Ok-clause-place c =
+pub returns-clause-place : goal.returns-clause-place
+returns-clause-place c =
     denoted_place (units_in c.args.encoding) (chars c.args.self.now) c.args.position
-    (c.index-in-Ok.result.now + c.in-Ok.offset)
+    (c.index-2.result.now + c.in_ok-offset.offset)
     (resolved_found c.args.self.now (concat (take c.block_at-index.result c.self.inside.blocks.items))
     c.index-block.result.now (concat (drop (c.block_at-index.result + 1) c.self.inside.blocks.items)) c.args.encoding
     c.args.position c.index.result.now (slice_index c.of-heads.result.now c.block_at-index.result)
-    c.index-in-Ok.result.now (Some c.in-Ok.offset)
+    c.index-2.result.now (Some c.in_ok-offset.offset)
     (found_shown c.self.inside.blocks.items c.self.inside.starts.items c.self.inside.lines.items
     (row_of c.self.inside.heads) c.args.self.now c.self.invariant c.self.view_is c.args.encoding c.block_at-index.result
-    c.index-block.result.now c.args.position c.index.result.now c.index-in-Ok.result.now c.deref.result.now
+    c.index-block.result.now c.args.position c.index.result.now c.index-2.result.now c.deref.result.now
     c.of-heads.result.now
     c.index-block.ensures c.deref.ensures.value c.of-heads.ensures (omega arith) c.block_at-index.ensures
-    c.index.ensures c.index-in-Ok.ensures)
-    (c.in-Ok.ensures ∙ ap (λ (q : Position). option_map (place_of (chars c.index-block.result.now))
+    c.index.ensures c.index-2.ensures)
+    (c.in_ok-offset.ensures ∙ ap (λ (q : Position). option_map (place_of (chars c.index-block.result.now))
     (denoted (units_in c.args.encoding) (chars c.index-block.result.now) q)) c.position_after-inner.ensures))
 
-pub returns-in-Ok-clause-boundary : goal.returns-in-Ok-clause-boundary
-returns-in-Ok-clause-boundary c =
+pub returns-clause-boundary : goal.returns-clause-boundary
+returns-clause-boundary c =
     denoted_boundary (units_in c.args.encoding) c.args.self.now c.args.position
-    (c.index-in-Ok.result.now + c.in-Ok.offset)
+    (c.index-2.result.now + c.in_ok-offset.offset)
     (bytes_utf8 c.self.inside.blocks.items c.self.inside.starts.items c.self.inside.lines.items c.args.self.now
     c.self.invariant.sums c.self.view_is)
     (resolved_found c.args.self.now (concat (take c.block_at-index.result c.self.inside.blocks.items))
     c.index-block.result.now (concat (drop (c.block_at-index.result + 1) c.self.inside.blocks.items)) c.args.encoding
     c.args.position c.index.result.now (slice_index c.of-heads.result.now c.block_at-index.result)
-    c.index-in-Ok.result.now (Some c.in-Ok.offset)
+    c.index-2.result.now (Some c.in_ok-offset.offset)
     (found_shown c.self.inside.blocks.items c.self.inside.starts.items c.self.inside.lines.items
     (row_of c.self.inside.heads) c.args.self.now c.self.invariant c.self.view_is c.args.encoding c.block_at-index.result
-    c.index-block.result.now c.args.position c.index.result.now c.index-in-Ok.result.now c.deref.result.now
+    c.index-block.result.now c.args.position c.index.result.now c.index-2.result.now c.deref.result.now
     c.of-heads.result.now
     c.index-block.ensures c.deref.ensures.value c.of-heads.ensures (omega arith) c.block_at-index.ensures
-    c.index.ensures c.index-in-Ok.ensures)
-    (c.in-Ok.ensures ∙ ap (λ (q : Position). option_map (place_of (chars c.index-block.result.now))
+    c.index.ensures c.index-2.ensures)
+    (c.in_ok-offset.ensures ∙ ap (λ (q : Position). option_map (place_of (chars c.index-block.result.now))
     (denoted (units_in c.args.encoding) (chars c.index-block.result.now) q)) c.position_after-inner.ensures))
 
 pub overflow_add-result : goal.overflow_add-result
 overflow_add-result c =
-    let within : c.index-in-Ok.result.now + c.in-Ok.offset ≤ length c.args.self.now =
+    let within : c.index-2.result.now + c.in_ok-offset.offset ≤ length c.args.self.now =
     (denoted_boundary (units_in c.args.encoding) c.args.self.now c.args.position
-    (c.index-in-Ok.result.now + c.in-Ok.offset)
+    (c.index-2.result.now + c.in_ok-offset.offset)
     (bytes_utf8 c.self.inside.blocks.items c.self.inside.starts.items c.self.inside.lines.items c.args.self.now
     c.self.invariant.sums c.self.view_is)
     (resolved_found c.args.self.now (concat (take c.block_at-index.result c.self.inside.blocks.items))
     c.index-block.result.now (concat (drop (c.block_at-index.result + 1) c.self.inside.blocks.items)) c.args.encoding
     c.args.position c.index.result.now (slice_index c.of-heads.result.now c.block_at-index.result)
-    c.index-in-Ok.result.now (Some c.in-Ok.offset)
+    c.index-2.result.now (Some c.in_ok-offset.offset)
     (found_shown c.self.inside.blocks.items c.self.inside.starts.items c.self.inside.lines.items
     (row_of c.self.inside.heads) c.args.self.now c.self.invariant c.self.view_is c.args.encoding c.block_at-index.result
-    c.index-block.result.now c.args.position c.index.result.now c.index-in-Ok.result.now c.deref.result.now
+    c.index-block.result.now c.args.position c.index.result.now c.index-2.result.now c.deref.result.now
     c.of-heads.result.now
     c.index-block.ensures c.deref.ensures.value c.of-heads.ensures (omega arith) c.block_at-index.ensures
-    c.index.ensures c.index-in-Ok.ensures)
-    (c.in-Ok.ensures ∙ ap (λ (q : Position). option_map (place_of (chars c.index-block.result.now))
+    c.index.ensures c.index-2.ensures)
+    (c.in_ok-offset.ensures ∙ ap (λ (q : Position). option_map (place_of (chars c.index-block.result.now))
     (denoted (units_in c.args.encoding) (chars c.index-block.result.now) q)) c.position_after-inner.ensures))).0 in
     omega (
       arith,
@@ -178,9 +179,10 @@ overflow_add-result c =
           c.self.invariant.sums c.self.view_is,
     )
 
-pub returns-in-Err-clause-value : goal.returns-in-Err-clause-value
-returns-in-Err-clause-value c =
-    resolved_found c.args.self.now (concat (take c.block_at-index.result c.self.inside.blocks.items))
+pub returns-in_err-offset-clause-value : goal.returns-in_err-offset-clause-value
+returns-in_err-offset-clause-value c =
+    let p = err_from_is_err_and c.from_residual.result c.from_residual.ensures.1 in
+    rw p.1 (resolved_found c.args.self.now (concat (take c.block_at-index.result c.self.inside.blocks.items))
     c.index-block.result.now (concat (drop (c.block_at-index.result + 1) c.self.inside.blocks.items)) c.args.encoding
     c.args.position c.index.result.now (slice_index c.of-heads.result.now c.block_at-index.result)
     (get_or c.self.inside.starts.items c.block_at-index.result 0) None
@@ -199,5 +201,5 @@ returns-in-Err-clause-value c =
       starts_count c.self.inside.blocks.items c.self.inside.starts.items c.self.inside.lines.items
           c.self.invariant.sums,
     ))))
-    (c.in-Err.ensures ∙ ap (λ (q : Position). option_map (place_of (chars c.index-block.result.now))
-    (denoted (units_in c.args.encoding) (chars c.index-block.result.now) q)) c.position_after-inner.ensures)
+    (c.in_err-offset.ensures ∙ ap (λ (q : Position). option_map (place_of (chars c.index-block.result.now))
+    (denoted (units_in c.args.encoding) (chars c.index-block.result.now) q)) c.position_after-inner.ensures))
