@@ -208,6 +208,7 @@ impl IndexedText {
             → map edit_of changes.now ≡ alone range text → IsOk (text_within max_len self.old
             (meaning (units_in encoding) (chars self.old) (map edit_of changes.now))) }
     {
+        // `?` isn't proved at a value that holds a `&str` beside a struct with a model.
         match self.delta(encoding, changes, max_len) {
             Ok(delta) => {
                 self.apply(delta)?;
