@@ -1,13 +1,15 @@
 //! The ends of a change's range, as byte offsets in the text that the change meets.
 
 ghost use Rattle.std.specs.Prelude.{◌≡◌, ℕ};
+ghost use Rattle.std.specs.Result.{result_ok};
 ghost use Rattle.std.specs.Str.{chars};
 ghost use Rattle.lsp_text.specs.Units.{units_in};
-ghost use Rattle.lsp_edit.specs.Faults.{ends_of, places_at};
+ghost use Rattle.lsp_edit.specs.Faults.{ends_of, in_order, places_at};
+ghost use Rattle.lsp_edit.specs.inside.Faults.{numbered};
 
 use crate::fault::{EditFault, Side};
 use crate::old_text::OldText;
-use lsp_text::{Encoding, Range};
+use lsp_text::{Encoding, InsideCharacter, Range};
 
 /// Returns the byte offsets of a range's two ends in a text. `change` is the number of the change
 /// that a fault reports.
@@ -20,13 +22,27 @@ pub fn ends(
     ensures { result
         ≡ places_at change (chars text.now) (ends_of (units_in encoding) (chars text.now) range) }
 {
-    let Ok(start) = text.resolve(encoding, range.start) else {
+    let start = text.resolve(encoding, range.start);
+    let stop = text.resolve(encoding, range.stop);
+    ends_in_order(start, stop, change)
+}
+
+/// Returns what the two ends of a range denote, if both denote a byte offset and are in order.
+/// `change` is the number of the change that a fault reports.
+pub fn ends_in_order(
+    start: Result<usize, InsideCharacter>,
+    stop: Result<usize, InsideCharacter>,
+    change: usize,
+) -> Result<(usize, usize), EditFault>
+    ensures { result ≡ numbered change (in_order (result_ok start) (result_ok stop)) }
+{
+    let Ok(start) = start else {
         return Err(EditFault::InsideCharacter {
             change,
             side: Side::Start,
         });
     };
-    let Ok(stop) = text.resolve(encoding, range.stop) else {
+    let Ok(stop) = stop else {
         return Err(EditFault::InsideCharacter {
             change,
             side: Side::Stop,

@@ -7,7 +7,8 @@ use Rattle.lsp_text.specs.Positions.{denoted}
 use Rattle.lsp_text.proofs.Positions.PlaceLemmas.{place_order, place_rises}
 use Rattle.lsp_text.proofs.Positions.PositionLemmas.{IsWhole, denoted_whole}
 use Rattle.lsp_edit.specs.declared.fault.EditFault.TheVariants.{ReversedRange}
-use Rattle.lsp_edit.specs.Faults.{ends_of, places_at}
+use Rattle.lsp_edit.specs.Faults.{ends_of, in_order, places_at}
+use Rattle.lsp_edit.specs.inside.Faults.{numbered}
 
 -- the index of a denoted place
 record IsPlaceOf (text : List ℕ) (found : Option ℕ) (place : ℕ) : Type 0 where
@@ -45,3 +46,23 @@ module _ (units : ℕ → ℕ) (text : List ℕ) (range : Range) (number start s
       (λ (l : a.index ≤ b.index). absurd (omega (arith, a.at, b.at, place_rises text a.index b.index l high.within)))
       (cases_lt b.index a.index) in
       rw (a.is, b.is, lt-leb a.index b.index falls) refl
+
+none_found : (text : List ℕ) (found : Option ℕ) → None ≡ option_map (place_of text) found → found ≡ None
+none_found text None e = refl
+none_found text (Some k) e = absurd (cc)
+
+-- What is made of the byte offsets of both ends is what is made of their indexes.
+pub places_same : (units : ℕ → ℕ) (text : List ℕ) (range : Range) (number : ℕ) (start stop : Option ℕ)
+    → start ≡ option_map (place_of text) (denoted units text range.start)
+    → stop ≡ option_map (place_of text) (denoted units text range.stop)
+    → numbered number (in_order start stop) ≡ places_at number text (ends_of units text range)
+places_same units text range number None stop a b = rw (none_found text (denoted units text range.start) a) refl
+places_same units text range number (Some start) None a b =
+    let at = place_found text (denoted units text range.start) start a in
+    rw (at.is, none_found text (denoted units text range.stop) b) refl
+places_same units text range number (Some start) (Some stop) a b =
+    ⊎_elim
+    (λ (less : stop < start). rw (lt-leb start stop less) (places_reversed units text range number start stop a b less))
+    (λ (order : start ≤ stop). rw (le-leb start stop order) (places_in_order units text range number start stop a b
+    order))
+    (cases_lt stop start)

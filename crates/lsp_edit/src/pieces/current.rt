@@ -7,7 +7,8 @@ ghost use Rattle.lsp_text.specs.Units.{units_in};
 ghost use Rattle.lsp_edit.specs.Faults.{ends_of, places_at};
 ghost use Rattle.lsp_edit.specs.Parts.{AreParts, bytes_of, parts_of};
 
-use crate::fault::{EditFault, Side};
+use crate::ends::ends_in_order;
+use crate::fault::EditFault;
 use crate::old_text::OldText;
 use crate::pieces::span::Span;
 use lsp_text::{Encoding, GapText, Lines, Range};
@@ -86,20 +87,7 @@ pub fn ends_in(
     ensures value { result
         ≡ places_at change (chars text.old) (ends_of (units_in encoding) (chars text.old) range) }
 {
-    let Ok(start) = text.resolve(encoding, range.start) else {
-        return Err(EditFault::InsideCharacter {
-            change,
-            side: Side::Start,
-        });
-    };
-    let Ok(stop) = text.resolve(encoding, range.stop) else {
-        return Err(EditFault::InsideCharacter {
-            change,
-            side: Side::Stop,
-        });
-    };
-    if start > stop {
-        return Err(EditFault::ReversedRange { change });
-    }
-    Ok((start, stop))
+    let start = text.resolve(encoding, range.start);
+    let stop = text.resolve(encoding, range.stop);
+    ends_in_order(start, stop, change)
 }
