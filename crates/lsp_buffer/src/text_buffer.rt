@@ -19,7 +19,9 @@ use crate::cut::blocks_of;
 use crate::heads::Heads;
 use crate::seams::{block_at, position_after, position_from};
 use crate::sums::{block_of, push_lines, push_starts};
-use crate::text_buffer::change::{fits, joins, replace_across, replace_inside, replace_joined};
+use crate::text_buffer::change::{
+    BlockRange, fits, joins, replace_across, replace_inside, replace_joined,
+};
 use lsp_text::{Encoding, InsideCharacter, Position};
 use std::alloc::{AllocError, Global};
 use std::fmt;
@@ -375,12 +377,18 @@ impl TextBuffer {
         let last = block_of(&self.starts, end);
         let (blocks, starts, lines) = (&mut self.blocks, &mut self.starts, &mut self.lines);
         let heads = &mut self.heads;
-        if joins(blocks, starts, first, last, start, end, new) {
-            replace_joined(blocks, starts, lines, heads, first, last, start, end, new)
+        let range = BlockRange {
+            first,
+            last,
+            start,
+            end,
+        };
+        if joins(blocks, starts, range, new) {
+            replace_joined(blocks, starts, lines, heads, range, new)
         } else if first == last && fits(blocks, first, new) {
-            replace_inside(blocks, starts, lines, heads, first, start, end, new)
+            replace_inside(blocks, starts, lines, heads, range, new)
         } else {
-            replace_across(blocks, starts, lines, heads, first, last, start, end, new)
+            replace_across(blocks, starts, lines, heads, range, new)
         }
     }
 }

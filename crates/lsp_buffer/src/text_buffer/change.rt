@@ -17,6 +17,15 @@ use std::alloc::{AllocError, Global};
 /// A block that a change leaves with fewer bytes is joined with the next one.
 const SMALL: usize = CUT / 4;
 
+/// The bytes from `start`, in the block with index `first`, to `end`, in the one with index `last`.
+#[derive(Clone, Copy)]
+pub struct BlockRange {
+    pub first: usize,
+    pub last: usize,
+    pub start: usize,
+    pub end: usize,
+}
+
 /// Returns whether a block is short enough to take a new text in.
 pub fn fits(blocks: &[Block], index: usize, new: &str) -> bool
     requires { index < length blocks.now }
@@ -25,20 +34,18 @@ pub fn fits(blocks: &[Block], index: usize, new: &str) -> bool
 }
 
 /// Returns whether a change leaves so little of its blocks that it is joined with the next one.
-pub fn joins(
-    blocks: &[Block],
-    starts: &[u32],
-    first: usize,
-    last: usize,
-    start: usize,
-    end: usize,
-    new: &str,
-) -> bool
-    requires first { first < length starts.now }
-    requires last { last < length starts.now }
+pub fn joins(blocks: &[Block], starts: &[u32], range: BlockRange, new: &str) -> bool
+    requires first { range.first < length starts.now }
+    requires last { range.last < length starts.now }
     requires counts { length starts.now ≡ length blocks.now }
-    ensures { IsTrue result → last + 1 < length blocks.now }
+    ensures { IsTrue result → range.last + 1 < length blocks.now }
 {
+    let BlockRange {
+        first,
+        last,
+        start,
+        end,
+    } = range;
     let next = last + 1;
     if next >= blocks.len() {
         return false;
@@ -94,31 +101,35 @@ fn put_inside(
     blocks: &mut Vec<Block>,
     starts: &mut Vec<u32>,
     lines: &mut Vec<u32>,
-    index: usize,
-    start: usize,
-    end: usize,
+    range: BlockRange,
     new: &str,
 ) -> Result<(), AllocError>
     requires are { IsBuffer blocks.old.items starts.old.items lines.old.items }
-    requires first { IsBlockOf starts.old.items start index }
-    requires last { IsBlockOf starts.old.items end index }
-    requires order { start ≤ end }
-    requires at_start { IsCharBoundary (concat blocks.old.items) start }
-    requires at_end { IsCharBoundary (concat blocks.old.items) end }
-    requires room { length (replace_range (concat blocks.old.items) start end new.now)
+    requires first { IsBlockOf starts.old.items range.start range.first }
+    requires last { IsBlockOf starts.old.items range.end range.first }
+    requires order { range.start ≤ range.end }
+    requires at_start { IsCharBoundary (concat blocks.old.items) range.start }
+    requires at_end { IsCharBoundary (concat blocks.old.items) range.end }
+    requires room { length (replace_range (concat blocks.old.items) range.start range.end new.now)
         ≤ 2147483648 }
     ensures are { IsBuffer blocks.new.items starts.new.items lines.new.items }
-    ensures changed { OnOk result
-        (concat blocks.new.items ≡ replace_range (concat blocks.old.items) start end new.now) }
+    ensures changed { OnOk result (concat blocks.new.items
+        ≡ replace_range (concat blocks.old.items) range.start range.end new.now) }
     ensures unchanged { OnErr result (blocks.new.items ≡ blocks.old.items) }
     ensures other { OnOk result
-        ((block : List ℕ) × (blocks.new.items ≡ set blocks.old.items index block)) }
+        ((block : List ℕ) × (blocks.new.items ≡ set blocks.old.items range.first block)) }
 {
-    let from = starts[index] as usize;
-    let sizes = put_in_block(&mut blocks[index], start - from, end - from, new)?;
-    move_from(starts, index + 1, sizes.old_len as u32, sizes.len as u32);
+    let BlockRange {
+        first,
+        start,
+        end,
+        ..
+    } = range;
+    let from = starts[first] as usize;
+    let sizes = put_in_block(&mut blocks[first], start - from, end - from, new)?;
+    move_from(starts, first + 1, sizes.old_len as u32, sizes.len as u32);
     if sizes.ends != sizes.old_ends {
-        move_from(lines, index + 1, sizes.old_ends as u32, sizes.ends as u32);
+        move_from(lines, first + 1, sizes.old_ends as u32, sizes.ends as u32);
     }
     Ok(())
 }
@@ -129,28 +140,26 @@ pub fn replace_inside(
     starts: &mut Vec<u32>,
     lines: &mut Vec<u32>,
     heads: &mut Heads,
-    index: usize,
-    start: usize,
-    end: usize,
+    range: BlockRange,
     new: &str,
 ) -> Result<(), AllocError>
     requires are { IsTextBuffer blocks.old.items starts.old.items lines.old.items
         (row_of heads.old) }
-    requires first { IsBlockOf starts.old.items start index }
-    requires last { IsBlockOf starts.old.items end index }
-    requires order { start ≤ end }
-    requires at_start { IsCharBoundary (concat blocks.old.items) start }
-    requires at_end { IsCharBoundary (concat blocks.old.items) end }
-    requires room { length (replace_range (concat blocks.old.items) start end new.now)
+    requires first { IsBlockOf starts.old.items range.start range.first }
+    requires last { IsBlockOf starts.old.items range.end range.first }
+    requires order { range.start ≤ range.end }
+    requires at_start { IsCharBoundary (concat blocks.old.items) range.start }
+    requires at_end { IsCharBoundary (concat blocks.old.items) range.end }
+    requires room { length (replace_range (concat blocks.old.items) range.start range.end new.now)
         ≤ 2147483648 }
     ensures are { IsTextBuffer blocks.new.items starts.new.items lines.new.items
         (row_of heads.new) }
-    ensures changed { OnOk result
-        (concat blocks.new.items ≡ replace_range (concat blocks.old.items) start end new.now) }
+    ensures changed { OnOk result (concat blocks.new.items
+        ≡ replace_range (concat blocks.old.items) range.start range.end new.now) }
     ensures unchanged { OnErr result (concat blocks.new.items ≡ concat blocks.old.items) }
 {
-    put_inside(blocks, starts, lines, index, start, end, new)?;
-    heads.put(lines, blocks, index);
+    put_inside(blocks, starts, lines, range, new)?;
+    heads.put(lines, blocks, range.first);
     Ok(())
 }
 
@@ -253,27 +262,30 @@ pub fn replace_across(
     starts: &mut Vec<u32>,
     lines: &mut Vec<u32>,
     heads: &mut Heads,
-    first: usize,
-    last: usize,
-    start: usize,
-    end: usize,
+    range: BlockRange,
     new: &str,
 ) -> Result<(), AllocError>
     requires are { IsTextBuffer blocks.old.items starts.old.items lines.old.items
         (row_of heads.old) }
-    requires first { IsBlockOf starts.old.items start first }
-    requires last { IsBlockOf starts.old.items end last }
-    requires order { start ≤ end }
-    requires at_start { IsCharBoundary (concat blocks.old.items) start }
-    requires at_end { IsCharBoundary (concat blocks.old.items) end }
-    requires room { length (replace_range (concat blocks.old.items) start end new.now)
+    requires first { IsBlockOf starts.old.items range.start range.first }
+    requires last { IsBlockOf starts.old.items range.end range.last }
+    requires order { range.start ≤ range.end }
+    requires at_start { IsCharBoundary (concat blocks.old.items) range.start }
+    requires at_end { IsCharBoundary (concat blocks.old.items) range.end }
+    requires room { length (replace_range (concat blocks.old.items) range.start range.end new.now)
         ≤ 2147483648 }
     ensures are { IsTextBuffer blocks.new.items starts.new.items lines.new.items
         (row_of heads.new) }
-    ensures changed { OnOk result
-        (concat blocks.new.items ≡ replace_range (concat blocks.old.items) start end new.now) }
+    ensures changed { OnOk result (concat blocks.new.items
+        ≡ replace_range (concat blocks.old.items) range.start range.end new.now) }
     ensures unchanged { OnErr result (concat blocks.new.items ≡ concat blocks.old.items) }
 {
+    let BlockRange {
+        first,
+        last,
+        start,
+        end,
+    } = range;
     let alloc = *blocks.allocator();
     let to = start - starts[first] as usize;
     let from = end - starts[last] as usize;
@@ -303,36 +315,34 @@ pub fn replace_joined(
     starts: &mut Vec<u32>,
     lines: &mut Vec<u32>,
     heads: &mut Heads,
-    first: usize,
-    last: usize,
-    start: usize,
-    end: usize,
+    range: BlockRange,
     new: &str,
 ) -> Result<(), AllocError>
     requires are { IsTextBuffer blocks.old.items starts.old.items lines.old.items
         (row_of heads.old) }
-    requires first { IsBlockOf starts.old.items start first }
-    requires last { IsBlockOf starts.old.items end last }
-    requires next { last + 1 < vec_len blocks.old }
-    requires order { start ≤ end }
-    requires at_start { IsCharBoundary (concat blocks.old.items) start }
-    requires at_end { IsCharBoundary (concat blocks.old.items) end }
-    requires room { length (replace_range (concat blocks.old.items) start end new.now)
+    requires first { IsBlockOf starts.old.items range.start range.first }
+    requires last { IsBlockOf starts.old.items range.end range.last }
+    requires next { range.last + 1 < vec_len blocks.old }
+    requires order { range.start ≤ range.end }
+    requires at_start { IsCharBoundary (concat blocks.old.items) range.start }
+    requires at_end { IsCharBoundary (concat blocks.old.items) range.end }
+    requires room { length (replace_range (concat blocks.old.items) range.start range.end new.now)
         ≤ 2147483648 }
     ensures are { IsTextBuffer blocks.new.items starts.new.items lines.new.items
         (row_of heads.new) }
-    ensures changed { OnOk result
-        (concat blocks.new.items ≡ replace_range (concat blocks.old.items) start end new.now) }
+    ensures changed { OnOk result (concat blocks.new.items
+        ≡ replace_range (concat blocks.old.items) range.start range.end new.now) }
     ensures unchanged { OnErr result (concat blocks.new.items ≡ concat blocks.old.items) }
 {
     let alloc = *blocks.allocator();
-    let block = &blocks[last];
-    let (_, back) = block.text().split_at(end - starts[last] as usize);
+    let block = &blocks[range.last];
+    let (_, back) = block
+        .text()
+        .split_at(range.end - starts[range.last] as usize);
     let mut text = String::from_str(alloc, new)?;
     text.push_str(back)?;
-    let next = starts[last + 1] as usize;
-    let last = block_of(starts, next);
-    replace_across(
-        blocks, starts, lines, heads, first, last, start, next, &text,
-    )
+    let end = starts[range.last + 1] as usize;
+    let last = block_of(starts, end);
+    let range = BlockRange { last, end, ..range };
+    replace_across(blocks, starts, lines, heads, range, &text)
 }

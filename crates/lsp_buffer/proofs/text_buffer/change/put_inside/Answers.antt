@@ -15,8 +15,8 @@ index_mut-requires c = omega (
 
 pub put_in_block-requires-clause-at_start : goal.put_in_block-requires-clause-at_start
 put_in_block-requires-clause-at_start c =
-    let put : IsPut c.args.blocks.now.items c.args.starts.now.items c.args.lines.now.items c.args.index
-    c.index_mut.result.now c.index.result.now c.args.start c.args.end c.args.new.now =
+    let put : IsPut c.args.blocks.now.items c.args.starts.now.items c.args.lines.now.items c.args.range.first
+    c.index_mut.result.now c.index.result.now c.args.range.start c.args.range.end c.args.new.now =
     (record {
       is = c.requires.are;
       block_is = c.index_mut.ensures.value;
@@ -28,13 +28,13 @@ put_in_block-requires-clause-at_start c =
       at_end = c.requires.at_end;
       new_utf8 = c.utf8.new;
       room = c.requires.room;
-    }) in put_start c.args.blocks.now.items c.args.starts.now.items c.args.lines.now.items c.args.index
-    c.index_mut.result.now c.index.result.now c.args.start c.args.end c.args.new.now put
+    }) in put_start c.args.blocks.now.items c.args.starts.now.items c.args.lines.now.items c.args.range.first
+    c.index_mut.result.now c.index.result.now c.args.range.start c.args.range.end c.args.new.now put
 
 pub put_in_block-requires-clause-at_end : goal.put_in_block-requires-clause-at_end
 put_in_block-requires-clause-at_end c =
-    let put : IsPut c.args.blocks.now.items c.args.starts.now.items c.args.lines.now.items c.args.index
-    c.index_mut.result.now c.index.result.now c.args.start c.args.end c.args.new.now =
+    let put : IsPut c.args.blocks.now.items c.args.starts.now.items c.args.lines.now.items c.args.range.first
+    c.index_mut.result.now c.index.result.now c.args.range.start c.args.range.end c.args.new.now =
     (record {
       is = c.requires.are;
       block_is = c.index_mut.ensures.value;
@@ -46,13 +46,13 @@ put_in_block-requires-clause-at_end c =
       at_end = c.requires.at_end;
       new_utf8 = c.utf8.new;
       room = c.requires.room;
-    }) in put_stop c.args.blocks.now.items c.args.starts.now.items c.args.lines.now.items c.args.index
-    c.index_mut.result.now c.index.result.now c.args.start c.args.end c.args.new.now put
+    }) in put_stop c.args.blocks.now.items c.args.starts.now.items c.args.lines.now.items c.args.range.first
+    c.index_mut.result.now c.index.result.now c.args.range.start c.args.range.end c.args.new.now put
 
 pub put_in_block-requires-clause-room : goal.put_in_block-requires-clause-room
 put_in_block-requires-clause-room c =
-    let put : IsPut c.args.blocks.now.items c.args.starts.now.items c.args.lines.now.items c.args.index
-    c.index_mut.result.now c.index.result.now c.args.start c.args.end c.args.new.now =
+    let put : IsPut c.args.blocks.now.items c.args.starts.now.items c.args.lines.now.items c.args.range.first
+    c.index_mut.result.now c.index.result.now c.args.range.start c.args.range.end c.args.new.now =
     (record {
       is = c.requires.are;
       block_is = c.index_mut.ensures.value;
@@ -64,12 +64,12 @@ put_in_block-requires-clause-room c =
       at_end = c.requires.at_end;
       new_utf8 = c.utf8.new;
       room = c.requires.room;
-    }) in fresh_small c.args.blocks.now.items c.args.starts.now.items c.args.lines.now.items c.args.index
-    c.index_mut.result.now c.index.result.now c.args.start c.args.end c.args.new.now put
+    }) in fresh_small c.args.blocks.now.items c.args.starts.now.items c.args.lines.now.items c.args.range.first
+    c.index_mut.result.now c.index.result.now c.args.range.start c.args.range.end c.args.new.now put
 
 pub overflow_cast-sizes : goal.overflow_cast-sizes
 overflow_cast-sizes c = let put : IsPut c.args.blocks.now.items c.args.starts.now.items c.args.lines.now.items
-    c.args.index c.index_mut.result.now c.index.result.now c.args.start c.args.end c.args.new.now =
+    c.args.range.first c.index_mut.result.now c.index.result.now c.args.range.start c.args.range.end c.args.new.now =
     (record {
       is = c.requires.are;
       block_is = c.index_mut.ensures.value;
@@ -84,13 +84,13 @@ overflow_cast-sizes c = let put : IsPut c.args.blocks.now.items c.args.starts.no
     }) in omega (
       arith,
       c.in_ok-sizes.ensures.old_len,
-      block_small c.args.blocks.now.items c.args.starts.now.items c.args.lines.now.items c.args.index
-          c.index_mut.result.now c.index.result.now c.args.start c.args.end c.args.new.now put,
+      block_small c.args.blocks.now.items c.args.starts.now.items c.args.lines.now.items c.args.range.first
+          c.index_mut.result.now c.index.result.now c.args.range.start c.args.range.end c.args.new.now put,
     )
 
 pub overflow_cast-sizes-2 : goal.overflow_cast-sizes-2
 overflow_cast-sizes-2 c = let put : IsPut c.args.blocks.now.items c.args.starts.now.items c.args.lines.now.items
-    c.args.index c.index_mut.result.now c.index.result.now c.args.start c.args.end c.args.new.now =
+    c.args.range.first c.index_mut.result.now c.index.result.now c.args.range.start c.args.range.end c.args.new.now =
     (record {
       is = c.requires.are;
       block_is = c.index_mut.ensures.value;
@@ -106,14 +106,14 @@ overflow_cast-sizes-2 c = let put : IsPut c.args.blocks.now.items c.args.starts.
       arith,
       c.in_ok-sizes.ensures.len,
       ap length c.in_ok-sizes.ensures.changed,
-      fresh_small c.args.blocks.now.items c.args.starts.now.items c.args.lines.now.items c.args.index
-          c.index_mut.result.now c.index.result.now c.args.start c.args.end c.args.new.now put,
+      fresh_small c.args.blocks.now.items c.args.starts.now.items c.args.lines.now.items c.args.range.first
+          c.index_mut.result.now c.index.result.now c.args.range.start c.args.range.end c.args.new.now put,
     )
 
 pub move_from-requires-clause-after : goal.move_from-requires-clause-after
 move_from-requires-clause-after c =
-    let put : IsPut c.args.blocks.now.items c.args.starts.now.items c.args.lines.now.items c.args.index
-    c.index_mut.result.now c.index.result.now c.args.start c.args.end c.args.new.now =
+    let put : IsPut c.args.blocks.now.items c.args.starts.now.items c.args.lines.now.items c.args.range.first
+    c.index_mut.result.now c.index.result.now c.args.range.start c.args.range.end c.args.new.now =
     (record {
       is = c.requires.are;
       block_is = c.index_mut.ensures.value;
@@ -129,20 +129,22 @@ move_from-requires-clause-after c =
     λ k h. omega (
       arith,
       c.in_ok-sizes.ensures.old_len,
-      sums_after (length {A = ℕ}) c.args.starts.now.items c.args.blocks.now.items c.args.index c.index_mut.result.now
-          (replace_range c.index_mut.result.now (c.args.start - c.index.result.now) (c.args.end - c.index.result.now)
+      sums_after (length {A = ℕ}) c.args.starts.now.items c.args.blocks.now.items c.args.range.first
+          c.index_mut.result.now
+          (replace_range c.index_mut.result.now (c.args.range.start - c.index.result.now) (c.args.range.end -
+          c.index.result.now)
           c.args.new.now) c.requires.are.starts_are (omega (
             arith,
             c.requires.first.within,
             starts_count c.args.blocks.now.items c.args.starts.now.items c.args.lines.now.items c.requires.are,
-          )) (block_whole c.args.blocks.now.items c.args.starts.now.items c.args.lines.now.items c.args.index
-          c.index_mut.result.now c.index.result.now c.args.start c.args.end c.args.new.now put) k h,
+          )) (block_whole c.args.blocks.now.items c.args.starts.now.items c.args.lines.now.items c.args.range.first
+          c.index_mut.result.now c.index.result.now c.args.range.start c.args.range.end c.args.new.now put) k h,
     )
 
 pub move_from-requires-clause-room : goal.move_from-requires-clause-room
 move_from-requires-clause-room c =
-    let put : IsPut c.args.blocks.now.items c.args.starts.now.items c.args.lines.now.items c.args.index
-    c.index_mut.result.now c.index.result.now c.args.start c.args.end c.args.new.now =
+    let put : IsPut c.args.blocks.now.items c.args.starts.now.items c.args.lines.now.items c.args.range.first
+    c.index_mut.result.now c.index.result.now c.args.range.start c.args.range.end c.args.new.now =
     (record {
       is = c.requires.are;
       block_is = c.index_mut.ensures.value;
@@ -155,29 +157,32 @@ move_from-requires-clause-room c =
       new_utf8 = c.utf8.new;
       room = c.requires.room;
     }) in
-    let len : c.in_ok-sizes.sizes.len ≡ length (replace_range c.index_mut.result.now (c.args.start - c.index.result.now)
-    (c.args.end - c.index.result.now) c.args.new.now) =
+    let len : c.in_ok-sizes.sizes.len ≡ length (replace_range c.index_mut.result.now (c.args.range.start -
+    c.index.result.now)
+    (c.args.range.end - c.index.result.now) c.args.new.now) =
     c.in_ok-sizes.ensures.len ∙ ap length c.in_ok-sizes.ensures.changed in
     λ k h. omega (
       arith,
       c.in_ok-sizes.ensures.old_len,
       len,
-      sums_room (length {A = ℕ}) c.args.starts.now.items c.args.blocks.now.items c.args.index c.index_mut.result.now
-          (replace_range c.index_mut.result.now (c.args.start - c.index.result.now) (c.args.end - c.index.result.now)
+      sums_room (length {A = ℕ}) c.args.starts.now.items c.args.blocks.now.items c.args.range.first
+          c.index_mut.result.now
+          (replace_range c.index_mut.result.now (c.args.range.start - c.index.result.now) (c.args.range.end -
+          c.index.result.now)
           c.args.new.now) c.requires.are.starts_are (omega (
             arith,
             c.requires.first.within,
             starts_count c.args.blocks.now.items c.args.starts.now.items c.args.lines.now.items c.requires.are,
-          )) (block_whole c.args.blocks.now.items c.args.starts.now.items c.args.lines.now.items c.args.index
-          c.index_mut.result.now c.index.result.now c.args.start c.args.end c.args.new.now put)
-          (next_lengths c.args.blocks.now.items c.args.starts.now.items c.args.lines.now.items c.args.index
-          c.index_mut.result.now c.index.result.now c.args.start c.args.end c.args.new.now put) k h,
+          )) (block_whole c.args.blocks.now.items c.args.starts.now.items c.args.lines.now.items c.args.range.first
+          c.index_mut.result.now c.index.result.now c.args.range.start c.args.range.end c.args.new.now put)
+          (next_lengths c.args.blocks.now.items c.args.starts.now.items c.args.lines.now.items c.args.range.first
+          c.index_mut.result.now c.index.result.now c.args.range.start c.args.range.end c.args.new.now put) k h,
     )
 
 pub overflow_cast-sizes-then-sizes : goal.overflow_cast-sizes-then-sizes
 overflow_cast-sizes-then-sizes c =
-    let put : IsPut c.args.blocks.now.items c.args.starts.now.items c.args.lines.now.items c.args.index
-    c.index_mut.result.now c.index.result.now c.args.start c.args.end c.args.new.now =
+    let put : IsPut c.args.blocks.now.items c.args.starts.now.items c.args.lines.now.items c.args.range.first
+    c.index_mut.result.now c.index.result.now c.args.range.start c.args.range.end c.args.new.now =
     (record {
       is = c.requires.are;
       block_is = c.index_mut.ensures.value;
@@ -192,14 +197,14 @@ overflow_cast-sizes-then-sizes c =
     }) in omega (
       arith,
       c.in_ok-sizes.ensures.old_ends,
-      ends_small c.args.blocks.now.items c.args.starts.now.items c.args.lines.now.items c.args.index
-          c.index_mut.result.now c.index.result.now c.args.start c.args.end c.args.new.now put,
+      ends_small c.args.blocks.now.items c.args.starts.now.items c.args.lines.now.items c.args.range.first
+          c.index_mut.result.now c.index.result.now c.args.range.start c.args.range.end c.args.new.now put,
     )
 
 pub overflow_cast-sizes-then-sizes-2 : goal.overflow_cast-sizes-then-sizes-2
 overflow_cast-sizes-then-sizes-2 c =
-    let put : IsPut c.args.blocks.now.items c.args.starts.now.items c.args.lines.now.items c.args.index
-    c.index_mut.result.now c.index.result.now c.args.start c.args.end c.args.new.now =
+    let put : IsPut c.args.blocks.now.items c.args.starts.now.items c.args.lines.now.items c.args.range.first
+    c.index_mut.result.now c.index.result.now c.args.range.start c.args.range.end c.args.new.now =
     (record {
       is = c.requires.are;
       block_is = c.index_mut.ensures.value;
@@ -215,8 +220,8 @@ overflow_cast-sizes-then-sizes-2 c =
       arith,
       c.in_ok-sizes.ensures.ends,
       ap ends_of c.in_ok-sizes.ensures.changed,
-      fresh_ends_small c.args.blocks.now.items c.args.starts.now.items c.args.lines.now.items c.args.index
-          c.index_mut.result.now c.index.result.now c.args.start c.args.end c.args.new.now put,
+      fresh_ends_small c.args.blocks.now.items c.args.starts.now.items c.args.lines.now.items c.args.range.first
+          c.index_mut.result.now c.index.result.now c.args.range.start c.args.range.end c.args.new.now put,
     )
 
 pub move_from-requires-then-sizes-clause-first : goal.move_from-requires-then-sizes-clause-first
@@ -231,8 +236,8 @@ move_from-requires-then-sizes-clause-first c =
 
 pub move_from-requires-then-sizes-clause-after : goal.move_from-requires-then-sizes-clause-after
 move_from-requires-then-sizes-clause-after c =
-    let put : IsPut c.args.blocks.now.items c.args.starts.now.items c.args.lines.now.items c.args.index
-    c.index_mut.result.now c.index.result.now c.args.start c.args.end c.args.new.now =
+    let put : IsPut c.args.blocks.now.items c.args.starts.now.items c.args.lines.now.items c.args.range.first
+    c.index_mut.result.now c.index.result.now c.args.range.start c.args.range.end c.args.new.now =
     (record {
       is = c.requires.are;
       block_is = c.index_mut.ensures.value;
@@ -248,20 +253,21 @@ move_from-requires-then-sizes-clause-after c =
     λ k h. omega (
       arith,
       c.in_ok-sizes.ensures.old_ends,
-      sums_after ends_of c.args.lines.now.items c.args.blocks.now.items c.args.index c.index_mut.result.now
-          (replace_range c.index_mut.result.now (c.args.start - c.index.result.now) (c.args.end - c.index.result.now)
+      sums_after ends_of c.args.lines.now.items c.args.blocks.now.items c.args.range.first c.index_mut.result.now
+          (replace_range c.index_mut.result.now (c.args.range.start - c.index.result.now) (c.args.range.end -
+          c.index.result.now)
           c.args.new.now) c.requires.are.lines_are (omega (
             arith,
             c.requires.first.within,
             starts_count c.args.blocks.now.items c.args.starts.now.items c.args.lines.now.items c.requires.are,
-          )) (block_whole c.args.blocks.now.items c.args.starts.now.items c.args.lines.now.items c.args.index
-          c.index_mut.result.now c.index.result.now c.args.start c.args.end c.args.new.now put) k h,
+          )) (block_whole c.args.blocks.now.items c.args.starts.now.items c.args.lines.now.items c.args.range.first
+          c.index_mut.result.now c.index.result.now c.args.range.start c.args.range.end c.args.new.now put) k h,
     )
 
 pub move_from-requires-then-sizes-clause-room : goal.move_from-requires-then-sizes-clause-room
 move_from-requires-then-sizes-clause-room c =
-    let put : IsPut c.args.blocks.now.items c.args.starts.now.items c.args.lines.now.items c.args.index
-    c.index_mut.result.now c.index.result.now c.args.start c.args.end c.args.new.now =
+    let put : IsPut c.args.blocks.now.items c.args.starts.now.items c.args.lines.now.items c.args.range.first
+    c.index_mut.result.now c.index.result.now c.args.range.start c.args.range.end c.args.new.now =
     (record {
       is = c.requires.are;
       block_is = c.index_mut.ensures.value;
@@ -275,29 +281,30 @@ move_from-requires-then-sizes-clause-room c =
       room = c.requires.room;
     }) in
     let ends : c.in_ok-sizes.sizes.ends
-    ≡ ends_of (replace_range c.index_mut.result.now (c.args.start - c.index.result.now)
-    (c.args.end - c.index.result.now) c.args.new.now) =
+    ≡ ends_of (replace_range c.index_mut.result.now (c.args.range.start - c.index.result.now)
+    (c.args.range.end - c.index.result.now) c.args.new.now) =
     c.in_ok-sizes.ensures.ends ∙ ap ends_of c.in_ok-sizes.ensures.changed in
     λ k h. omega (
       arith,
       c.in_ok-sizes.ensures.old_ends,
       ends,
-      sums_room ends_of c.args.lines.now.items c.args.blocks.now.items c.args.index c.index_mut.result.now
-          (replace_range c.index_mut.result.now (c.args.start - c.index.result.now) (c.args.end - c.index.result.now)
+      sums_room ends_of c.args.lines.now.items c.args.blocks.now.items c.args.range.first c.index_mut.result.now
+          (replace_range c.index_mut.result.now (c.args.range.start - c.index.result.now) (c.args.range.end -
+          c.index.result.now)
           c.args.new.now) c.requires.are.lines_are (omega (
             arith,
             c.requires.first.within,
             starts_count c.args.blocks.now.items c.args.starts.now.items c.args.lines.now.items c.requires.are,
-          )) (block_whole c.args.blocks.now.items c.args.starts.now.items c.args.lines.now.items c.args.index
-          c.index_mut.result.now c.index.result.now c.args.start c.args.end c.args.new.now put)
-          (next_ends c.args.blocks.now.items c.args.starts.now.items c.args.lines.now.items c.args.index
-          c.index_mut.result.now c.index.result.now c.args.start c.args.end c.args.new.now put) k h,
+          )) (block_whole c.args.blocks.now.items c.args.starts.now.items c.args.lines.now.items c.args.range.first
+          c.index_mut.result.now c.index.result.now c.args.range.start c.args.range.end c.args.new.now put)
+          (next_ends c.args.blocks.now.items c.args.starts.now.items c.args.lines.now.items c.args.range.first
+          c.index_mut.result.now c.index.result.now c.args.range.start c.args.range.end c.args.new.now put) k h,
     )
 
 pub returns-then-sizes-clause-are : goal.returns-then-sizes-clause-are
 returns-then-sizes-clause-are c =
-    let put : IsPut c.args.blocks.now.items c.args.starts.now.items c.args.lines.now.items c.args.index
-    c.index_mut.result.now c.index.result.now c.args.start c.args.end c.args.new.now =
+    let put : IsPut c.args.blocks.now.items c.args.starts.now.items c.args.lines.now.items c.args.range.first
+    c.index_mut.result.now c.index.result.now c.args.range.start c.args.range.end c.args.new.now =
     (record {
       is = c.requires.are;
       block_is = c.index_mut.ensures.value;
@@ -310,73 +317,83 @@ returns-then-sizes-clause-are c =
       new_utf8 = c.utf8.new;
       room = c.requires.room;
     }) in
-    let len : c.in_ok-sizes.sizes.len ≡ length (replace_range c.index_mut.result.now (c.args.start - c.index.result.now)
-    (c.args.end - c.index.result.now) c.args.new.now) =
+    let len : c.in_ok-sizes.sizes.len ≡ length (replace_range c.index_mut.result.now (c.args.range.start -
+    c.index.result.now)
+    (c.args.range.end - c.index.result.now) c.args.new.now) =
     c.in_ok-sizes.ensures.len ∙ ap length c.in_ok-sizes.ensures.changed in
     let starts : c.move_from.new.sums.items
     ≡ sums_from 0
-    (map (length {A = ℕ}) (take c.args.index c.args.blocks.now.items
-    ++ (replace_range c.index_mut.result.now (c.args.start - c.index.result.now) (c.args.end - c.index.result.now)
-    c.args.new.now) ∷ drop (c.args.index + 1) c.args.blocks.now.items)) =
+    (map (length {A = ℕ}) (take c.args.range.first c.args.blocks.now.items
+    ++ (replace_range c.index_mut.result.now (c.args.range.start - c.index.result.now) (c.args.range.end -
+    c.index.result.now)
+    c.args.new.now) ∷ drop (c.args.range.first + 1) c.args.blocks.now.items)) =
     c.move_from.ensures
-    ∙ (ap (λ (o : ℕ). take (c.args.index + 1) c.args.starts.now.items
-    ++ map (λ (s : ℕ). s - o + c.in_ok-sizes.sizes.len) (drop (c.args.index + 1) c.args.starts.now.items))
+    ∙ (ap (λ (o : ℕ). take (c.args.range.first + 1) c.args.starts.now.items
+    ++ map (λ (s : ℕ). s - o + c.in_ok-sizes.sizes.len) (drop (c.args.range.first + 1) c.args.starts.now.items))
     c.in_ok-sizes.ensures.old_len ∙
-    (ap (λ (n : ℕ). take (c.args.index + 1) c.args.starts.now.items ++ map (λ (s : ℕ). s - length c.index_mut.result.now
-    + n) (drop (c.args.index + 1) c.args.starts.now.items)) len ∙ sums_moved (length {A = ℕ}) c.args.starts.now.items
-    c.args.blocks.now.items c.args.index c.index_mut.result.now
-    (replace_range c.index_mut.result.now (c.args.start - c.index.result.now) (c.args.end - c.index.result.now)
+    (ap (λ (n : ℕ). take (c.args.range.first + 1) c.args.starts.now.items ++ map (λ (s : ℕ). s - length
+    c.index_mut.result.now
+    + n) (drop (c.args.range.first + 1) c.args.starts.now.items)) len ∙ sums_moved (length {A = ℕ})
+    c.args.starts.now.items
+    c.args.blocks.now.items c.args.range.first c.index_mut.result.now
+    (replace_range c.index_mut.result.now (c.args.range.start - c.index.result.now) (c.args.range.end -
+    c.index.result.now)
     c.args.new.now) c.requires.are.starts_are (omega (
       arith,
       c.requires.first.within,
       starts_count c.args.blocks.now.items c.args.starts.now.items c.args.lines.now.items c.requires.are,
-    )) (block_whole c.args.blocks.now.items c.args.starts.now.items c.args.lines.now.items c.args.index
-    c.index_mut.result.now c.index.result.now c.args.start c.args.end c.args.new.now put))) in
-    let all : set c.args.blocks.now.items c.args.index c.put_in_block.new.block
-    ≡ (take c.args.index c.args.blocks.now.items
-    ++ (replace_range c.index_mut.result.now (c.args.start - c.index.result.now) (c.args.end - c.index.result.now)
-    c.args.new.now) ∷ drop (c.args.index + 1) c.args.blocks.now.items) =
-    ap (set c.args.blocks.now.items c.args.index) c.in_ok-sizes.ensures.changed ∙ set_is c.args.blocks.now.items
-    c.args.starts.now.items c.args.lines.now.items c.args.index c.index_mut.result.now c.index.result.now c.args.start
-    c.args.end c.args.new.now put in
+    )) (block_whole c.args.blocks.now.items c.args.starts.now.items c.args.lines.now.items c.args.range.first
+    c.index_mut.result.now c.index.result.now c.args.range.start c.args.range.end c.args.new.now put))) in
+    let all : set c.args.blocks.now.items c.args.range.first c.put_in_block.new.block
+    ≡ (take c.args.range.first c.args.blocks.now.items
+    ++ (replace_range c.index_mut.result.now (c.args.range.start - c.index.result.now) (c.args.range.end -
+    c.index.result.now)
+    c.args.new.now) ∷ drop (c.args.range.first + 1) c.args.blocks.now.items) =
+    ap (set c.args.blocks.now.items c.args.range.first) c.in_ok-sizes.ensures.changed ∙ set_is c.args.blocks.now.items
+    c.args.starts.now.items c.args.lines.now.items c.args.range.first c.index_mut.result.now c.index.result.now
+    c.args.range.start
+    c.args.range.end c.args.new.now put in
     let ends : c.in_ok-sizes.sizes.ends
-    ≡ ends_of (replace_range c.index_mut.result.now (c.args.start - c.index.result.now)
-    (c.args.end - c.index.result.now) c.args.new.now) =
+    ≡ ends_of (replace_range c.index_mut.result.now (c.args.range.start - c.index.result.now)
+    (c.args.range.end - c.index.result.now) c.args.new.now) =
     c.in_ok-sizes.ensures.ends ∙ ap ends_of c.in_ok-sizes.ensures.changed in
     let lines : c.move_from-then-sizes.new.sums.items
     ≡ sums_from 0
-    (map ends_of (take c.args.index c.args.blocks.now.items
-    ++ (replace_range c.index_mut.result.now (c.args.start - c.index.result.now) (c.args.end - c.index.result.now)
-    c.args.new.now) ∷ drop (c.args.index + 1) c.args.blocks.now.items)) =
+    (map ends_of (take c.args.range.first c.args.blocks.now.items
+    ++ (replace_range c.index_mut.result.now (c.args.range.start - c.index.result.now) (c.args.range.end -
+    c.index.result.now)
+    c.args.new.now) ∷ drop (c.args.range.first + 1) c.args.blocks.now.items)) =
     c.move_from-then-sizes.ensures
-    ∙ (ap (λ (o : ℕ). take (c.args.index + 1) c.args.lines.now.items
-    ++ map (λ (s : ℕ). s - o + c.in_ok-sizes.sizes.ends) (drop (c.args.index + 1) c.args.lines.now.items))
+    ∙ (ap (λ (o : ℕ). take (c.args.range.first + 1) c.args.lines.now.items
+    ++ map (λ (s : ℕ). s - o + c.in_ok-sizes.sizes.ends) (drop (c.args.range.first + 1) c.args.lines.now.items))
     c.in_ok-sizes.ensures.old_ends ∙
-    (ap (λ (n : ℕ). take (c.args.index + 1) c.args.lines.now.items ++ map (λ (s : ℕ). s - ends_of c.index_mut.result.now
-    + n) (drop (c.args.index + 1) c.args.lines.now.items)) ends ∙ sums_moved ends_of c.args.lines.now.items
-    c.args.blocks.now.items c.args.index c.index_mut.result.now
-    (replace_range c.index_mut.result.now (c.args.start - c.index.result.now) (c.args.end - c.index.result.now)
+    (ap (λ (n : ℕ). take (c.args.range.first + 1) c.args.lines.now.items ++ map (λ (s : ℕ). s - ends_of
+    c.index_mut.result.now
+    + n) (drop (c.args.range.first + 1) c.args.lines.now.items)) ends ∙ sums_moved ends_of c.args.lines.now.items
+    c.args.blocks.now.items c.args.range.first c.index_mut.result.now
+    (replace_range c.index_mut.result.now (c.args.range.start - c.index.result.now) (c.args.range.end -
+    c.index.result.now)
     c.args.new.now) c.requires.are.lines_are (omega (
       arith,
       c.requires.first.within,
       starts_count c.args.blocks.now.items c.args.starts.now.items c.args.lines.now.items c.requires.are,
-    )) (block_whole c.args.blocks.now.items c.args.starts.now.items c.args.lines.now.items c.args.index
-    c.index_mut.result.now c.index.result.now c.args.start c.args.end c.args.new.now put))) in
+    )) (block_whole c.args.blocks.now.items c.args.starts.now.items c.args.lines.now.items c.args.range.first
+    c.index_mut.result.now c.index.result.now c.args.range.start c.args.range.end c.args.new.now put))) in
     subst (λ (bs : List (List ℕ)). IsBuffer bs c.move_from.new.sums.items c.move_from-then-sizes.new.sums.items)
     (sym all)
     (record {
-      are = next_are c.args.blocks.now.items c.args.starts.now.items c.args.lines.now.items c.args.index
-          c.index_mut.result.now c.index.result.now c.args.start c.args.end c.args.new.now put;
+      are = next_are c.args.blocks.now.items c.args.starts.now.items c.args.lines.now.items c.args.range.first
+          c.index_mut.result.now c.index.result.now c.args.range.start c.args.range.end c.args.new.now put;
       starts_are = starts;
       lines_are = lines;
-      size = put_size c.args.blocks.now.items c.args.starts.now.items c.args.lines.now.items c.args.index
-          c.index_mut.result.now c.index.result.now c.args.start c.args.end c.args.new.now put;
+      size = put_size c.args.blocks.now.items c.args.starts.now.items c.args.lines.now.items c.args.range.first
+          c.index_mut.result.now c.index.result.now c.args.range.start c.args.range.end c.args.new.now put;
     })
 
 pub returns-then-sizes-clause-changed : goal.returns-then-sizes-clause-changed
 returns-then-sizes-clause-changed c =
-    let put : IsPut c.args.blocks.now.items c.args.starts.now.items c.args.lines.now.items c.args.index
-    c.index_mut.result.now c.index.result.now c.args.start c.args.end c.args.new.now =
+    let put : IsPut c.args.blocks.now.items c.args.starts.now.items c.args.lines.now.items c.args.range.first
+    c.index_mut.result.now c.index.result.now c.args.range.start c.args.range.end c.args.new.now =
     (record {
       is = c.requires.are;
       block_is = c.index_mut.ensures.value;
@@ -389,20 +406,22 @@ returns-then-sizes-clause-changed c =
       new_utf8 = c.utf8.new;
       room = c.requires.room;
     }) in
-    let all : set c.args.blocks.now.items c.args.index c.put_in_block.new.block
-    ≡ (take c.args.index c.args.blocks.now.items
-    ++ (replace_range c.index_mut.result.now (c.args.start - c.index.result.now) (c.args.end - c.index.result.now)
-    c.args.new.now) ∷ drop (c.args.index + 1) c.args.blocks.now.items) =
-    ap (set c.args.blocks.now.items c.args.index) c.in_ok-sizes.ensures.changed ∙ set_is c.args.blocks.now.items
-    c.args.starts.now.items c.args.lines.now.items c.args.index c.index_mut.result.now c.index.result.now c.args.start
-    c.args.end c.args.new.now put in
-    ap concat all ∙ put_text c.args.blocks.now.items c.args.starts.now.items c.args.lines.now.items c.args.index
-    c.index_mut.result.now c.index.result.now c.args.start c.args.end c.args.new.now put
+    let all : set c.args.blocks.now.items c.args.range.first c.put_in_block.new.block
+    ≡ (take c.args.range.first c.args.blocks.now.items
+    ++ (replace_range c.index_mut.result.now (c.args.range.start - c.index.result.now) (c.args.range.end -
+    c.index.result.now)
+    c.args.new.now) ∷ drop (c.args.range.first + 1) c.args.blocks.now.items) =
+    ap (set c.args.blocks.now.items c.args.range.first) c.in_ok-sizes.ensures.changed ∙ set_is c.args.blocks.now.items
+    c.args.starts.now.items c.args.lines.now.items c.args.range.first c.index_mut.result.now c.index.result.now
+    c.args.range.start
+    c.args.range.end c.args.new.now put in
+    ap concat all ∙ put_text c.args.blocks.now.items c.args.starts.now.items c.args.lines.now.items c.args.range.first
+    c.index_mut.result.now c.index.result.now c.args.range.start c.args.range.end c.args.new.now put
 
 pub returns-else-sizes-clause-are : goal.returns-else-sizes-clause-are
 returns-else-sizes-clause-are c =
-    let put : IsPut c.args.blocks.now.items c.args.starts.now.items c.args.lines.now.items c.args.index
-    c.index_mut.result.now c.index.result.now c.args.start c.args.end c.args.new.now =
+    let put : IsPut c.args.blocks.now.items c.args.starts.now.items c.args.lines.now.items c.args.range.first
+    c.index_mut.result.now c.index.result.now c.args.range.start c.args.range.end c.args.new.now =
     (record {
       is = c.requires.are;
       block_is = c.index_mut.ensures.value;
@@ -415,67 +434,76 @@ returns-else-sizes-clause-are c =
       new_utf8 = c.utf8.new;
       room = c.requires.room;
     }) in
-    let len : c.in_ok-sizes.sizes.len ≡ length (replace_range c.index_mut.result.now (c.args.start - c.index.result.now)
-    (c.args.end - c.index.result.now) c.args.new.now) =
+    let len : c.in_ok-sizes.sizes.len ≡ length (replace_range c.index_mut.result.now (c.args.range.start -
+    c.index.result.now)
+    (c.args.range.end - c.index.result.now) c.args.new.now) =
     c.in_ok-sizes.ensures.len ∙ ap length c.in_ok-sizes.ensures.changed in
     let starts : c.move_from.new.sums.items
     ≡ sums_from 0
-    (map (length {A = ℕ}) (take c.args.index c.args.blocks.now.items
-    ++ (replace_range c.index_mut.result.now (c.args.start - c.index.result.now) (c.args.end - c.index.result.now)
-    c.args.new.now) ∷ drop (c.args.index + 1) c.args.blocks.now.items)) =
+    (map (length {A = ℕ}) (take c.args.range.first c.args.blocks.now.items
+    ++ (replace_range c.index_mut.result.now (c.args.range.start - c.index.result.now) (c.args.range.end -
+    c.index.result.now)
+    c.args.new.now) ∷ drop (c.args.range.first + 1) c.args.blocks.now.items)) =
     c.move_from.ensures
-    ∙ (ap (λ (o : ℕ). take (c.args.index + 1) c.args.starts.now.items
-    ++ map (λ (s : ℕ). s - o + c.in_ok-sizes.sizes.len) (drop (c.args.index + 1) c.args.starts.now.items))
+    ∙ (ap (λ (o : ℕ). take (c.args.range.first + 1) c.args.starts.now.items
+    ++ map (λ (s : ℕ). s - o + c.in_ok-sizes.sizes.len) (drop (c.args.range.first + 1) c.args.starts.now.items))
     c.in_ok-sizes.ensures.old_len ∙
-    (ap (λ (n : ℕ). take (c.args.index + 1) c.args.starts.now.items ++ map (λ (s : ℕ). s - length c.index_mut.result.now
-    + n) (drop (c.args.index + 1) c.args.starts.now.items)) len ∙ sums_moved (length {A = ℕ}) c.args.starts.now.items
-    c.args.blocks.now.items c.args.index c.index_mut.result.now
-    (replace_range c.index_mut.result.now (c.args.start - c.index.result.now) (c.args.end - c.index.result.now)
+    (ap (λ (n : ℕ). take (c.args.range.first + 1) c.args.starts.now.items ++ map (λ (s : ℕ). s - length
+    c.index_mut.result.now
+    + n) (drop (c.args.range.first + 1) c.args.starts.now.items)) len ∙ sums_moved (length {A = ℕ})
+    c.args.starts.now.items
+    c.args.blocks.now.items c.args.range.first c.index_mut.result.now
+    (replace_range c.index_mut.result.now (c.args.range.start - c.index.result.now) (c.args.range.end -
+    c.index.result.now)
     c.args.new.now) c.requires.are.starts_are (omega (
       arith,
       c.requires.first.within,
       starts_count c.args.blocks.now.items c.args.starts.now.items c.args.lines.now.items c.requires.are,
-    )) (block_whole c.args.blocks.now.items c.args.starts.now.items c.args.lines.now.items c.args.index
-    c.index_mut.result.now c.index.result.now c.args.start c.args.end c.args.new.now put))) in
-    let all : set c.args.blocks.now.items c.args.index c.put_in_block.new.block
-    ≡ (take c.args.index c.args.blocks.now.items
-    ++ (replace_range c.index_mut.result.now (c.args.start - c.index.result.now) (c.args.end - c.index.result.now)
-    c.args.new.now) ∷ drop (c.args.index + 1) c.args.blocks.now.items) =
-    ap (set c.args.blocks.now.items c.args.index) c.in_ok-sizes.ensures.changed ∙ set_is c.args.blocks.now.items
-    c.args.starts.now.items c.args.lines.now.items c.args.index c.index_mut.result.now c.index.result.now c.args.start
-    c.args.end c.args.new.now put in
+    )) (block_whole c.args.blocks.now.items c.args.starts.now.items c.args.lines.now.items c.args.range.first
+    c.index_mut.result.now c.index.result.now c.args.range.start c.args.range.end c.args.new.now put))) in
+    let all : set c.args.blocks.now.items c.args.range.first c.put_in_block.new.block
+    ≡ (take c.args.range.first c.args.blocks.now.items
+    ++ (replace_range c.index_mut.result.now (c.args.range.start - c.index.result.now) (c.args.range.end -
+    c.index.result.now)
+    c.args.new.now) ∷ drop (c.args.range.first + 1) c.args.blocks.now.items) =
+    ap (set c.args.blocks.now.items c.args.range.first) c.in_ok-sizes.ensures.changed ∙ set_is c.args.blocks.now.items
+    c.args.starts.now.items c.args.lines.now.items c.args.range.first c.index_mut.result.now c.index.result.now
+    c.args.range.start
+    c.args.range.end c.args.new.now put in
     let same : ends_of c.index_mut.result.now
-    ≡ ends_of (replace_range c.index_mut.result.now (c.args.start - c.index.result.now)
-    (c.args.end - c.index.result.now) c.args.new.now) =
+    ≡ ends_of (replace_range c.index_mut.result.now (c.args.range.start - c.index.result.now)
+    (c.args.range.end - c.index.result.now) c.args.new.now) =
     sym c.in_ok-sizes.ensures.old_ends
     ∙ (sym c.if-sizes.false ∙ (c.in_ok-sizes.ensures.ends ∙ ap ends_of c.in_ok-sizes.ensures.changed)) in
     let lines : c.args.lines.now.items
     ≡ sums_from 0
-    (map ends_of (take c.args.index c.args.blocks.now.items
-    ++ (replace_range c.index_mut.result.now (c.args.start - c.index.result.now) (c.args.end - c.index.result.now)
-    c.args.new.now) ∷ drop (c.args.index + 1) c.args.blocks.now.items)) =
-    sums_same ends_of c.args.lines.now.items c.args.blocks.now.items c.args.index c.index_mut.result.now
-    (replace_range c.index_mut.result.now (c.args.start - c.index.result.now) (c.args.end - c.index.result.now)
+    (map ends_of (take c.args.range.first c.args.blocks.now.items
+    ++ (replace_range c.index_mut.result.now (c.args.range.start - c.index.result.now) (c.args.range.end -
+    c.index.result.now)
+    c.args.new.now) ∷ drop (c.args.range.first + 1) c.args.blocks.now.items)) =
+    sums_same ends_of c.args.lines.now.items c.args.blocks.now.items c.args.range.first c.index_mut.result.now
+    (replace_range c.index_mut.result.now (c.args.range.start - c.index.result.now) (c.args.range.end -
+    c.index.result.now)
     c.args.new.now) c.requires.are.lines_are (omega (
       arith,
       c.requires.first.within,
       starts_count c.args.blocks.now.items c.args.starts.now.items c.args.lines.now.items c.requires.are,
-    )) (block_whole c.args.blocks.now.items c.args.starts.now.items c.args.lines.now.items c.args.index
-    c.index_mut.result.now c.index.result.now c.args.start c.args.end c.args.new.now put) same in
+    )) (block_whole c.args.blocks.now.items c.args.starts.now.items c.args.lines.now.items c.args.range.first
+    c.index_mut.result.now c.index.result.now c.args.range.start c.args.range.end c.args.new.now put) same in
     subst (λ (bs : List (List ℕ)). IsBuffer bs c.move_from.new.sums.items c.args.lines.now.items) (sym all)
     (record {
-      are = next_are c.args.blocks.now.items c.args.starts.now.items c.args.lines.now.items c.args.index
-          c.index_mut.result.now c.index.result.now c.args.start c.args.end c.args.new.now put;
+      are = next_are c.args.blocks.now.items c.args.starts.now.items c.args.lines.now.items c.args.range.first
+          c.index_mut.result.now c.index.result.now c.args.range.start c.args.range.end c.args.new.now put;
       starts_are = starts;
       lines_are = lines;
-      size = put_size c.args.blocks.now.items c.args.starts.now.items c.args.lines.now.items c.args.index
-          c.index_mut.result.now c.index.result.now c.args.start c.args.end c.args.new.now put;
+      size = put_size c.args.blocks.now.items c.args.starts.now.items c.args.lines.now.items c.args.range.first
+          c.index_mut.result.now c.index.result.now c.args.range.start c.args.range.end c.args.new.now put;
     })
 
 pub returns-else-sizes-clause-changed : goal.returns-else-sizes-clause-changed
 returns-else-sizes-clause-changed c =
-    let put : IsPut c.args.blocks.now.items c.args.starts.now.items c.args.lines.now.items c.args.index
-    c.index_mut.result.now c.index.result.now c.args.start c.args.end c.args.new.now =
+    let put : IsPut c.args.blocks.now.items c.args.starts.now.items c.args.lines.now.items c.args.range.first
+    c.index_mut.result.now c.index.result.now c.args.range.start c.args.range.end c.args.new.now =
     (record {
       is = c.requires.are;
       block_is = c.index_mut.ensures.value;
@@ -488,15 +516,17 @@ returns-else-sizes-clause-changed c =
       new_utf8 = c.utf8.new;
       room = c.requires.room;
     }) in
-    let all : set c.args.blocks.now.items c.args.index c.put_in_block.new.block
-    ≡ (take c.args.index c.args.blocks.now.items
-    ++ (replace_range c.index_mut.result.now (c.args.start - c.index.result.now) (c.args.end - c.index.result.now)
-    c.args.new.now) ∷ drop (c.args.index + 1) c.args.blocks.now.items) =
-    ap (set c.args.blocks.now.items c.args.index) c.in_ok-sizes.ensures.changed ∙ set_is c.args.blocks.now.items
-    c.args.starts.now.items c.args.lines.now.items c.args.index c.index_mut.result.now c.index.result.now c.args.start
-    c.args.end c.args.new.now put in
-    ap concat all ∙ put_text c.args.blocks.now.items c.args.starts.now.items c.args.lines.now.items c.args.index
-    c.index_mut.result.now c.index.result.now c.args.start c.args.end c.args.new.now put
+    let all : set c.args.blocks.now.items c.args.range.first c.put_in_block.new.block
+    ≡ (take c.args.range.first c.args.blocks.now.items
+    ++ (replace_range c.index_mut.result.now (c.args.range.start - c.index.result.now) (c.args.range.end -
+    c.index.result.now)
+    c.args.new.now) ∷ drop (c.args.range.first + 1) c.args.blocks.now.items) =
+    ap (set c.args.blocks.now.items c.args.range.first) c.in_ok-sizes.ensures.changed ∙ set_is c.args.blocks.now.items
+    c.args.starts.now.items c.args.lines.now.items c.args.range.first c.index_mut.result.now c.index.result.now
+    c.args.range.start
+    c.args.range.end c.args.new.now put in
+    ap concat all ∙ put_text c.args.blocks.now.items c.args.starts.now.items c.args.lines.now.items c.args.range.first
+    c.index_mut.result.now c.index.result.now c.args.range.start c.args.range.end c.args.new.now put
 
 pub returns-then-sizes-clause-other : goal.returns-then-sizes-clause-other
 returns-then-sizes-clause-other c = (c.put_in_block.new.block, refl)

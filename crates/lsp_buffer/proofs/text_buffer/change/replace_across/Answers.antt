@@ -48,8 +48,9 @@ index-requires-4 c = omega (
 
 pub joined-requires-clause-to : goal.joined-requires-clause-to
 joined-requires-clause-to c = let again : IsAgain c.args.blocks.now.items c.args.starts.now.items c.args.lines.now.items
-    c.args.first c.args.last c.index-3.result.now c.index-4.result.now c.index.result.now c.index-2.result.now
-    c.args.start c.args.end c.args.new.now =
+    c.args.range.first c.args.range.last c.index-3.result.now c.index-4.result.now c.index.result.now
+    c.index-2.result.now
+    c.args.range.start c.args.range.end c.args.new.now =
     (record {
       is = c.requires.are.sums;
       block_is = c.index-3.ensures;
@@ -62,14 +63,17 @@ joined-requires-clause-to c = let again : IsAgain c.args.blocks.now.items c.args
       at_start = c.requires.at_start;
       at_end = c.requires.at_end;
       room = c.requires.room;
-    }) in again_start c.args.blocks.now.items c.args.starts.now.items c.args.lines.now.items c.args.first c.args.last
-    c.index-3.result.now c.index-4.result.now c.index.result.now c.index-2.result.now c.args.start c.args.end
+    }) in again_start c.args.blocks.now.items c.args.starts.now.items c.args.lines.now.items c.args.range.first
+    c.args.range.last
+    c.index-3.result.now c.index-4.result.now c.index.result.now c.index-2.result.now c.args.range.start
+    c.args.range.end
     c.args.new.now again
 
 pub joined-requires-clause-from : goal.joined-requires-clause-from
 joined-requires-clause-from c = let again : IsAgain c.args.blocks.now.items c.args.starts.now.items
-    c.args.lines.now.items c.args.first c.args.last c.index-3.result.now c.index-4.result.now c.index.result.now
-    c.index-2.result.now c.args.start c.args.end c.args.new.now =
+    c.args.lines.now.items c.args.range.first c.args.range.last c.index-3.result.now c.index-4.result.now
+    c.index.result.now
+    c.index-2.result.now c.args.range.start c.args.range.end c.args.new.now =
     (record {
       is = c.requires.are.sums;
       block_is = c.index-3.ensures;
@@ -82,14 +86,18 @@ joined-requires-clause-from c = let again : IsAgain c.args.blocks.now.items c.ar
       at_start = c.requires.at_start;
       at_end = c.requires.at_end;
       room = c.requires.room;
-    }) in again_stop c.args.blocks.now.items c.args.starts.now.items c.args.lines.now.items c.args.first c.args.last
-    c.index-3.result.now c.index-4.result.now c.index.result.now c.index-2.result.now c.args.start c.args.end
+    }) in again_stop c.args.blocks.now.items c.args.starts.now.items c.args.lines.now.items c.args.range.first
+    c.args.range.last
+    c.index-3.result.now c.index-4.result.now c.index.result.now c.index-2.result.now c.args.range.start
+    c.args.range.end
     c.args.new.now again
 
 pub blocks_of-requires : goal.blocks_of-requires
 blocks_of-requires c =
-    let again : IsAgain c.args.blocks.now.items c.args.starts.now.items c.args.lines.now.items c.args.first c.args.last
-    c.index-3.result.now c.index-4.result.now c.index.result.now c.index-2.result.now c.args.start c.args.end
+    let again : IsAgain c.args.blocks.now.items c.args.starts.now.items c.args.lines.now.items c.args.range.first
+    c.args.range.last
+    c.index-3.result.now c.index-4.result.now c.index.result.now c.index-2.result.now c.args.range.start
+    c.args.range.end
     c.args.new.now =
     (record {
       is = c.requires.are.sums;
@@ -104,14 +112,16 @@ blocks_of-requires c =
       at_end = c.requires.at_end;
       room = c.requires.room;
     }) in
-    let text_is : c.deref.result.now ≡ (take (c.args.start - c.index.result.now) c.index-3.result.now
-    ++ (c.args.new.now ++ drop (c.args.end - c.index-2.result.now) c.index-4.result.now)) =
+    let text_is : c.deref.result.now ≡ (take (c.args.range.start - c.index.result.now) c.index-3.result.now
+    ++ (c.args.new.now ++ drop (c.args.range.end - c.index-2.result.now) c.index-4.result.now)) =
     c.deref.ensures ∙ c.in_ok-text.ensures in
     omega (
       arith,
       ap length text_is,
-      text_small c.args.blocks.now.items c.args.starts.now.items c.args.lines.now.items c.args.first c.args.last
-          c.index-3.result.now c.index-4.result.now c.index.result.now c.index-2.result.now c.args.start c.args.end
+      text_small c.args.blocks.now.items c.args.starts.now.items c.args.lines.now.items c.args.range.first
+          c.args.range.last
+          c.index-3.result.now c.index-4.result.now c.index.result.now c.index-2.result.now c.args.range.start
+          c.args.range.end
           c.args.new.now again,
     )
 
@@ -126,8 +136,10 @@ starts_of-requires-clause-past c = omega (
 
 pub starts_of-requires-clause-room : goal.starts_of-requires-clause-room
 starts_of-requires-clause-room c =
-    let again : IsAgain c.args.blocks.now.items c.args.starts.now.items c.args.lines.now.items c.args.first c.args.last
-    c.index-3.result.now c.index-4.result.now c.index.result.now c.index-2.result.now c.args.start c.args.end
+    let again : IsAgain c.args.blocks.now.items c.args.starts.now.items c.args.lines.now.items c.args.range.first
+    c.args.range.last
+    c.index-3.result.now c.index-4.result.now c.index.result.now c.index-2.result.now c.args.range.start
+    c.args.range.end
     c.args.new.now =
     (record {
       is = c.requires.are.sums;
@@ -142,18 +154,21 @@ starts_of-requires-clause-room c =
       at_end = c.requires.at_end;
       room = c.requires.room;
     }) in
-    let text_is : c.deref.result.now ≡ (take (c.args.start - c.index.result.now) c.index-3.result.now
-    ++ (c.args.new.now ++ drop (c.args.end - c.index-2.result.now) c.index-4.result.now)) =
+    let text_is : c.deref.result.now ≡ (take (c.args.range.start - c.index.result.now) c.index-3.result.now
+    ++ (c.args.new.now ++ drop (c.args.range.end - c.index-2.result.now) c.index-4.result.now)) =
     c.deref.ensures ∙ c.in_ok-text.ensures in
     omega (
       arith,
-      starts_room c.args.blocks.now.items c.args.starts.now.items c.args.lines.now.items c.args.first c.args.last
-          c.index-3.result.now c.index-4.result.now c.index.result.now c.index-2.result.now c.args.start c.args.end
+      starts_room c.args.blocks.now.items c.args.starts.now.items c.args.lines.now.items c.args.range.first
+          c.args.range.last
+          c.index-3.result.now c.index-4.result.now c.index.result.now c.index-2.result.now c.args.range.start
+          c.args.range.end
           c.args.new.now again c.deref.result.now c.in_ok-fresh.fresh.items text_is c.in_ok-fresh.ensures.text
           c.in_ok-fresh.ensures.blocks c.in_ok-fresh.ensures.full,
-      ap (λ (xs : List ℕ). slice_index xs c.args.first) c.as_slice-3.ensures.value,
+      ap (λ (xs : List ℕ). slice_index xs c.args.range.first) c.as_slice-3.ensures.value,
       ap (λ (bs : List (List ℕ)). sum (map (length {A = ℕ}) bs)) c.as_slice-2.ensures.value,
-      ap (λ (bs : List (List ℕ)). sum (map (length {A = ℕ}) (drop (c.args.last + 1) bs))) c.as_slice.ensures.value,
+      ap (λ (bs : List (List ℕ)). sum (map (length {A = ℕ}) (drop (c.args.range.last + 1) bs)))
+          c.as_slice.ensures.value,
     )
 
 pub lines_of-requires-clause-first : goal.lines_of-requires-clause-first
@@ -176,8 +191,10 @@ lines_of-requires-clause-past c = omega (
 
 pub lines_of-requires-clause-room : goal.lines_of-requires-clause-room
 lines_of-requires-clause-room c =
-    let again : IsAgain c.args.blocks.now.items c.args.starts.now.items c.args.lines.now.items c.args.first c.args.last
-    c.index-3.result.now c.index-4.result.now c.index.result.now c.index-2.result.now c.args.start c.args.end
+    let again : IsAgain c.args.blocks.now.items c.args.starts.now.items c.args.lines.now.items c.args.range.first
+    c.args.range.last
+    c.index-3.result.now c.index-4.result.now c.index.result.now c.index-2.result.now c.args.range.start
+    c.args.range.end
     c.args.new.now =
     (record {
       is = c.requires.are.sums;
@@ -192,18 +209,20 @@ lines_of-requires-clause-room c =
       at_end = c.requires.at_end;
       room = c.requires.room;
     }) in
-    let text_is : c.deref.result.now ≡ (take (c.args.start - c.index.result.now) c.index-3.result.now
-    ++ (c.args.new.now ++ drop (c.args.end - c.index-2.result.now) c.index-4.result.now)) =
+    let text_is : c.deref.result.now ≡ (take (c.args.range.start - c.index.result.now) c.index-3.result.now
+    ++ (c.args.new.now ++ drop (c.args.range.end - c.index-2.result.now) c.index-4.result.now)) =
     c.deref.ensures ∙ c.in_ok-text.ensures in
     omega (
       arith,
-      lines_room c.args.blocks.now.items c.args.starts.now.items c.args.lines.now.items c.args.first c.args.last
-          c.index-3.result.now c.index-4.result.now c.index.result.now c.index-2.result.now c.args.start c.args.end
+      lines_room c.args.blocks.now.items c.args.starts.now.items c.args.lines.now.items c.args.range.first
+          c.args.range.last
+          c.index-3.result.now c.index-4.result.now c.index.result.now c.index-2.result.now c.args.range.start
+          c.args.range.end
           c.args.new.now again c.deref.result.now c.in_ok-fresh.fresh.items text_is c.in_ok-fresh.ensures.text
           c.in_ok-fresh.ensures.blocks c.in_ok-fresh.ensures.full,
-      ap (λ (xs : List ℕ). slice_index xs c.args.first) c.as_slice-4.ensures.value,
+      ap (λ (xs : List ℕ). slice_index xs c.args.range.first) c.as_slice-4.ensures.value,
       ap (λ (bs : List (List ℕ)). sum (map ends_of bs)) c.as_slice-2.ensures.value,
-      ap (λ (bs : List (List ℕ)). sum (map ends_of (drop (c.args.last + 1) bs))) c.as_slice.ensures.value,
+      ap (λ (bs : List (List ℕ)). sum (map ends_of (drop (c.args.range.last + 1) bs))) c.as_slice.ensures.value,
     )
 
 pub replace_blocks-requires-clause-within : goal.replace_blocks-requires-clause-within
@@ -218,8 +237,10 @@ replace_blocks-requires-clause-within c =
 
 pub spliced-requires-clause-order : goal.spliced-requires-clause-order
 spliced-requires-clause-order c =
-    let again : IsAgain c.args.blocks.now.items c.args.starts.now.items c.args.lines.now.items c.args.first c.args.last
-    c.index-3.result.now c.index-4.result.now c.index.result.now c.index-2.result.now c.args.start c.args.end
+    let again : IsAgain c.args.blocks.now.items c.args.starts.now.items c.args.lines.now.items c.args.range.first
+    c.args.range.last
+    c.index-3.result.now c.index-4.result.now c.index.result.now c.index-2.result.now c.args.range.start
+    c.args.range.end
     c.args.new.now =
     (record {
       is = c.requires.are.sums;
@@ -234,20 +255,24 @@ spliced-requires-clause-order c =
       at_end = c.requires.at_end;
       room = c.requires.room;
     }) in
-    let text_is : c.deref.result.now ≡ (take (c.args.start - c.index.result.now) c.index-3.result.now
-    ++ (c.args.new.now ++ drop (c.args.end - c.index-2.result.now) c.index-4.result.now)) =
+    let text_is : c.deref.result.now ≡ (take (c.args.range.start - c.index.result.now) c.index-3.result.now
+    ++ (c.args.new.now ++ drop (c.args.range.end - c.index-2.result.now) c.index-4.result.now)) =
     c.deref.ensures ∙ c.in_ok-text.ensures in
     omega (
       arith,
-      first_last c.args.blocks.now.items c.args.starts.now.items c.args.lines.now.items c.args.first c.args.last
-          c.index-3.result.now c.index-4.result.now c.index.result.now c.index-2.result.now c.args.start c.args.end
+      first_last c.args.blocks.now.items c.args.starts.now.items c.args.lines.now.items c.args.range.first
+          c.args.range.last
+          c.index-3.result.now c.index-4.result.now c.index.result.now c.index-2.result.now c.args.range.start
+          c.args.range.end
           c.args.new.now again,
     )
 
 pub spliced-requires-clause-within : goal.spliced-requires-clause-within
 spliced-requires-clause-within c =
-    let again : IsAgain c.args.blocks.now.items c.args.starts.now.items c.args.lines.now.items c.args.first c.args.last
-    c.index-3.result.now c.index-4.result.now c.index.result.now c.index-2.result.now c.args.start c.args.end
+    let again : IsAgain c.args.blocks.now.items c.args.starts.now.items c.args.lines.now.items c.args.range.first
+    c.args.range.last
+    c.index-3.result.now c.index-4.result.now c.index.result.now c.index-2.result.now c.args.range.start
+    c.args.range.end
     c.args.new.now =
     (record {
       is = c.requires.are.sums;
@@ -262,21 +287,25 @@ spliced-requires-clause-within c =
       at_end = c.requires.at_end;
       room = c.requires.room;
     }) in
-    let text_is : c.deref.result.now ≡ (take (c.args.start - c.index.result.now) c.index-3.result.now
-    ++ (c.args.new.now ++ drop (c.args.end - c.index-2.result.now) c.index-4.result.now)) =
+    let text_is : c.deref.result.now ≡ (take (c.args.range.start - c.index.result.now) c.index-3.result.now
+    ++ (c.args.new.now ++ drop (c.args.range.end - c.index-2.result.now) c.index-4.result.now)) =
     c.deref.ensures ∙ c.in_ok-text.ensures in
     omega (
       arith,
-      last_within c.args.blocks.now.items c.args.starts.now.items c.args.lines.now.items c.args.first c.args.last
-          c.index-3.result.now c.index-4.result.now c.index.result.now c.index-2.result.now c.args.start c.args.end
+      last_within c.args.blocks.now.items c.args.starts.now.items c.args.lines.now.items c.args.range.first
+          c.args.range.last
+          c.index-3.result.now c.index-4.result.now c.index.result.now c.index-2.result.now c.args.range.start
+          c.args.range.end
           c.args.new.now again,
       ap length c.as_slice.ensures.value,
     )
 
 pub spliced-requires-clause-are : goal.spliced-requires-clause-are
 spliced-requires-clause-are c =
-    let again : IsAgain c.args.blocks.now.items c.args.starts.now.items c.args.lines.now.items c.args.first c.args.last
-    c.index-3.result.now c.index-4.result.now c.index.result.now c.index-2.result.now c.args.start c.args.end
+    let again : IsAgain c.args.blocks.now.items c.args.starts.now.items c.args.lines.now.items c.args.range.first
+    c.args.range.last
+    c.index-3.result.now c.index-4.result.now c.index.result.now c.index-2.result.now c.args.range.start
+    c.args.range.end
     c.args.new.now =
     (record {
       is = c.requires.are.sums;
@@ -291,21 +320,25 @@ spliced-requires-clause-are c =
       at_end = c.requires.at_end;
       room = c.requires.room;
     }) in
-    let text_is : c.deref.result.now ≡ (take (c.args.start - c.index.result.now) c.index-3.result.now
-    ++ (c.args.new.now ++ drop (c.args.end - c.index-2.result.now) c.index-4.result.now)) =
+    let text_is : c.deref.result.now ≡ (take (c.args.range.start - c.index.result.now) c.index-3.result.now
+    ++ (c.args.new.now ++ drop (c.args.range.end - c.index-2.result.now) c.index-4.result.now)) =
     c.deref.ensures ∙ c.in_ok-text.ensures in
     subst AreBlocks
     (sym (row_shown c.as_slice.result.now c.args.blocks.now.items c.as_slice-2.result.now c.in_ok-fresh.fresh.items
-    c.args.first (c.args.last + 1) c.as_slice.ensures.value c.as_slice-2.ensures.value))
-    (again_are c.args.blocks.now.items c.args.starts.now.items c.args.lines.now.items c.args.first c.args.last
-    c.index-3.result.now c.index-4.result.now c.index.result.now c.index-2.result.now c.args.start c.args.end
+    c.args.range.first (c.args.range.last + 1) c.as_slice.ensures.value c.as_slice-2.ensures.value))
+    (again_are c.args.blocks.now.items c.args.starts.now.items c.args.lines.now.items c.args.range.first
+    c.args.range.last
+    c.index-3.result.now c.index-4.result.now c.index.result.now c.index-2.result.now c.args.range.start
+    c.args.range.end
     c.args.new.now again c.deref.result.now c.in_ok-fresh.fresh.items text_is c.in_ok-fresh.ensures.text
     c.in_ok-fresh.ensures.blocks c.in_ok-fresh.ensures.full)
 
 pub spliced-requires-clause-size : goal.spliced-requires-clause-size
 spliced-requires-clause-size c =
-    let again : IsAgain c.args.blocks.now.items c.args.starts.now.items c.args.lines.now.items c.args.first c.args.last
-    c.index-3.result.now c.index-4.result.now c.index.result.now c.index-2.result.now c.args.start c.args.end
+    let again : IsAgain c.args.blocks.now.items c.args.starts.now.items c.args.lines.now.items c.args.range.first
+    c.args.range.last
+    c.index-3.result.now c.index-4.result.now c.index.result.now c.index-2.result.now c.args.range.start
+    c.args.range.end
     c.args.new.now =
     (record {
       is = c.requires.are.sums;
@@ -320,16 +353,19 @@ spliced-requires-clause-size c =
       at_end = c.requires.at_end;
       room = c.requires.room;
     }) in
-    let text_is : c.deref.result.now ≡ (take (c.args.start - c.index.result.now) c.index-3.result.now
-    ++ (c.args.new.now ++ drop (c.args.end - c.index-2.result.now) c.index-4.result.now)) =
+    let text_is : c.deref.result.now ≡ (take (c.args.range.start - c.index.result.now) c.index-3.result.now
+    ++ (c.args.new.now ++ drop (c.args.range.end - c.index-2.result.now) c.index-4.result.now)) =
     c.deref.ensures ∙ c.in_ok-text.ensures in
     omega (
       arith,
       ap (λ (bs : List (List ℕ)). length (concat bs)) (row_shown c.as_slice.result.now c.args.blocks.now.items
-          c.as_slice-2.result.now c.in_ok-fresh.fresh.items c.args.first (c.args.last + 1) c.as_slice.ensures.value
+          c.as_slice-2.result.now c.in_ok-fresh.fresh.items c.args.range.first (c.args.range.last + 1)
+          c.as_slice.ensures.value
           c.as_slice-2.ensures.value),
-      again_size c.args.blocks.now.items c.args.starts.now.items c.args.lines.now.items c.args.first c.args.last
-          c.index-3.result.now c.index-4.result.now c.index.result.now c.index-2.result.now c.args.start c.args.end
+      again_size c.args.blocks.now.items c.args.starts.now.items c.args.lines.now.items c.args.range.first
+          c.args.range.last
+          c.index-3.result.now c.index-4.result.now c.index.result.now c.index-2.result.now c.args.range.start
+          c.args.range.end
           c.args.new.now again c.deref.result.now c.in_ok-fresh.fresh.items text_is c.in_ok-fresh.ensures.text
           c.in_ok-fresh.ensures.blocks c.in_ok-fresh.ensures.full,
     )
@@ -346,8 +382,10 @@ spliced-requires-clause-heads_are c = λ e.
 
 pub returns-clause-are : goal.returns-clause-are
 returns-clause-are c =
-    let again : IsAgain c.args.blocks.now.items c.args.starts.now.items c.args.lines.now.items c.args.first c.args.last
-    c.index-3.result.now c.index-4.result.now c.index.result.now c.index-2.result.now c.args.start c.args.end
+    let again : IsAgain c.args.blocks.now.items c.args.starts.now.items c.args.lines.now.items c.args.range.first
+    c.args.range.last
+    c.index-3.result.now c.index-4.result.now c.index.result.now c.index-2.result.now c.args.range.start
+    c.args.range.end
     c.args.new.now =
     (record {
       is = c.requires.are.sums;
@@ -362,29 +400,32 @@ returns-clause-are c =
       at_end = c.requires.at_end;
       room = c.requires.room;
     }) in
-    let text_is : c.deref.result.now ≡ (take (c.args.start - c.index.result.now) c.index-3.result.now
-    ++ (c.args.new.now ++ drop (c.args.end - c.index-2.result.now) c.index-4.result.now)) =
+    let text_is : c.deref.result.now ≡ (take (c.args.range.start - c.index.result.now) c.index-3.result.now
+    ++ (c.args.new.now ++ drop (c.args.range.end - c.index-2.result.now) c.index-4.result.now)) =
     c.deref.ensures ∙ c.in_ok-text.ensures in
-    let starts : c.in_ok-next_starts.next_starts.items ≡ take c.args.first c.args.starts.now.items
-    ++ (sums_from (slice_index c.args.starts.now.items c.args.first) (map (length {A = ℕ}) c.in_ok-fresh.fresh.items)
-    ++ sums_from (slice_index c.args.starts.now.items c.args.first
+    let starts : c.in_ok-next_starts.next_starts.items ≡ take c.args.range.first c.args.starts.now.items
+    ++ (sums_from (slice_index c.args.starts.now.items c.args.range.first) (map (length {A = ℕ})
+    c.in_ok-fresh.fresh.items)
+    ++ sums_from (slice_index c.args.starts.now.items c.args.range.first
     + sum (map (length {A = ℕ}) c.in_ok-fresh.fresh.items))
-    (map (length {A = ℕ}) (drop (c.args.last + 1) c.args.blocks.now.items))) =
+    (map (length {A = ℕ}) (drop (c.args.range.last + 1) c.args.blocks.now.items))) =
     made_of (length {A = ℕ}) c.in_ok-next_starts.next_starts.items c.as_slice-3.result.now c.args.starts.now.items
-    c.as_slice.result.now c.args.blocks.now.items c.as_slice-2.result.now c.in_ok-fresh.fresh.items c.args.first
-    (c.args.last + 1) c.as_slice-3.ensures.value c.as_slice.ensures.value c.as_slice-2.ensures.value
+    c.as_slice.result.now c.args.blocks.now.items c.as_slice-2.result.now c.in_ok-fresh.fresh.items c.args.range.first
+    (c.args.range.last + 1) c.as_slice-3.ensures.value c.as_slice.ensures.value c.as_slice-2.ensures.value
     c.in_ok-next_starts.ensures in
-    let lines : c.in_ok-next_lines.next_lines.items ≡ take c.args.first c.args.lines.now.items
-    ++ (sums_from (slice_index c.args.lines.now.items c.args.first) (map ends_of c.in_ok-fresh.fresh.items)
-    ++ sums_from (slice_index c.args.lines.now.items c.args.first + sum (map ends_of c.in_ok-fresh.fresh.items))
-    (map ends_of (drop (c.args.last + 1) c.args.blocks.now.items))) =
+    let lines : c.in_ok-next_lines.next_lines.items ≡ take c.args.range.first c.args.lines.now.items
+    ++ (sums_from (slice_index c.args.lines.now.items c.args.range.first) (map ends_of c.in_ok-fresh.fresh.items)
+    ++ sums_from (slice_index c.args.lines.now.items c.args.range.first + sum (map ends_of c.in_ok-fresh.fresh.items))
+    (map ends_of (drop (c.args.range.last + 1) c.args.blocks.now.items))) =
     made_of ends_of c.in_ok-next_lines.next_lines.items c.as_slice-4.result.now c.args.lines.now.items
-    c.as_slice.result.now c.args.blocks.now.items c.as_slice-2.result.now c.in_ok-fresh.fresh.items c.args.first
-    (c.args.last + 1) c.as_slice-4.ensures.value c.as_slice.ensures.value c.as_slice-2.ensures.value
+    c.as_slice.result.now c.args.blocks.now.items c.as_slice-2.result.now c.in_ok-fresh.fresh.items c.args.range.first
+    (c.args.range.last + 1) c.as_slice-4.ensures.value c.as_slice.ensures.value c.as_slice-2.ensures.value
     c.in_ok-next_lines.ensures in
     record {
-      sums = again_is c.args.blocks.now.items c.args.starts.now.items c.args.lines.now.items c.args.first c.args.last
-          c.index-3.result.now c.index-4.result.now c.index.result.now c.index-2.result.now c.args.start c.args.end
+      sums = again_is c.args.blocks.now.items c.args.starts.now.items c.args.lines.now.items c.args.range.first
+          c.args.range.last
+          c.index-3.result.now c.index-4.result.now c.index.result.now c.index-2.result.now c.args.range.start
+          c.args.range.end
           c.args.new.now again c.deref.result.now c.in_ok-fresh.fresh.items text_is c.in_ok-fresh.ensures.text
           c.in_ok-fresh.ensures.blocks c.in_ok-fresh.ensures.full c.replace_blocks.new.blocks.items
           c.in_ok-next_starts.next_starts.items c.in_ok-next_lines.next_lines.items c.in_ok-replace_blocks.ensures.ok
@@ -392,15 +433,18 @@ returns-clause-are c =
       heads_are = λ e.
           c.in_ok-next_heads.ensures e
           ∙ (ap (heads_from (units_in e) 0) (row_shown c.as_slice.result.now c.args.blocks.now.items
-          c.as_slice-2.result.now c.in_ok-fresh.fresh.items c.args.first (c.args.last + 1) c.as_slice.ensures.value
+          c.as_slice-2.result.now c.in_ok-fresh.fresh.items c.args.range.first (c.args.range.last + 1)
+          c.as_slice.ensures.value
           c.as_slice-2.ensures.value) ∙
           ap (heads_from (units_in e) 0) (sym c.in_ok-replace_blocks.ensures.ok));
     }
 
 pub returns-clause-changed : goal.returns-clause-changed
 returns-clause-changed c =
-    let again : IsAgain c.args.blocks.now.items c.args.starts.now.items c.args.lines.now.items c.args.first c.args.last
-    c.index-3.result.now c.index-4.result.now c.index.result.now c.index-2.result.now c.args.start c.args.end
+    let again : IsAgain c.args.blocks.now.items c.args.starts.now.items c.args.lines.now.items c.args.range.first
+    c.args.range.last
+    c.index-3.result.now c.index-4.result.now c.index.result.now c.index-2.result.now c.args.range.start
+    c.args.range.end
     c.args.new.now =
     (record {
       is = c.requires.are.sums;
@@ -415,10 +459,12 @@ returns-clause-changed c =
       at_end = c.requires.at_end;
       room = c.requires.room;
     }) in
-    let text_is : c.deref.result.now ≡ (take (c.args.start - c.index.result.now) c.index-3.result.now
-    ++ (c.args.new.now ++ drop (c.args.end - c.index-2.result.now) c.index-4.result.now)) =
+    let text_is : c.deref.result.now ≡ (take (c.args.range.start - c.index.result.now) c.index-3.result.now
+    ++ (c.args.new.now ++ drop (c.args.range.end - c.index-2.result.now) c.index-4.result.now)) =
     c.deref.ensures ∙ c.in_ok-text.ensures in
     ap concat c.in_ok-replace_blocks.ensures.ok ∙ again_text c.args.blocks.now.items c.args.starts.now.items
-    c.args.lines.now.items c.args.first c.args.last c.index-3.result.now c.index-4.result.now c.index.result.now
-    c.index-2.result.now c.args.start c.args.end c.args.new.now again c.deref.result.now c.in_ok-fresh.fresh.items
+    c.args.lines.now.items c.args.range.first c.args.range.last c.index-3.result.now c.index-4.result.now
+    c.index.result.now
+    c.index-2.result.now c.args.range.start c.args.range.end c.args.new.now again c.deref.result.now
+    c.in_ok-fresh.fresh.items
     text_is c.in_ok-fresh.ensures.text c.in_ok-fresh.ensures.blocks c.in_ok-fresh.ensures.full

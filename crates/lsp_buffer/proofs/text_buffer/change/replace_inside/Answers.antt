@@ -11,12 +11,12 @@ put_inside-requires-clause-are c = c.requires.are.sums
 
 pub put-requires : goal.put-requires
 put-requires c =
-    subst (λ (bs : List (List ℕ)). WereHeads bs c.args.index c.deref.result.now (row_of c.args.heads.now))
+    subst (λ (bs : List (List ℕ)). WereHeads bs c.args.range.first c.deref.result.now (row_of c.args.heads.now))
     (sym c.deref-2.ensures.value)
-    (subst (λ (ls : List ℕ). WereHeads c.put_inside.new.blocks.items c.args.index ls (row_of c.args.heads.now))
+    (subst (λ (ls : List ℕ). WereHeads c.put_inside.new.blocks.items c.args.range.first ls (row_of c.args.heads.now))
     (sym c.deref.ensures.value)
     (were_heads c.args.blocks.now.items c.put_inside.new.blocks.items c.put_inside.new.starts.items
-    c.put_inside.new.lines.items c.args.index (row_of c.args.heads.now) c.in_ok-put_inside.ensures.other
+    c.put_inside.new.lines.items c.args.range.first (row_of c.args.heads.now) c.in_ok-put_inside.ensures.other
     c.put_inside.ensures.are c.requires.are.heads_are
     (omega (
       arith,

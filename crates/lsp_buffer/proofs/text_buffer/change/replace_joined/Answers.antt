@@ -8,11 +8,13 @@ use Rattle.lsp_buffer.proofs.text_buffer.change.replace_joined.Goals as goal
 
 pub split_at-requires : goal.split_at-requires
 split_at-requires c =
-    chunk_boundary (concat c.args.blocks.now.items) (concat (take c.args.last c.args.blocks.now.items))
-    c.index-block.result.now (concat (drop (c.args.last + 1) c.args.blocks.now.items)) c.args.end c.index.result.now
+    chunk_boundary (concat c.args.blocks.now.items) (concat (take c.args.range.last c.args.blocks.now.items))
+    c.index-block.result.now (concat (drop (c.args.range.last + 1) c.args.blocks.now.items)) c.args.range.end
+    c.index.result.now
     c.text.result.now c.text.ensures
     (found_place c.args.blocks.now.items c.args.starts.now.items c.args.lines.now.items (concat c.args.blocks.now.items)
-    c.requires.are.sums refl c.args.last c.index-block.result.now c.index-block.ensures c.args.end c.index.result.now
+    c.requires.are.sums refl c.args.range.last c.index-block.result.now c.index-block.ensures c.args.range.end
+    c.index.result.now
     c.args.starts.now.items refl c.requires.last c.index.ensures)
     c.requires.at_end
 
@@ -32,8 +34,8 @@ block_of-last-requires c =
 
 pub replace_across-requires-clause-order : goal.replace_across-requires-clause-order
 replace_across-requires-clause-order c =
-    let join : IsJoin c.args.blocks.now.items c.args.starts.now.items c.args.lines.now.items c.args.last
-    c.index-block.result.now c.index.result.now c.args.end c.index-2.result.now =
+    let join : IsJoin c.args.blocks.now.items c.args.starts.now.items c.args.lines.now.items c.args.range.last
+    c.index-block.result.now c.index.result.now c.args.range.end c.index-2.result.now =
     (record {
       is = c.requires.are.sums;
       block_is = c.index-block.ensures;
@@ -46,14 +48,14 @@ replace_across-requires-clause-order c =
     omega (
       arith,
       c.requires.order,
-      next_later c.args.blocks.now.items c.args.starts.now.items c.args.lines.now.items c.args.last
-          c.index-block.result.now c.index.result.now c.args.end c.index-2.result.now join,
+      next_later c.args.blocks.now.items c.args.starts.now.items c.args.lines.now.items c.args.range.last
+          c.index-block.result.now c.index.result.now c.args.range.end c.index-2.result.now join,
     )
 
 pub replace_across-requires-clause-at_end : goal.replace_across-requires-clause-at_end
 replace_across-requires-clause-at_end c =
-    let join : IsJoin c.args.blocks.now.items c.args.starts.now.items c.args.lines.now.items c.args.last
-    c.index-block.result.now c.index.result.now c.args.end c.index-2.result.now =
+    let join : IsJoin c.args.blocks.now.items c.args.starts.now.items c.args.lines.now.items c.args.range.last
+    c.index-block.result.now c.index.result.now c.args.range.end c.index-2.result.now =
     (record {
       is = c.requires.are.sums;
       block_is = c.index-block.ensures;
@@ -63,13 +65,13 @@ replace_across-requires-clause-at_end c =
       more = omega (arith, c.requires.next, c.args.blocks.now.ok.0);
       at_end = c.requires.at_end;
     }) in
-    next_boundary c.args.blocks.now.items c.args.starts.now.items c.args.lines.now.items c.args.last
-    c.index-block.result.now c.index.result.now c.args.end c.index-2.result.now join
+    next_boundary c.args.blocks.now.items c.args.starts.now.items c.args.lines.now.items c.args.range.last
+    c.index-block.result.now c.index.result.now c.args.range.end c.index-2.result.now join
 
 pub replace_across-requires-clause-room : goal.replace_across-requires-clause-room
 replace_across-requires-clause-room c =
-    let join : IsJoin c.args.blocks.now.items c.args.starts.now.items c.args.lines.now.items c.args.last
-    c.index-block.result.now c.index.result.now c.args.end c.index-2.result.now =
+    let join : IsJoin c.args.blocks.now.items c.args.starts.now.items c.args.lines.now.items c.args.range.last
+    c.index-block.result.now c.index.result.now c.args.range.end c.index-2.result.now =
     (record {
       is = c.requires.are.sums;
       block_is = c.index-block.ensures;
@@ -82,18 +84,19 @@ replace_across-requires-clause-room c =
     omega (
       arith,
       c.requires.room,
-      ap length (joined_same c.args.blocks.now.items c.args.starts.now.items c.args.lines.now.items c.args.last
-          c.index-block.result.now c.index.result.now c.args.end c.index-2.result.now join c.args.start c.args.new.now
+      ap length (joined_same c.args.blocks.now.items c.args.starts.now.items c.args.lines.now.items c.args.range.last
+          c.index-block.result.now c.index.result.now c.args.range.end c.index-2.result.now join c.args.range.start
+          c.args.new.now
           c.deref-2.result.now c.split_at.result.1.now
-          (c.split_at.ensures.back ∙ ap (drop (c.args.end - c.index.result.now)) c.text.ensures)
+          (c.split_at.ensures.back ∙ ap (drop (c.args.range.end - c.index.result.now)) c.text.ensures)
           (c.deref-2.ensures ∙ (c.in_ok-push_str.ensures.bytes ∙ ap (λ x. x ++ c.split_at.result.1.now)
           c.in_ok-text.ensures.ok))),
     )
 
 pub returns-clause-changed : goal.returns-clause-changed
 returns-clause-changed c =
-    let join : IsJoin c.args.blocks.now.items c.args.starts.now.items c.args.lines.now.items c.args.last
-    c.index-block.result.now c.index.result.now c.args.end c.index-2.result.now =
+    let join : IsJoin c.args.blocks.now.items c.args.starts.now.items c.args.lines.now.items c.args.range.last
+    c.index-block.result.now c.index.result.now c.args.range.end c.index-2.result.now =
     (record {
       is = c.requires.are.sums;
       block_is = c.index-block.ensures;
@@ -104,10 +107,11 @@ returns-clause-changed c =
       at_end = c.requires.at_end;
     }) in
     subst (λ (bytes : List ℕ). OnOk c.replace_across.result (concat c.replace_across.new.blocks.items ≡ bytes))
-    (joined_same c.args.blocks.now.items c.args.starts.now.items c.args.lines.now.items c.args.last
-    c.index-block.result.now c.index.result.now c.args.end c.index-2.result.now join c.args.start c.args.new.now
+    (joined_same c.args.blocks.now.items c.args.starts.now.items c.args.lines.now.items c.args.range.last
+    c.index-block.result.now c.index.result.now c.args.range.end c.index-2.result.now join c.args.range.start
+    c.args.new.now
     c.deref-2.result.now c.split_at.result.1.now
-    (c.split_at.ensures.back ∙ ap (drop (c.args.end - c.index.result.now)) c.text.ensures)
+    (c.split_at.ensures.back ∙ ap (drop (c.args.range.end - c.index.result.now)) c.text.ensures)
     (c.deref-2.ensures ∙ (c.in_ok-push_str.ensures.bytes ∙ ap (λ x. x ++ c.split_at.result.1.now)
     c.in_ok-text.ensures.ok)))
     c.replace_across.ensures.changed
