@@ -23,18 +23,18 @@ put_items before start stop new =
 
 -- What a delta means on the text with the bytes `before`.
 abbrev pub meant_by : List ℕ → Delta → Result (List Item) (ℕ × Fault)
-meant_by before (Put encoding start stop new) = Ok (put_items before start stop new.now)
+meant_by before (Put put) = Ok (put_items before put.start put.stop put.new.now)
 meant_by before (Left encoding changes left)
     = meaning (units_in encoding) (chars before) (map edit_of changes.now)
 
 -- The bytes that a delta leaves of that text.
 abbrev pub bytes_after : List ℕ → Delta → List ℕ
-bytes_after before (Put encoding start stop new) = replace_range before start stop new.now
+bytes_after before (Put put) = replace_range before put.start put.stop put.new.now
 bytes_after before (Left encoding changes left) = left
 
 -- The encoding whose units the positions of a delta's batch count in.
 abbrev pub encoding_of : Delta → Encoding
-encoding_of (Put encoding start stop new) = encoding
+encoding_of (Put put) = put.encoding
 encoding_of (Left encoding changes left) = encoding
 
 -- The two byte offsets are those of a range's ends in that text.
@@ -58,8 +58,8 @@ pub record IsLeft (units : ℕ → ℕ) (before : List ℕ) (changes : List Chan
 
 -- A delta may be applied to that text.
 abbrev pub IsOn : List ℕ → Delta → Type 0
-IsOn before (Put encoding start stop new)
-    = IsPut (units_in encoding) before start stop new.now
+IsOn before (Put put)
+    = IsPut (units_in put.encoding) before put.start put.stop put.new.now
 IsOn before (Left encoding changes left)
     = IsLeft (units_in encoding) before changes.now left
 

@@ -22,13 +22,8 @@ use std::alloc::{AllocError, Global};
 /// A batch of changes, resolved on a text ([`IndexedText::delta`]). It borrows the changes.
 #[derive(Drop)]
 pub enum Delta<'a> {
-    /// The bytes from `start` to `stop` are replaced.
-    Put {
-        encoding: Encoding,
-        start: usize,
-        stop: usize,
-        new: &'a str,
-    },
+    /// A range is replaced.
+    Put(Put<'a>),
     /// The batch leaves a new text, with its lines.
     Left {
         encoding: Encoding,
@@ -37,52 +32,76 @@ pub enum Delta<'a> {
     },
 }
 
-impl<'a> Delta<'a> {
-    /// Returns how many bytes a text has once a range of it is replaced.
-    fn put_len(
-        text: &IndexedText,
-        _encoding: Encoding,
-        start: usize,
-        stop: usize,
-        new: &str,
-    ) -> usize
-        requires put { IsPut (units_in _encoding) text.now start stop new.now }
-        ensures { result ≡ length (replace_range text.now start stop new.now) }
+/// The bytes from `start` to `stop` are replaced by `new`. The positions of the change that this
+/// was are in the units of `encoding`.
+#[derive(Clone, Copy)]
+pub struct Put<'a> {
+    pub encoding: Encoding,
+    pub start: usize,
+    pub stop: usize,
+    pub new: &'a str,
+}
+
+impl<'a> Put<'a> {
+    /// Returns how many bytes it leaves of a text.
+    fn len_on(&self, text: &IndexedText) -> usize
+        requires put { IsPut (units_in self.now.encoding) text.now self.now.start self.now.stop
+            self.now.new.now }
+        ensures { result
+            ≡ length (replace_range text.now self.now.start self.now.stop self.now.new.now) }
     {
-        text.len() - (stop - start) + new.len()
+        text.len() - (self.stop - self.start) + self.new.len()
     }
 
+    /// Returns the text that it leaves of a text.
+    fn text(&self, alloc: Global, text: &IndexedText) -> Result<String, AllocError>
+        requires put { IsPut (units_in self.now.encoding) text.now self.now.start self.now.stop
+            self.now.new.now }
+        ensures { IfOk result (λ left. string_bytes left
+            ≡ replace_range text.now self.now.start self.now.stop self.now.new.now) }
+    {
+        let before = text.as_old();
+        before.replaced(alloc, self.start, self.stop, self.new)
+    }
+
+    /// Returns it as spans that own their texts.
+    fn layer(&self, alloc: Global, text: &IndexedText) -> Result<Layer, AllocError>
+        requires put { IsPut (units_in self.now.encoding) text.now self.now.start self.now.stop
+            self.now.new.now }
+        ensures { IfOk result (λ layer. IsLayer
+            (Ok (put_items text.now self.now.start self.now.stop self.now.new.now))
+            text.now (layer_parts layer)) }
+    {
+        let mut spans = Spans::whole(alloc, &text.as_old());
+        spans.replace(alloc, self.start, self.stop, self.new)?;
+        Layer::of_spans(alloc, 0, spans.as_slice())
+    }
+
+    /// Returns its canonical batch.
+    fn canonical(&self, alloc: Global, text: &IndexedText) -> Result<Vec<Change>, AllocError>
+        requires put { IsPut (units_in self.now.encoding) text.now self.now.start self.now.stop
+            self.now.new.now }
+        ensures { IfOk result (λ answered. map edit_of answered.items
+            ≡ canonical (units_in self.now.encoding) (chars text.now)
+            (put_items text.now self.now.start self.now.stop self.now.new.now)) }
+    {
+        let before = text.as_old();
+        let mut spans = Spans::whole(alloc, &before);
+        spans.replace(alloc, self.start, self.stop, self.new)?;
+        canonical_of(alloc, &before, spans.as_slice(), self.encoding)
+    }
+}
+
+impl<'a> Delta<'a> {
     /// Returns how many bytes it leaves of the text that it was made of.
     pub fn len_on(&self, text: &IndexedText) -> usize
         requires on { IsOn text.now self.now }
         ensures { result ≡ length (bytes_after text.now self.now) }
     {
         match self {
-            Delta::Put {
-                encoding,
-                start,
-                stop,
-                new,
-            } => Self::put_len(text, *encoding, *start, *stop, new),
+            Delta::Put(put) => put.len_on(text),
             Delta::Left { left, .. } => left.len(),
         }
-    }
-
-    /// Returns the text after a range of it is replaced.
-    fn put_text(
-        alloc: Global,
-        text: &IndexedText,
-        _encoding: Encoding,
-        start: usize,
-        stop: usize,
-        new: &str,
-    ) -> Result<String, AllocError>
-        requires put { IsPut (units_in _encoding) text.now start stop new.now }
-        ensures { IfOk result (λ left.
-            string_bytes left ≡ replace_range text.now start stop new.now) }
-    {
-        let before = text.as_old();
-        before.replaced(alloc, start, stop, new)
     }
 
     /// Returns the text that it leaves of the text that it was made of.
@@ -93,52 +112,9 @@ impl<'a> Delta<'a> {
         ensures { IfOk result (λ left. string_bytes left ≡ bytes_after text.now self.now) }
     {
         match self {
-            Delta::Put {
-                encoding,
-                start,
-                stop,
-                new,
-            } => Self::put_text(alloc, text, *encoding, *start, *stop, new),
+            Delta::Put(put) => put.text(alloc, text),
             Delta::Left { left, .. } => left.text().to_string(alloc),
         }
-    }
-
-    /// Returns a range that is replaced as spans that own their texts.
-    fn put_layer(
-        alloc: Global,
-        text: &IndexedText,
-        _encoding: Encoding,
-        start: usize,
-        stop: usize,
-        new: &str,
-    ) -> Result<Layer, AllocError>
-        requires put { IsPut (units_in _encoding) text.now start stop new.now }
-        ensures { IfOk result (λ layer. IsLayer (Ok (put_items text.now start stop new.now))
-            text.now (layer_parts layer)) }
-    {
-        let mut spans = Spans::whole(alloc, &text.as_old());
-        spans.replace(alloc, start, stop, new)?;
-        Layer::of_spans(alloc, 0, spans.as_slice())
-    }
-
-    /// Returns the canonical batch of a range that is replaced.
-    fn put_canonical(
-        alloc: Global,
-        text: &IndexedText,
-        encoding: Encoding,
-        start: usize,
-        stop: usize,
-        new: &str,
-    ) -> Result<Vec<Change>, AllocError>
-        requires put { IsPut (units_in encoding) text.now start stop new.now }
-        ensures { IfOk result (λ answered. map edit_of answered.items
-            ≡ canonical (units_in encoding) (chars text.now)
-            (put_items text.now start stop new.now)) }
-    {
-        let before = text.as_old();
-        let mut spans = Spans::whole(alloc, &before);
-        spans.replace(alloc, start, stop, new)?;
-        canonical_of(alloc, &before, spans.as_slice(), encoding)
     }
 
     /// Returns it in spans that own their texts. Fails only if it is out of memory. A range costs
@@ -149,12 +125,7 @@ impl<'a> Delta<'a> {
             (layer_parts layer)) }
     {
         match self {
-            Delta::Put {
-                encoding,
-                start,
-                stop,
-                new,
-            } => Self::put_layer(alloc, text, *encoding, *start, *stop, new),
+            Delta::Put(put) => put.layer(alloc, text),
             Delta::Left {
                 encoding,
                 changes,
@@ -178,12 +149,7 @@ impl<'a> Delta<'a> {
             ≡ canonical (units_in (encoding_of self.now)) (chars text.now) items) }
     {
         match self {
-            Delta::Put {
-                encoding,
-                start,
-                stop,
-                new,
-            } => Self::put_canonical(alloc, text, *encoding, *start, *stop, new),
+            Delta::Put(put) => put.canonical(alloc, text),
             Delta::Left {
                 encoding,
                 changes,

@@ -18,7 +18,7 @@ mod draft;
 
 use crate::change::{Change, MAX_NEW_TEXT};
 use crate::composed::{MAX_OLD_TEXT, compose_old};
-use crate::delta::Delta;
+use crate::delta::{Delta, Put};
 use crate::ends::ends;
 use crate::fault::EditFault;
 use crate::joined::layer::Layer;
@@ -242,12 +242,12 @@ impl IndexedText {
         if len - (stop - start) + new.len() > max_len {
             return Err(TextFault::TooLong);
         }
-        Ok(Delta::Put {
+        Ok(Delta::Put(Put {
             encoding,
             start,
             stop,
             new,
-        })
+        }))
     }
 
     /// Resolves a batch by the text that it leaves.
@@ -312,12 +312,7 @@ impl IndexedText {
         ensures unchanged { OnErr result (self.new ≡ self.old) }
     {
         match delta {
-            Delta::Put {
-                start,
-                stop,
-                new,
-                ..
-            } => self.text.replace_range(start, stop, new),
+            Delta::Put(put) => self.text.replace_range(put.start, put.stop, put.new),
             Delta::Left { left, .. } => {
                 *self = left;
                 Ok(())

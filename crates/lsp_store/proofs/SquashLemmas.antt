@@ -295,7 +295,7 @@ memory_alone uri limits encoding joined before kept view entry version more acce
 -- ---- a batch that was planned
 
 on_utf8 : (before : List ℕ) (delta : Delta) → IsOn before delta → IsUtf8 before
-on_utf8 before (Put encoding start stop new) on = on.utf8
+on_utf8 before (Put put) on = on.utf8
 on_utf8 before (Left encoding changes left) on = on.utf8
 
 module _ (uri : List ℕ) (limits : LimitsData) (encoding : Encoding) (joined next : JoinedData) (before next_version : ℤ)

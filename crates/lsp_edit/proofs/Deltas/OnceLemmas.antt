@@ -148,10 +148,11 @@ pub record HasBatch (before : List ℕ) (delta : Delta) : Type 0 where
   pub means : meaning units (chars before) batch ≡ meant_by before delta
 
 pub has_batch : (before : List ℕ) (delta : Delta) → IsOn before delta → HasBatch before delta
-has_batch before (Put encoding start stop new) on = record {
-  units = units_in encoding;
-  batch = alone on.range new.now;
-  means = range_means (units_in encoding) before on.utf8 on.range new.now on.new_utf8 start stop on.places;
+has_batch before (Put put) on = record {
+  units = units_in put.encoding;
+  batch = alone on.range put.new.now;
+  means = range_means (units_in put.encoding) before on.utf8 on.range put.new.now on.new_utf8 put.start put.stop
+      on.places;
 }
 has_batch before (Left encoding changes left) on = record {
   units = units_in encoding;

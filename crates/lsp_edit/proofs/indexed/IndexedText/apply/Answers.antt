@@ -8,25 +8,29 @@ use Rattle.lsp_edit.proofs.indexed.IndexedText.apply.Goals as goal
 
 pub replace_range-requires-clause-order : goal.replace_range-requires-clause-order
 replace_range-requires-clause-order c =
-    let p : IsPut (units_in c.in-Put.encoding) c.args.self.now c.in-Put.start c.in-Put.stop c.in-Put.new.now =
+    let p : IsPut (units_in c.in-Put.put.encoding) c.args.self.now c.in-Put.put.start c.in-Put.put.stop
+    c.in-Put.put.new.now =
     subst (IsOn c.args.self.now) c.in-Put.is c.requires.on in
     put_order _ _ _ _ _ p
 
 pub replace_range-requires-clause-at_start : goal.replace_range-requires-clause-at_start
 replace_range-requires-clause-at_start c =
-    let p : IsPut (units_in c.in-Put.encoding) c.args.self.now c.in-Put.start c.in-Put.stop c.in-Put.new.now =
+    let p : IsPut (units_in c.in-Put.put.encoding) c.args.self.now c.in-Put.put.start c.in-Put.put.stop
+    c.in-Put.put.new.now =
     subst (IsOn c.args.self.now) c.in-Put.is c.requires.on in
-    subst (λ (bytes : List ℕ). IsCharBoundary bytes c.in-Put.start) (sym c.self.view_is) (put_start _ _ _ _ _ p)
+    subst (λ (bytes : List ℕ). IsCharBoundary bytes c.in-Put.put.start) (sym c.self.view_is) (put_start _ _ _ _ _ p)
 
 pub replace_range-requires-clause-at_end : goal.replace_range-requires-clause-at_end
 replace_range-requires-clause-at_end c =
-    let p : IsPut (units_in c.in-Put.encoding) c.args.self.now c.in-Put.start c.in-Put.stop c.in-Put.new.now =
+    let p : IsPut (units_in c.in-Put.put.encoding) c.args.self.now c.in-Put.put.start c.in-Put.put.stop
+    c.in-Put.put.new.now =
     subst (IsOn c.args.self.now) c.in-Put.is c.requires.on in
-    subst (λ (bytes : List ℕ). IsCharBoundary bytes c.in-Put.stop) (sym c.self.view_is) (put_stop _ _ _ _ _ p)
+    subst (λ (bytes : List ℕ). IsCharBoundary bytes c.in-Put.put.stop) (sym c.self.view_is) (put_stop _ _ _ _ _ p)
 
 pub replace_range-requires-clause-room : goal.replace_range-requires-clause-room
 replace_range-requires-clause-room c =
-    let p : IsPut (units_in c.in-Put.encoding) c.args.self.now c.in-Put.start c.in-Put.stop c.in-Put.new.now =
+    let p : IsPut (units_in c.in-Put.put.encoding) c.args.self.now c.in-Put.put.start c.in-Put.put.stop
+    c.in-Put.put.new.now =
     subst (IsOn c.args.self.now) c.in-Put.is c.requires.on in
     omega (
       arith,
@@ -35,6 +39,6 @@ replace_range-requires-clause-room c =
       (put_stop _ _ _ _ _ p).0,
       p.size,
       p.short,
-      ap (λ (bytes : List ℕ). length (replace_range bytes c.in-Put.start c.in-Put.stop c.in-Put.new.now))
+      ap (λ (bytes : List ℕ). length (replace_range bytes c.in-Put.put.start c.in-Put.put.stop c.in-Put.put.new.now))
           c.self.view_is,
     )

@@ -1,19 +1,19 @@
 use Rattle.std.proofs.Common.{List, ℕ, subst, sym}
 use Rattle.std.specs.Str.{IsCharBoundary}
 use Rattle.lsp_edit.proofs.Deltas.OnceLemmas.{put_order, put_start, put_stop}
-use Rattle.lsp_edit.proofs.delta.Delta.put_text.Goals as goal
+use Rattle.lsp_edit.proofs.delta.Put.text.Goals as goal
 
 pub replaced-requires-clause-order : goal.replaced-requires-clause-order
 replaced-requires-clause-order c = put_order _ _ _ _ _ c.requires.put
 
 pub replaced-requires-clause-at_start : goal.replaced-requires-clause-at_start
 replaced-requires-clause-at_start c =
-    subst (λ (bytes : List ℕ). IsCharBoundary bytes c.args.start) (sym c.as_old-before.ensures)
+    subst (λ (bytes : List ℕ). IsCharBoundary bytes c.args.self.now.start) (sym c.as_old-before.ensures)
     (put_start _ _ _ _ _ c.requires.put)
 
 pub replaced-requires-clause-at_end : goal.replaced-requires-clause-at_end
 replaced-requires-clause-at_end c =
-    subst (λ (bytes : List ℕ). IsCharBoundary bytes c.args.stop) (sym c.as_old-before.ensures)
+    subst (λ (bytes : List ℕ). IsCharBoundary bytes c.args.self.now.stop) (sym c.as_old-before.ensures)
     (put_stop _ _ _ _ _ c.requires.put)
 
 pub returns : goal.returns

@@ -1,6 +1,6 @@
 use Rattle.std.proofs.Common.{arith}
 use Rattle.lsp_edit.proofs.Deltas.OnceLemmas.{put_len, put_order, put_stop}
-use Rattle.lsp_edit.proofs.delta.Delta.put_len.Goals as goal
+use Rattle.lsp_edit.proofs.delta.Put.len_on.Goals as goal
 
 pub overflow_sub-result : goal.overflow_sub-result
 overflow_sub-result c = put_order _ _ _ _ _ c.requires.put
