@@ -1,7 +1,8 @@
 -- How the calls of this crate report why they refuse.
-use Rattle.std.specs.Prelude.{◌≡◌, ◌⊎◌, Option, Some, option_map}
+use Rattle.std.specs.Prelude.{ℕ, ◌≡◌, ◌⊎◌, List, Option, Some, codes, option_map}
 use Rattle.lsp_frame.specs.declared.written.EncodeFault.{EncodeFault}
 use Rattle.lsp_frame.specs.declared.written.EncodeFault.TheVariants as encode
+use Rattle.lsp_edit.specs.declared.fault.EditFault.TheVariants.{InsideCharacter, ReversedRange}
 use Rattle.lsp_edit.specs.declared.indexed.TextFault.{TextFault}
 use Rattle.lsp_edit.specs.declared.indexed.TextFault.TheVariants as text
 use Rattle.lsp_edit.specs.Faults.{fault_at}
@@ -19,6 +20,19 @@ fault_of too_many_changes = TooManyChanges
 fault_of (stale_version held) = StaleVersion held
 fault_of (edit number why) = Edit (fault_at number why)
 fault_of (body_too_long len) = BodyTooLong len
+
+-- The code of a fault, as docs/PROTOCOL.md lists them. That of S7 is its cause.
+abbrev pub fault_code : StoreFault → List ℕ
+fault_code AlreadyOpen = codes "S1"
+fault_code TooManyDocuments = codes "S2"
+fault_code TextTooLong = codes "S3"
+fault_code NotOpen = codes "S4"
+fault_code (StaleVersion held) = codes "S5"
+fault_code TooManyChanges = codes "S6"
+fault_code (Edit (InsideCharacter change side)) = codes "E1"
+fault_code (Edit (ReversedRange change)) = codes "E2"
+fault_code (BodyTooLong len) = codes "S8"
+fault_code fault = codes "S9"
 
 -- The store's fault of a text's fault.
 abbrev pub store_fault_of : TextFault → StoreFault

@@ -41,6 +41,28 @@ pub enum StoreFault {
     NoMemory,
 }
 
+impl StoreFault {
+    ghost use Rattle.lsp_store.specs.Faults.{fault_code};
+
+    /// Returns the code that users see: S1 to S9, and for S7 its cause, E1 or E2.
+    pub fn code(self) -> &'static str
+        ensures { result.now ≡ fault_code self }
+    {
+        match self {
+            StoreFault::AlreadyOpen => "S1",
+            StoreFault::TooManyDocuments => "S2",
+            StoreFault::TextTooLong => "S3",
+            StoreFault::NotOpen => "S4",
+            StoreFault::StaleVersion { .. } => "S5",
+            StoreFault::TooManyChanges => "S6",
+            StoreFault::Edit(EditFault::InsideCharacter { .. }) => "E1",
+            StoreFault::Edit(EditFault::ReversedRange { .. }) => "E2",
+            StoreFault::BodyTooLong { .. } => "S8",
+            StoreFault::Edit(EditFault::NoMemory) | StoreFault::NoMemory => "S9",
+        }
+    }
+}
+
 impl From<TextFault> for StoreFault {
     ghost use Rattle.lsp_store.specs.Faults.{store_fault_of};
 

@@ -1,42 +1,62 @@
-//! The text of each fault.
+//! The code and the text of each fault.
 
-use lsp_edit::EditFault;
+use lsp_edit::{EditFault, Side};
 use lsp_store::StoreFault;
 use std::alloc::{AllocError, Global};
 use std::process::Abort;
 
-static FAULTS: [(StoreFault, &str); 9] = [
-    (StoreFault::AlreadyOpen, "the document is open already"),
-    (StoreFault::TooManyDocuments, "too many documents are open"),
-    (StoreFault::TextTooLong, "the text is too long"),
-    (StoreFault::NotOpen, "the document is not open"),
+static FAULTS: [(StoreFault, &str, &str); 10] = [
+    (
+        StoreFault::AlreadyOpen,
+        "S1",
+        "the document is open already",
+    ),
+    (
+        StoreFault::TooManyDocuments,
+        "S2",
+        "too many documents are open",
+    ),
+    (StoreFault::TextTooLong, "S3", "the text is too long"),
+    (StoreFault::NotOpen, "S4", "the document is not open"),
     (
         StoreFault::StaleVersion { held: -5 },
+        "S5",
         "the version is not greater than -5",
     ),
     (
         StoreFault::TooManyChanges,
+        "S6",
         "too many changes, or too long ones",
     ),
     (
+        StoreFault::Edit(EditFault::InsideCharacter {
+            change: 2,
+            side: Side::Stop,
+        }),
+        "E1",
+        "change 2: Stop lies inside a character",
+    ),
+    (
         StoreFault::Edit(EditFault::ReversedRange { change: 1 }),
+        "E2",
         "change 1: the range is reversed",
     ),
     (
         StoreFault::BodyTooLong { len: 4_214 },
+        "S8",
         "the body has 4214 bytes, more than the limit",
     ),
-    (StoreFault::NoMemory, "out of memory"),
+    (StoreFault::NoMemory, "S9", "out of memory"),
 ];
 
-fn prints(alloc: Global, row: &(StoreFault, &str)) -> Result<bool, AllocError> {
+fn prints(alloc: Global, row: &(StoreFault, &str, &str)) -> Result<bool, AllocError> {
     let fault = row.0;
     let text = format!(in alloc; "{fault}")?;
-    Ok(text.as_str() == row.1)
+    Ok(fault.code() == row.1 && text.as_str() == row.2)
 }
 
 #[test]
-fn each_fault_has_its_text(rt: HostRuntime) {
+fn each_fault_has_its_code_and_text(rt: HostRuntime) {
     for row in &FAULTS {
         assert!(rt; prints(rt.alloc(), row) == Ok(true), "{}", row.1);
     }
