@@ -4,16 +4,13 @@ use Rattle.lsp_frame.specs.Frame.{frame}
 use Rattle.lsp_frame.specs.Limits.{default_limits}
 use Rattle.lsp_text.specs.declared.encoding.Encoding.TheVariants.{Utf16}
 use Rattle.lsp_text.specs.Units.{units_in}
-use Rattle.lsp_edit.specs.declared.fault.EditFault.{EditFault}
-use Rattle.lsp_edit.specs.declared.fault.EditFault.TheVariants.{InsideCharacter, ReversedRange, NoMemory as NoMemoryToEdit}
 use Rattle.lsp_message.specs.declared.outgoing.ErrorCode.{ErrorCode}
 use Rattle.lsp_message.specs.declared.outgoing.ErrorCode.TheVariants.{ParseError, InvalidRequest, MethodNotFound, InvalidParams, ServerNotInitialized}
 use Rattle.lsp_message.specs.Message.{reading}
 use Rattle.lsp_message.specs.Outgoing.{document_text}
 use Rattle.lsp_message.specs.Params.{DocumentItem, ChangeData}
+use Rattle.lsp_store.specs.Faults.{fault_code}
 use Rattle.lsp_store.specs.Message.{canonical_body}
-use Rattle.lsp_store.specs.declared.fault.StoreFault.{StoreFault}
-use Rattle.lsp_store.specs.declared.fault.StoreFault.TheVariants.{AlreadyOpen, TooManyDocuments, TextTooLong, NotOpen, StaleVersion, TooManyChanges, Edit}
 use Rattle.lsp_server.specs.declared.answer.Refusal.{Refusal}
 use Rattle.lsp_server.specs.declared.answer.Refusal.TheVariants.{InvalidParams as BadParams, Store}
 use Rattle.lsp_server.specs.Incoming.{IncomingData, incoming_of, did_change}
@@ -113,27 +110,10 @@ code_word (Some MethodNotFound) = codes "error -32601"
 code_word (Some InvalidParams) = codes "error -32602"
 code_word (Some ServerNotInitialized) = codes "error -32002"
 
--- The letters of a change that has no result, as docs/PROTOCOL.md lists them.
-abbrev pub edit_label : EditFault → List ℕ
-edit_label (InsideCharacter change side) = codes "E1"
-edit_label (ReversedRange change) = codes "E2"
-edit_label NoMemoryToEdit = []
-
--- The letters of a command that the documents refuse.
-abbrev pub store_label : StoreFault → List ℕ
-store_label AlreadyOpen = codes "S1"
-store_label TooManyDocuments = codes "S2"
-store_label TextTooLong = codes "S3"
-store_label NotOpen = codes "S4"
-store_label (StaleVersion held) = codes "S5"
-store_label TooManyChanges = codes "S6"
-store_label (Edit fault) = edit_label fault
-store_label fault = []
-
--- The letters of a refusal: those of invalid parameters, or of the documents.
+-- The code of a refusal, as docs/PROTOCOL.md lists them.
 abbrev pub label : Refusal → List ℕ
 label BadParams = codes "M4"
-label (Store fault) = store_label fault
+label (Store fault) = fault_code fault
 
 -- The word of what a server answers to a message.
 abbrev pub word_of : AnswerData Sent → List ℕ

@@ -4,7 +4,7 @@ ghost use Rattle.std.specs.Prelude.{◌≡◌, ◌++◌, refl, OnOk, decimal, fa
 ghost use Rattle.lsp_server.specs.Seen.{answer_view};
 ghost use Rattle.lsp_replay.specs.RunOutput.{RunOutput};
 ghost use Rattle.lsp_replay.specs.Session.{opened};
-ghost use Rattle.lsp_replay.specs.Commands.{checking, check_line, code_word, label, store_label, edit_label, verdict_word, word_of};
+ghost use Rattle.lsp_replay.specs.Commands.{checking, check_line, code_word, label, verdict_word, word_of};
 ghost use Rattle.lsp_replay.specs.inside.Commands.{run_output_in};
 ghost use Rattle.lsp_replay.specs.inside.Verdicts.{verdict_view};
 
@@ -12,11 +12,9 @@ use crate::handler::{Given, Handler, Output};
 use crate::outcome::Outcome;
 use crate::session::{Session, Verdict};
 use itoa::Buffer;
-use lsp_edit::EditFault;
 use lsp_log::Head;
 use lsp_message::ErrorCode;
 use lsp_server::{Answer, Config, Refusal};
-use lsp_store::StoreFault;
 use lsp_stream::EngineFault;
 use std::alloc::{AllocError, Global};
 
@@ -144,31 +142,6 @@ fn label(refusal: Refusal) -> &'static str
 {
     match refusal {
         Refusal::InvalidParams => "M4",
-        Refusal::Store(fault) => store_label(fault),
-    }
-}
-
-fn store_label(fault: StoreFault) -> &'static str
-    ensures { result.now ≡ store_label fault }
-{
-    match fault {
-        StoreFault::AlreadyOpen => "S1",
-        StoreFault::TooManyDocuments => "S2",
-        StoreFault::TextTooLong => "S3",
-        StoreFault::NotOpen => "S4",
-        StoreFault::StaleVersion { .. } => "S5",
-        StoreFault::TooManyChanges => "S6",
-        StoreFault::Edit(fault) => edit_label(fault),
-        StoreFault::BodyTooLong { .. } | StoreFault::NoMemory => "",
-    }
-}
-
-fn edit_label(fault: EditFault) -> &'static str
-    ensures { result.now ≡ edit_label fault }
-{
-    match fault {
-        EditFault::InsideCharacter { .. } => "E1",
-        EditFault::ReversedRange { .. } => "E2",
-        EditFault::NoMemory => "",
+        Refusal::Store(fault) => fault.code(),
     }
 }
