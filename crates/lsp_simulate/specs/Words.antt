@@ -1,10 +1,8 @@
 -- The words for what happened at a step, as docs/LSPSYNC.md lists them.
 use Rattle.std.specs.Prelude.{ℕ, ◌++◌, List, Option, Some, None, codes, decimal}
 use Rattle.std.specs.Fmt.{signed_decimal}
-use Rattle.lsp_edit.specs.declared.fault.EditFault.TheVariants.{InsideCharacter, ReversedRange}
 use Rattle.lsp_message.specs.Outgoing.{code_of}
-use Rattle.lsp_store.specs.declared.fault.StoreFault.{StoreFault}
-use Rattle.lsp_store.specs.declared.fault.StoreFault.TheVariants.{AlreadyOpen, TooManyDocuments, TextTooLong, NotOpen, StaleVersion, TooManyChanges, Edit, BodyTooLong}
+use Rattle.lsp_store.specs.Faults.{fault_code}
 use Rattle.lsp_message.specs.declared.outgoing.ErrorCode.{ErrorCode}
 use Rattle.lsp_server.specs.declared.answer.Refusal.{Refusal}
 use Rattle.lsp_server.specs.declared.answer.Refusal.TheVariants as refusal
@@ -38,23 +36,10 @@ reason_name ErrorAnswer = codes "error-answer"
 reason_name NoSync = codes "no-sync"
 reason_name BadEncoding = codes "bad-encoding"
 
--- The letters of a refusal, as docs/PROTOCOL.md lists them.
-abbrev pub refusal_name : StoreFault → List ℕ
-refusal_name AlreadyOpen = codes "S1"
-refusal_name TooManyDocuments = codes "S2"
-refusal_name TextTooLong = codes "S3"
-refusal_name NotOpen = codes "S4"
-refusal_name (StaleVersion version) = codes "S5"
-refusal_name TooManyChanges = codes "S6"
-refusal_name (Edit (InsideCharacter change side)) = codes "E1"
-refusal_name (Edit (ReversedRange change)) = codes "E2"
-refusal_name (BodyTooLong len) = codes "S8"
-refusal_name fault = codes "S9"
-
 -- The words for a call that the client refused.
 abbrev pub refused_words : ClientFault → List ℕ
 refused_words (fault.WrongPhase phase) = codes "refused C1 " ++ phase_name phase
-refused_words (fault.Store why) = codes "refused " ++ refusal_name why
+refused_words (fault.Store why) = codes "refused " ++ fault_code why
 refused_words fault.NoMemory = codes "refused C3"
 
 -- The words for a reply: its error, if it is one.
@@ -65,7 +50,7 @@ reply_words (Some code) = codes "server error " ++ signed_decimal (code_of code)
 -- The words for a notification that the server refused.
 abbrev pub refusal_words : Refusal → List ℕ
 refusal_words refusal.InvalidParams = codes "server refused M4"
-refusal_words (refusal.Store why) = codes "server refused " ++ refusal_name why
+refusal_words (refusal.Store why) = codes "server refused " ++ fault_code why
 
 -- The words for what the server did with a message.
 abbrev pub did_words : Did → List ℕ

@@ -3,14 +3,12 @@
 ghost use Rattle.std.specs.Prelude.{◌≡◌, OnOk};
 ghost use Rattle.std.specs.Io.KnownBytes.{Appends};
 ghost use Rattle.lsp_simulate.specs.Words.{did_words, happened_words, heard_words, refused_words};
-ghost use Rattle.lsp_simulate.specs.Words.{phase_name, reason_name, refusal_name, refusal_words, reply_words};
+ghost use Rattle.lsp_simulate.specs.Words.{phase_name, reason_name, refusal_words, reply_words};
 
 use lsp_client::{ClientFault, Phase, Reason};
-use lsp_edit::EditFault;
 use lsp_message::ErrorCode;
 use lsp_pair::{Did, Happened, Heard};
 use lsp_server::Refusal;
-use lsp_store::StoreFault;
 use std::io::{self, Write};
 
 /// Writes the words for what happened.
@@ -33,7 +31,7 @@ fn write_refused<W: Write>(output: &mut W, fault: ClientFault) -> io::Result<()>
 {
     match fault {
         ClientFault::WrongPhase { phase } => write!(output, "refused C1 {}", phase_word(phase)),
-        ClientFault::Store(fault) => write!(output, "refused {}", refusal_word(fault)),
+        ClientFault::Store(fault) => write!(output, "refused {}", fault.code()),
         ClientFault::NoMemory => write!(output, "refused C3"),
     }
 }
@@ -68,7 +66,7 @@ fn write_refusal<W: Write>(output: &mut W, refusal: Refusal) -> io::Result<()>
 {
     match refusal {
         Refusal::InvalidParams => write!(output, "server refused M4"),
-        Refusal::Store(fault) => write!(output, "server refused {}", refusal_word(fault)),
+        Refusal::Store(fault) => write!(output, "server refused {}", fault.code()),
     }
 }
 
@@ -106,22 +104,5 @@ fn reason_word(reason: Reason) -> &'static str
         Reason::ErrorAnswer => "error-answer",
         Reason::NoSync => "no-sync",
         Reason::BadEncoding => "bad-encoding",
-    }
-}
-
-fn refusal_word(fault: StoreFault) -> &'static str
-    ensures { result.now ≡ refusal_name fault }
-{
-    match fault {
-        StoreFault::AlreadyOpen => "S1",
-        StoreFault::TooManyDocuments => "S2",
-        StoreFault::TextTooLong => "S3",
-        StoreFault::NotOpen => "S4",
-        StoreFault::StaleVersion { .. } => "S5",
-        StoreFault::TooManyChanges => "S6",
-        StoreFault::Edit(EditFault::InsideCharacter { .. }) => "E1",
-        StoreFault::Edit(EditFault::ReversedRange { .. }) => "E2",
-        StoreFault::BodyTooLong { .. } => "S8",
-        StoreFault::Edit(EditFault::NoMemory) | StoreFault::NoMemory => "S9",
     }
 }

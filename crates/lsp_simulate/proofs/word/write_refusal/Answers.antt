@@ -10,4 +10,4 @@ returns-in-Store g c =
     rw c.in-Store.is
     (subst (λ (z : List ℕ). OnOk c.write-in-Store.result (Appends (g.W.Write.contents c.args.output.now)
     (g.W.Write.contents c.write-in-Store.new.self) (codes "server refused " ++ z)))
-    c.refusal_word.ensures c.write-in-Store.ensures.bytes)
+    c.code.ensures c.write-in-Store.ensures.bytes)
