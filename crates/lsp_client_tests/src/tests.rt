@@ -7,10 +7,9 @@ mod refused;
 mod session;
 
 use lsp_client::{Client, ClientFault, Delivered, Phase, Reason};
-use lsp_edit::{Change, EditFault};
+use lsp_edit::Change;
 use lsp_frame::{Limits, frame};
 use lsp_message::Offers;
-use lsp_store::StoreFault;
 use lsp_text::{Position, Range};
 use std::alloc::{AllocError, Global};
 use std::test::Fail;
@@ -120,16 +119,7 @@ fn word_of(delivered: &Delivered) -> &'static str {
 fn word_of_fault(fault: ClientFault) -> &'static str {
     match fault {
         ClientFault::WrongPhase { phase } => word_of_phase(phase),
-        ClientFault::Store(StoreFault::AlreadyOpen) => "S1",
-        ClientFault::Store(StoreFault::TooManyDocuments) => "S2",
-        ClientFault::Store(StoreFault::TextTooLong) => "S3",
-        ClientFault::Store(StoreFault::NotOpen) => "S4",
-        ClientFault::Store(StoreFault::StaleVersion { .. }) => "S5",
-        ClientFault::Store(StoreFault::TooManyChanges) => "S6",
-        ClientFault::Store(StoreFault::Edit(EditFault::InsideCharacter { .. })) => "E1",
-        ClientFault::Store(StoreFault::Edit(_)) => "S7",
-        ClientFault::Store(StoreFault::BodyTooLong { .. }) => "S8",
-        ClientFault::Store(StoreFault::NoMemory) => "S9",
+        ClientFault::Store(fault) => fault.code(),
         ClientFault::NoMemory => "C3",
     }
 }
