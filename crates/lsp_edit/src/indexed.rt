@@ -22,7 +22,7 @@ use crate::delta::{Delta, Put};
 use crate::ends::ends;
 use crate::fault::EditFault;
 use crate::joined::layer::Layer;
-use crate::joined::{Joined, RUN};
+use crate::joined::{Joined, SERIES};
 use crate::old_text::OldText;
 use crate::pieces::canonical::canonical_of;
 use crate::pieces::{MAX_TEXT, Pieces};
@@ -325,7 +325,7 @@ impl IndexedText {
     ///
     /// It has the errors of [`IndexedText::change`], and changes nothing. Costs what each change
     /// costs to apply, and one exact position for each end of a changed gap. Some thousand changes
-    /// are composed in runs, each of which costs some copies of the text. If that fails they are
+    /// are composed in series, each of which costs some copies of the text. If that fails they are
     /// composed once more, to find the error.
     pub fn canonical(
         &self,
@@ -342,7 +342,7 @@ impl IndexedText {
             ⊎ (text_within max_len self.now
             (meaning (units_in encoding) (chars self.now) (map edit_of changes.now)) ≡ Err fault)) }
     {
-        if changes.len() >= 2 * RUN {
+        if changes.len() >= 2 * SERIES {
             let alloc = *self.allocator();
             if let Ok(joined) = Joined::of_batch(alloc, encoding, self, changes, max_len) {
                 return Ok(joined.canonical(encoding)?);

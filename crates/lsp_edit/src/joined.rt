@@ -29,7 +29,7 @@ use std::alloc::{AllocError, Global};
 use std::marker::Model;
 
 /// How many changes of a long batch are composed at once.
-pub(crate) const RUN: usize = 1024;
+pub(crate) const SERIES: usize = 1024;
 
 /// Batches of changes on a text, one after another, and their result as one.
 ///
@@ -99,10 +99,10 @@ impl Joined {
         }
     }
 
-    /// Composes a batch run by run, so that a change moves only the spans of its run.
+    /// Composes a batch series by series, so that a change moves only the spans of its series.
     ///
     /// Fails if a change has no result, a text grows too long, or memory runs out; the error
-    /// doesn't reliably say which. Costs what the changes cost to apply, and for each run some
+    /// doesn't reliably say which. Costs what the changes cost to apply, and for each series some
     /// copies of the text and its line starts.
     pub(crate) fn of_batch(
         alloc: Global,
@@ -118,8 +118,8 @@ impl Joined {
     {
         let mut reached = before.clone_in(alloc)?;
         let mut joined = Self::over(alloc, before)?;
-        for run in changes.chunks(RUN) {
-            joined.change(encoding, &mut reached, run, MAX_OLD_TEXT)?;
+        for series in changes.chunks(SERIES) {
+            joined.change(encoding, &mut reached, series, MAX_OLD_TEXT)?;
         }
         if reached.len() > max_len {
             return Err(TextFault::TooLong);

@@ -121,7 +121,7 @@ impl<'a> Pieces<'a> {
         Self::begin(alloc, OldText::with_lines(before, lines))
     }
 
-    /// Composes two runs of changes; `second` is over the text that `first` leaves. The result is
+    /// Composes two series of changes; `second` is over the text that `first` leaves. The result is
     /// over the old text of `first`, and counts the changes of both.
     ///
     /// Fails only if it is out of memory. Costs the spans of both, and borrows the lines of
@@ -290,10 +290,10 @@ impl<'a> Pieces<'a> {
         canonical_of(self.alloc, &self.before, self.spans.as_slice(), encoding)
     }
 
-    /// Returns the spans of the current text: runs of the old text in order, and texts of the
+    /// Returns the spans of the current text: parts of the old text in order, and texts of the
     /// changes or parts of them.
     ///
-    /// No span is empty or cut inside a character, and two runs of the old text that touch are one.
+    /// No span is empty or cut inside a character, and two parts of the old text that touch are one.
     /// After n changes there are at most 2n + 1 spans.
     pub fn spans(&self) -> &[Span<'a>]
         ensures parts { parts_of result.now ≡ self.now.parts }

@@ -128,7 +128,7 @@ impl<'a> Plain<'a> {
         Ok(())
     }
 
-    /// Composes two runs of changes; `second` is over the text that this one leaves.
+    /// Composes two series of changes; `second` is over the text that this one leaves.
     pub fn then(&self, second: &Plain) -> Result<Self, AllocError>
         requires { second.now.before ≡ edited_text self.now }
         ensures composed { IfOk result (λ plain. plain ≡ record {

@@ -178,7 +178,7 @@ module _ (limits : LimitsData) (encoding : Encoding) (entry : DocumentItem) (ver
       ≡ record entry { version = version; text = bytes_left entry.text items }
   squash_leaves = rw all_law.means refl
 
--- ---- what a run means: batches that are accepted one after another mean together what they mean as one list
+-- ---- what a series means: batches that are accepted one after another mean together what they mean as one list
 
 pub run_on : (units : ℕ → ℕ) (old : List ℕ) (batch more : List Edit) (items others : List Item)
     → meaning units old batch ≡ Ok items

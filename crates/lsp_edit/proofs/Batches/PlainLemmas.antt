@@ -292,7 +292,7 @@ range_put units old items own made characters range start stop low high ends own
     ∙ ap (λ (i : List Item). Ok i)
     (sym (made_is ∙ (λ i. take (low_is i) (own_is i) ++ (map New characters ++ drop (high_is i) (own_is i)))))
 
--- The fields of what two runs of changes make together.
+-- The fields of what two series of changes make together.
 pub then_plain : (before old mid over : List ℕ) (items others : List Item) (made : List Item)
     → ArePlain before old items → ArePlain mid over others → chars mid ≡ text_of (chars before) items
     → made ≡ then_items items others → ArePlain before old made

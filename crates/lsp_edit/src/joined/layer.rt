@@ -11,7 +11,7 @@ use crate::pieces::through::spans_through;
 use std::alloc::{AllocError, Global};
 use std::mem;
 
-/// A run of a text after changes, which owns the text of a change.
+/// A part of a text after changes, which owns the text of a change.
 #[derive(Debug, Drop)]
 pub enum OwnedSpan {
     /// The bytes of the old text from one byte offset to another.

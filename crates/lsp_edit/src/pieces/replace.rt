@@ -8,7 +8,7 @@ ghost use Rattle.lsp_edit.specs.inside.Parts.{AreBefore, AreCut, AreOrdered, Are
 use crate::pieces::span::Span;
 use std::alloc::{AllocError, Global};
 
-/// Appends a span. Two runs of the old text that touch become one.
+/// Appends a span. Two parts of the old text that touch become one.
 pub fn put<'a>(spans: &mut Vec<Span<'a>>, span: Span<'a>) -> Result<(), AllocError>
     ensures { OnOk result
         (parts_of spans.new.items ≡ put_part (parts_of spans.old.items) (part_of span.entry)) }

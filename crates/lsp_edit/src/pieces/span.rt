@@ -1,4 +1,4 @@
-//! A span: a run of a text after changes, without a copy of its characters.
+//! A span: a part of a text after changes, without a copy of its characters.
 
 ghost use Rattle.std.specs.Prelude.{◌≡◌, ◌++◌, ◌≤◌, ◌<◌, ℕ, OnOk, length, string_bytes, MatchOption, ◌∷◌, []};
 ghost use Rattle.lsp_edit.specs.Parts.{IsPartOf, bytes_in, part_len, part_of, parts_of};
@@ -7,7 +7,7 @@ ghost use Rattle.lsp_edit.specs.inside.Parts.{IsCutAt, joined, back_part, front_
 use crate::old_text::OldText;
 use std::alloc::AllocError;
 
-/// A run of a text after changes. It isn't empty.
+/// A part of a text after changes. It isn't empty.
 #[derive(Clone, Copy, Debug, PartialEq, Eq)]
 pub enum Span<'a> {
     /// The bytes of the old text from one byte offset to another.

@@ -1,7 +1,7 @@
 use Rattle.std.proofs.Common.{map, refl}
 use Rattle.lsp_edit.specs.Edited.{edit_of}
 use Rattle.lsp_edit.proofs.Deltas.IndexedLemmas.{batch_is}
-use Rattle.lsp_edit.proofs.Deltas.RunLemmas.{whole_batch}
+use Rattle.lsp_edit.proofs.Deltas.SeriesLemmas.{whole_batch}
 use Rattle.lsp_edit.proofs.indexed.IndexedText.canonical.Goals as goal
 
 pub returns-in-Ok-clause-batch : goal.returns-in-Ok-clause-batch

@@ -3,12 +3,12 @@ use Rattle.std.specs.Slice.Iter.{chunks_rest, chunks_size}
 use Rattle.lsp_text.specs.Units.{units_in}
 use Rattle.lsp_edit.specs.declared.change.Change.{Change}
 use Rattle.lsp_edit.specs.Edited.{edit_of}
-use Rattle.lsp_edit.proofs.Deltas.RunLemmas.{IsRun}
+use Rattle.lsp_edit.proofs.Deltas.SeriesLemmas.{IsSeries}
 use Rattle.lsp_edit.proofs.joined.Joined.of_batch.Given as goal
 
-abbrev pub invariant-loop-run : goal.invariant-loop-run
-invariant-loop-run l =
-    (0 < chunks_size l.run-iterator)
-    × (sum_by (λ (change : Change). string_len change.text) (chunks_rest l.run-iterator) ≤ 1073741824)
-    × IsRun (units_in l.encoding) l.before (map edit_of l.changes) l.joined l.reached
-    (map edit_of (chunks_rest l.run-iterator))
+abbrev pub invariant-loop-series : goal.invariant-loop-series
+invariant-loop-series l =
+    (0 < chunks_size l.series-iterator)
+    × (sum_by (λ (change : Change). string_len change.text) (chunks_rest l.series-iterator) ≤ 1073741824)
+    × IsSeries (units_in l.encoding) l.before (map edit_of l.changes) l.joined l.reached
+    (map edit_of (chunks_rest l.series-iterator))

@@ -1,4 +1,4 @@
--- A batch that is joined run by run.
+-- A batch that is joined series by series.
 use Rattle.std.proofs.Common.{ℕ, ◌≡◌, ◌≤◌, true, false, List, [], ◌++◌, length, refl, sym, ap, ◌∙◌, arith, ⊎_elim, nat_lt, append_assoc, append-nil, encode_utf8_all, Result, Ok, Err}
 use Rattle.std.specs.Str.{chars, IsUtf8}
 use Rattle.std.proofs.lemmas.Bool.{cases_Bool, ltb-false}
@@ -17,7 +17,7 @@ use Rattle.lsp_edit.proofs.Batches.ComposeLemmas.{then_means}
 use Rattle.lsp_edit.proofs.Batches.LawLemmas.{canonical_law, units_some}
 
 -- The changes `done` of a batch are joined, and `rest` are to come.
-pub record IsRun (units : ℕ → ℕ) (before : List ℕ) (batch : List Edit) (joined : JoinedData) (reached : List ℕ)
+pub record IsSeries (units : ℕ → ℕ) (before : List ℕ) (batch : List Edit) (joined : JoinedData) (reached : List ℕ)
     (rest : List Edit) : Type 0 where
   pub done : List Edit
   pub all : done ++ rest ≡ batch
@@ -27,11 +27,11 @@ pub record IsRun (units : ℕ → ℕ) (before : List ℕ) (batch : List Edit) (
   pub at : IsReached joined reached
   pub short : length reached ≤ 1073741824
 
-pub run_begins : (units : ℕ → ℕ) (before : List ℕ) (batch : List Edit) (joined : JoinedData) (reached : List ℕ)
+pub series_begins : (units : ℕ → ℕ) (before : List ℕ) (batch : List Edit) (joined : JoinedData) (reached : List ℕ)
     → IsUtf8 before → joined ≡ record { before = before; items = plain (chars before) } → IsReached joined reached
     → length reached ≤ 1073741824
-    → IsRun units before batch joined reached batch
-run_begins units before batch joined reached utf8 is at short = record {
+    → IsSeries units before batch joined reached batch
+series_begins units before batch joined reached utf8 is at short = record {
   done = [];
   all = refl;
   utf8 = utf8;
@@ -55,32 +55,32 @@ left_short max_len reached left meant items is within =
     (cases_Bool (nat_lt max_len (length (bytes_left reached items))))
 
 module _ (units : ℕ → ℕ) (before : List ℕ) (batch : List Edit) where
-  pub run_next : (joined new : JoinedData) (reached left : List ℕ) (run rest more : List Edit)
-      → IsRun units before batch joined reached rest → rest ≡ run ++ more → IsJoined units joined run new
+  pub series_next : (joined new : JoinedData) (reached left : List ℕ) (series rest more : List Edit)
+      → IsSeries units before batch joined reached rest → rest ≡ series ++ more → IsJoined units joined series new
       → IsReached new left
-      → text_within 1073741824 reached (meaning units (chars reached) run) ≡ Ok left
-      → IsRun units before batch new left more
-  run_next joined new reached left run rest more is parts next at within =
+      → text_within 1073741824 reached (meaning units (chars reached) series) ≡ Ok left
+      → IsSeries units before batch new left more
+  series_next joined new reached left series rest more is parts next at within =
       let text : text_of (chars before) joined.items ≡ joined_text joined =
       ap (λ (b : List ℕ). text_of (chars b) joined.items) (sym is.same) in
-      let here : meaning units (chars reached) run ≡ Ok next.others =
-      ap (λ (t : List ℕ). meaning units t run) is.at.text_is ∙ next.means in
+      let here : meaning units (chars reached) series ≡ Ok next.others =
+      ap (λ (t : List ℕ). meaning units t series) is.at.text_is ∙ next.means in
       record {
-        done = is.done ++ run;
-        all = append_assoc is.done run more ∙ (ap (λ (r : List Edit). is.done ++ r) (sym parts) ∙ is.all);
+        done = is.done ++ series;
+        all = append_assoc is.done series more ∙ (ap (λ (r : List Edit). is.done ++ r) (sym parts) ∙ is.all);
         utf8 = is.utf8;
         same = ap (λ (j : JoinedData). j.before) next.is ∙ is.same;
-        means = then_means units (chars before) is.done run joined.items next.others is.means
-            (ap (λ (t : List ℕ). meaning units t run) text ∙ next.means)
+        means = then_means units (chars before) is.done series joined.items next.others is.means
+            (ap (λ (t : List ℕ). meaning units t series) text ∙ next.means)
             ∙ sym (ap (λ (j : JoinedData). Ok j.items) next.is);
         at = at;
         short = left_short 1073741824 reached left _ next.others here within;
       }
 
-  pub run_ends : (max_len : ℕ) (joined : JoinedData) (reached : List ℕ) (rest : List Edit)
-      → IsRun units before batch joined reached rest → rest ≡ [] → length reached ≤ max_len
+  pub series_ends : (max_len : ℕ) (joined : JoinedData) (reached : List ℕ) (rest : List Edit)
+      → IsSeries units before batch joined reached rest → rest ≡ [] → length reached ≤ max_len
       → IsWhole units max_len before batch joined
-  run_ends max_len joined reached rest is none fits =
+  series_ends max_len joined reached rest is none fits =
       let done : is.done ≡ batch =
       sym (append-nil is.done) ∙ (ap (λ (r : List Edit). is.done ++ r) (sym none) ∙ is.all) in
       let left : bytes_left before joined.items ≡ reached
@@ -93,7 +93,7 @@ module _ (units : ℕ → ℕ) (before : List ℕ) (batch : List Edit) where
         within = omega (arith, fits, ap length left);
       }
 
--- The canonical batch of one batch that was joined run by run.
+-- The canonical batch of one batch that was joined series by series.
 pub whole_batch : (encoding : Encoding) (max_len : ℕ) (before : List ℕ) (batch answered : List Edit)
     (joined : JoinedData) → IsWhole (units_in encoding) max_len before batch joined
     → answered ≡ canonical (units_in encoding) (chars joined.before) joined.items → IsCanonicalBatch (units_in encoding)
