@@ -227,3 +227,15 @@ impl<V: Drop> OrderedMap<V> {
         recount(&mut self.counts, self.slots.len());
     }
 }
+
+impl<'a, V> IntoIterator for &'a OrderedMap<V> {
+    type Item = (&'a String, &'a V);
+
+    type IntoIter = Iter<'a, V>;
+
+    ghost into_iter_gives = { λ ordered entries. entries ≡ ordered.now.entries };
+
+    fn into_iter(self) -> Iter<'a, V> {
+        self.iter()
+    }
+}

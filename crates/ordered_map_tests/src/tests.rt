@@ -104,14 +104,14 @@ fn same(pair: &Pair) -> bool {
 }
 
 fn same_forward(pair: &Pair) -> bool {
-    let mut entries = pair.map.iter();
-    for (key, value) in &pair.plain {
-        match entries.next() {
-            Some((name, number)) if name.as_str() == key.as_str() && *number == *value => {}
+    let mut plain = pair.plain.iter();
+    for (name, number) in &pair.map {
+        match plain.next() {
+            Some((key, value)) if name.as_str() == key.as_str() && *number == *value => {}
             _ => return false,
         }
     }
-    entries.next().is_none()
+    plain.next().is_none()
 }
 
 fn same_backward(pair: &Pair) -> bool {
