@@ -150,8 +150,8 @@ fn offers_by_encodings(value: Option<&Value>) -> Option<Offers>
 
 /// Returns the offers that a list of names makes; `None` if an item is no string. Unknown names are
 /// skipped.
-fn offers_named(names: &Vec<Value>) -> Option<Offers>
-    ensures { result ≡ option_map offers_named (texts_in (items_view names.now.items)) }
+fn offers_named(names: &[Value]) -> Option<Offers>
+    ensures { result ≡ option_map offers_named (texts_in (items_view names.now)) }
 {
     let mut offers = Offers::new(false, false);
     for name in names {

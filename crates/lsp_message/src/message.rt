@@ -180,7 +180,7 @@ fn message_by(members: Members) -> Result<Message, ReadFault>
         error,
         outcome,
     } = members;
-    if !is_version_two(&version) {
+    if !is_version_two(version.as_ref()) {
         return Err(ReadFault::NotAMessage { id: id_found(id) });
     }
     match method {
@@ -190,8 +190,8 @@ fn message_by(members: Members) -> Result<Message, ReadFault>
     }
 }
 
-fn is_version_two(version: &Option<Value>) -> bool
-    ensures { result ≡ is_version_two (option_map view version.now) }
+fn is_version_two(version: Option<&Value>) -> bool
+    ensures { result ≡ is_version_two (option_map (λ v. view v.now) version.entry) }
 {
     match version {
         Some(Value::String(text)) => text.as_str() == "2.0",

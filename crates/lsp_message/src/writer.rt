@@ -132,6 +132,6 @@ fn write_message(writer: &mut Writer, message: &Outgoing) -> Result<(), AllocErr
             write_initialize_result(writer, id, *encoding, *kind)
         }
         Outgoing::ShutdownResult { id } => write_shutdown_result(writer, id),
-        Outgoing::ErrorReply { id, error } => write_error_reply(writer, id, *error),
+        Outgoing::ErrorReply { id, error } => write_error_reply(writer, id.as_ref(), *error),
     }
 }

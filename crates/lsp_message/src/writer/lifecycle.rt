@@ -190,11 +190,11 @@ pub fn write_exit(writer: &mut Writer) -> Result<(), AllocError>
 /// Writes the reply to a request that is refused, or whose id is not known.
 pub fn write_error_reply(
     writer: &mut Writer,
-    id: &Option<Id>,
+    id: Option<&Id>,
     error: ErrorCode,
 ) -> Result<(), AllocError>
-    ensures { OnOk result (Appends writer.old writer.new
-        (tokens_of (values.value_of (spec.error_reply (option_map id_view id.now) error)))) }
+    ensures { OnOk result (Appends writer.old writer.new (tokens_of
+        (values.value_of (spec.error_reply (option_map (λ id. id_view id.now) id.entry) error)))) }
 {
     writer.begin_object()?;
     writer.key("error")?;
@@ -224,9 +224,9 @@ fn write_id(writer: &mut Writer, id: &Id) -> Result<(), AllocError>
     }
 }
 
-fn write_id_or_null(writer: &mut Writer, id: &Option<Id>) -> Result<(), AllocError>
-    ensures { OnOk result
-        (Appends writer.old writer.new (tokens_of (values.id_or_null (option_map id_view id.now)))) }
+fn write_id_or_null(writer: &mut Writer, id: Option<&Id>) -> Result<(), AllocError>
+    ensures { OnOk result (Appends writer.old writer.new
+        (tokens_of (values.id_or_null (option_map (λ id. id_view id.now) id.entry)))) }
 {
     match id {
         Some(id) => write_id(writer, id),

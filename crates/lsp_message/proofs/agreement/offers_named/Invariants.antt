@@ -10,5 +10,5 @@ invariant-loop-name l =
     option_map (λ rest. let more = offers_named rest in let both : Offers = record {
       utf8 = l.offers.utf8 || more.utf8;
       utf32 = l.offers.utf32 || more.utf32;
-    } in both) (texts_in (items_view (drop l.name-index l.name-items)))
-    ≡ option_map offers_named (texts_in (items_view l.name-items))
+    } in both) (texts_in (items_view (drop l.name-index l.names)))
+    ≡ option_map offers_named (texts_in (items_view l.names))
