@@ -99,14 +99,14 @@ impl Client {
     {
         match self.phase {
             Phase::Asked => {
-                if is_id(1, &id) {
+                if is_id(1, id.as_ref()) {
                     self.begin(outcome)
                 } else {
                     Ok(self.fail(Reason::NotAnAnswer))
                 }
             }
             Phase::Closing => {
-                if is_id(2, &id) {
+                if is_id(2, id.as_ref()) {
                     Ok(self.close_down(outcome))
                 } else {
                     Ok(self.fail(Reason::NotAnAnswer))
@@ -180,8 +180,8 @@ impl Client {
 }
 
 /// Returns whether an id is this number.
-fn is_id(number: u32, id: &Option<Id>) -> bool
-    ensures { result ≡ spec.is_id number (option_map id_view id.now) }
+fn is_id(number: u32, id: Option<&Id>) -> bool
+    ensures { result ≡ spec.is_id number (option_map (λ id. id_view id.now) id.entry) }
 {
     match id {
         Some(Id::Whole(other)) => *other == i64::from(number),
