@@ -60,11 +60,11 @@ fn live_at<V>(slots: &[Slot<V>], counts: &[usize], index: usize) -> Option<usize
     ensures none { IfNone result (length (somes (keys_in slots.now)) ≤ index) }
 {
     let mut left = index;
-    for block in 0..counts.len() {
-        if left < counts[block] {
+    for (block, count) in counts.iter().enumerate() {
+        if left < *count {
             return live_from(slots, block, left);
         }
-        left -= counts[block];
+        left -= *count;
     }
     None
 }

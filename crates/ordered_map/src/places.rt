@@ -32,9 +32,9 @@ pub(crate) fn renumber<V>(slots: &[Slot<V>], places: &mut HashMap<String, usize>
     ensures same { (bytes : List ℕ) → is_some (get_by_text places.new bytes)
         ≡ is_some (get_by_text places.old bytes) }
 {
-    for slot in 0..slots.len() {
-        if let Some((key, _)) = slots[slot].entry() {
-            set_place(places, key, slot);
+    for (index, slot) in slots.iter().enumerate() {
+        if let Some((key, _)) = slot.entry() {
+            set_place(places, key, index);
         }
     }
 }

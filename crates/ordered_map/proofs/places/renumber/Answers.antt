@@ -7,31 +7,31 @@ use Rattle.ordered_map.proofs.SlotLemmas.{key_of_slot, key_read, length_keys, no
 use Rattle.ordered_map.proofs.places.renumber.Goals.{in-Some, in_default}
 use Rattle.ordered_map.proofs.places.renumber.Goals as goal
 
-pub loop-slot-preserved : goal.loop-slot-preserved
-loop-slot-preserved g c =
+pub loop-index-preserved : goal.loop-index-preserved
+loop-index-preserved g c =
     let keys = keys_in c.args.slots.now in
     let old = get_by_text c.args.places.now in
-    let place = get_by_text c.loop-slot.places in
-    let read = key_read c.args.slots.now c.loop-slot.slot c.index-slots-slot.result c.loop-slot-test.true
-    c.index-slots-slot.is in
+    let place = get_by_text c.loop-index.places in
+    let read = key_read c.args.slots.now c.loop-index.index c.index-slots-index.result c.loop-index-test.true
+    c.index-slots-index.is in
     elim c.match-entry.branch [
       | in-Some w ↦
-          let here : slice_get keys c.loop-slot.slot ≡ Some (Some w.in-Some.key.now) =
-          read ∙ ap (λ key. Some key) (key_of_slot c.index-slots-slot.result w.in-Some.key.now w.in-Some.field-0-1.now
+          let here : slice_get keys c.loop-index.index ≡ Some (Some w.in-Some.key.now) =
+          read ∙ ap (λ key. Some key) (key_of_slot c.index-slots-index.result w.in-Some.key.now w.in-Some.field-0-1.now
           w.in-Some.ensures) in
           rw w.places-is
-          (numbered_live keys old place (get_by_text w.set_place.new.places) c.loop-slot.slot c.loop-slot.invariant
-          c.requires.unlike w.in-Some.key.now here (c.requires.placed c.loop-slot.slot w.in-Some.key.now here)
+          (numbered_live keys old place (get_by_text w.set_place.new.places) c.loop-index.index c.loop-index.invariant
+          c.requires.unlike w.in-Some.key.now here (c.requires.placed c.loop-index.index w.in-Some.key.now here)
           (rw w.deref.ensures at w.set_place.ensures))
       | in_default w ↦
           rw w.places-is
-          (numbered_vacant keys old place place c.loop-slot.slot c.loop-slot.invariant
-          (read ∙ ap (λ key. Some key) (no_key_of_slot c.index-slots-slot.result w.in_default.ensures)))
+          (numbered_vacant keys old place place c.loop-index.index c.loop-index.invariant
+          (read ∙ ap (λ key. Some key) (no_key_of_slot c.index-slots-index.result w.in_default.ensures)))
     ]
 
 pub returns-clause-found : goal.returns-clause-found
 returns-clause-found g c = λ slot key here.
-    c.loop-slot.invariant.found slot key (omega (
+    c.loop-index.invariant.found slot key (omega (
       arith,
       length_keys c.args.slots.now,
       slice_get_within (keys_in c.args.slots.now) slot (Some key) here,
