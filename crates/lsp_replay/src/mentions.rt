@@ -1,6 +1,6 @@
 //! Which record opened, closed or refused a document last.
 
-ghost use Rattle.std.specs.Prelude.{◌≡◌, [], IfOk, OnOk, option_map, string_bytes};
+ghost use Rattle.std.specs.Prelude.{◌≡◌, [], IfOk, OnOk, option_map};
 ghost use Rattle.std.specs.Str.{bytes_eq};
 ghost use Rattle.lsp_replay.specs.Mentions.{last_record, mentioned, newest_first, without};
 ghost use Rattle.lsp_replay.specs.inside.Mentions.{IsFoundAt};
@@ -98,11 +98,11 @@ impl Mentions {
     pub fn keep(
         &mut self,
         is_mention: bool,
-        uri: &Option<String>,
+        uri: Option<&str>,
         number: u64,
     ) -> Result<(), AllocError>
         ensures { OnOk result (self.new.newest.items ≡ mentioned is_mention
-            (option_map string_bytes uri.now) number self.old.newest.items) }
+            (option_map (λ uri. uri.now) uri.entry) number self.old.newest.items) }
     {
         if !is_mention {
             return Ok(());
@@ -110,7 +110,7 @@ impl Mentions {
         let Some(uri) = uri else {
             return Ok(());
         };
-        self.mention(uri.as_str(), number)
+        self.mention(uri, number)
     }
 }
 

@@ -82,7 +82,7 @@ impl Explain {
         }
         let incoming = Incoming::read(self.alloc, body)?;
         let limits = self.session.server().store().limits();
-        push_document(self.alloc, buffer, &noted.uri)?;
+        push_document(self.alloc, buffer, noted.uri.as_deref())?;
         buffer.extend_from_slice(b": ")?;
         push_reason(buffer, limits, change_in(&incoming), answer)?;
         push_see(buffer, noted.last)
@@ -132,25 +132,21 @@ fn push_remark(alloc: Global, buffer: &mut Vec<u8>, noted: &Noted) -> Result<(),
     if noted.notes.is_empty() {
         return Ok(());
     }
-    push_document(alloc, buffer, &noted.uri)?;
+    push_document(alloc, buffer, noted.uri.as_deref())?;
     buffer.extend_from_slice(b": ")?;
     push_notes(buffer, "; ", &noted.notes)
 }
 
 /// Writes the document that a record is about.
-fn push_document(
-    alloc: Global,
-    buffer: &mut Vec<u8>,
-    uri: &Option<String>,
-) -> Result<(), AllocError>
+fn push_document(alloc: Global, buffer: &mut Vec<u8>, uri: Option<&str>) -> Result<(), AllocError>
     ensures { OnOk result (buffer.new.items ≡ buffer.old.items
-        ++ document_words (option_map string_bytes uri.now)) }
+        ++ document_words (option_map (λ uri. uri.now) uri.entry)) }
 {
     let Some(uri) = uri else {
         return Ok(());
     };
     buffer.extend_from_slice(b" of ")?;
-    push_json_string(alloc, buffer, uri.as_str())
+    push_json_string(alloc, buffer, uri)
 }
 
 /// Writes which record to look at, if there is one.

@@ -117,7 +117,7 @@ impl Handler for ReplayPart {
         buffer: &mut Vec<u8>,
     ) -> Result<Given, EngineFault> {
         self.session
-            .accept_and_keep(head, body, &self.part.uri, &mut self.kept)?;
+            .accept_and_keep(head, body, self.part.uri.as_deref(), &mut self.kept)?;
         if !self.is_last() {
             return Ok(Given::more(Output::Bytes));
         }

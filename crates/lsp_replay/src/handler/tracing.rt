@@ -1,6 +1,6 @@
 //! `trace`: a line of JSON for each record of a log.
 
-ghost use Rattle.std.specs.Prelude.{◌≡◌, ◌&&◌, ◌++◌, refl, OnOk, codes, decimal, false, option_map, string_bytes};
+ghost use Rattle.std.specs.Prelude.{◌≡◌, ◌&&◌, ◌++◌, refl, OnOk, codes, decimal, false, option_map};
 ghost use Rattle.lsp_message.specs.Message.{reading};
 ghost use Rattle.lsp_message.specs.Seen.{change_view};
 ghost use Rattle.lsp_server.specs.Incoming.{incoming_of};
@@ -75,7 +75,7 @@ impl Trace {
             traced.now self.now.canonical.items body.now) }
     {
         let noted = &traced.noted;
-        let document = self.document_after(&noted.uri);
+        let document = self.document_after(noted.uri.as_deref());
         let has_text = self.has_text(&noted.verdict);
         let has_body = self.has_body(traced.is_json);
         push_word(buffer, &noted.verdict)?;
@@ -130,14 +130,11 @@ impl Trace {
     }
 
     /// Returns the document with this URI, if it is open.
-    fn document_after(&self, uri: &Option<String>) -> Option<Document<'_>>
-        ensures { result
-            ≡ document_after self.now.session.server.table (option_map string_bytes uri.now) }
+    fn document_after(&self, uri: Option<&str>) -> Option<Document<'_>>
+        ensures { result ≡ document_after self.now.session.server.table
+            (option_map (λ uri. uri.now) uri.entry) }
     {
-        match uri {
-            Some(uri) => self.session.server().store().get(uri.as_str()),
-            None => None,
-        }
+        self.session.server().store().get(uri?)
     }
 }
 

@@ -56,9 +56,9 @@ fn lengths_found(alloc: Global, params: &Value) -> Result<Vec<Option<u64>>, Allo
 }
 
 /// Returns that of each change.
-fn lengths_in(alloc: Global, changes: &Vec<Value>) -> Result<Vec<Option<u64>>, AllocError>
+fn lengths_in(alloc: Global, changes: &[Value]) -> Result<Vec<Option<u64>>, AllocError>
     ensures { IfOk result
-        (λ lengths. lengths.items ≡ lengths_in (items_view changes.now.items)) }
+        (λ lengths. lengths.items ≡ lengths_in (items_view changes.now)) }
 {
     let mut lengths = Vec::new(alloc);
     for change in changes {

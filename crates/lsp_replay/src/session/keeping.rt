@@ -21,7 +21,7 @@ impl Session {
         &mut self,
         head: Head,
         body: &[u8],
-        uri: &Option<String>,
+        uri: Option<&str>,
         kept: &mut Option<String>,
     ) -> Result<Verdict, EngineFault>
         ensures verdict { IfOk result
@@ -29,10 +29,10 @@ impl Session {
         ensures in_log { IfOk result (λ v. verdict_view v ≢ bad) }
         ensures session { OnOk result (self.new ≡ (judge_at self.old head body.now).session) }
         ensures kept { OnOk result
-            (last_text_in (option_map string_bytes uri.now) (option_map string_bytes kept.new)
+            (last_text_in (option_map (λ uri. uri.now) uri.entry) (option_map string_bytes kept.new)
             self.new.server.table
-            ≡ last_text_in (option_map string_bytes uri.now)
-            (last_text_in (option_map string_bytes uri.now) (option_map string_bytes kept.old)
+            ≡ last_text_in (option_map (λ uri. uri.now) uri.entry)
+            (last_text_in (option_map (λ uri. uri.now) uri.entry) (option_map string_bytes kept.old)
             self.old.server.table) self.new.server.table) }
         ensures error { IfErr result (λ fault. (fault ≡ EngineFault.NoMemory)
             ⊎ ((fault ≡ EngineFault.BadLog head.place)
@@ -49,17 +49,17 @@ impl Session {
         &mut self,
         head: Head,
         body: &[u8],
-        uri: &Option<String>,
+        uri: Option<&str>,
         kept: &mut Option<String>,
     ) -> Result<Verdict, AllocError>
         ensures verdict { IfOk result
             (λ v. verdict_view v ≡ (judge_at self.old head body.now).verdict) }
         ensures session { OnOk result (self.new ≡ (judge_at self.old head body.now).session) }
         ensures kept { OnOk result
-            (last_text_in (option_map string_bytes uri.now) (option_map string_bytes kept.new)
+            (last_text_in (option_map (λ uri. uri.now) uri.entry) (option_map string_bytes kept.new)
             self.new.server.table
-            ≡ last_text_in (option_map string_bytes uri.now)
-            (last_text_in (option_map string_bytes uri.now) (option_map string_bytes kept.old)
+            ≡ last_text_in (option_map (λ uri. uri.now) uri.entry)
+            (last_text_in (option_map (λ uri. uri.now) uri.entry) (option_map string_bytes kept.old)
             self.old.server.table) self.new.server.table) }
     {
         let read = self.read(head, body)?;
@@ -74,10 +74,10 @@ impl Session {
     fn closed_text(
         &self,
         read: &RecordBody<'_>,
-        uri: &Option<String>,
+        uri: Option<&str>,
     ) -> Result<Option<String>, AllocError>
         ensures { IfOk result (λ text. option_map string_bytes text
-            ≡ closed_by self.now.server.table (option_map string_bytes uri.now)
+            ≡ closed_by self.now.server.table (option_map (λ uri. uri.now) uri.entry)
             (body_view read.now)) }
     {
         let Some(uri) = uri else {
@@ -92,10 +92,10 @@ impl Session {
         let Some(params) = params else {
             return Ok(None);
         };
-        if params.uri.as_str() != uri.as_str() {
+        if params.uri.as_str() != uri {
             return Ok(None);
         }
-        match self.server.store().get(uri.as_str()) {
+        match self.server.store().get(uri) {
             Some(document) => Ok(Some(document.text().to_string(self.alloc)?)),
             None => Ok(None),
         }

@@ -1,7 +1,7 @@
 //! What is known of the records before one, and what is returned of a record, for the lines of
 //! `trace` and `check --explain`.
 
-ghost use Rattle.std.specs.Prelude.{◌≡◌, IfOk, OnOk, option_map, string_bytes};
+ghost use Rattle.std.specs.Prelude.{◌≡◌, IfOk, OnOk, option_map};
 ghost use Rattle.lsp_replay.specs.Lines.{has_notes, is_strict, nothing_known};
 ghost use Rattle.lsp_replay.specs.Mentions.{is_mention, last_for};
 ghost use Rattle.lsp_replay.specs.inside.Known.{IsLearned, known_by};
@@ -116,9 +116,9 @@ impl Known {
             is_change,
             notes,
         } = about;
-        let last = last_for(&self.mentions, &uri, &verdict);
+        let last = last_for(&self.mentions, uri.as_deref(), &verdict);
         let counts = is_mention(is_change, &verdict);
-        self.mentions.keep(counts, &uri, number)?;
+        self.mentions.keep(counts, uri.as_deref(), number)?;
         let notes = notes_if(notes, &verdict);
         self.ranged = ranged;
         self.suspicious = self.suspicious || has_notes(notes.as_slice());
@@ -134,17 +134,14 @@ impl Known {
 
 /// Returns the record that opened, closed or refused a document last, if the documents refused one
 /// about it.
-fn last_for(mentions: &Mentions, uri: &Option<String>, verdict: &Verdict) -> Option<u64>
-    ensures { result ≡ last_for mentions.now.newest.items (option_map string_bytes uri.now)
-        (verdict_view verdict.now) }
+fn last_for(mentions: &Mentions, uri: Option<&str>, verdict: &Verdict) -> Option<u64>
+    ensures { result ≡ last_for mentions.now.newest.items
+        (option_map (λ uri. uri.now) uri.entry) (verdict_view verdict.now) }
 {
     let Verdict::Answered(Answer::Refused(_)) = verdict else {
         return None;
     };
-    let Some(uri) = uri else {
-        return None;
-    };
-    mentions.last(uri.as_str())
+    mentions.last(uri?)
 }
 
 /// Returns whether an answer opens, closes or refuses a document.

@@ -5,5 +5,5 @@ use Rattle.lsp_replay.proofs.notes.lengths.lengths_in.Given as goal
 
 -- those so far, and those of the rest
 abbrev pub invariant-loop-change : goal.invariant-loop-change
-invariant-loop-change l = l.lengths.items ++ lengths_in (items_view (drop l.change-index l.change-items))
-    ≡ lengths_in (items_view l.change-items)
+invariant-loop-change l = l.lengths.items ++ lengths_in (items_view (drop l.change-index l.changes))
+    ≡ lengths_in (items_view l.changes)

@@ -13,7 +13,7 @@ returns-clause-ok c = λ more.
     (option_map string_bytes c.accept_and_keep.new.kept)
     c.in_ok-accept_and_keep.ensures.verdict c.in_ok-accept_and_keep.ensures.in_log
     c.in_ok-accept_and_keep.ensures.session
-    c.in_ok-accept_and_keep.ensures.kept
+    (rw c.as_deref.ensures.value at c.in_ok-accept_and_keep.ensures.kept)
     c.push_report.new.buffer.items c.in_ok-outcome.outcome
     (sym c.is_last.ensures ∙ c.if-not-is_last.false)
     (rw c.requires.empty at c.in_ok-outcome.ensures.bytes) c.in_ok-outcome.ensures.outcome more

@@ -3,7 +3,7 @@ use Rattle.lsp_replay.proofs.handler.tracing.Trace.push_last.Goals as goal
 
 pub returns : goal.returns
 returns c =
-    let document = c.document_after-document.ensures in
+    let document = rw c.as_deref.ensures.value at c.document_after-document.ensures in
     on_ok c.push_words.result
     (last_is _ _ _ _ _ _ _ _ c.args.buffer.now.items _ _ _ _ _ _ _ _ _
     c.in_ok-push_word.ensures c.in_ok-push_why.ensures c.in_ok-push_mention.ensures
