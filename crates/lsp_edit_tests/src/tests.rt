@@ -9,7 +9,7 @@ mod made_again;
 mod pieces;
 mod plain;
 mod refused;
-mod runs;
+mod series;
 mod spans;
 mod text_edits;
 

@@ -1,4 +1,4 @@
-//! Batches on one document as one batch: the message of each run, byte for byte, and what is
+//! Batches on one document as one batch: the message of each series, byte for byte, and what is
 //! refused.
 
 use super::canonical::{frame_of, letters_first};
@@ -13,14 +13,14 @@ use std::test::Fail;
 
 /// A text, batches under the versions from 2 on, the length of the body of their one message, and
 /// its changes.
-type Run = (
+type Row = (
     &'static str,
     &'static [&'static [Edit]],
     usize,
     &'static [Edit],
 );
 
-static RUNS: [Run; 9] = [
+static SERIES: [Row; 9] = [
     ("abc", &[], 129, &[]),
     (
         "a\n",
@@ -141,17 +141,17 @@ fn add_all(squash: &mut Squash, alloc: Global, batches: &[&[Edit]]) -> Result<i3
     Ok(version)
 }
 
-fn is_one_message(alloc: Global, run: &Run) -> Result<bool, StoreFault> {
-    let (text, batches, length, changes) = *run;
+fn is_one_message(alloc: Global, row: &Row) -> Result<bool, StoreFault> {
+    let (text, batches, length, changes) = *row;
     let mut squash = squash_of(alloc, limits_of(4_096, 16, 1, 8)?, text)?;
     let version = add_all(&mut squash, alloc, batches)?;
     is_written_so(&squash, alloc, length, changes, version)
 }
 
 #[test]
-fn runs_are_one_message(rt: HostRuntime) {
-    for (index, run) in RUNS.iter().enumerate() {
-        assert!(rt; is_one_message(rt.alloc(), run) == Ok(true), "{index}");
+fn series_are_one_message(rt: HostRuntime) {
+    for (index, row) in SERIES.iter().enumerate() {
+        assert!(rt; is_one_message(rt.alloc(), row) == Ok(true), "{index}");
     }
 }
 

@@ -1,4 +1,4 @@
-//! Batches of some thousand changes, which are composed in runs: the same canonical batch, and the
+//! Batches of some thousand changes, which are composed in series: the same canonical batch, and the
 //! same fault.
 
 use super::{canonical_again, canonical_of, kept, kept_again};
@@ -62,7 +62,7 @@ fn a_long_batch_has_the_canonical_batch_of_its_changes(rt: HostRuntime) -> Resul
     Ok(())
 }
 
-/// Makes a change with a reversed range, for the last run.
+/// Makes a change with a reversed range, for the last series.
 fn reversed(alloc: Global) -> Result<Change, AllocError> {
     let start = Position {
         line: 1,
@@ -162,7 +162,7 @@ fn are_one_deletion(alloc: Global, refused: &mut usize) -> Result<bool, TextFaul
 }
 
 #[test]
-fn refused_canonical_in_runs(rt: HostRuntime) -> Result<(), Fail> {
+fn refused_canonical_in_series(rt: HostRuntime) -> Result<(), Fail> {
     let mut refused: usize = 0;
     assert!(rt; are_one_deletion(rt.alloc(), &mut refused)?);
     println!(rt; "refused {refused}")?;
