@@ -1,6 +1,6 @@
 -- Changes of one document that are written as one message.
 pub mod JoiningLemmas
-pub mod OpenRunLemmas
+pub mod OpenSeriesLemmas
 pub mod PendingLemmas
 pub mod SeriesLemmas
 pub mod SingleLemmas

@@ -77,7 +77,7 @@ impl Settings {
     }
 
     /// Returns whether the changes of a series are written as one message.
-    fn joins_runs(&self) -> bool
+    fn joins_series(&self) -> bool
         ensures { result ≡ self.now.squash }
     {
         self.squash
@@ -255,7 +255,7 @@ pub fn normalise<R: Source, W: Sink>(
         (ports (R.seen reader.old) (W.seen writer.old))
         (ports (R.seen reader.new) (W.seen writer.new)) result }
 {
-    if settings.joins_runs() {
+    if settings.joins_series() {
         return normalise_squashed(alloc, reader, writer, settings, max_turns);
     }
     normalise_each(alloc, reader, writer, settings, max_turns)

@@ -44,17 +44,17 @@ canonical_of s version Client body = refl
 canonical_of s version Server body =
     sym (heard_has_none s.server (change_in (incoming_of (reading body))) s (encoding_for s.expected (reading body)))
 
-writing_of : (s : Session) (run : Option SquashData) (version : Version) (side : Side) (body : List ℕ) (w : Writing)
-    → IsWriting s.server run (change_of (body_read version side body))
+writing_of : (s : Session) (series : Option SquashData) (version : Version) (side : Side) (body : List ℕ) (w : Writing)
+    → IsWriting s.server series (change_of (body_read version side body))
     (judge_read s (body_read version side body)).verdict w
-    → IsWriting s.server run (change_in (incoming_of (reading body))) (judge_from s version side body).verdict w
-writing_of s run version Client body w is = is
-writing_of s run version Server body (AsItIs ended) is =
+    → IsWriting s.server series (change_in (incoming_of (reading body))) (judge_from s version side body).verdict w
+writing_of s series version Client body w is = is
+writing_of s series version Server body (AsItIs ended) is =
     (heard_has_none s.server (change_in (incoming_of (reading body))) s (encoding_for s.expected (reading body)), is.1)
-writing_of s run version Server body TooLong is = absurd (let none : None ≡ Some is.0 = is.1 in cc)
-writing_of s run version Server body (Continues canonical batches) is =
+writing_of s series version Server body TooLong is = absurd (let none : None ≡ Some is.0 = is.1 in cc)
+writing_of s series version Server body (Continues canonical batches) is =
     absurd (let none : None ≡ Some is.0.params = is.0.is in cc)
-writing_of s run version Server body (Begins canonical ended batches) is =
+writing_of s series version Server body (Begins canonical ended batches) is =
     absurd (let none : None ≡ Some is.0.params = is.0.is in cc)
 
 -- a session, the same after it read a record's body, and what it read
@@ -76,13 +76,13 @@ module _ (s : Session) (head : Head) (body : List ℕ) (t : Session) (read : Bod
       (subst (λ (u : Session). IsAppended u.server.config.limits.max_body (canonical_read u read) a old new) same
       appended)
 
-  pub writing_at : (run : Option SquashData) (w : Writing) → IsWriting t.server run (change_of read)
+  pub writing_at : (series : Option SquashData) (w : Writing) → IsWriting t.server series (change_of read)
       (judge_read t read).verdict w
-      → IsWriting s.server run (change_in (incoming_of (reading body))) (judge_at s head body).verdict w
-  writing_at run w writing =
-      writing_of s run head.version head.side body w
-      (subst (λ (b : BodyData). IsWriting s.server run (change_of b) (judge_read s b).verdict w) is_read
-      (subst (λ (u : Session). IsWriting u.server run (change_of read) (judge_read u read).verdict w) same writing))
+      → IsWriting s.server series (change_in (incoming_of (reading body))) (judge_at s head body).verdict w
+  writing_at series w writing =
+      writing_of s series head.version head.side body w
+      (subst (λ (b : BodyData). IsWriting s.server series (change_of b) (judge_read s b).verdict w) is_read
+      (subst (λ (u : Session). IsWriting u.server series (change_of read) (judge_read u read).verdict w) same writing))
 
 -- ---- a change that a running server is to receive
 

@@ -19,7 +19,7 @@ use Rattle.lsp_frame.specs.Frame.{frame}
 use Rattle.lsp_replay.specs.Commands.{change_in, canonical_if, canonical_change_body}
 use Rattle.lsp_replay.specs.inside.Joining.{refusal_of, server_after}
 use Rattle.lsp_replay.specs.Session.{Session, Verdict, answered, recorded, bad, Judged, judge, judge_from, judge_client, counted, encoding_for}
-use Rattle.lsp_replay.specs.inside.Squashed.{Run, change_output, faulty, step_if}
+use Rattle.lsp_replay.specs.inside.Squashed.{OpenSeries, change_output, faulty, step_if}
 use Rattle.lsp_replay.proofs.Records.AskedLemmas.{IsProperAsked, IsProperIncoming, asked_proper}
 use Rattle.lsp_replay.proofs.Squash.JoiningLemmas.{running_accepted}
 use Rattle.lsp_replay.proofs.Records.JudgeLemmas.{asks_change}
@@ -44,20 +44,21 @@ not_bad answer e = cc
 not_recorded : recorded ≢ bad
 not_recorded e = cc
 
-pub kind_of : (server : ServerData) (r : Record) (front : List ℕ) (run : Option Run) (change : Option ChangeData)
-    (verdict : Verdict) → (step_if server r front run change verdict).end ≡ None → IsKind server change verdict
-kind_of server r front run None bad e = absurd (let wrong : Some (Err (BadLog r.head.place)) ≡ None = e in cc)
-kind_of server r front run (Some p) bad e = absurd (let wrong : Some (Err (BadLog r.head.place)) ≡ None = e in cc)
-kind_of server r front run None recorded e = inl (not_recorded, refl)
-kind_of server r front run (Some p) recorded e = inl (not_recorded, refl)
-kind_of server r front run None (answered answer) e = inl (not_bad answer, refl)
-kind_of server r front run (Some p) (answered (reply m)) e = inl (not_bad (reply m), refl)
-kind_of server r front run (Some p) (answered dropped) e = inl (not_bad dropped, refl)
-kind_of server r front run (Some p) (answered ignored) e = inl (not_bad ignored, refl)
-kind_of server r front run (Some p) (answered already_ended) e = inl (not_bad already_ended, refl)
-kind_of server r front run (Some p) (answered (refused why)) e = inl (not_bad (refused why), refl)
-kind_of server r front run (Some p) (answered (exits status)) e = inl (not_bad (exits status), refl)
-kind_of server r front run (Some p) (answered changed) e =
+pub kind_of : (server : ServerData) (r : Record) (front : List ℕ) (series : Option OpenSeries) (change : Option
+    ChangeData)
+    (verdict : Verdict) → (step_if server r front series change verdict).end ≡ None → IsKind server change verdict
+kind_of server r front series None bad e = absurd (let wrong : Some (Err (BadLog r.head.place)) ≡ None = e in cc)
+kind_of server r front series (Some p) bad e = absurd (let wrong : Some (Err (BadLog r.head.place)) ≡ None = e in cc)
+kind_of server r front series None recorded e = inl (not_recorded, refl)
+kind_of server r front series (Some p) recorded e = inl (not_recorded, refl)
+kind_of server r front series None (answered answer) e = inl (not_bad answer, refl)
+kind_of server r front series (Some p) (answered (reply m)) e = inl (not_bad (reply m), refl)
+kind_of server r front series (Some p) (answered dropped) e = inl (not_bad dropped, refl)
+kind_of server r front series (Some p) (answered ignored) e = inl (not_bad ignored, refl)
+kind_of server r front series (Some p) (answered already_ended) e = inl (not_bad already_ended, refl)
+kind_of server r front series (Some p) (answered (refused why)) e = inl (not_bad (refused why), refl)
+kind_of server r front series (Some p) (answered (exits status)) e = inl (not_bad (exits status), refl)
+kind_of server r front series (Some p) (answered changed) e =
     inr (
       p,
       refl,
@@ -67,17 +68,18 @@ kind_of server r front run (Some p) (answered changed) e =
     )
   where
     short : (over : Bool) → (if over then faulty (BodyTooLong r.head.place) else change_output server p front
-        (front ++ frame (canonical_change_body server p)) run).end ≡ None → over ≡ false
+        (front ++ frame (canonical_change_body server p)) series).end ≡ None → over ≡ false
     short true f = absurd (let wrong : Some (Err (BodyTooLong r.head.place)) ≡ None = f in cc)
     short false f = refl
 
 -- neither is bad
-pub not_bad_of : (server : ServerData) (r : Record) (front : List ℕ) (run : Option Run) (change : Option ChangeData)
-    (verdict : Verdict) → (step_if server r front run change verdict).end ≡ None → verdict ≢ bad
-not_bad_of server r front run None bad e = absurd (let wrong : Some (Err (BadLog r.head.place)) ≡ None = e in cc)
-not_bad_of server r front run (Some p) bad e = absurd (let wrong : Some (Err (BadLog r.head.place)) ≡ None = e in cc)
-not_bad_of server r front run change recorded e = not_recorded
-not_bad_of server r front run change (answered answer) e = not_bad answer
+pub not_bad_of : (server : ServerData) (r : Record) (front : List ℕ) (series : Option OpenSeries) (change : Option
+    ChangeData)
+    (verdict : Verdict) → (step_if server r front series change verdict).end ≡ None → verdict ≢ bad
+not_bad_of server r front series None bad e = absurd (let wrong : Some (Err (BadLog r.head.place)) ≡ None = e in cc)
+not_bad_of server r front series (Some p) bad e = absurd (let wrong : Some (Err (BadLog r.head.place)) ≡ None = e in cc)
+not_bad_of server r front series change recorded e = not_recorded
+not_bad_of server r front series change (answered answer) e = not_bad answer
 
 -- ---- an accepted change
 

@@ -202,19 +202,20 @@ module _ (s : Session) (head : Head) (body : List ℕ) (t : Session) (read : Bod
       (subst (λ (c : Option (List ℕ)). IsAppended t.server.config.limits.max_body c a old new) (sym canonical_here)
       written)
 
-  pub change_writing_at : (run : Option SquashData) (w : Writing) → IsChangeWriting t.server run p w
-      → IsWriting s.server run (change_in (incoming_of (reading body))) (judge_at s head body).verdict w
-  change_writing_at run w writing =
-      writing_at s head body t read same is_read run w
-      (subst (λ (b : BodyData). IsWriting t.server run (change_of b) (judge_read t b).verdict w)
-      (sym (asked_in read p received.is).1) (change_writing t version run p w received.running received.known writing))
+  pub change_writing_at : (series : Option SquashData) (w : Writing) → IsChangeWriting t.server series p w
+      → IsWriting s.server series (change_in (incoming_of (reading body))) (judge_at s head body).verdict w
+  change_writing_at series w writing =
+      writing_at s head body t read same is_read series w
+      (subst (λ (b : BodyData). IsWriting t.server series (change_of b) (judge_read t b).verdict w)
+      (sym (asked_in read p received.is).1) (change_writing t version series p w received.running received.known
+      writing))
 
-  pub change_open_at : (run : Option SquashData) (w : Writing) → IsChangeWriting t.server run p w
+  pub change_open_at : (series : Option SquashData) (w : Writing) → IsChangeWriting t.server series p w
       → IsOpenAfter (judge_at s head body).session.server w
-  change_open_at run w writing =
+  change_open_at series w writing =
       subst (λ (j : Judged). IsOpenAfter j.session.server w) (sym judged_here ∙ judged_at s head body t read same
       is_read)
-      (change_open t version run p w received.running received.known writing)
+      (change_open t version series p w received.running received.known writing)
 
 -- ---- any other record
 
@@ -226,10 +227,10 @@ module _ (s : Session) (head : Head) (body : List ℕ) (t : Session) (read : Bod
       appended_at s head body t read same is_read None old new
       (subst (λ (c : Option (List ℕ)). IsAppended t.server.config.limits.max_body c None old new) (sym none) refl)
 
-  pub none_writing : (run : Option SquashData) (w : Writing) → IsWriting t.server run (change_of read)
-      (judge_read t read).verdict w → IsWriting s.server run (change_in (incoming_of (reading body)))
+  pub none_writing : (series : Option SquashData) (w : Writing) → IsWriting t.server series (change_of read)
+      (judge_read t read).verdict w → IsWriting s.server series (change_in (incoming_of (reading body)))
       (judge_at s head body).verdict w
-  none_writing run w writing = writing_at s head body t read same is_read run w writing
+  none_writing series w writing = writing_at s head body t read same is_read series w writing
 
 -- ---- what follows where a call succeeds
 
@@ -378,7 +379,7 @@ module _ (server : ServerData) (p : ChangeData) (plan : Plan) (q : IsPlanOfChang
           longer_open server p q.on.entry q.is_open squash next at same both.0 left,
         )
 
-  -- the document that the plan is of is the open run's
+  -- the document that the plan is of is the open series's
   pub plan_reached : (squash : SquashData) (at : IsOpenIn server squash) → p.uri ≡ squash.uri
       → HasReached squash q.on.entry
   plan_reached squash at same = subst (HasReached squash) (same_entry server squash p.uri q.on.entry at same q.is_open)

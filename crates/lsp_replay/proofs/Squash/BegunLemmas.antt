@@ -1,4 +1,4 @@
--- A change that begins a run.
+-- A change that begins a series.
 use Rattle.std.proofs.Common.{◌≡◌, ℕ, ◌≤◌, Bool, List, [], ◌∷◌, ◌++◌, map, length, Option, Some, None, refl, sym, ap, ap₂, ◌∙◌, subst, append_assoc, append-nil}
 use Rattle.std.specs.Str.{chars}
 use Rattle.lsp_frame.specs.Frame.{frame}
@@ -20,17 +20,17 @@ use Rattle.lsp_replay.proofs.Squash.SingleLemmas.{IsSingle, is_single, single_re
 use Rattle.lsp_replay.specs.Commands.{front_of, line_if, canonical_change_body}
 use Rattle.lsp_replay.specs.inside.Joining.{server_after}
 use Rattle.lsp_replay.specs.Session.{Session, judge}
-use Rattle.lsp_replay.specs.inside.Squashed.{Run, end_bytes, joined_by, squash_step}
+use Rattle.lsp_replay.specs.inside.Squashed.{OpenSeries, end_bytes, joined_by, squash_step}
 use Rattle.lsp_replay.proofs.Records.ChangeLemmas.{IsAccepted, IsDone, is_done, proper_change, session_after}
 use Rattle.lsp_replay.proofs.Records.NumberedLemmas.{IsAlike, alike_both, numbered}
-use Rattle.lsp_replay.proofs.Squash.OpenRunLemmas.{IsOpenFrom, begins_from}
+use Rattle.lsp_replay.proofs.Squash.OpenSeriesLemmas.{IsOpenFrom, begins_from}
 use Rattle.lsp_replay.proofs.Squash.SquashLawLemmas.{IsApart, report_on, step_on}
 use Rattle.lsp_replay.proofs.Records.StateLemmas.{IsHeldState}
 use Rattle.lsp_replay.proofs.Squash.PendingLemmas.{IsPending, begun_step, front_is, not_bad}
 
--- the run that an accepted change begins
-abbrev pub run_at : Session → Record → ChangeData → DocumentItem → Run
-run_at s r p entry = record {
+-- the series that an accepted change begins
+abbrev pub series_at : Session → Record → ChangeData → DocumentItem → OpenSeries
+series_at s r p entry = record {
   front = front_of r.head;
   singles = front_of r.head ++ frame (canonical_change_body s.server p);
   squash = joined_by p (squash_of s.server.config.limits (session_encoding s.server) entry);
@@ -67,15 +67,16 @@ after_out s t p again next like leaves after = (after.0, after.1, after.2 ∙ ap
     same = ap (λ (u : Session). record u { server = server_after t.server again }) like.2
         ∙ ap (λ server. record (numbered like.0 like.1 s) { server = server }) leaves
 
-pub record IsBegunRun (max_body at : ℕ) (version : Version) (due : Bool) (s : Session) (run : Option Run) (r : Record)
-    (t : Session) (before : Option Run) : Type 0 where
-  pub next : Run
-  pub writes : squash_step s run r (judge s r) ≡ record { out = end_bytes run; end = None; run = Some next }
+pub record IsBegunSeries (max_body at : ℕ) (version : Version) (due : Bool) (s : Session) (series : Option OpenSeries)
+    (r : Record)
+    (t : Session) (before : Option OpenSeries) : Type 0 where
+  pub next : OpenSeries
+  pub writes : squash_step s series r (judge s r) ≡ record { out = end_bytes series; end = None; series = Some next }
   pub pending : IsPending max_body at version due (judge s r).session next t before
 
 module _ (limits : LimitsData) (ranges : AreInRange limits) (at : ℕ) (version : Version) (due : Bool) (s : Session)
-    (run : Option Run) (t : Session) (before : Option Run) (r : Record) (p : ChangeData)
-    (like : IsAlike s t) (of_version : r.head.version ≡ version) (apart_in : IsApart run p.uri)
+    (series : Option OpenSeries) (t : Session) (before : Option OpenSeries) (r : Record) (p : ChangeData)
+    (like : IsAlike s t) (of_version : r.head.version ≡ version) (apart_in : IsApart series p.uri)
     (apart : IsApart before p.uri) (received : IsHeldState limits s.server)
     (a : IsAccepted s r p) (fits : length (canonical_change_body s.server p) ≤ s.server.config.limits.max_body)
     (same_due : r.head.line_due ≡ due) where
@@ -110,23 +111,23 @@ module _ (limits : LimitsData) (ranges : AreInRange limits) (at : ℕ) (version 
   found_out = ap (entry_at t.server.table) single.same_uri ∙ ap (λ (server : ServerData). entry_at server.table p.uri)
       there ∙ may_in.is_open
 
-  step_in : squash_step s run r (judge s r) ≡ record {
-    out = end_bytes run;
+  step_in : squash_step s series r (judge s r) ≡ record {
+    out = end_bytes series;
     end = None;
-    run = Some (run_at s r p its_entry);
+    series = Some (series_at s r p its_entry);
   }
-  step_in = begun_step s run r p a done_in fits its_entry may_in.is_open apart_in
+  step_in = begun_step s series r p a done_in fits its_entry may_in.is_open apart_in
 
   step_out : squash_step t before q (judge t q) ≡ record {
     out = end_bytes before;
     end = None;
-    run = Some (run_at t q single.again its_entry);
+    series = Some (series_at t q single.again its_entry);
   }
   step_out = begun_step t before q single.again single.accepted done_out single.within its_entry found_out
       (subst (IsApart before) (sym single.same_uri) apart)
 
   front_in : front_of r.head ≡ line_if due ++ mark_of version Client
-  front_in = front_is s run r p a done_in fits version of_version ∙ ap (λ b. line_if b ++ mark_of version Client)
+  front_in = front_is s series r p a done_in fits version of_version ∙ ap (λ b. line_if b ++ mark_of version Client)
       same_due
 
   front_out : front_of q.head ≡ line_if due ++ mark_of version Client
@@ -146,8 +147,8 @@ module _ (limits : LimitsData) (ranges : AreInRange limits) (at : ℕ) (version 
       ∙ ap (λ (server : ServerData). joined_by p (squash_of server.config.limits (session_encoding server) its_entry))
       there
 
-  same_run : run_at t q single.again its_entry ≡ run_at s r p its_entry
-  same_run = λ i. record {
+  same_series : series_at t q single.again its_entry ≡ series_at s r p its_entry
+  same_series = λ i. record {
     front = (front_out ∙ sym front_in) i;
     singles = (ap₂ (λ (f b : List ℕ). f ++ frame b) (front_out ∙ sym front_in)
         (single.own ∙ ap (λ (server : ServerData). canonical_change_body server p) there)) i;
@@ -158,9 +159,9 @@ module _ (limits : LimitsData) (ranges : AreInRange limits) (at : ℕ) (version 
   leaves_out = single.leaves ∙ ap (λ (server : ServerData). server_after server p) there
       ∙ sym (ap (λ (u : Session). u.server) done_in.leaves.2)
 
-  from_here : IsOpenFrom t.server (run_at s r p its_entry).squash (judge s r).session.server
+  from_here : IsOpenFrom t.server (series_at s r p its_entry).squash (judge s r).session.server
   from_here =
-      subst (IsOpenFrom t.server (run_at s r p its_entry).squash) leaves_out
+      subst (IsOpenFrom t.server (series_at s r p its_entry).squash) leaves_out
       (subst (λ k. IsOpenFrom t.server k (server_after t.server single.again)) same_squash
       (begins_from t.server single.again its_entry found_out entry_held
       (proper_change q single.again single.accepted.asks) single.accepted.may))
@@ -170,9 +171,9 @@ module _ (limits : LimitsData) (ranges : AreInRange limits) (at : ℕ) (version 
           (subst (λ (l : LimitsData). IsWithin l its_entry) (sym received.limit)
           (within_at limits s.server.table p.uri its_entry received.table may_in.is_open))
 
-  pub begun_run : IsBegunRun limits.max_body at version due s run r t before
-  begun_run = record {
-    next = run_at s r p its_entry;
+  pub begun_series : IsBegunSeries limits.max_body at version due s series r t before
+  begun_series = record {
+    next = series_at s r p its_entry;
     writes = step_in;
     pending = record {
       from = from_here;
@@ -193,8 +194,8 @@ module _ (limits : LimitsData) (ranges : AreInRange limits) (at : ℕ) (version 
           ∙ sym (append-nil (record_bytes version q)));
       last = (judge t q).session;
       last_like = alike_both (session_after s p) (judge s r).session (judge t q).session done_in.leaves out_like;
-      run_output = λ more. step_on t before q more (end_bytes before) (Some (run_at s r p its_entry))
-          (step_out ∙ ap (λ o. record { out = end_bytes before; end = None; run = Some o }) same_run);
+      run_output = λ more. step_on t before q more (end_bytes before) (Some (series_at s r p its_entry))
+          (step_out ∙ ap (λ o. record { out = end_bytes before; end = None; series = Some o }) same_series);
       replay = λ more. report_on t q more (not_bad t before q single.again single.accepted done_out single.within);
     };
   }

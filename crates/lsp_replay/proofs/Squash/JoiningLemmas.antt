@@ -1,4 +1,4 @@
--- A change that is accepted is joined to the batches of the open run, or begins batches of its own.
+-- A change that is accepted is joined to the batches of the open series, or begins batches of its own.
 use Rattle.std.proofs.Common.{◌≡◌, ◌≢◌, inl, inr, ℕ, ℤ, Bool, true, false, List, [], ◌∷◌, map, length, ◌||◌, Option, Some, None, bytes_eq, refl, sym, ap, ◌∙◌, subst, ⊎_elim}
 use Rattle.std.specs.Prelude.{⊤, if◌then◌else◌, nat_lt, Result, Ok, Err}
 use Rattle.std.proofs.lemmas.Bool.{cases_Bool}
@@ -103,29 +103,34 @@ running_refused s version p running none None is some = absurd (some refl)
 running_refused s version p running none (Some refusal) is some = rw (running, none, is) refl
 
 -- how a change is written, by the session that judges it
-pub change_writing : (s : Session) (version : Version) (run : Option SquashData) (p : ChangeData) (w : Writing)
-    → s.server.phase ≡ Running → s.expected ≡ None → IsChangeWriting s.server run p w
-    → IsWriting s.server run (Some p) (judge_client s version (did_change (Some p))).verdict w
-change_writing s version run p (AsItIs ended) running none is =
+pub change_writing : (s : Session) (version : Version) (series : Option SquashData) (p : ChangeData) (w : Writing)
+    → s.server.phase ≡ Running → s.expected ≡ None → IsChangeWriting s.server series p w
+    → IsWriting s.server series (Some p) (judge_client s version (did_change (Some p))).verdict w
+change_writing s version series p (AsItIs ended) running none is =
     (running_refused s version p running none (refusal_of s.server p) refl is.0, is.1)
-change_writing s version run p TooLong running none is = (p, refl, running_accepted s version p running none is.0, is.1)
-change_writing s version run p (Continues canonical batches) running none is =
+change_writing s version series p TooLong running none is = (
+  p,
+  refl,
+  running_accepted s version p running none is.0,
+  is.1,
+)
+change_writing s version series p (Continues canonical batches) running none is =
     (record { params = p; is = refl; accepted = running_accepted s version p running none is.0; framed = is.1 }, is.2)
-change_writing s version run p (Begins canonical ended batches) running none is = (
+change_writing s version series p (Begins canonical ended batches) running none is = (
   record { params = p; is = refl; accepted = running_accepted s version p running none is.0; framed = is.1 },
   is.2,
   is.3,
   is.4,
 )
 
-pub change_open : (s : Session) (version : Version) (run : Option SquashData) (p : ChangeData) (w : Writing)
-    → s.server.phase ≡ Running → s.expected ≡ None → IsChangeWriting s.server run p w
+pub change_open : (s : Session) (version : Version) (series : Option SquashData) (p : ChangeData) (w : Writing)
+    → s.server.phase ≡ Running → s.expected ≡ None → IsChangeWriting s.server series p w
     → IsOpenAfter (judge_client s version (did_change (Some p))).session.server w
-change_open s version run p (AsItIs ended) running none is = tt
-change_open s version run p TooLong running none is = tt
-change_open s version run p (Continues canonical batches) running none is =
+change_open s version series p (AsItIs ended) running none is = tt
+change_open s version series p TooLong running none is = tt
+change_open s version series p (Continues canonical batches) running none is =
     subst (λ (server : ServerData). IsOpenIn server batches) (sym (running_leaves s version p running none is.0)) is.3
-change_open s version run p (Begins canonical ended batches) running none is =
+change_open s version series p (Begins canonical ended batches) running none is =
     subst (λ (server : ServerData). IsOpenIn server batches) (sym (running_leaves s version p running none is.0)) is.5
 
 -- URIs that aren't equal
@@ -232,7 +237,7 @@ module _ (server : ServerData) (p : ChangeData) (entry : DocumentItem)
       entry p.version (map edit_from_data p.changes) ≡ None
   accepts may = rw found at may
 
--- the open document of a run is the one that is found
+-- the open document of a series is the one that is found
 pub same_entry : (server : ServerData) (squash : SquashData) (uri : List ℕ) (entry : DocumentItem)
     → (at : IsOpenIn server squash) → uri ≡ squash.uri → entry_at server.table uri ≡ Some entry → at.entry ≡ entry
 same_entry server squash uri entry at same found =

@@ -1,4 +1,4 @@
--- A change that goes on with the open run.
+-- A change that goes on with the open series.
 use Rattle.std.proofs.Common.{◌≡◌, ℕ, ◌+◌, ◌≤◌, Bool, true, false, List, [], ◌∷◌, ◌++◌, length, Option, Some, None, refl, sym, ap, ap₂, ◌∙◌, subst, append_assoc, append-nil, bytes_eq}
 use Rattle.lsp_frame.specs.Frame.{frame}
 use Rattle.lsp_frame.specs.Limits.{LimitsData, AreInRange}
@@ -16,40 +16,41 @@ use Rattle.lsp_replay.specs.Commands.{replaying, front_of, line_if, canonical_ch
 use Rattle.lsp_replay.specs.inside.Commands.{run_output_in}
 use Rattle.lsp_replay.specs.inside.Joining.{server_after}
 use Rattle.lsp_replay.specs.Session.{Session, judge}
-use Rattle.lsp_replay.specs.inside.Squashed.{Run, end_bytes, joined_by, longer, squash_step, squashed_in}
+use Rattle.lsp_replay.specs.inside.Squashed.{OpenSeries, end_bytes, joined_by, longer, squash_step, squashed_in}
 use Rattle.lsp_replay.proofs.Records.ChangeLemmas.{IsAccepted, IsDone, is_done, proper_change, session_after}
 use Rattle.lsp_replay.proofs.Records.NumberedLemmas.{IsAlike, alike_both, numbered}
-use Rattle.lsp_replay.proofs.Squash.OpenRunLemmas.{IsOpenFrom, goes_on_from, same_encoding, same_text}
+use Rattle.lsp_replay.proofs.Squash.OpenSeriesLemmas.{IsOpenFrom, goes_on_from, same_encoding, same_text}
 use Rattle.lsp_replay.proofs.Squash.SquashLawLemmas.{NonEmpty, first_line, report_on, step_on, together_split}
 use Rattle.lsp_replay.proofs.Records.StateLemmas.{IsHeldState}
 use Rattle.lsp_replay.proofs.Squash.PendingLemmas.{IsPending, behind_some, front_is, longer_step, not_bad}
 use Rattle.lsp_replay.proofs.Squash.BegunLemmas.{after_out, as_accepted, same_server}
 
-pub record IsLongerRun (max_body at : ℕ) (version : Version) (due : Bool) (s : Session) (run : Run) (r : Record)
-    (t : Session) (before : Option Run) : Type 0 where
-  pub next : Run
-  pub writes : squash_step s (Some run) r (judge s r) ≡ record { out = []; end = None; run = Some next }
+pub record IsLongerSeries (max_body at : ℕ) (version : Version) (due : Bool) (s : Session) (series : OpenSeries) (r :
+    Record)
+    (t : Session) (before : Option OpenSeries) : Type 0 where
+  pub next : OpenSeries
+  pub writes : squash_step s (Some series) r (judge s r) ≡ record { out = []; end = None; series = Some next }
   pub pending : IsPending max_body at version due (judge s r).session next t before
 
 module _ (limits : LimitsData) (ranges : AreInRange limits) (at : ℕ) (version : Version) (due : Bool) (s : Session)
-    (run : Run) (t : Session) (before : Option Run) (r : Record) (p : ChangeData)
-    (open_run : IsPending limits.max_body at version due s run t before) (of_version : r.head.version ≡ version)
-    (same : bytes_eq p.uri run.squash.uri ≡ true) (received : IsHeldState limits s.server)
+    (series : OpenSeries) (t : Session) (before : Option OpenSeries) (r : Record) (p : ChangeData)
+    (open_series : IsPending limits.max_body at version due s series t before) (of_version : r.head.version ≡ version)
+    (same : bytes_eq p.uri series.squash.uri ≡ true) (received : IsHeldState limits s.server)
     (a : IsAccepted s r p) (fits : length (canonical_change_body s.server p) ≤ s.server.config.limits.max_body)
     (not_due : r.head.line_due ≡ false) where
   abbrev last : Session
-  last = open_run.last
+  last = open_series.last
 
   abbrev place : ℕ
-  place = at + length (together version open_run.ss [])
+  place = at + length (together version open_series.ss [])
 
   equal : last.server ≡ s.server
-  equal = same_server s last open_run.last_like
+  equal = same_server s last open_series.last_like
 
   another : IsSingle limits.max_body place version false last p (single_record place last r p)
   another =
       is_single limits ranges place version false last r p (subst (IsHeldState limits) (sym equal) received)
-      (as_accepted s last r p open_run.last_like a)
+      (as_accepted s last r p open_series.last_like a)
       (subst (λ (server : ServerData). length (canonical_change_body server p) ≤ server.config.limits.max_body)
       (sym equal) fits) of_version not_due
 
@@ -62,43 +63,43 @@ module _ (limits : LimitsData) (ranges : AreInRange limits) (at : ℕ) (version 
   done_last : IsDone last more_q another.again
   done_last = is_done last more_q another.again another.accepted
 
-  uri_is : p.uri ≡ run.squash.uri
-  uri_is = (bytes_eq-Decides p.uri run.squash.uri).0 same
+  uri_is : p.uri ≡ series.squash.uri
+  uri_is = (bytes_eq-Decides p.uri series.squash.uri).0 same
 
-  abbrev next_run : Run
-  next_run = longer run p (front_of r.head ++ frame (canonical_change_body s.server p))
+  abbrev next_series : OpenSeries
+  next_series = longer series p (front_of r.head ++ frame (canonical_change_body s.server p))
 
-  gives_here : squash_step s (Some run) r (judge s r) ≡ record { out = []; end = None; run = Some next_run }
-  gives_here = longer_step s (Some run) r p a done_here fits run refl same
+  gives_here : squash_step s (Some series) r (judge s r) ≡ record { out = []; end = None; series = Some next_series }
+  gives_here = longer_step s (Some series) r p a done_here fits series refl same
 
   front_here : front_of r.head ≡ mark_of version Client
-  front_here = front_is s (Some run) r p a done_here fits version of_version
+  front_here = front_is s (Some series) r p a done_here fits version of_version
       ∙ ap (λ b. line_if b ++ mark_of version Client) not_due
 
   front_last : front_of more_q.head ≡ mark_of version Client
   front_last =
-      front_is last (Some run) more_q another.again another.accepted done_last another.within version of_version
+      front_is last (Some series) more_q another.again another.accepted done_last another.within version of_version
       ∙ ap (λ b. line_if b ++ mark_of version Client) not_due
 
-  joins_same : joined_by another.again run.squash ≡ joined_by p run.squash
+  joins_same : joined_by another.again series.squash ≡ joined_by p series.squash
   joins_same =
-      another.joins run.squash (same_encoding t.server run.squash s.server open_run.from
+      another.joins series.squash (same_encoding t.server series.squash s.server open_series.from
       ∙ ap session_encoding (sym equal))
-      (λ entry found. same_text t.server run.squash s.server open_run.from p.uri entry uri_is
+      (λ entry found. same_text t.server series.squash s.server open_series.from p.uri entry uri_is
       (ap (λ (server : ServerData). entry_at server.table p.uri) (sym equal) ∙ found))
 
-  gives_last : squash_step last (Some run) more_q (judge last more_q) ≡ record {
+  gives_last : squash_step last (Some series) more_q (judge last more_q) ≡ record {
     out = [];
     end = None;
-    run = Some next_run;
+    series = Some next_series;
   }
   gives_last =
-      longer_step last (Some run) more_q another.again another.accepted done_last another.within run refl
-      (ap (λ u. bytes_eq u run.squash.uri) another.same_uri ∙ same)
+      longer_step last (Some series) more_q another.again another.accepted done_last another.within series refl
+      (ap (λ u. bytes_eq u series.squash.uri) another.same_uri ∙ same)
       ∙ (λ i. record {
         out = [];
         end = None;
-        run = Some (record run { singles = run.singles ++ single_is i; squash = joins_same i });
+        series = Some (record series { singles = series.singles ++ single_is i; squash = joins_same i });
       })
     where
       single_is : front_of more_q.head ++ frame (canonical_change_body last.server another.again) ≡ front_of r.head
@@ -117,19 +118,19 @@ module _ (limits : LimitsData) (ranges : AreInRange limits) (at : ℕ) (version 
   same_line [] q some = absurd some
   same_line (x ∷ rs) q some = refl
 
-  pushed : run.singles ++ (front_of r.head ++ frame (canonical_change_body s.server p))
-      ≡ first_line due (open_run.ss ++ more_q ∷ []) ++ together version (open_run.ss ++ more_q ∷ []) []
+  pushed : series.singles ++ (front_of r.head ++ frame (canonical_change_body s.server p))
+      ≡ first_line due (open_series.ss ++ more_q ∷ []) ++ together version (open_series.ss ++ more_q ∷ []) []
   pushed =
-      ap₂ (λ (x y : List ℕ). x ++ y) open_run.singles (ap₂ (λ (f b : List ℕ). f ++ frame b) front_here
+      ap₂ (λ (x y : List ℕ). x ++ y) open_series.singles (ap₂ (λ (f b : List ℕ). f ++ frame b) front_here
       (ap (λ (server : ServerData). canonical_change_body server p) (sym equal)))
-      ∙ append_assoc (first_line due open_run.ss) (together version open_run.ss [])
+      ∙ append_assoc (first_line due open_series.ss) (together version open_series.ss [])
       (mark_of version Client ++ frame (canonical_change_body last.server p))
-      ∙ ap₂ (λ (x y : List ℕ). x ++ y) (sym (same_line open_run.ss more_q open_run.some))
-      (ap (λ side. together version open_run.ss []
+      ∙ ap₂ (λ (x y : List ℕ). x ++ y) (sym (same_line open_series.ss more_q open_series.some))
+      (ap (λ side. together version open_series.ss []
       ++ (mark_of version side ++ frame (canonical_change_body last.server p))) (sym a.side)
-      ∙ sym (together_split version open_run.ss (record_bytes version more_q))
-      ∙ ap (together version open_run.ss) (sym (append-nil (record_bytes version more_q)))
-      ∙ sym (together_push version open_run.ss more_q []))
+      ∙ sym (together_split version open_series.ss (record_bytes version more_q))
+      ∙ ap (together version open_series.ss) (sym (append-nil (record_bytes version more_q)))
+      ∙ sym (together_push version open_series.ss more_q []))
 
   like_on : IsAlike (record t { server = (judge s r).session.server }) (judge s r).session
   like_on = (
@@ -138,39 +139,42 @@ module _ (limits : LimitsData) (ranges : AreInRange limits) (at : ℕ) (version 
     done_here.leaves.2
         ∙ ap (λ (u : Session). numbered done_here.leaves.0 done_here.leaves.1 (record u {
           server = server_after s.server p;
-        })) open_run.like.2
+        })) open_series.like.2
         ∙ ap (λ server. numbered done_here.leaves.0 done_here.leaves.1 (record t { server = server })) next_is,
   )
 
-  pub longer_run : IsLongerRun limits.max_body at version due s run r t before
-  longer_run = record {
-    next = next_run;
+  pub longer_series : IsLongerSeries limits.max_body at version due s series r t before
+  longer_series = record {
+    next = next_series;
     writes = gives_here;
     pending = record {
-      from = subst (IsOpenFrom t.server next_run.squash) next_is
-          (goes_on_from t.server run.squash s.server open_run.from p same (proper_change r p a.asks) a.may);
-      running = open_run.running;
-      waits = open_run.waits;
+      from = subst (IsOpenFrom t.server next_series.squash) next_is
+          (goes_on_from t.server series.squash s.server open_series.from p same (proper_change r p a.asks) a.may);
+      running = open_series.running;
+      waits = open_series.waits;
       like = like_on;
-      apart = open_run.apart;
-      front = open_run.front;
-      ss = open_run.ss ++ more_q ∷ [];
-      some = push_some open_run.ss more_q;
-      are = are_push limits.max_body version at due open_run.ss more_q open_run.are
+      apart = open_series.apart;
+      front = open_series.front;
+      ss = open_series.ss ++ more_q ∷ [];
+      some = push_some open_series.ss more_q;
+      are = are_push limits.max_body version at due open_series.ss more_q open_series.are
           (subst (λ b. IsRecord limits.max_body version place b more_q)
-          (sym (behind_some due open_run.ss open_run.some)) another.is);
+          (sym (behind_some due open_series.ss open_series.some)) another.is);
       singles = pushed;
       last = (judge last more_q).session;
       last_like =
           alike_both (session_after s p) (judge s r).session (judge last more_q).session done_here.leaves
-          (after_out s last p another.again (judge last more_q).session open_run.last_like
+          (after_out s last p another.again (judge last more_q).session open_series.last_like
           (another.leaves ∙ ap (λ (server : ServerData). server_after server p) equal) done_last.leaves);
       run_output = λ more.
-          ap (squashed_in t before) (append_assoc open_run.ss (more_q ∷ []) more) ∙ open_run.run_output (more_q ∷ more)
-          ∙ ap (written_first (end_bytes before)) (step_on last (Some run) more_q more [] (Some next_run) gives_last);
+          ap (squashed_in t before) (append_assoc open_series.ss (more_q ∷ []) more) ∙ open_series.run_output (more_q ∷
+          more)
+          ∙ ap (written_first (end_bytes before)) (step_on last (Some series) more_q more [] (Some next_series)
+          gives_last);
       replay = λ more.
-          ap (run_output_in replaying t) (append_assoc open_run.ss (more_q ∷ []) more) ∙ open_run.replay (more_q ∷ more)
-          ∙ report_on last more_q more (not_bad last (Some run) more_q another.again another.accepted done_last
+          ap (run_output_in replaying t) (append_assoc open_series.ss (more_q ∷ []) more) ∙ open_series.replay (more_q
+          ∷ more)
+          ∙ report_on last more_q more (not_bad last (Some series) more_q another.again another.accepted done_last
           another.within);
     };
   }

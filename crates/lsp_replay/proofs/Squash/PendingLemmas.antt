@@ -1,4 +1,4 @@
--- The open run of a log that is squashed, and the records that are written of it.
+-- The open series of a log that is squashed, and the records that are written of it.
 use Rattle.std.proofs.Common.{◌≡◌, ◌≢◌, ℕ, ◌≤◌, Bool, true, false, nat_lt, List, [], ◌∷◌, ◌++◌, length, Option, Some, None, refl, sym, ap, ◌∙◌, subst, arith, append_assoc, append-nil, bytes_eq}
 use Rattle.std.specs.Prelude.{if◌then◌else◌}
 use Rattle.std.proofs.lemmas.Bool.{ltb-false}
@@ -24,33 +24,34 @@ use Rattle.lsp_replay.specs.Commands.{replaying, front_of, line_if, change_in, c
 use Rattle.lsp_replay.specs.inside.Commands.{run_output_in}
 use Rattle.lsp_replay.specs.inside.Joining.{server_after}
 use Rattle.lsp_replay.specs.Session.{Session, answered, bad, judge}
-use Rattle.lsp_replay.specs.inside.Squashed.{Run, change_output, end_bytes, joined_by, longer, run_bytes, squash_step, squashed_in}
+use Rattle.lsp_replay.specs.inside.Squashed.{OpenSeries, change_output, end_bytes, joined_by, longer, open_bytes, squash_step, squashed_in}
 use Rattle.lsp_replay.proofs.Canonical.CanonicalChangeLemmas.{IsCanonicalChange, canonical_at, canonical_change}
 use Rattle.lsp_replay.proofs.Records.ChangeLemmas.{IsAccepted, IsDone, is_done}
 use Rattle.lsp_replay.proofs.Records.NumberedLemmas.{IsAlike, alike_both}
-use Rattle.lsp_replay.proofs.Squash.OpenRunLemmas.{IsOpenFrom, one_batch, one_message, one_joins}
+use Rattle.lsp_replay.proofs.Squash.OpenSeriesLemmas.{IsOpenFrom, one_batch, one_message, one_joins}
 use Rattle.lsp_replay.proofs.Squash.SquashLawLemmas.{IsEnded, IsApart, NonEmpty, first_line, report_on, step_on}
 use Rattle.lsp_replay.proofs.Squash.SquashingLemmas.{step_changed}
 
--- The records that are written of an open run, if it isn't written as one message: they lead to the same run.
-pub record IsPending (max_body at : ℕ) (version : Version) (due : Bool) (s : Session) (run : Run) (t : Session)
-    (before : Option Run) : Type 0 where
+-- The records that are written of an open series, if it isn't written as one message: they lead to the same series.
+pub record IsPending (max_body at : ℕ) (version : Version) (due : Bool) (s : Session) (series : OpenSeries) (t :
+    Session)
+    (before : Option OpenSeries) : Type 0 where
   -- where it begins, and how its batches led to the server as it is now
-  pub from : IsOpenFrom t.server run.squash s.server
+  pub from : IsOpenFrom t.server series.squash s.server
   pub running : t.server.phase ≡ Running
   pub waits : t.expected ≡ None
   pub like : IsAlike (record t { server = s.server }) s
-  pub apart : IsApart before run.squash.uri
-  pub front : run.front ≡ line_if due ++ mark_of version Client
+  pub apart : IsApart before series.squash.uri
+  pub front : series.front ≡ line_if due ++ mark_of version Client
   -- its records as single messages
   pub ss : List Record
   pub some : NonEmpty ss
   pub are : AreRecords max_body version at due ss
-  pub singles : run.singles ≡ first_line due ss ++ together version ss []
+  pub singles : series.singles ≡ first_line due ss ++ together version ss []
   pub last : Session
   pub last_like : IsAlike s last
   pub run_output : (more : List Record) → squashed_in t before (ss ++ more) ≡ written_first (end_bytes before)
-      (squashed_in last (Some run) more)
+      (squashed_in last (Some series) more)
   pub replay : (more : List Record) → run_output_in replaying t (ss ++ more) ≡ run_output_in replaying last more
 
 pub behind_some : (due : Bool) (rs : List Record) → NonEmpty rs → due_after due rs ≡ false
@@ -59,7 +60,8 @@ behind_some due (r ∷ rs) some = refl
 
 -- ---- what an accepted change gives
 
-module _ (t : Session) (before : Option Run) (q : Record) (p : ChangeData) (a : IsAccepted t q p) (d : IsDone t q p)
+module _ (t : Session) (before : Option OpenSeries) (q : Record) (p : ChangeData) (a : IsAccepted t q p) (d : IsDone t
+    q p)
     (short : length (canonical_change_body t.server p) ≤ t.server.config.limits.max_body) where
   abbrev its_front : List ℕ
   its_front = front_of q.head
@@ -78,12 +80,12 @@ module _ (t : Session) (before : Option Run) (q : Record) (p : ChangeData) (a : 
         framed = record { is = refl; within = short };
       })
 
-  -- it begins a run
+  -- it begins a series
   pub begun_step : (entry : DocumentItem) → entry_at t.server.table p.uri ≡ Some entry → IsApart before p.uri
       → squash_step t before q (judge t q) ≡ record {
         out = end_bytes before;
         end = None;
-        run = Some (record {
+        series = Some (record {
           front = its_front;
           singles = its_single;
           squash = joined_by p (squash_of t.server.config.limits (session_encoding t.server) entry);
@@ -91,23 +93,23 @@ module _ (t : Session) (before : Option Run) (q : Record) (p : ChangeData) (a : 
       }
   begun_step entry found apart = gives_change ∙ by before apart
     where
-      by : (b : Option Run) → IsApart b p.uri → change_output t.server p its_front its_single b
+      by : (b : Option OpenSeries) → IsApart b p.uri → change_output t.server p its_front its_single b
           ≡ record {
             out = end_bytes b;
             end = None;
-            run = Some (record {
+            series = Some (record {
               front = its_front;
               singles = its_single;
               squash = joined_by p (squash_of t.server.config.limits (session_encoding t.server) entry);
             });
           }
       by None apart = rw found refl
-      by (Some run) apart = rw (apart, found) refl
+      by (Some series) apart = rw (apart, found) refl
 
-  -- it goes on with the open run
-  pub longer_step : (run : Run) → before ≡ Some run → bytes_eq p.uri run.squash.uri ≡ true
-      → squash_step t before q (judge t q) ≡ record { out = []; end = None; run = Some (longer run p its_single) }
-  longer_step run is same = gives_change ∙ ap (change_output t.server p its_front its_single) is ∙ rw same refl
+  -- it goes on with the open series
+  pub longer_step : (series : OpenSeries) → before ≡ Some series → bytes_eq p.uri series.squash.uri ≡ true
+      → squash_step t before q (judge t q) ≡ record { out = []; end = None; series = Some (longer series p its_single) }
+  longer_step series is same = gives_change ∙ ap (change_output t.server p its_front its_single) is ∙ rw same refl
 
   pub not_bad : (judge t q).verdict ≢ bad
   not_bad e = let wrong : answered changed ≡ bad = sym d.error ∙ e in cc
@@ -119,14 +121,14 @@ module _ (t : Session) (before : Option Run) (q : Record) (p : ChangeData) (a : 
       ap (λ v. line_if q.head.line_due ++ mark_of v q.head.side) of_version
       ∙ ap (λ side. line_if q.head.line_due ++ mark_of version side) a.side
 
--- ---- no run is open
+-- ---- no series is open
 
 pub none_ended : (max_body at : ℕ) (version : Version) (due : Bool) (s t : Session) → IsAlike s t
     → IsEnded max_body at version due s None t None
 none_ended max_body at version due s t like = record {
   us = [];
   last = t;
-  last_run = None;
+  last_series = None;
   like = like;
   some = λ none. absurd none;
   same_bytes = refl;
@@ -142,17 +144,18 @@ pub none_after : (max_body at : ℕ) (version : Version) (due : Bool) (s t : Ses
 unfolding none_ended
 none_after max_body at version due s t like = refl
 
--- ---- the run ends
+-- ---- the series ends
 
 module _ (limits : LimitsData) (ranges : AreInRange limits) (at : ℕ) (version : Version) (due : Bool) (s : Session)
-    (run : Run) (t : Session) (before : Option Run) (limit : t.server.config.limits ≡ limits)
-    (p : IsPending limits.max_body at version due s run t before) where
-  in_singles : (refusal : Refusal) → squash_refusal run.squash ≡ Some refusal → IsEnded limits.max_body at version due s
-      (Some run) t before
+    (series : OpenSeries) (t : Session) (before : Option OpenSeries) (limit : t.server.config.limits ≡ limits)
+    (p : IsPending limits.max_body at version due s series t before) where
+  in_singles : (refusal : Refusal) → squash_refusal series.squash ≡ Some refusal → IsEnded limits.max_body at version
+      due s
+      (Some series) t before
   in_singles refusal is = record {
     us = p.ss;
     last = p.last;
-    last_run = Some run;
+    last_series = Some series;
     like = p.last_like;
     some = λ _. p.some;
     same_bytes = refl;
@@ -166,37 +169,40 @@ module _ (limits : LimitsData) (ranges : AreInRange limits) (at : ℕ) (version 
   here : AreInRange t.server.config.limits
   here = subst AreInRange (sym limit) ranges
 
-  module _ (is : squash_refusal run.squash ≡ None) where
+  module _ (is : squash_refusal series.squash ≡ None) where
     few_of : (many over : Bool) (first second : Refusal)
         → (if many then Some first else if over then Some second else None) ≡ None → (many ≡ false) × (over ≡ false)
     few_of true over first second e = absurd (let wrong : Some first ≡ None = e in cc)
     few_of false true first second e = absurd (let wrong : Some second ≡ None = e in cc)
     few_of false false first second e = (refl, refl)
 
-    both : (nat_lt run.squash.limits.max_changes (length (squash_batch run.squash)) ≡ false)
-        × (nat_lt run.squash.limits.max_body (length (squash_body run.squash)) ≡ false)
+    both : (nat_lt series.squash.limits.max_changes (length (squash_batch series.squash)) ≡ false)
+        × (nat_lt series.squash.limits.max_body (length (squash_body series.squash)) ≡ false)
     both = few_of _ _ _ _ is
 
-    same_limits : run.squash.limits ≡ t.server.config.limits
+    same_limits : series.squash.limits ≡ t.server.config.limits
     same_limits = ap (λ (k : SquashData). k.limits) p.from.is
 
-    few : nat_lt t.server.config.limits.max_changes (length (squash_batch run.squash)) ≡ false
-    few = subst (λ (l : LimitsData). nat_lt l.max_changes (length (squash_batch run.squash)) ≡ false) same_limits both.0
+    few : nat_lt t.server.config.limits.max_changes (length (squash_batch series.squash)) ≡ false
+    few = subst (λ (l : LimitsData). nat_lt l.max_changes (length (squash_batch series.squash)) ≡ false) same_limits
+        both.0
 
     abbrev entry : DocumentItem
     entry = p.from.entry
 
-    message : IsCanonicalChange t.server run.squash.uri run.squash.version entry run.squash.items
-    message = one_message t.server run.squash s.server p.from here few
+    message : IsCanonicalChange t.server series.squash.uri series.squash.version entry series.squash.items
+    message = one_message t.server series.squash s.server p.from here few
 
     abbrev change : ChangeData
-    change = canonical_change t.server run.squash.uri run.squash.version entry run.squash.items
+    change = canonical_change t.server series.squash.uri series.squash.version entry series.squash.items
 
     abbrev body : List ℕ
-    body = squash_body run.squash
+    body = squash_body series.squash
 
-    body_is : body ≡ change_body run.squash.uri run.squash.version (canonical_at t.server entry run.squash.items)
-    body_is = ap (change_body run.squash.uri run.squash.version) (one_batch t.server run.squash s.server p.from here
+    body_is : body ≡ change_body series.squash.uri series.squash.version (canonical_at t.server entry
+        series.squash.items)
+    body_is = ap (change_body series.squash.uri series.squash.version) (one_batch t.server series.squash s.server
+        p.from here
         few)
 
     own : canonical_change_body t.server change ≡ body
@@ -204,7 +210,7 @@ module _ (limits : LimitsData) (ranges : AreInRange limits) (at : ℕ) (version 
 
     within : length body ≤ limits.max_body
     within = subst (λ (l : LimitsData). length body ≤ l.max_body) (same_limits ∙ limit)
-        (ltb-false run.squash.limits.max_body (length body) both.1)
+        (ltb-false series.squash.limits.max_body (length body) both.1)
 
     short : length (canonical_change_body t.server change) ≤ t.server.config.limits.max_body
     short = subst (λ (l : LimitsData). length (canonical_change_body t.server change) ≤ l.max_body) (sym limit)
@@ -233,39 +239,44 @@ module _ (limits : LimitsData) (ranges : AreInRange limits) (at : ℕ) (version 
     abbrev front : List ℕ
     front = front_of one.head
 
-    abbrev one_run : Run
-    one_run = record {
+    abbrev one_series : OpenSeries
+    one_series = record {
       front = front;
       singles = front ++ frame (canonical_change_body t.server change);
       squash = joined_by change (squash_of t.server.config.limits (session_encoding t.server) entry);
     }
 
-    joins : one_run.squash ≡ run.squash
-    joins = one_joins t.server run.squash s.server p.from here few
+    joins : one_series.squash ≡ series.squash
+    joins = one_joins t.server series.squash s.server p.from here few
 
-    step : squash_step t before one (judge t one) ≡ record { out = end_bytes before; end = None; run = Some one_run }
+    step : squash_step t before one (judge t one) ≡ record {
+      out = end_bytes before;
+      end = None;
+      series = Some
+          one_series;
+    }
     step = begun_step t before one change accepted done short entry p.from.found p.apart
 
-    same_front : front ≡ run.front
+    same_front : front ≡ series.front
     same_front = front_is t before one change accepted done short version refl ∙ sym p.front
 
     leaves : server_after t.server change ≡ s.server
     leaves = message.leaves ∙ sym p.from.now_is
 
-    same_end : end_bytes (Some one_run) ≡ run_bytes run
+    same_end : end_bytes (Some one_series) ≡ open_bytes series
     same_end =
-        ap (λ (k : SquashData). run_bytes (record { front = front; singles = one_run.singles; squash = k })) joins
-        ∙ ap (λ f. run_bytes (record { front = f; singles = one_run.singles; squash = run.squash })) same_front
+        ap (λ (k : SquashData). open_bytes (record { front = front; singles = one_series.singles; squash = k })) joins
+        ∙ ap (λ f. open_bytes (record { front = f; singles = one_series.singles; squash = series.squash })) same_front
         ∙ rw is refl
 
-    one_written : run_bytes run ≡ run.front ++ frame body
+    one_written : open_bytes series ≡ series.front ++ frame body
     one_written = rw is refl
 
-    as_one : IsEnded limits.max_body at version due s (Some run) t before
+    as_one : IsEnded limits.max_body at version due s (Some series) t before
     as_one = record {
       us = one ∷ [];
       last = (judge t one).session;
-      last_run = Some one_run;
+      last_series = Some one_series;
       like =
           alike_both (record t { server = s.server }) s (judge t one).session p.like
           (subst (λ (server : ServerData). IsAlike (record t { server = server }) (judge t one).session) leaves
@@ -287,14 +298,15 @@ module _ (limits : LimitsData) (ranges : AreInRange limits) (at : ℕ) (version 
           one_written ∙ ap (λ f. f ++ frame body) p.front ∙ append_assoc (line_if due) (mark_of version Client)
           (frame body)
           ∙ ap (λ z. line_if due ++ z) (sym (append-nil (mark_of version Client ++ frame body)));
-      run_output = λ more. step_on t before one more (end_bytes before) (Some one_run) step;
+      run_output = λ more. step_on t before one more (end_bytes before) (Some one_series) step;
       replay = λ more. report_on t one more (not_bad t before one change accepted done short);
     }
 
-  pub some_ended : IsEnded limits.max_body at version due s (Some run) t before
-  some_ended = by (squash_refusal run.squash) refl
+  pub some_ended : IsEnded limits.max_body at version due s (Some series) t before
+  some_ended = by (squash_refusal series.squash) refl
     where
-      by : (refusal : Option Refusal) → squash_refusal run.squash ≡ refusal → IsEnded limits.max_body at version due s
-          (Some run) t before
+      by : (refusal : Option Refusal) → squash_refusal series.squash ≡ refusal → IsEnded limits.max_body at version due
+          s
+          (Some series) t before
       by None is = as_one is
       by (Some refusal) is = in_singles refusal is

@@ -19,7 +19,7 @@ use Rattle.lsp_replay.specs.Commands.{RecordOutput, canonical_change_body, canon
 use Rattle.lsp_replay.specs.Session.{Session, Verdict, answered, recorded, bad, judge, opened, outcome_of}
 use Rattle.lsp_replay.specs.Squashed.{SeriesChange, change_if, change_on, joined, series_after, series_written, squash_output, squashed, squashing}
 use Rattle.lsp_replay.specs.inside.Squashed as kept
-use Rattle.lsp_replay.specs.inside.Squashed.{Run, Step, begun_on, end_bytes, faulty, joined_by, longer, run_bytes, squashed_in, squashed_steps, step_if}
+use Rattle.lsp_replay.specs.inside.Squashed.{OpenSeries, Step, begun_on, end_bytes, faulty, joined_by, longer, open_bytes, squashed_in, squashed_steps, step_if}
 use Rattle.lsp_replay.proofs.Records.ChangeLemmas.{was_accepted}
 
 -- ---- a series
@@ -28,51 +28,52 @@ abbrev single_of : SeriesChange → List ℕ
 single_of c = c.single
 
 -- the bytes that are kept of a series
-abbrev kept_run : SeriesChange → List SeriesChange → Run
-kept_run first run = record {
+abbrev kept_series : SeriesChange → List SeriesChange → OpenSeries
+kept_series first series = record {
   front = first.front;
-  singles = flat_map single_of (first ∷ run);
-  squash = joined first.document (first ∷ run);
+  singles = flat_map single_of (first ∷ series);
+  squash = joined first.document (first ∷ series);
 }
 
-abbrev kept_of : List SeriesChange → Option Run
+abbrev kept_of : List SeriesChange → Option OpenSeries
 kept_of [] = None
-kept_of (first ∷ run) = Some (kept_run first run)
+kept_of (first ∷ series) = Some (kept_series first series)
 
-run_is : (run : List SeriesChange) → series_written run ≡ end_bytes (kept_of run)
-run_is [] = refl
-run_is (first ∷ run) = by (squash_refusal (joined first.document (first ∷ run)))
+series_is : (series : List SeriesChange) → series_written series ≡ end_bytes (kept_of series)
+series_is [] = refl
+series_is (first ∷ series) = by (squash_refusal (joined first.document (first ∷ series)))
   where
     by : (refusal : Option Refusal)
-        → (if is_none refusal then first.front ++ squash_frame (joined first.document (first ∷ run)) else
-        flat_map single_of (first ∷ run)) ≡ kept.run_written (kept_run first run) refusal
+        → (if is_none refusal then first.front ++ squash_frame (joined first.document (first ∷ series)) else
+        flat_map single_of (first ∷ series)) ≡ kept.open_written (kept_series first series) refusal
     by None = refl
     by (Some refusal) = refl
 
-joined_more : (squash : SquashData) (run : List SeriesChange) (c : SeriesChange) → joined squash (run ++ c ∷ [])
-    ≡ joined_by c.change (joined squash run)
+joined_more : (squash : SquashData) (series : List SeriesChange) (c : SeriesChange) → joined squash (series ++ c ∷ [])
+    ≡ joined_by c.change (joined squash series)
 joined_more squash [] c = refl
-joined_more squash (d ∷ run) c = joined_more (joined_by d.change squash) run c
+joined_more squash (d ∷ series) c = joined_more (joined_by d.change squash) series c
 
-joined_uri : (squash : SquashData) (run : List SeriesChange) → (joined squash run).uri ≡ squash.uri
+joined_uri : (squash : SquashData) (series : List SeriesChange) → (joined squash series).uri ≡ squash.uri
 joined_uri squash [] = refl
-joined_uri squash (c ∷ run) = joined_uri (joined_by c.change squash) run
+joined_uri squash (c ∷ series) = joined_uri (joined_by c.change squash) series
 
-singles_more : (run : List SeriesChange) (c : SeriesChange) → flat_map single_of (run ++ c ∷ [])
-    ≡ flat_map single_of run ++ c.single
-singles_more run c = flat_map-append single_of run (c ∷ [])
-    ∙ ap (λ z. flat_map single_of run ++ z) (append-nil c.single)
+singles_more : (series : List SeriesChange) (c : SeriesChange) → flat_map single_of (series ++ c ∷ [])
+    ≡ flat_map single_of series ++ c.single
+singles_more series c = flat_map-append single_of series (c ∷ [])
+    ∙ ap (λ z. flat_map single_of series ++ z) (append-nil c.single)
 
-kept_more : (first : SeriesChange) (run : List SeriesChange) (c : SeriesChange) → kept_of ((first ∷ run) ++ c ∷ [])
-    ≡ Some (longer (kept_run first run) c.change c.single)
-kept_more first run c = λ i. Some (record {
+kept_more : (first : SeriesChange) (series : List SeriesChange) (c : SeriesChange) → kept_of ((first ∷ series) ++ c ∷
+    [])
+    ≡ Some (longer (kept_series first series) c.change c.single)
+kept_more first series c = λ i. Some (record {
   front = first.front;
-  singles = singles_more (first ∷ run) c i;
-  squash = joined_more first.document (first ∷ run) c i;
+  singles = singles_more (first ∷ series) c i;
+  squash = joined_more first.document (first ∷ series) c i;
 })
 
 -- what is kept of a series that a change begins
-abbrev begun_by : SeriesChange → Run
+abbrev begun_by : SeriesChange → OpenSeries
 begun_by c = record { front = c.front; singles = c.single; squash = joined_by c.change c.document }
 
 kept_one : (c : SeriesChange) → kept_of (c ∷ []) ≡ Some (begun_by c)
@@ -98,36 +99,36 @@ open_at s r p is accepts =
 
 -- `later` says it of the records after this one.
 module _ (s : Session) (r : Record) (t : Session) (rs : List Record)
-    (later : (run : List SeriesChange) → output_in squashing run t rs ≡ squashed_in t (kept_of run) rs) where
+    (later : (series : List SeriesChange) → output_in squashing series t rs ≡ squashed_in t (kept_of series) rs) where
   -- the output from the record on, by a step of the code
   abbrev by_step : Step → RunOutput
-  by_step step = continue_with step.out step.end (squashed_in t step.run rs)
+  by_step step = continue_with step.out step.end (squashed_in t step.series rs)
 
-  abbrev by_bytes : Option Run → Option ChangeData → Verdict → RunOutput
-  by_bytes run change verdict = by_step (step_if s.server r (front_of r.head) run change verdict)
+  abbrev by_bytes : Option OpenSeries → Option ChangeData → Verdict → RunOutput
+  by_bytes series change verdict = by_step (step_if s.server r (front_of r.head) series change verdict)
 
   -- the same, by what is written of the record without squash, and by the change in it
   abbrev by_output : List SeriesChange → Option SeriesChange → RecordOutput → RunOutput
-  by_output run change given =
-      continue_with (squash_output run change given.out given.end).out
-      (squash_output run change given.out given.end).end
-      (output_in squashing (series_after run change) t rs)
+  by_output series change given =
+      continue_with (squash_output series change given.out given.end).out
+      (squash_output series change given.out given.end).end
+      (output_in squashing (series_after series change) t rs)
 
   abbrev each : Option ChangeData → Verdict → RecordOutput
   each change verdict = unless_bad r verdict (written s.server.config.limits.max_body r (front_of r.head)
       (canonical_if s.server change verdict))
 
   abbrev by_changes : List SeriesChange → Option ChangeData → Verdict → RunOutput
-  by_changes run change verdict = by_output run (change_if s r (each change verdict).out change verdict)
+  by_changes series change verdict = by_output series (change_if s r (each change verdict).out change verdict)
       (each change verdict)
 
   -- any record but an accepted change
-  other : (run : List SeriesChange) → written_first (series_written run ++ (front_of r.head ++ r.raw))
+  other : (series : List SeriesChange) → written_first (series_written series ++ (front_of r.head ++ r.raw))
       (output_in squashing [] t rs)
-      ≡ written_first (end_bytes (kept_of run) ++ (front_of r.head ++ r.raw)) (squashed_in t None rs)
-  other run =
-      ap (λ b. written_first (b ++ (front_of r.head ++ r.raw)) (output_in squashing [] t rs)) (run_is run)
-      ∙ ap (written_first (end_bytes (kept_of run) ++ (front_of r.head ++ r.raw))) (later [])
+      ≡ written_first (end_bytes (kept_of series) ++ (front_of r.head ++ r.raw)) (squashed_in t None rs)
+  other series =
+      ap (λ b. written_first (b ++ (front_of r.head ++ r.raw)) (output_in squashing [] t rs)) (series_is series)
+      ∙ ap (written_first (end_bytes (kept_of series) ++ (front_of r.head ++ r.raw))) (later [])
 
   module _ (p : ChangeData) (entry : DocumentItem) where
     abbrev frame_bytes : List ℕ
@@ -141,11 +142,13 @@ module _ (s : Session) (r : Record) (t : Session) (rs : List Record)
     given_if over = if over then ends [] (Err (BodyTooLong r.head.place)) else writes frame_bytes
 
     abbrev changes_if : List SeriesChange → Bool → Option DocumentItem → RunOutput
-    changes_if run over found = by_output run (option_map (change_on s r (given_if over).out p) found) (given_if over)
+    changes_if series over found = by_output series (option_map (change_on s r (given_if over).out p) found) (given_if
+        over)
 
     begins : written_first [] (output_in squashing (c ∷ []) t rs)
         ≡ written_first [] (squashed_in t (Some (begun_by c)) rs)
-    begins = ap (written_first []) (later (c ∷ [])) ∙ ap (λ (k : Option Run). written_first [] (squashed_in t k rs))
+    begins = ap (written_first []) (later (c ∷ [])) ∙ ap (λ (k : Option OpenSeries). written_first [] (squashed_in t k
+        rs))
         (kept_one c)
 
     -- no series is open
@@ -153,7 +156,7 @@ module _ (s : Session) (r : Record) (t : Session) (rs : List Record)
     first_step over found = if over then faulty (BodyTooLong r.head.place) else record {
       out = [];
       end = None;
-      run = begun_on s.server p (front_of r.head) frame_bytes found;
+      series = begun_on s.server p (front_of r.head) frame_bytes found;
     }
 
     first_is : (over : Bool) → changes_if [] over (Some entry) ≡ by_step (first_step over (Some entry))
@@ -166,11 +169,11 @@ module _ (s : Session) (r : Record) (t : Session) (rs : List Record)
       joins_if same found = if same then record {
         out = [];
         end = None;
-        run = Some (longer (kept_run first more) p frame_bytes);
+        series = Some (longer (kept_series first more) p frame_bytes);
       } else record {
-        out = run_bytes (kept_run first more);
+        out = open_bytes (kept_series first more);
         end = None;
-        run = begun_on s.server p (front_of r.head) frame_bytes found;
+        series = begun_on s.server p (front_of r.head) frame_bytes found;
       }
 
       abbrev next_step : Bool → List ℕ → Option DocumentItem → Step
@@ -182,11 +185,12 @@ module _ (s : Session) (r : Record) (t : Session) (rs : List Record)
           ≡ by_step (joins_if same (Some entry))
       joins_is true =
           ap (written_first []) (later ((first ∷ more) ++ c ∷ []))
-          ∙ ap (λ (k : Option Run). written_first [] (squashed_in t k rs)) (kept_more first more c)
+          ∙ ap (λ (k : Option OpenSeries). written_first [] (squashed_in t k rs)) (kept_more first more c)
       joins_is false =
-          ap (λ b. written_first b (output_in squashing (c ∷ []) t rs)) (run_is (first ∷ more))
-          ∙ ap (written_first (run_bytes (kept_run first more))) (later (c ∷ []))
-          ∙ ap (λ (k : Option Run). written_first (run_bytes (kept_run first more)) (squashed_in t k rs)) (kept_one c)
+          ap (λ b. written_first b (output_in squashing (c ∷ []) t rs)) (series_is (first ∷ more))
+          ∙ ap (written_first (open_bytes (kept_series first more))) (later (c ∷ []))
+          ∙ ap (λ (k : Option OpenSeries). written_first (open_bytes (kept_series first more)) (squashed_in t k rs))
+          (kept_one c)
 
       next_is : (over : Bool) → changes_if (first ∷ more) over (Some entry)
           ≡ by_step (next_step over first.document.uri (Some entry))
@@ -196,9 +200,9 @@ module _ (s : Session) (r : Record) (t : Session) (rs : List Record)
   abbrev is_over : ChangeData → Bool
   is_over p = nat_lt s.server.config.limits.max_body (length (canonical_change_body s.server p))
 
-  accepted : (run : List SeriesChange) (p : ChangeData) (entry : DocumentItem)
+  accepted : (series : List SeriesChange) (p : ChangeData) (entry : DocumentItem)
       → entry_at s.server.table p.uri ≡ Some entry
-      → by_changes run (Some p) (answered changed) ≡ by_bytes (kept_of run) (Some p) (answered changed)
+      → by_changes series (Some p) (answered changed) ≡ by_bytes (kept_of series) (Some p) (answered changed)
   accepted [] p entry is_open =
       ap (changes_if p entry [] (is_over p)) is_open ∙ first_is p entry (is_over p)
       ∙ sym (ap (λ (found : Option DocumentItem). by_step (first_step p entry (is_over p) found)) is_open)
@@ -209,40 +213,40 @@ module _ (s : Session) (r : Record) (t : Session) (rs : List Record)
       ∙ sym (ap (λ (found : Option DocumentItem). by_step (next_step p entry first more (is_over p)
       (joined first.document (first ∷ more)).uri found)) is_open)
 
-  same : (run : List SeriesChange) (change : Option ChangeData) (verdict : Verdict)
+  same : (series : List SeriesChange) (change : Option ChangeData) (verdict : Verdict)
       → ((p : ChangeData) → change ≡ Some p → verdict ≡ answered changed → IsOpen s p)
-      → by_changes run change verdict ≡ by_bytes (kept_of run) change verdict
-  same run None bad opens = refl
-  same run (Some p) bad opens = refl
-  same run None recorded opens = other run
-  same run (Some p) recorded opens = other run
-  same run None (answered (reply m)) opens = other run
-  same run None (answered changed) opens = other run
-  same run None (answered dropped) opens = other run
-  same run None (answered ignored) opens = other run
-  same run None (answered (refused refusal)) opens = other run
-  same run None (answered (exits status)) opens = other run
-  same run None (answered already_ended) opens = other run
-  same run (Some p) (answered (reply m)) opens = other run
-  same run (Some p) (answered dropped) opens = other run
-  same run (Some p) (answered ignored) opens = other run
-  same run (Some p) (answered (refused refusal)) opens = other run
-  same run (Some p) (answered (exits status)) opens = other run
-  same run (Some p) (answered already_ended) opens = other run
-  same run (Some p) (answered changed) opens =
+      → by_changes series change verdict ≡ by_bytes (kept_of series) change verdict
+  same series None bad opens = refl
+  same series (Some p) bad opens = refl
+  same series None recorded opens = other series
+  same series (Some p) recorded opens = other series
+  same series None (answered (reply m)) opens = other series
+  same series None (answered changed) opens = other series
+  same series None (answered dropped) opens = other series
+  same series None (answered ignored) opens = other series
+  same series None (answered (refused refusal)) opens = other series
+  same series None (answered (exits status)) opens = other series
+  same series None (answered already_ended) opens = other series
+  same series (Some p) (answered (reply m)) opens = other series
+  same series (Some p) (answered dropped) opens = other series
+  same series (Some p) (answered ignored) opens = other series
+  same series (Some p) (answered (refused refusal)) opens = other series
+  same series (Some p) (answered (exits status)) opens = other series
+  same series (Some p) (answered already_ended) opens = other series
+  same series (Some p) (answered changed) opens =
       let found = opens p refl refl in
-      accepted run p found.0 found.1
+      accepted series p found.0 found.1
 
 -- ---- all records
 
 abbrev ended : Session → List ℕ → RunOutput
 ended s bytes = record { out = []; stop = None; last = λ line_due. bytes ++ line_if line_due; outcome = outcome_of s }
 
-series_are : (s : Session) (run : List SeriesChange) (rs : List Record) → output_in squashing run s rs
-    ≡ squashed_in s (kept_of run) rs
-series_are s run [] = ap (ended s) (run_is run)
-series_are s run (r ∷ rs) =
-    same s r (judge s r).session rs (λ next. series_are (judge s r).session next rs) run
+series_are : (s : Session) (series : List SeriesChange) (rs : List Record) → output_in squashing series s rs
+    ≡ squashed_in s (kept_of series) rs
+series_are s series [] = ap (ended s) (series_is series)
+series_are s series (r ∷ rs) =
+    same s r (judge s r).session rs (λ next. series_are (judge s r).session next rs) series
     (change_in (incoming_of (reading r.body))) (judge s r).verdict (open_at s r)
 
 -- What is written by the changes of each series is what the code makes.

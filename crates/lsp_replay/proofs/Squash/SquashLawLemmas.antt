@@ -10,7 +10,7 @@ use Rattle.lsp_replay.specs.RunOutput.{RunOutput, written_first}
 use Rattle.lsp_replay.specs.Commands.{writes, continue_with, unless_bad, replaying, line_if}
 use Rattle.lsp_replay.specs.inside.Commands.{run_output_in}
 use Rattle.lsp_replay.specs.Session.{Session, Verdict, answered, recorded, bad, judge}
-use Rattle.lsp_replay.specs.inside.Squashed.{Run, Step, end_bytes, squash_step, squashed_in}
+use Rattle.lsp_replay.specs.inside.Squashed.{OpenSeries, Step, end_bytes, squash_step, squashed_in}
 use Rattle.lsp_replay.proofs.Records.NumberedLemmas.{IsAlike}
 
 -- all that is written of some records
@@ -68,11 +68,12 @@ no_line (r ∷ rs) = refl
 -- ---- a course, a step at a time
 
 -- A squashed log, by a step that is known and goes on.
-pub step_on : (s : Session) (run : Option Run) (r : Record) (rs : List Record) (out : List ℕ) (next : Option Run)
-    → squash_step s run r (judge s r) ≡ record { out = out; end = None; run = next }
-    → squashed_in s run (r ∷ rs) ≡ written_first out (squashed_in (judge s r).session next rs)
-step_on s run r rs out next is =
-    ap (λ (step : Step). continue_with step.out step.end (squashed_in (judge s r).session step.run rs)) is
+pub step_on : (s : Session) (series : Option OpenSeries) (r : Record) (rs : List Record) (out : List ℕ) (next : Option
+    OpenSeries)
+    → squash_step s series r (judge s r) ≡ record { out = out; end = None; series = next }
+    → squashed_in s series (r ∷ rs) ≡ written_first out (squashed_in (judge s r).session next rs)
+step_on s series r rs out next is =
+    ap (λ (step : Step). continue_with step.out step.end (squashed_in (judge s r).session step.series rs)) is
 
 -- `replay` reports nothing for a record that isn't bad.
 pub report_on : (s : Session) (r : Record) (rs : List Record) → (judge s r).verdict ≢ bad
@@ -85,51 +86,52 @@ report_on s r rs not_bad = by (judge s r).verdict not_bad
     by recorded other = refl
     by (answered answer) other = refl
 
--- no run is open, or one of a document with another URI
-abbrev pub IsApart : Option Run → List ℕ → Type 0
+-- no series is open, or one of a document with another URI
+abbrev pub IsApart : Option OpenSeries → List ℕ → Type 0
 IsApart None uri = ⊤
-IsApart (Some run) uri = bytes_eq uri run.squash.uri ≡ false
+IsApart (Some series) uri = bytes_eq uri series.squash.uri ≡ false
 
 -- ---- what is written of the records up to now
 
--- a run is open
-abbrev pub HasRun : Option Run → Type 0
-HasRun None = ⊥
-HasRun (Some run) = ⊤
+-- a series is open
+abbrev pub HasSeries : Option OpenSeries → Type 0
+HasSeries None = ⊥
+HasSeries (Some series) = ⊤
 
--- a run is open, or there are records
-abbrev pub IsAny : Option Run → List Record → Type 0
-IsAny run [] = HasRun run
-IsAny run (r ∷ rs) = ⊤
+-- a series is open, or there are records
+abbrev pub IsAny : Option OpenSeries → List Record → Type 0
+IsAny series [] = HasSeries series
+IsAny series (r ∷ rs) = ⊤
 
 pub some_behind : (rs more : List Record) → NonEmpty more → NonEmpty (rs ++ more)
 some_behind [] more some = some
 some_behind (r ∷ rs) more some = tt
 
--- The records that are written of the open run, once it has ended.
-pub record IsEnded (max_body at : ℕ) (version : Version) (due : Bool) (s : Session) (run : Option Run) (t : Session)
-    (before : Option Run) : Type 0 where
+-- The records that are written of the open series, once it has ended.
+pub record IsEnded (max_body at : ℕ) (version : Version) (due : Bool) (s : Session) (series : Option OpenSeries) (t :
+    Session)
+    (before : Option OpenSeries) : Type 0 where
   pub us : List Record
   pub last : Session
-  pub last_run : Option Run
+  pub last_series : Option OpenSeries
   pub like : IsAlike s last
-  pub some : HasRun run → NonEmpty us
-  pub same_bytes : end_bytes last_run ≡ end_bytes run
-  pub apart : (uri : List ℕ) → IsApart run uri → IsApart last_run uri
+  pub some : HasSeries series → NonEmpty us
+  pub same_bytes : end_bytes last_series ≡ end_bytes series
+  pub apart : (uri : List ℕ) → IsApart series uri → IsApart last_series uri
   pub are : AreRecords max_body version at due us
-  pub bytes : end_bytes run ≡ first_line due us ++ together version us []
+  pub bytes : end_bytes series ≡ first_line due us ++ together version us []
   pub run_output : (more : List Record) → squashed_in t before (us ++ more) ≡ written_first (end_bytes before)
-      (squashed_in last last_run more)
+      (squashed_in last last_series more)
   pub replay : (more : List Record) → run_output_in replaying t (us ++ more) ≡ run_output_in replaying last more
 
--- The records that are written of some, with those of the open run.
-pub record IsSquashedAs (max_body at : ℕ) (version : Version) (due : Bool) (s : Session) (run : Option Run)
-    (rs : List Record) (t : Session) (before : Option Run) : Type 0 where
+-- The records that are written of some, with those of the open series.
+pub record IsSquashedAs (max_body at : ℕ) (version : Version) (due : Bool) (s : Session) (series : Option OpenSeries)
+    (rs : List Record) (t : Session) (before : Option OpenSeries) : Type 0 where
   pub qs : List Record
-  pub some : IsAny run rs → NonEmpty qs
+  pub some : IsAny series rs → NonEmpty qs
   pub are : AreRecords max_body version at due qs
-  pub bytes : total (squashed_in s run rs) ≡ first_line due qs ++ together version qs []
-  pub again : total (squashed_in t before qs) ≡ end_bytes before ++ total (squashed_in s run rs)
+  pub bytes : total (squashed_in s series rs) ≡ first_line due qs ++ together version qs []
+  pub again : total (squashed_in t before qs) ≡ end_bytes before ++ total (squashed_in s series rs)
   pub continues : (squashed_in t before qs).stop ≡ None
   pub documents : (line_due : Bool) → (run_output_in replaying t qs).last line_due ≡ (run_output_in replaying s rs).last
       line_due
@@ -137,10 +139,10 @@ pub record IsSquashedAs (max_body at : ℕ) (version : Version) (due : Bool) (s 
   pub status : (run_output_in replaying t qs).outcome.status ≡ (run_output_in replaying s rs).outcome.status
   pub refused : (run_output_in replaying t qs).outcome.refused ≡ (run_output_in replaying s rs).outcome.refused
 
-module _ (max_body at : ℕ) (version : Version) (due : Bool) (s : Session) (run : Option Run) (t : Session)
-    (before : Option Run) (e : IsEnded max_body at version due s run t before) where
+module _ (max_body at : ℕ) (version : Version) (due : Bool) (s : Session) (series : Option OpenSeries) (t : Session)
+    (before : Option OpenSeries) (e : IsEnded max_body at version due s series t before) where
   -- At the end of the input.
-  pub at_end : IsSquashedAs max_body at version due s run [] t before
+  pub at_end : IsSquashedAs max_body at version due s series [] t before
   at_end =
       let nil = append-nil e.us in
       let run_output = ap (squashed_in t before) (sym nil) ∙ e.run_output [] in
@@ -149,10 +151,10 @@ module _ (max_body at : ℕ) (version : Version) (due : Bool) (s : Session) (run
         qs = e.us;
         some = e.some;
         are = e.are;
-        bytes = append-nil (end_bytes run) ∙ e.bytes;
+        bytes = append-nil (end_bytes series) ∙ e.bytes;
         again =
             ap total run_output ∙ ap (λ z. (end_bytes before ++ []) ++ (z ++ [])) e.same_bytes
-            ∙ ap (λ z. z ++ (end_bytes run ++ [])) (append-nil (end_bytes before));
+            ∙ ap (λ z. z ++ (end_bytes series ++ [])) (append-nil (end_bytes before));
         continues = ap (λ (c : RunOutput). c.stop) run_output;
         documents = λ line_due. ap (λ (c : RunOutput). c.last line_due) replay
             ∙ ap (λ (u : Session). (run_output_in replaying u []).last line_due) e.like.2;
@@ -163,18 +165,19 @@ module _ (max_body at : ℕ) (version : Version) (due : Bool) (s : Session) (run
             ∙ ap (λ (u : Session). (run_output_in replaying u []).outcome.refused) e.like.2;
       }
 
-  -- The run ends, and others follow that begin with what ends it.
-  module _ (r : Record) (rs : List Record) (next : Option Run) (goes : squash_step s run r (judge s r) ≡ record {
-    out = end_bytes run;
-    end = None;
-    run = next;
-  }) (not_bad : (judge s r).verdict ≢ bad)
+  -- The series ends, and others follow that begin with what ends it.
+  module _ (r : Record) (rs : List Record) (next : Option OpenSeries) (goes : squash_step s series r (judge s r) ≡
+      record {
+        out = end_bytes series;
+        end = None;
+        series = next;
+      }) (not_bad : (judge s r).verdict ≢ bad)
       (any : IsAny next rs) (more : IsSquashedAs max_body (at + length (together version e.us [])) version
-      (due_after due e.us) (judge s r).session next rs e.last e.last_run) where
-    first : squashed_in s run (r ∷ rs) ≡ written_first (end_bytes run) (squashed_in (judge s r).session next rs)
-    first = step_on s run r rs (end_bytes run) next goes
+      (due_after due e.us) (judge s r).session next rs e.last e.last_series) where
+    first : squashed_in s series (r ∷ rs) ≡ written_first (end_bytes series) (squashed_in (judge s r).session next rs)
+    first = step_on s series r rs (end_bytes series) next goes
 
-    pub begins_next : IsSquashedAs max_body at version due s run (r ∷ rs) t before
+    pub begins_next : IsSquashedAs max_body at version due s series (r ∷ rs) t before
     begins_next =
         let inner = squashed_in (judge s r).session next rs in
         record {
@@ -182,15 +185,15 @@ module _ (max_body at : ℕ) (version : Version) (due : Bool) (s : Session) (run
           some = λ _. some_behind e.us more.qs (more.some any);
           are = are_more max_body version at due e.us more.qs e.are more.are;
           bytes =
-              ap total first ∙ append_assoc (end_bytes run) inner.out (inner.last false)
+              ap total first ∙ append_assoc (end_bytes series) inner.out (inner.last false)
               ∙ ap (λ z. z ++ total inner) e.bytes ∙ ap (λ z. (first_line due e.us ++ together version e.us []) ++ z)
               more.bytes
               ∙ swap;
           again =
               ap total (e.run_output more.qs) ∙ append_assoc (end_bytes before)
-              (squashed_in e.last e.last_run more.qs).out ((squashed_in e.last e.last_run more.qs).last false)
+              (squashed_in e.last e.last_series more.qs).out ((squashed_in e.last e.last_series more.qs).last false)
               ∙ ap (λ z. end_bytes before ++ z) (more.again ∙ ap (λ z. z ++ total inner) e.same_bytes
-              ∙ sym (append_assoc (end_bytes run) inner.out (inner.last false)) ∙ sym (ap total first));
+              ∙ sym (append_assoc (end_bytes series) inner.out (inner.last false)) ∙ sym (ap total first));
           continues = ap (λ (c : RunOutput). c.stop) (e.run_output more.qs) ∙ more.continues;
           documents = λ line_due. ap (λ (c : RunOutput). c.last line_due) (e.replay more.qs) ∙ more.documents line_due
               ∙ sym (ap (λ (c : RunOutput). c.last line_due) (report_on s r rs not_bad));
@@ -218,42 +221,43 @@ module _ (max_body at : ℕ) (version : Version) (due : Bool) (s : Session) (run
                 ∙ ap (λ z. line_if due ++ z) (sym (together_split version (u ∷ us) (together version more.qs []))
                 ∙ sym (together_more version (u ∷ us) more.qs []))
 
-  -- A record that is written as it is ends the run.
+  -- A record that is written as it is ends the series.
   module _ (r q : Record) (rs : List Record) (front : List ℕ)
       (is : IsRecord max_body version (at + length (together version e.us [])) (due_after due e.us) q)
-      (goes : squash_step s run r (judge s r) ≡ record {
-        out = end_bytes run ++ (front ++ q.raw);
+      (goes : squash_step s series r (judge s r) ≡ record {
+        out = end_bytes series ++ (front ++ q.raw);
         end = None;
-        run = None;
+        series = None;
       }) (not_bad : (judge s r).verdict ≢ bad)
       (front_is : front ≡ line_if (due_after due e.us) ++ mark_of version q.head.side)
-      (again_goes : squash_step e.last e.last_run q (judge e.last q) ≡ record {
-        out = end_bytes e.last_run ++ (front ++ q.raw);
+      (again_goes : squash_step e.last e.last_series q (judge e.last q) ≡ record {
+        out = end_bytes e.last_series ++ (front ++ q.raw);
         end = None;
-        run = None;
+        series = None;
       }) (again_not_bad : (judge e.last q).verdict ≢ bad)
       (more : IsSquashedAs max_body (at + length (together version e.us []) + length (record_bytes version q)) version
       false (judge s r).session None rs (judge e.last q).session None) where
-    one : squashed_in s run (r ∷ rs) ≡ written_first (end_bytes run ++ (front ++ q.raw))
+    one : squashed_in s series (r ∷ rs) ≡ written_first (end_bytes series ++ (front ++ q.raw))
         (squashed_in (judge s r).session None rs)
-    one = step_on s run r rs (end_bytes run ++ (front ++ q.raw)) None goes
+    one = step_on s series r rs (end_bytes series ++ (front ++ q.raw)) None goes
 
     again_one : squashed_in t before (e.us ++ q ∷ more.qs) ≡ written_first (end_bytes before)
-        (written_first (end_bytes e.last_run ++ (front ++ q.raw)) (squashed_in (judge e.last q).session None more.qs))
+        (written_first (end_bytes e.last_series ++ (front ++ q.raw)) (squashed_in (judge e.last q).session None
+        more.qs))
     again_one = e.run_output (q ∷ more.qs) ∙ ap (written_first (end_bytes before))
-        (step_on e.last e.last_run q more.qs (end_bytes e.last_run ++ (front ++ q.raw)) None again_goes)
+        (step_on e.last e.last_series q more.qs (end_bytes e.last_series ++ (front ++ q.raw)) None again_goes)
 
     replay_one : run_output_in replaying t (e.us ++ q ∷ more.qs) ≡ run_output_in replaying (judge e.last q).session
         more.qs
     replay_one = e.replay (q ∷ more.qs) ∙ report_on e.last q more.qs again_not_bad
 
     abbrev written : List ℕ
-    written = end_bytes run ++ (front ++ q.raw)
+    written = end_bytes series ++ (front ++ q.raw)
 
     abbrev inner : RunOutput
     inner = squashed_in (judge s r).session None rs
 
-    -- its bytes, behind those of the run
+    -- its bytes, behind those of the series
     placed_bytes : (us : List Record) (line : List ℕ) → line ≡ line_if (due_after due us)
         → (first_line due us ++ together version us []) ++ ((line ++ mark_of version q.head.side) ++ q.raw)
         ≡ first_line due (us ++ q ∷ more.qs) ++ together version us (record_bytes version q)
@@ -264,7 +268,7 @@ module _ (max_body at : ℕ) (version : Version) (due : Bool) (s : Session) (run
         ∙ append_assoc (line_if due) (together version (u ∷ us) []) (record_bytes version q)
         ∙ ap (λ z. line_if due ++ z) (sym (together_split version (u ∷ us) (record_bytes version q)))
 
-    one_bytes : total (squashed_in s run (r ∷ rs)) ≡ first_line due (e.us ++ q ∷ more.qs) ++ together version
+    one_bytes : total (squashed_in s series (r ∷ rs)) ≡ first_line due (e.us ++ q ∷ more.qs) ++ together version
         (e.us ++ q ∷ more.qs) []
     one_bytes =
         ap total one ∙ append_assoc written inner.out (inner.last false)
@@ -282,17 +286,17 @@ module _ (max_body at : ℕ) (version : Version) (due : Bool) (s : Session) (run
         ∙ sym (together_more version e.us (q ∷ more.qs) []))
 
     one_again : total (squashed_in t before (e.us ++ q ∷ more.qs)) ≡ end_bytes before
-        ++ total (squashed_in s run (r ∷ rs))
+        ++ total (squashed_in s series (r ∷ rs))
     one_again =
         let again_inner = squashed_in (judge e.last q).session None more.qs in
-        let again_written = end_bytes e.last_run ++ (front ++ q.raw) in
+        let again_written = end_bytes e.last_series ++ (front ++ q.raw) in
         ap total again_one ∙ append_assoc (end_bytes before) (again_written ++ again_inner.out) (again_inner.last false)
         ∙ ap (λ z. end_bytes before ++ z)
         (append_assoc again_written again_inner.out (again_inner.last false)
         ∙ ap (λ z. again_written ++ z) more.again ∙ ap (λ z. (z ++ (front ++ q.raw)) ++ total inner) e.same_bytes
         ∙ sym (append_assoc written inner.out (inner.last false)) ∙ sym (ap total one))
 
-    pub others_next : IsSquashedAs max_body at version due s run (r ∷ rs) t before
+    pub others_next : IsSquashedAs max_body at version due s series (r ∷ rs) t before
     others_next = record {
       qs = e.us ++ q ∷ more.qs;
       some = λ _. some_behind e.us (q ∷ more.qs) tt;
@@ -309,15 +313,16 @@ module _ (max_body at : ℕ) (version : Version) (due : Bool) (s : Session) (run
           ∙ sym (ap (λ (c : RunOutput). c.outcome.refused) (report_on s r rs not_bad));
     }
 
--- A record that goes on with the run.
-pub goes_on_next : (max_body at : ℕ) (version : Version) (due : Bool) (s : Session) (run : Option Run) (t : Session)
-    (before next : Option Run) (r : Record) (rs : List Record)
-    → squash_step s run r (judge s r) ≡ record { out = []; end = None; run = next } → (judge s r).verdict ≢ bad
+-- A record that goes on with the series.
+pub goes_on_next : (max_body at : ℕ) (version : Version) (due : Bool) (s : Session) (series : Option OpenSeries) (t :
+    Session)
+    (before next : Option OpenSeries) (r : Record) (rs : List Record)
+    → squash_step s series r (judge s r) ≡ record { out = []; end = None; series = next } → (judge s r).verdict ≢ bad
     → IsAny next rs
     → IsSquashedAs max_body at version due (judge s r).session next rs t before → IsSquashedAs max_body at version due s
-    run (r ∷ rs) t before
-goes_on_next max_body at version due s run t before next r rs writes not_bad any more =
-    let first = step_on s run r rs [] next writes in
+    series (r ∷ rs) t before
+goes_on_next max_body at version due s series t before next r rs writes not_bad any more =
+    let first = step_on s series r rs [] next writes in
     let error = report_on s r rs not_bad in
     record {
       qs = more.qs;

@@ -15,44 +15,45 @@ use Rattle.lsp_replay.specs.Commands.{RecordOutput, change_in, front_of, continu
 use Rattle.lsp_replay.specs.inside.Commands.{run_output_in}
 use Rattle.lsp_replay.specs.Session.{Session, Verdict, answered, recorded, bad, judge, opened}
 use Rattle.lsp_replay.specs.laws.Written.{StopsAlike}
-use Rattle.lsp_replay.specs.inside.Squashed.{Run, change_output, squash_step, squashed_in, step_if, squashed_steps}
+use Rattle.lsp_replay.specs.inside.Squashed.{OpenSeries, change_output, squash_step, squashed_in, step_if, squashed_steps}
 use Rattle.lsp_replay.proofs.Squash.SeriesLemmas.{squashed_is}
 
 abbrev single : ServerData → Record → List ℕ → Option ChangeData → Verdict → RecordOutput
 single server r front change v =
     unless_bad r v (written server.config.limits.max_body r front (canonical_if server change v))
 
-change_end : (server : ServerData) (p : ChangeData) (front bytes : List ℕ) (run : Option Run)
-    → (change_output server p front bytes run).end ≡ None
+change_end : (server : ServerData) (p : ChangeData) (front bytes : List ℕ) (series : Option OpenSeries)
+    → (change_output server p front bytes series).end ≡ None
 change_end server p front bytes None = refl
-change_end server p front bytes (Some run) =
-    ⊎_elim (λ (is : bytes_eq p.uri run.squash.uri ≡ true). rw is refl) (λ (not : bytes_eq p.uri run.squash.uri ≡ false).
-    rw not refl) (cases_Bool (bytes_eq p.uri run.squash.uri))
+change_end server p front bytes (Some series) =
+    ⊎_elim (λ (is : bytes_eq p.uri series.squash.uri ≡ true). rw is refl) (λ (not : bytes_eq p.uri series.squash.uri ≡
+    false).
+    rw not refl) (cases_Bool (bytes_eq p.uri series.squash.uri))
 
-step_end : (server : ServerData) (r : Record) (front : List ℕ) (run : Option Run) (change : Option ChangeData)
-    (v : Verdict) → (step_if server r front run change v).end ≡ (single server r front change v).end
-step_end server r front run None bad = refl
-step_end server r front run (Some p) bad = refl
-step_end server r front run None recorded = refl
-step_end server r front run (Some p) recorded = refl
-step_end server r front run None (answered (reply m)) = refl
-step_end server r front run None (answered changed) = refl
-step_end server r front run None (answered dropped) = refl
-step_end server r front run None (answered ignored) = refl
-step_end server r front run None (answered (refused refusal)) = refl
-step_end server r front run None (answered (exits status)) = refl
-step_end server r front run None (answered already_ended) = refl
-step_end server r front run (Some p) (answered (reply m)) = refl
-step_end server r front run (Some p) (answered dropped) = refl
-step_end server r front run (Some p) (answered ignored) = refl
-step_end server r front run (Some p) (answered (refused refusal)) = refl
-step_end server r front run (Some p) (answered (exits status)) = refl
-step_end server r front run (Some p) (answered already_ended) = refl
-step_end server r front run (Some p) (answered changed) =
+step_end : (server : ServerData) (r : Record) (front : List ℕ) (series : Option OpenSeries) (change : Option ChangeData)
+    (v : Verdict) → (step_if server r front series change v).end ≡ (single server r front change v).end
+step_end server r front series None bad = refl
+step_end server r front series (Some p) bad = refl
+step_end server r front series None recorded = refl
+step_end server r front series (Some p) recorded = refl
+step_end server r front series None (answered (reply m)) = refl
+step_end server r front series None (answered changed) = refl
+step_end server r front series None (answered dropped) = refl
+step_end server r front series None (answered ignored) = refl
+step_end server r front series None (answered (refused refusal)) = refl
+step_end server r front series None (answered (exits status)) = refl
+step_end server r front series None (answered already_ended) = refl
+step_end server r front series (Some p) (answered (reply m)) = refl
+step_end server r front series (Some p) (answered dropped) = refl
+step_end server r front series (Some p) (answered ignored) = refl
+step_end server r front series (Some p) (answered (refused refusal)) = refl
+step_end server r front series (Some p) (answered (exits status)) = refl
+step_end server r front series (Some p) (answered already_ended) = refl
+step_end server r front series (Some p) (answered changed) =
     ⊎_elim (λ (long : nat_lt server.config.limits.max_body (length (canonical_change_body server p)) ≡ true). rw long
     refl)
     (λ (within : nat_lt server.config.limits.max_body (length (canonical_change_body server p)) ≡ false). rw within
-    (change_end server p front _ run))
+    (change_end server p front _ series))
     (cases_Bool (nat_lt server.config.limits.max_body (length (canonical_change_body server p))))
 
 pub stop_on : (out bytes : List ℕ) (end also : Option (Result Outcome EngineFault)) (c d : RunOutput) → end ≡ also
@@ -62,13 +63,13 @@ stop_on out bytes None (Some a) c d same stops = absurd (cc)
 stop_on out bytes (Some e) None c d same stops = absurd (cc)
 stop_on out bytes (Some e) (Some a) c d same stops = same
 
-pub stops_in : (s : Session) (run : Option Run) (rs : List Record) → (squashed_in s run rs).stop
+pub stops_in : (s : Session) (series : Option OpenSeries) (rs : List Record) → (squashed_in s series rs).stop
     ≡ (run_output_in normalising s rs).stop
-stops_in s run [] = refl
-stops_in s run (r ∷ rs) =
-    stop_on _ _ _ _ _ _ (step_end s.server r (front_of r.head) run (change_in (incoming_of (reading r.body)))
+stops_in s series [] = refl
+stops_in s series (r ∷ rs) =
+    stop_on _ _ _ _ _ _ (step_end s.server r (front_of r.head) series (change_in (incoming_of (reading r.body)))
     (judge s r).verdict)
-    (stops_in (judge s r).session (squash_step s run r (judge s r)).run rs)
+    (stops_in (judge s r).session (squash_step s series r (judge s r)).series rs)
 
 outcome_on : (out bytes : List ℕ) (end also : Option (Result Outcome EngineFault)) (c d : RunOutput) → end ≡ also
     → c.outcome ≡ d.outcome → (continue_with out end c).outcome ≡ (continue_with bytes also d).outcome
@@ -78,13 +79,13 @@ outcome_on out bytes (Some e) None c d same outcomes = absurd (cc)
 outcome_on out bytes (Some e) (Some a) c d same outcomes = refl
 
 -- Its status and counts are those of `normalise`.
-pub outcome_in : (s : Session) (run : Option Run) (rs : List Record) → (squashed_in s run rs).outcome
+pub outcome_in : (s : Session) (series : Option OpenSeries) (rs : List Record) → (squashed_in s series rs).outcome
     ≡ (run_output_in normalising s rs).outcome
-outcome_in s run [] = refl
-outcome_in s run (r ∷ rs) =
-    outcome_on _ _ _ _ _ _ (step_end s.server r (front_of r.head) run (change_in (incoming_of (reading r.body)))
+outcome_in s series [] = refl
+outcome_in s series (r ∷ rs) =
+    outcome_on _ _ _ _ _ _ (step_end s.server r (front_of r.head) series (change_in (incoming_of (reading r.body)))
     (judge s r).verdict)
-    (outcome_in (judge s r).session (squash_step s run r (judge s r)).run rs)
+    (outcome_in (judge s r).session (squash_step s series r (judge s r)).series rs)
 
 -- the same of any output
 abbrev StopsBy : (Settings → List Record → RunOutput) → Type 0

@@ -22,68 +22,71 @@ use Rattle.lsp_replay.specs.inside.Commands.{run_output_in}
 use Rattle.lsp_replay.specs.laws.Written.{SquashedLaw, LeavesAlike, all_of}
 use Rattle.lsp_replay.specs.Session.{Session, answered, bad, judge, opened}
 use Rattle.lsp_replay.specs.Squashed.{squashed}
-use Rattle.lsp_replay.specs.inside.Squashed.{Run, Step, end_bytes, other_step, squash_step, squashed_in, squashed_steps}
+use Rattle.lsp_replay.specs.inside.Squashed.{OpenSeries, Step, end_bytes, other_step, squash_step, squashed_in, squashed_steps}
 use Rattle.lsp_replay.proofs.Squash.SeriesLemmas.{squashed_is}
 use Rattle.lsp_replay.proofs.Records.ChangeLemmas.{IsAccepted, IsOtherKind, IsChangeKind, kind_of, not_bad_of, was_accepted}
 use Rattle.lsp_replay.proofs.Records.JudgeLemmas.{judged_held}
 use Rattle.lsp_replay.proofs.Canonical.NormalisedLemmas.{canonical_record, went_on, version_is}
 use Rattle.lsp_replay.proofs.Records.NumberedLemmas.{IsAlike, alike_self, judged_alike}
 use Rattle.lsp_replay.proofs.Squash.PendingLemmas.{IsPending, behind_some, none_after, none_ended, some_ended}
-use Rattle.lsp_replay.proofs.Squash.LongerLemmas.{IsLongerRun, longer_run}
-use Rattle.lsp_replay.proofs.Squash.BegunLemmas.{IsBegunRun, begun_run, same_server}
+use Rattle.lsp_replay.proofs.Squash.LongerLemmas.{IsLongerSeries, longer_series}
+use Rattle.lsp_replay.proofs.Squash.BegunLemmas.{IsBegunSeries, begun_series, same_server}
 use Rattle.lsp_replay.proofs.Squash.SquashingLemmas.{step_other}
 use Rattle.lsp_replay.proofs.Squash.SquashLawLemmas.{IsApart, IsAny, IsEnded, IsSquashedAs, NonEmpty, at_end, begins_next, first_line, goes_on_next, others_next, report_on, total}
 use Rattle.lsp_replay.proofs.Records.StateLemmas.{IsHeldState}
 
 -- How far a log and what was written of it have come, between two records.
-abbrev IsAfter : ℕ → ℕ → Version → Bool → Bool → Session → Option Run → Session → Option Run → Type 0
+abbrev IsAfter : ℕ → ℕ → Version → Bool → Bool → Session → Option OpenSeries → Session → Option OpenSeries → Type 0
 IsAfter max_body at version due due_in s None t before = (before ≡ None) × IsAlike s t × (due ≡ due_in)
-IsAfter max_body at version due due_in s (Some run) t before = IsPending max_body at version due s run t before
+IsAfter max_body at version due due_in s (Some series) t before = IsPending max_body at version due s series t before
     × (due_in ≡ false)
 
-record AllEnded (max_body at : ℕ) (version : Version) (due due_in : Bool) (s : Session) (run : Option Run) (t : Session)
-    (before : Option Run) : Type 0 where
-  ended : IsEnded max_body at version due s run t before
+record AllEnded (max_body at : ℕ) (version : Version) (due due_in : Bool) (s : Session) (series : Option OpenSeries) (t
+    : Session)
+    (before : Option OpenSeries) : Type 0 where
+  ended : IsEnded max_body at version due s series t before
   same_due : due_in ≡ due_after due ended.us
 
 module _ (limits : LimitsData) (ranges : AreInRange limits) where
-  all_ended : (at : ℕ) (version : Version) (due due_in : Bool) (s : Session) (run : Option Run) (t : Session)
-      (before : Option Run) → IsHeldState limits t.server
-      → IsAfter limits.max_body at version due due_in s run t before → AllEnded limits.max_body at version due due_in s
-      run t before
+  all_ended : (at : ℕ) (version : Version) (due due_in : Bool) (s : Session) (series : Option OpenSeries) (t : Session)
+      (before : Option OpenSeries) → IsHeldState limits t.server
+      → IsAfter limits.max_body at version due due_in s series t before → AllEnded limits.max_body at version due
+      due_in s
+      series t before
   all_ended at version due due_in s None t before received is =
-      subst (λ (b : Option Run). AllEnded limits.max_body at version due due_in s None t b) (sym is.0)
+      subst (λ (b : Option OpenSeries). AllEnded limits.max_body at version due due_in s None t b) (sym is.0)
       (record {
         ended = none_ended limits.max_body at version due s t is.1;
         same_due = sym is.2 ∙ sym (none_after limits.max_body at version due s t is.1);
       })
-  all_ended at version due due_in s (Some run) t before received is =
-      let e = some_ended limits ranges at version due s run t before received.limit is.0 in
+  all_ended at version due due_in s (Some series) t before received is =
+      let e = some_ended limits ranges at version due s series t before received.limit is.0 in
       record { ended = e; same_due = is.1 ∙ sym (behind_some due e.us (e.some tt)) }
 
-  any_some : (run : Run) (rs : List Record) → IsAny (Some run) rs
-  any_some run [] = tt
-  any_some run (r ∷ rs) = tt
+  any_some : (series : OpenSeries) (rs : List Record) → IsAny (Some series) rs
+  any_some series [] = tt
+  any_some series (r ∷ rs) = tt
 
   held_alike : (s t : Session) → IsAlike s t → IsHeldState limits s.server → IsHeldState limits t.server
   held_alike s t like received = subst (IsHeldState limits) (sym (same_server s t like)) received
 
   -- ---- one record, and those behind it
 
-  module _ (at place : ℕ) (version : Version) (due due_in : Bool) (s : Session) (run : Option Run) (t : Session)
-      (before : Option Run) (r : Record) (rs : List Record)
+  module _ (at place : ℕ) (version : Version) (due due_in : Bool) (s : Session) (series : Option OpenSeries) (t :
+      Session)
+      (before : Option OpenSeries) (r : Record) (rs : List Record)
       (received : IsHeldState limits s.server) (held_out : IsHeldState limits t.server)
-      (is_after : IsAfter limits.max_body at version due due_in s run t before)
+      (is_after : IsAfter limits.max_body at version due due_in s series t before)
       (is : IsRecord limits.max_body version place due_in r)
-      (goes : (squashed_in (judge s r).session (squash_step s run r (judge s r)).run rs).stop ≡ None)
-      (rest : (at place : ℕ) (due : Bool) (run : Option Run) (t : Session) (before : Option Run)
-      → IsHeldState limits t.server → IsAfter limits.max_body at version due false (judge s r).session run t before
-      → (squashed_in (judge s r).session run rs).stop ≡ None → IsSquashedAs limits.max_body at version due
-      (judge s r).session run rs t before) where
-    a : AllEnded limits.max_body at version due due_in s run t before
-    a = all_ended at version due due_in s run t before held_out is_after
+      (goes : (squashed_in (judge s r).session (squash_step s series r (judge s r)).series rs).stop ≡ None)
+      (rest : (at place : ℕ) (due : Bool) (series : Option OpenSeries) (t : Session) (before : Option OpenSeries)
+      → IsHeldState limits t.server → IsAfter limits.max_body at version due false (judge s r).session series t before
+      → (squashed_in (judge s r).session series rs).stop ≡ None → IsSquashedAs limits.max_body at version due
+      (judge s r).session series rs t before) where
+    a : AllEnded limits.max_body at version due due_in s series t before
+    a = all_ended at version due due_in s series t before held_out is_after
 
-    abbrev e : IsEnded limits.max_body at version due s run t before
+    abbrev e : IsEnded limits.max_body at version due s series t before
     e = a.ended
 
     due_r : r.head.line_due ≡ due_after due e.us
@@ -112,16 +115,16 @@ module _ (limits : LimitsData) (ranges : AreInRange limits) where
           (judge e.last r).verdict) (same_server s e.last e.like)
           ∙ ap (canonical_if s.server (change_in (incoming_of (reading r.body)))) alike.0 ∙ kind.1
 
-      gives_other : squash_step s run r (judge s r) ≡ other_step r (front_of r.head) run
-      gives_other = step_other s.server r (front_of r.head) run (change_in (incoming_of (reading r.body)))
+      gives_other : squash_step s series r (judge s r) ≡ other_step r (front_of r.head) series
+      gives_other = step_other s.server r (front_of r.head) series (change_in (incoming_of (reading r.body)))
           (judge s r).verdict kind.0 kind.1
 
-      gives_last : squash_step e.last e.last_run q (judge e.last q) ≡ record {
-        out = end_bytes e.last_run ++ (front_of r.head ++ q.raw);
+      gives_last : squash_step e.last e.last_series q (judge e.last q) ≡ record {
+        out = end_bytes e.last_series ++ (front_of r.head ++ q.raw);
         end = None;
-        run = None;
+        series = None;
       }
-      gives_last = step_other e.last.server q (front_of q.head) e.last_run (change_in (incoming_of (reading q.body)))
+      gives_last = step_other e.last.server q (front_of q.head) e.last_series (change_in (incoming_of (reading q.body)))
           (judge e.last q).verdict not_bad_last none_last
 
       front_at : front_of r.head ≡ line_if (due_after due e.us) ++ mark_of version q.head.side
@@ -129,9 +132,9 @@ module _ (limits : LimitsData) (ranges : AreInRange limits) where
           ap (λ v. line_if r.head.line_due ++ mark_of v r.head.side) is.of_version
           ∙ ap (λ b. line_if b ++ mark_of version r.head.side) due_r
 
-      others : IsSquashedAs limits.max_body at version due s run (r ∷ rs) t before
+      others : IsSquashedAs limits.max_body at version due s series (r ∷ rs) t before
       others =
-          others_next limits.max_body at version due s run t before e r q rs (front_of r.head)
+          others_next limits.max_body at version due s series t before e r q rs (front_of r.head)
           (record {
             is_frame_of = is.is_frame_of;
             side = is.side;
@@ -144,7 +147,7 @@ module _ (limits : LimitsData) (ranges : AreInRange limits) where
             refl,
             alike.1,
             refl,
-          ) (subst (λ (step : Step). (squashed_in (judge s r).session step.run rs).stop ≡ None) gives_other goes))
+          ) (subst (λ (step : Step). (squashed_in (judge s r).session step.series rs).stop ≡ None) gives_other goes))
 
     -- an accepted change
     module _ (kind : IsChangeKind s.server (change_in (incoming_of (reading r.body))) (judge s r).verdict) where
@@ -157,68 +160,75 @@ module _ (limits : LimitsData) (ranges : AreInRange limits) where
       not_bad : (judge s r).verdict ≢ bad
       not_bad f = let wrong : answered changed ≡ bad = sym kind.2 ∙ f in cc
 
-      begins : IsApart run p.uri → IsSquashedAs limits.max_body at version due s run (r ∷ rs) t before
+      begins : IsApart series p.uri → IsSquashedAs limits.max_body at version due s series (r ∷ rs) t before
       begins apart =
-          let b : IsBegunRun limits.max_body next_at version (due_after due e.us) s run r e.last e.last_run =
-          begun_run limits ranges next_at version (due_after due e.us) s run e.last e.last_run r p e.like is.of_version
+          let b : IsBegunSeries limits.max_body next_at version (due_after due e.us) s series r e.last e.last_series =
+          begun_series limits ranges next_at version (due_after due e.us) s series e.last e.last_series r p e.like
+          is.of_version
           apart (e.apart p.uri apart) received accepted kind.3 due_r in
-          begins_next limits.max_body at version due s run t before e r rs (Some b.next) b.writes not_bad
+          begins_next limits.max_body at version due s series t before e r rs (Some b.next) b.writes not_bad
           (any_some b.next rs)
-          (rest next_at place (due_after due e.us) (Some b.next) e.last e.last_run held_last (b.pending, refl)
-          (subst (λ (step : Step). (squashed_in (judge s r).session step.run rs).stop ≡ None) b.writes goes))
+          (rest next_at place (due_after due e.us) (Some b.next) e.last e.last_series held_last (b.pending, refl)
+          (subst (λ (step : Step). (squashed_in (judge s r).session step.series rs).stop ≡ None) b.writes goes))
 
-      continues : (before_run : Run) → run ≡ Some before_run → bytes_eq p.uri before_run.squash.uri ≡ true
-          → IsPending limits.max_body at version due s before_run t before → due_in ≡ false
-          → IsSquashedAs limits.max_body at version due s run (r ∷ rs) t before
-      continues before_run is_run same pending not_due =
-          let l : IsLongerRun limits.max_body at version due s before_run r t before =
-          longer_run limits ranges at version due s before_run t before r p pending is.of_version same received accepted
+      continues : (before_series : OpenSeries) → series ≡ Some before_series → bytes_eq p.uri before_series.squash.uri
+          ≡ true
+          → IsPending limits.max_body at version due s before_series t before → due_in ≡ false
+          → IsSquashedAs limits.max_body at version due s series (r ∷ rs) t before
+      continues before_series is_series same pending not_due =
+          let l : IsLongerSeries limits.max_body at version due s before_series r t before =
+          longer_series limits ranges at version due s before_series t before r p pending is.of_version same received
+          accepted
           kind.3 (is.due ∙ not_due) in
-          let writes = ap (λ o. squash_step s o r (judge s r)) is_run ∙ l.writes in
-          goes_on_next limits.max_body at version due s run t before (Some l.next) r rs writes not_bad
+          let writes = ap (λ o. squash_step s o r (judge s r)) is_series ∙ l.writes in
+          goes_on_next limits.max_body at version due s series t before (Some l.next) r rs writes not_bad
           (any_some l.next rs)
           (rest at place due (Some l.next) t before held_out (
             l.pending,
             refl,
-          ) (subst (λ (step : Step). (squashed_in (judge s r).session step.run rs).stop ≡ None) writes goes))
+          ) (subst (λ (step : Step). (squashed_in (judge s r).session step.series rs).stop ≡ None) writes goes))
 
     changes : (kind : IsChangeKind s.server (change_in (incoming_of (reading r.body))) (judge s r).verdict)
-        (o : Option Run) → run ≡ o → IsSquashedAs limits.max_body at version due s run (r ∷ rs) t before
-    changes kind None is = begins kind (subst (λ (x : Option Run). IsApart x kind.0.uri) (sym is) tt)
-    changes kind (Some open_run) is =
+        (o : Option OpenSeries) → series ≡ o → IsSquashedAs limits.max_body at version due s series (r ∷ rs) t before
+    changes kind None is = begins kind (subst (λ (x : Option OpenSeries). IsApart x kind.0.uri) (sym is) tt)
+    changes kind (Some open_series) is =
         ⊎_elim
-        (λ (same : bytes_eq kind.0.uri open_run.squash.uri ≡ true).
-        let here : IsAfter limits.max_body at version due due_in s (Some open_run) t before =
-        subst (λ (x : Option Run). IsAfter limits.max_body at version due due_in s x t before) is is_after in
-        continues kind open_run is same here.0 here.1)
-        (λ (not : bytes_eq kind.0.uri open_run.squash.uri ≡ false). begins kind
-        (subst (λ (x : Option Run). IsApart x kind.0.uri) (sym is) not))
-        (cases_Bool (bytes_eq kind.0.uri open_run.squash.uri))
+        (λ (same : bytes_eq kind.0.uri open_series.squash.uri ≡ true).
+        let here : IsAfter limits.max_body at version due due_in s (Some open_series) t before =
+        subst (λ (x : Option OpenSeries). IsAfter limits.max_body at version due due_in s x t before) is is_after in
+        continues kind open_series is same here.0 here.1)
+        (λ (not : bytes_eq kind.0.uri open_series.squash.uri ≡ false). begins kind
+        (subst (λ (x : Option OpenSeries). IsApart x kind.0.uri) (sym is) not))
+        (cases_Bool (bytes_eq kind.0.uri open_series.squash.uri))
 
-    one_record : (squash_step s run r (judge s r)).end ≡ None → IsSquashedAs limits.max_body at version due s run
+    one_record : (squash_step s series r (judge s r)).end ≡ None → IsSquashedAs limits.max_body at version due s series
         (r ∷ rs) t before
     one_record none =
         ⊎_elim (λ (kind : IsOtherKind s.server (change_in (incoming_of (reading r.body))) (judge s r).verdict). others
         kind)
         (λ (kind : IsChangeKind s.server (change_in (incoming_of (reading r.body))) (judge s r).verdict). changes kind
-        run refl)
-        (kind_of s.server r (front_of r.head) run (change_in (incoming_of (reading r.body))) (judge s r).verdict none)
+        series refl)
+        (kind_of s.server r (front_of r.head) series (change_in (incoming_of (reading r.body))) (judge s r).verdict
+        none)
 
   squashed_log : (rs : List Record) (at place : ℕ) (version : Version) (due due_in : Bool) (s : Session)
-      (run : Option Run) (t : Session) (before : Option Run) → IsHeldState limits s.server → IsHeldState limits t.server
-      → IsAfter limits.max_body at version due due_in s run t before → AreRecords limits.max_body version place due_in
-      rs → (squashed_in s run rs).stop ≡ None
-      → IsSquashedAs limits.max_body at version due s run rs t before
-  squashed_log [] at place version due due_in s run t before received held_out is_after each goes =
-      at_end limits.max_body at version due s run t before (all_ended at version due due_in s run t before held_out
+      (series : Option OpenSeries) (t : Session) (before : Option OpenSeries) → IsHeldState limits s.server →
+      IsHeldState limits t.server
+      → IsAfter limits.max_body at version due due_in s series t before → AreRecords limits.max_body version place
+      due_in
+      rs → (squashed_in s series rs).stop ≡ None
+      → IsSquashedAs limits.max_body at version due s series rs t before
+  squashed_log [] at place version due due_in s series t before received held_out is_after each goes =
+      at_end limits.max_body at version due s series t before (all_ended at version due due_in s series t before
+      held_out
       is_after).ended
-  squashed_log (r ∷ rs) at place version due due_in s run t before received held_out is_after each goes =
-      let on = went_on (squash_step s run r (judge s r)).out (squash_step s run r (judge s r)).end
-      (squashed_in (judge s r).session (squash_step s run r (judge s r)).run rs) goes in
-      one_record at place version due due_in s run t before r rs received held_out is_after each.0 on.1
-      (λ next_at next_place next_due next_run next_t next_before next_held next_stands next_goes.
+  squashed_log (r ∷ rs) at place version due due_in s series t before received held_out is_after each goes =
+      let on = went_on (squash_step s series r (judge s r)).out (squash_step s series r (judge s r)).end
+      (squashed_in (judge s r).session (squash_step s series r (judge s r)).series rs) goes in
+      one_record at place version due due_in s series t before r rs received held_out is_after each.0 on.1
+      (λ next_at next_place next_due next_series next_t next_before next_held next_stands next_goes.
       squashed_log rs next_at (place + length (record_bytes version r)) version next_due false (judge s r).session
-      next_run next_t next_before (judged_held limits s r received) next_held next_stands each.1 next_goes)
+      next_series next_t next_before (judged_held limits s r received) next_held next_stands each.1 next_goes)
       on.0
 
 -- ---- the bytes
@@ -241,17 +251,17 @@ same_outcome : (settings : Settings) (rs : List Record) → (squashed_steps sett
     → (squashed_steps settings rs).outcome ≡ (report settings rs).outcome
 same_outcome settings rs goes = outcome_on (opened (log_config settings)) None rs goes
   where
-    outcome_on : (s : Session) (run : Option Run) (rs : List Record) → (squashed_in s run rs).stop ≡ None
-        → (squashed_in s run rs).outcome ≡ (run_output_in replaying s rs).outcome
-    outcome_on s run [] goes = refl
-    outcome_on s run (r ∷ rs) goes =
-        let step = squash_step s run r (judge s r) in
-        let on = went_on step.out step.end (squashed_in (judge s r).session step.run rs) goes in
+    outcome_on : (s : Session) (series : Option OpenSeries) (rs : List Record) → (squashed_in s series rs).stop ≡ None
+        → (squashed_in s series rs).outcome ≡ (run_output_in replaying s rs).outcome
+    outcome_on s series [] goes = refl
+    outcome_on s series (r ∷ rs) goes =
+        let step = squash_step s series r (judge s r) in
+        let on = went_on step.out step.end (squashed_in (judge s r).session step.series rs) goes in
         ap (λ (o : Option (Result Outcome EngineFault)).
-        (continue_with step.out o (squashed_in (judge s r).session step.run rs)).outcome) on.0
-        ∙ outcome_on (judge s r).session step.run rs on.1
+        (continue_with step.out o (squashed_in (judge s r).session step.series rs)).outcome) on.0
+        ∙ outcome_on (judge s r).session step.series rs on.1
         ∙ sym (ap (λ (c : RunOutput). c.outcome)
-        (report_on s r rs (not_bad_of s.server r (front_of r.head) run (change_in (incoming_of (reading r.body)))
+        (report_on s r rs (not_bad_of s.server r (front_of r.head) series (change_in (incoming_of (reading r.body)))
         (judge s r).verdict on.0)))
 
 -- A log with records: what is written begins with its line.

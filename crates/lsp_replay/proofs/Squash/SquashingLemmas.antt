@@ -14,115 +14,119 @@ use Rattle.lsp_replay.specs.RunOutput.{written_first}
 use Rattle.lsp_replay.specs.inside.RunOutput.{after}
 use Rattle.lsp_replay.specs.Commands.{change_in, front_of, continue_with, canonical_if, canonical_change_body}
 use Rattle.lsp_replay.specs.Session.{Session, Verdict, answered, recorded, bad, judge}
-use Rattle.lsp_replay.specs.inside.Squashed.{Run, Step, begun, change_output, end_bytes, faulty, longer, other_step, run_bytes, run_of, squash_step, squashed_in, step_if}
+use Rattle.lsp_replay.specs.inside.Squashed.{OpenSeries, Step, begun, change_output, end_bytes, faulty, longer, other_step, open_bytes, series_of, squash_step, squashed_in, step_if}
 use Rattle.lsp_replay.specs.inside.Joining.{IsChange, IsLonger, IsOther, IsBegun}
 
 -- any record but an accepted change
-pub step_other : (server : ServerData) (r : Record) (front : List ℕ) (run : Option Run) (change : Option ChangeData)
+pub step_other : (server : ServerData) (r : Record) (front : List ℕ) (series : Option OpenSeries) (change : Option
+    ChangeData)
     (verdict : Verdict) → verdict ≢ bad → canonical_if server change verdict ≡ None
-    → step_if server r front run change verdict ≡ other_step r front run
-step_other server r front run change bad not_bad none = absurd (not_bad refl)
-step_other server r front run None recorded not_bad none = refl
-step_other server r front run (Some p) recorded not_bad none = refl
-step_other server r front run None (answered answer) not_bad none = refl
-step_other server r front run (Some p) (answered changed) not_bad none =
+    → step_if server r front series change verdict ≡ other_step r front series
+step_other server r front series change bad not_bad none = absurd (not_bad refl)
+step_other server r front series None recorded not_bad none = refl
+step_other server r front series (Some p) recorded not_bad none = refl
+step_other server r front series None (answered answer) not_bad none = refl
+step_other server r front series (Some p) (answered changed) not_bad none =
     absurd (let wrong : Some (canonical_change_body server p) ≡ None = none in cc)
-step_other server r front run (Some p) (answered (reply m)) not_bad none = refl
-step_other server r front run (Some p) (answered dropped) not_bad none = refl
-step_other server r front run (Some p) (answered ignored) not_bad none = refl
-step_other server r front run (Some p) (answered already_ended) not_bad none = refl
-step_other server r front run (Some p) (answered (refused why)) not_bad none = refl
-step_other server r front run (Some p) (answered (exits status)) not_bad none = refl
+step_other server r front series (Some p) (answered (reply m)) not_bad none = refl
+step_other server r front series (Some p) (answered dropped) not_bad none = refl
+step_other server r front series (Some p) (answered ignored) not_bad none = refl
+step_other server r front series (Some p) (answered already_ended) not_bad none = refl
+step_other server r front series (Some p) (answered (refused why)) not_bad none = refl
+step_other server r front series (Some p) (answered (exits status)) not_bad none = refl
 
 -- an accepted change
-pub step_changed : (server : ServerData) (r : Record) (front canonical : List ℕ) (run : Option Run)
+pub step_changed : (server : ServerData) (r : Record) (front canonical : List ℕ) (series : Option OpenSeries)
     (change : Option ChangeData) (verdict : Verdict) → (is : IsChange server change verdict canonical)
-    → step_if server r front run change verdict ≡ change_output server is.params front (front ++ canonical) run
-step_changed server r front canonical run change verdict is =
-    ap (λ (c : Option ChangeData). step_if server r front run c verdict) is.is
-    ∙ ap (λ (v : Verdict). step_if server r front run (Some is.params) v) is.accepted
+    → step_if server r front series change verdict ≡ change_output server is.params front (front ++ canonical) series
+step_changed server r front canonical series change verdict is =
+    ap (λ (c : Option ChangeData). step_if server r front series c verdict) is.is
+    ∙ ap (λ (v : Verdict). step_if server r front series (Some is.params) v) is.accepted
     ∙ short (nat_lt server.config.limits.max_body (length (canonical_change_body server is.params)))
     (le-ltb server.config.limits.max_body (length (canonical_change_body server is.params)) is.framed.within)
-    ∙ ap (λ (c : List ℕ). change_output server is.params front (front ++ c) run) (sym is.framed.is)
+    ∙ ap (λ (c : List ℕ). change_output server is.params front (front ++ c) series) (sym is.framed.is)
   where
     short : (over : Bool) → over ≡ false
         → (if over then faulty (BodyTooLong r.head.place) else change_output server is.params front
-        (front ++ frame (canonical_change_body server is.params)) run)
-        ≡ change_output server is.params front (front ++ frame (canonical_change_body server is.params)) run
+        (front ++ frame (canonical_change_body server is.params)) series)
+        ≡ change_output server is.params front (front ++ frame (canonical_change_body server is.params)) series
     short true e = absurd (let wrong : true ≡ false = e in cc)
     short false e = refl
 
-pub step_too_long : (server : ServerData) (r : Record) (front : List ℕ) (run : Option Run) (change : Option ChangeData)
+pub step_too_long : (server : ServerData) (r : Record) (front : List ℕ) (series : Option OpenSeries) (change : Option
+    ChangeData)
     (verdict : Verdict) (p : ChangeData) → change ≡ Some p → verdict ≡ answered changed
     → server.config.limits.max_body < length (canonical_change_body server p)
-    → step_if server r front run change verdict ≡ faulty (BodyTooLong r.head.place)
-step_too_long server r front run change verdict p is accepted over =
-    ap (λ (c : Option ChangeData). step_if server r front run c verdict) is
-    ∙ ap (λ (v : Verdict). step_if server r front run (Some p) v) accepted
+    → step_if server r front series change verdict ≡ faulty (BodyTooLong r.head.place)
+step_too_long server r front series change verdict p is accepted over =
+    ap (λ (c : Option ChangeData). step_if server r front series c verdict) is
+    ∙ ap (λ (v : Verdict). step_if server r front series (Some p) v) accepted
     ∙ rw (lt-ltb server.config.limits.max_body (length (canonical_change_body server p)) over) refl
 
-pub step_bad : (server : ServerData) (r : Record) (front : List ℕ) (run : Option Run) (change : Option ChangeData)
+pub step_bad : (server : ServerData) (r : Record) (front : List ℕ) (series : Option OpenSeries) (change : Option
+    ChangeData)
     (verdict : Verdict) → verdict ≡ bad
-    → step_if server r front run change verdict ≡ faulty (BadLog r.head.place)
-step_bad server r front run None verdict e = rw e refl
-step_bad server r front run (Some p) verdict e = rw e refl
+    → step_if server r front series change verdict ≡ faulty (BadLog r.head.place)
+step_bad server r front series None verdict e = rw e refl
+step_bad server r front series (Some p) verdict e = rw e refl
 
--- it goes on with the open run
+-- it goes on with the open series
 pub gives_longer : (server : ServerData) (p : ChangeData) (front single old_front singles : List ℕ)
-    (run : Option SquashData) (batches : SquashData) → IsLonger run p batches
-    → change_output server p front single (run_of old_front singles run) ≡ record {
+    (series : Option SquashData) (batches : SquashData) → IsLonger series p batches
+    → change_output server p front single (series_of old_front singles series) ≡ record {
       out = [];
       end = None;
-      run = run_of old_front (singles ++ single) (Some batches);
+      series = series_of old_front (singles ++ single) (Some batches);
     }
-gives_longer server p front single old_front singles run batches is =
-    ap (λ (o : Option SquashData). change_output server p front single (run_of old_front singles o)) is.open_one
+gives_longer server p front single old_front singles series batches is =
+    ap (λ (o : Option SquashData). change_output server p front single (series_of old_front singles o)) is.open_one
     ∙ rw is.same (ap (λ (b : SquashData). record {
       out = [];
       end = None;
-      run = Some (record { front = old_front; singles = singles ++ single; squash = b });
+      series = Some (record { front = old_front; singles = singles ++ single; squash = b });
     }) (sym is.joined))
 
--- it begins a run
+-- it begins a series
 begun_is : (server : ServerData) (p : ChangeData) (front single : List ℕ) (batches : SquashData)
-    → IsBegun server p batches → begun server p front single ≡ run_of front single (Some batches)
+    → IsBegun server p batches → begun server p front single ≡ series_of front single (Some batches)
 begun_is server p front single batches is =
     rw is.is_open (ap (λ (b : SquashData). Some (record { front = front; singles = single; squash = b }))
     (sym is.joined))
 
 pub gives_begun : (server : ServerData) (p : ChangeData) (front single old_front singles : List ℕ)
-    (run : Option SquashData) (batches : SquashData) → IsOther run p → IsBegun server p batches
-    → change_output server p front single (run_of old_front singles run) ≡ record {
-      out = end_bytes (run_of old_front singles run);
+    (series : Option SquashData) (batches : SquashData) → IsOther series p → IsBegun server p batches
+    → change_output server p front single (series_of old_front singles series) ≡ record {
+      out = end_bytes (series_of old_front singles series);
       end = None;
-      run = run_of front single (Some batches);
+      series = series_of front single (Some batches);
     }
 gives_begun server p front single old_front singles None batches other is =
-    ap (λ (o : Option Run). record { out = []; end = None; run = o }) (begun_is server p front single batches is)
+    ap (λ (o : Option OpenSeries). record { out = []; end = None; series = o }) (begun_is server p front single batches
+    is)
 gives_begun server p front single old_front singles (Some squash) batches other is =
-    rw other (ap (λ (o : Option Run). record {
-      out = run_bytes (record { front = old_front; singles = singles; squash = squash });
+    rw other (ap (λ (o : Option OpenSeries). record {
+      out = open_bytes (record { front = old_front; singles = singles; squash = squash });
       end = None;
-      run = o;
+      series = o;
     }) (begun_is server p front single batches is))
 
 -- ---- the step of a record, by how it is written
 
-module _ (s : Session) (front singles : List ℕ) (run : Option SquashData) (r : Record) (verdict : Verdict)
+module _ (s : Session) (front singles : List ℕ) (series : Option SquashData) (r : Record) (verdict : Verdict)
     (error : verdict ≡ (judge s r).verdict) where
-  abbrev here : Option Run
-  here = run_of front singles run
+  abbrev here : Option OpenSeries
+  here = series_of front singles series
 
   abbrev its_front : List ℕ
   its_front = front_of r.head
 
   gives_as_it_is : (out : List ℕ) → verdict ≢ bad → canonical_if s.server (change_in (incoming_of (reading r.body)))
       verdict ≡ None → out ≡ end_bytes here ++ (its_front ++ r.raw)
-      → squash_step s here r (judge s r) ≡ record { out = out; end = None; run = None }
+      → squash_step s here r (judge s r) ≡ record { out = out; end = None; series = None }
   gives_as_it_is out not_bad none is =
       ap (λ v. step_if s.server r its_front here (change_in (incoming_of (reading r.body))) v) (sym error)
       ∙ step_other s.server r its_front here (change_in (incoming_of (reading r.body))) verdict not_bad none
-      ∙ ap (λ o. record { out = o; end = None; run = None }) (sym is)
+      ∙ ap (λ o. record { out = o; end = None; series = None }) (sym is)
 
   changes : (canonical : List ℕ) → (is : IsChange s.server (change_in (incoming_of (reading r.body))) verdict canonical)
       → squash_step s here r (judge s r) ≡ change_output s.server is.params its_front (its_front ++ canonical) here
@@ -132,26 +136,27 @@ module _ (s : Session) (front singles : List ℕ) (run : Option SquashData) (r :
 
   gives_more : (canonical : List ℕ) (batches : SquashData)
       (is : IsChange s.server (change_in (incoming_of (reading r.body))) verdict canonical)
-      → IsLonger run is.params batches
+      → IsLonger series is.params batches
       → squash_step s here r (judge s r) ≡ record {
         out = [];
         end = None;
-        run = run_of front (singles ++ (its_front ++ canonical)) (Some batches);
+        series = series_of front (singles ++ (its_front ++ canonical)) (Some batches);
       }
   gives_more canonical batches is longer =
-      changes canonical is ∙ gives_longer s.server is.params its_front (its_front ++ canonical) front singles run
+      changes canonical is ∙ gives_longer s.server is.params its_front (its_front ++ canonical) front singles series
       batches longer
 
   gives_next : (canonical : List ℕ) (batches : SquashData)
-      (is : IsChange s.server (change_in (incoming_of (reading r.body))) verdict canonical) → IsOther run is.params
+      (is : IsChange s.server (change_in (incoming_of (reading r.body))) verdict canonical) → IsOther series is.params
       → IsBegun s.server is.params batches
       → squash_step s here r (judge s r) ≡ record {
         out = end_bytes here;
         end = None;
-        run = run_of its_front (its_front ++ canonical) (Some batches);
+        series = series_of its_front (its_front ++ canonical) (Some batches);
       }
   gives_next canonical batches is other begun =
-      changes canonical is ∙ gives_begun s.server is.params its_front (its_front ++ canonical) front singles run batches
+      changes canonical is ∙ gives_begun s.server is.params its_front (its_front ++ canonical) front singles series
+      batches
       other begun
 
   pub told_too_long : (p : ChangeData) → change_in (incoming_of (reading r.body)) ≡ Some p → verdict ≡ answered changed
@@ -163,60 +168,66 @@ module _ (s : Session) (front singles : List ℕ) (run : Option SquashData) (r :
 
   -- ---- the same, by what the texts and the output are after the calls that write them
 
-  module _ (begun_with : Option SquashData) (taken : begun_with ≡ run) (buffer : List ℕ) (nothing : buffer ≡ []) where
-    ends : (ended : Option SquashData) (out : List ℕ) → ended ≡ begun_with
-        → out ≡ buffer ++ end_bytes (run_of front singles ended) → out ≡ end_bytes here
-    ends ended out same is = is ∙ ap (λ z. z ++ end_bytes (run_of front singles ended)) nothing
-        ∙ ap (λ o. end_bytes (run_of front singles o)) (same ∙ taken)
+  module _ (begun_with : Option SquashData) (taken : begun_with ≡ series) (buffer : List ℕ) (nothing : buffer ≡ [])
+    where
+      ends : (ended : Option SquashData) (out : List ℕ) → ended ≡ begun_with
+          → out ≡ buffer ++ end_bytes (series_of front singles ended) → out ≡ end_bytes here
+      ends ended out same is = is ∙ ap (λ z. z ++ end_bytes (series_of front singles ended)) nothing
+          ∙ ap (λ o. end_bytes (series_of front singles o)) (same ∙ taken)
 
-    pub told_as_it_is : (ended : Option SquashData) → ended ≡ begun_with → verdict ≢ bad
-        → canonical_if s.server (change_in (incoming_of (reading r.body))) verdict ≡ None
-        → (run_out front_out out : List ℕ) → run_out ≡ buffer ++ end_bytes (run_of front singles ended) → front_out
-        ≡ run_out ++ its_front → out ≡ front_out ++ r.raw
-        → (batches : Option SquashData) → batches ≡ None → (last_front last_singles : List ℕ)
-        → squash_step s here r (judge s r) ≡ record {
-          out = out;
-          end = None;
-          run = run_of last_front last_singles batches;
-        }
-    told_as_it_is ended same not_bad none run_out front_out out run_is front_is is batches closed last_front
-        last_singles =
-        gives_as_it_is out not_bad none
-        (is ∙ ap (λ z. z ++ r.raw) (front_is ∙ ap (λ z. z ++ its_front) (ends ended run_out same run_is))
-        ∙ append_assoc (end_bytes here) its_front r.raw)
-        ∙ ap (λ (o : Option SquashData). record { out = out; end = None; run = run_of last_front last_singles o })
-        (sym closed)
+      pub told_as_it_is : (ended : Option SquashData) → ended ≡ begun_with → verdict ≢ bad
+          → canonical_if s.server (change_in (incoming_of (reading r.body))) verdict ≡ None
+          → (series_out front_out out : List ℕ) → series_out ≡ buffer ++ end_bytes (series_of front singles ended) →
+          front_out
+          ≡ series_out ++ its_front → out ≡ front_out ++ r.raw
+          → (batches : Option SquashData) → batches ≡ None → (last_front last_singles : List ℕ)
+          → squash_step s here r (judge s r) ≡ record {
+            out = out;
+            end = None;
+            series = series_of last_front last_singles batches;
+          }
+      told_as_it_is ended same not_bad none series_out front_out out series_is front_is is batches closed last_front
+          last_singles =
+          gives_as_it_is out not_bad none
+          (is ∙ ap (λ z. z ++ r.raw) (front_is ∙ ap (λ z. z ++ its_front) (ends ended series_out same series_is))
+          ∙ append_assoc (end_bytes here) its_front r.raw)
+          ∙ ap (λ (o : Option SquashData). record {
+            out = out;
+            end = None;
+            series = series_of last_front last_singles o;
+          })
+          (sym closed)
 
-    pub told_more : (canonical : List ℕ) (batches : SquashData)
-        (is : IsChange s.server (change_in (incoming_of (reading r.body))) verdict canonical)
-        → IsLonger begun_with is.params batches
-        → (frame new_front new_singles : List ℕ) → frame ≡ canonical → new_front ≡ front → new_singles
-        ≡ singles ++ (its_front ++ frame)
-        → squash_step s here r (judge s r) ≡ record {
-          out = buffer;
-          end = None;
-          run = run_of new_front new_singles (Some batches);
-        }
-    told_more canonical batches is longer frame new_front new_singles same same_front more_singles =
-        rw (
-          nothing,
-          same_front,
-          more_singles,
-          same,
-        ) (gives_more canonical batches is (subst (λ (o : Option SquashData). IsLonger o is.params batches) taken
-        longer))
+      pub told_more : (canonical : List ℕ) (batches : SquashData)
+          (is : IsChange s.server (change_in (incoming_of (reading r.body))) verdict canonical)
+          → IsLonger begun_with is.params batches
+          → (frame new_front new_singles : List ℕ) → frame ≡ canonical → new_front ≡ front → new_singles
+          ≡ singles ++ (its_front ++ frame)
+          → squash_step s here r (judge s r) ≡ record {
+            out = buffer;
+            end = None;
+            series = series_of new_front new_singles (Some batches);
+          }
+      told_more canonical batches is longer frame new_front new_singles same same_front more_singles =
+          rw (
+            nothing,
+            same_front,
+            more_singles,
+            same,
+          ) (gives_more canonical batches is (subst (λ (o : Option SquashData). IsLonger o is.params batches) taken
+          longer))
 
-    pub told_next : (canonical : List ℕ) (ended : Option SquashData) (batches : SquashData)
-        (is : IsChange s.server (change_in (incoming_of (reading r.body))) verdict canonical)
-        → IsOther begun_with is.params → ended ≡ begun_with → IsBegun s.server is.params batches
-        → (out frame new_front new_singles : List ℕ) → out ≡ buffer ++ end_bytes (run_of front singles ended)
-        → frame ≡ canonical → new_front ≡ its_front → new_singles ≡ its_front ++ frame
-        → squash_step s here r (judge s r) ≡ record {
-          out = out;
-          end = None;
-          run = run_of new_front new_singles (Some batches);
-        }
-    told_next canonical ended batches is other ended_is begun out frame new_front new_singles out_is same same_front
-        more_singles =
-        rw (ends ended out ended_is out_is, same_front, more_singles, same)
-        (gives_next canonical batches is (subst (λ (o : Option SquashData). IsOther o is.params) taken other) begun)
+      pub told_next : (canonical : List ℕ) (ended : Option SquashData) (batches : SquashData)
+          (is : IsChange s.server (change_in (incoming_of (reading r.body))) verdict canonical)
+          → IsOther begun_with is.params → ended ≡ begun_with → IsBegun s.server is.params batches
+          → (out frame new_front new_singles : List ℕ) → out ≡ buffer ++ end_bytes (series_of front singles ended)
+          → frame ≡ canonical → new_front ≡ its_front → new_singles ≡ its_front ++ frame
+          → squash_step s here r (judge s r) ≡ record {
+            out = out;
+            end = None;
+            series = series_of new_front new_singles (Some batches);
+          }
+      told_next canonical ended batches is other ended_is begun out frame new_front new_singles out_is same same_front
+          more_singles =
+          rw (ends ended out ended_is out_is, same_front, more_singles, same)
+          (gives_next canonical batches is (subst (λ (o : Option SquashData). IsOther o is.params) taken other) begun)

@@ -219,7 +219,7 @@ as_each settings e P p = subst (λ (b : Bool). P (λ rs. output_of_kept (normali
     (sym e) p
 
 as_squashed : (settings : Settings) → settings.squash ≡ true → (P : (List Record → RunOutput) → Type 0)
-    → P (squashed_of_kept (record { session = opened (log_config settings); run = None }) nothing_selected)
+    → P (squashed_of_kept (record { session = opened (log_config settings); series = None }) nothing_selected)
     → P (documents settings)
 as_squashed settings e P p =
     subst (λ (b : Bool). P (λ rs. output_of_kept (normalised_if b settings) (kept settings rs))) (sym e)
@@ -240,7 +240,7 @@ module _ (settings : Settings) (ranges : AreInRange settings.limits)
       received_old received_new result) ran)
 
   pub wrote_squashed_documents : settings.squash ≡ true
-      → Ran (as_log settings) (squashed_of_kept (record { session = opened (log_config settings); run = None })
+      → Ran (as_log settings) (squashed_of_kept (record { session = opened (log_config settings); series = None })
       nothing_selected) state left_old left_new received_old received_new result
       → IfOk result (WroteDocuments settings left_old left_new received_old received_new)
   wrote_squashed_documents squash ran =

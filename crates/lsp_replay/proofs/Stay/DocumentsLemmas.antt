@@ -24,7 +24,7 @@ use Rattle.lsp_replay.specs.inside.Commands.{each_output, run_output_in}
 use Rattle.lsp_replay.specs.inside.Reads.{IsKept, IsLeftOut, stays_read, waiting_read}
 use Rattle.lsp_replay.specs.inside.RunOutput.{IsRecordFault, after}
 use Rattle.lsp_replay.specs.inside.Session.{judge_at}
-use Rattle.lsp_replay.specs.inside.Squashed.{IsSquashStep, Run, Squashing, Step, faulty, squash_step, squashed_in, squash_view, step_at}
+use Rattle.lsp_replay.specs.inside.Squashed.{IsSquashStep, OpenSeries, Squashing, Step, faulty, squash_step, squashed_in, squash_view, step_at}
 use Rattle.lsp_replay.proofs.Stay.KeptLogLemmas.{kept_false, kept_true}
 use Rattle.lsp_replay.proofs.Reports.PartLemmas.{unless_not}
 use Rattle.lsp_replay.proofs.Runs.RunReportLemmas.{Grows, GrowsAll, NoneCut, Settles, grows, run_of_course, settled}
@@ -117,7 +117,7 @@ module _ (s : Session) (c d : Selection) (r : Record) (left_out : IsLeftOut s c 
   pub squashed_left_out : (q next : Squashing) → q.session ≡ s → next ≡ q → (more : List Record)
       → squashed_of_kept q c (r ∷ more) ≡ after out None (squashed_of_kept next d more)
   squashed_left_out q next same also more =
-      ap (output_of_kept (squashed_in q.session q.run))
+      ap (output_of_kept (squashed_in q.session q.series))
       (kept_false q.session c r more (ap (λ u. record_stays u c.waiting r.head.side r.body) same ∙ left_out.left_out))
       ∙ ap (λ (x : Selection). squashed_of_kept q x more) (sym left_out.selection)
       ∙ ap (λ (p : Squashing). squashed_of_kept p d more) (sym also)
@@ -163,18 +163,19 @@ module _ (s : Session) (c d : Selection) (head : Head) (raw body : List ℕ) (wr
         (written_first out (run_output_in normalising u (later more).records))) (sym same_session)
         ∙ ap (λ (k : Kept). with_due k.due (written_first out (run_output_in normalising t k.records))) (same_kept more)
 
-    pub squashed_stays : (run next : Option Run) (out : List ℕ) → squash_step s run its (judge s its) ≡ record {
-      out = out;
-      end = None;
-      run = next;
-    }
-        → (more : List Record) → squashed_of_kept (record { session = s; run = run }) c (r ∷ more)
-        ≡ after out None (squashed_of_kept (record { session = t; run = next }) d more)
-    squashed_stays run next out gives more =
-        ap (output_of_kept (squashed_in s run)) (kept_true s c r more stays.stays)
+    pub squashed_stays : (series next : Option OpenSeries) (out : List ℕ) → squash_step s series its (judge s its) ≡
+        record {
+          out = out;
+          end = None;
+          series = next;
+        }
+        → (more : List Record) → squashed_of_kept (record { session = s; series = series }) c (r ∷ more)
+        ≡ after out None (squashed_of_kept (record { session = t; series = next }) d more)
+    squashed_stays series next out gives more =
+        ap (output_of_kept (squashed_in s series)) (kept_true s c r more stays.stays)
         ∙ ap (λ (step : Step). with_due (later more).due
-        (continue_with step.out step.end (squashed_in (judge s r).session step.run (later more).records)))
-        (ap (λ (q : Record). squash_step s run q (judge s q)) (sym its_is) ∙ gives)
+        (continue_with step.out step.end (squashed_in (judge s r).session step.series (later more).records)))
+        (ap (λ (q : Record). squash_step s series q (judge s q)) (sym its_is) ∙ gives)
         ∙ ap (λ (u : Session). with_due (later more).due (written_first out (squashed_in u next (later more).records)))
         (sym same_session)
         ∙ ap (λ (k : Kept). with_due k.due (written_first out (squashed_in t next k.records))) (same_kept more)
@@ -188,14 +189,15 @@ module _ (s : Session) (c d : Selection) (head : Head) (raw body : List ℕ) (wr
       (continue_with g.out g.end (run_output_in normalising (judge s r).session (later more).records)))
       (ap (each_output s) (sym its_is) ∙ gives)
 
-  pub squashed_ends : (run : Option Run) (fault : EngineFault) → squash_step s run its (judge s its) ≡ faulty fault
+  pub squashed_ends : (series : Option OpenSeries) (fault : EngineFault) → squash_step s series its (judge s its) ≡
+      faulty fault
       → (more : List Record)
-      → squashed_of_kept (record { session = s; run = run }) c (r ∷ more) ≡ stopped [] (Err fault)
-  squashed_ends run fault gives more =
-      ap (output_of_kept (squashed_in s run)) (kept_true s c r more stays.stays)
+      → squashed_of_kept (record { session = s; series = series }) c (r ∷ more) ≡ stopped [] (Err fault)
+  squashed_ends series fault gives more =
+      ap (output_of_kept (squashed_in s series)) (kept_true s c r more stays.stays)
       ∙ ap (λ (step : Step). with_due (later more).due
-      (continue_with step.out step.end (squashed_in (judge s r).session step.run (later more).records)))
-      (ap (λ (q : Record). squash_step s run q (judge s q)) (sym its_is) ∙ gives)
+      (continue_with step.out step.end (squashed_in (judge s r).session step.series (later more).records)))
+      (ap (λ (q : Record). squash_step s series q (judge s q)) (sym its_is) ∙ gives)
 
 -- ---- the same, by what the calls of a handler are known to do
 
@@ -257,7 +259,7 @@ module _ (q : Squashing) (c d : Selection) (head : Head) (raw body : List ℕ) (
   squashed_handled next out gives more =
       let step = subst (λ (x : Squashing). IsSquashStep x (record { head = written_head; raw = raw; body = body }) out
       next) same (gives body (read_again q.session c d head raw body written_head stays read is)) in
-      squashed_stays q.session c d head raw body written_head stays next.session step.session q.run next.run out
+      squashed_stays q.session c d head raw body written_head stays next.session step.session q.series next.series out
       step.step more
 
   pub squashed_failed : (fault : EngineFault)
@@ -280,7 +282,7 @@ module _ (q : Squashing) (c d : Selection) (head : Head) (raw body : List ℕ) (
       by (inr ended) =
           inr (
             ended.0,
-            λ more. squashed_ends q.session c d head raw body written_head stays q.run fault
+            λ more. squashed_ends q.session c d head raw body written_head stays q.series fault
                 (subst (λ (x : Squashing). step_at x (record { head = written_head; raw = raw; body = body })
                 ≡ faulty fault) same ended.1) more,
           )
@@ -288,24 +290,25 @@ module _ (q : Squashing) (c d : Selection) (head : Head) (raw body : List ℕ) (
 -- ---- with squash, where no record is left out
 
 pub step_writes : (q next : Squashing) (r : Record) (out : List ℕ) → IsSquashStep q r out next → (more : List Record)
-    → squashed_in q.session q.run (r ∷ more) ≡ after out None (squashed_in next.session next.run more)
+    → squashed_in q.session q.series (r ∷ more) ≡ after out None (squashed_in next.session next.series more)
 step_writes q next r out is more =
-    ap (λ (step : Step). continue_with step.out step.end (squashed_in (judge q.session r).session step.run more))
+    ap (λ (step : Step). continue_with step.out step.end (squashed_in (judge q.session r).session step.series more))
     is.step
-    ∙ ap (λ (u : Session). written_first out (squashed_in u next.run more)) (sym is.session)
+    ∙ ap (λ (u : Session). written_first out (squashed_in u next.series more)) (sym is.session)
 
 pub step_ends : (q : Squashing) (r : Record) (fault : EngineFault) → step_at q r ≡ faulty fault → (more : List Record)
-    → squashed_in q.session q.run (r ∷ more) ≡ stopped [] (Err fault)
+    → squashed_in q.session q.series (r ∷ more) ≡ stopped [] (Err fault)
 step_ends q r fault is more =
-    ap (λ (step : Step). continue_with step.out step.end (squashed_in (judge q.session r).session step.run more)) is
+    ap (λ (step : Step). continue_with step.out step.end (squashed_in (judge q.session r).session step.series more)) is
 
-abbrev pub squashing_at : Session → Option Run → Squashing
-squashing_at s run = record { session = s; run = run }
+abbrev pub squashing_at : Session → Option OpenSeries → Squashing
+squashing_at s series = record { session = s; series = series }
 
 pub step_failed : (q p : Squashing) (r : Record) → p ≡ q → (fault : EngineFault) → (fault ≡ NoMemory)
     ⊎ (IsRecordFault fault × (step_at p r ≡ faulty fault))
     → (fault ≡ NoMemory)
-    ⊎ (IsRecordFault fault × ((more : List Record) → squashed_in q.session q.run (r ∷ more) ≡ stopped [] (Err fault)))
+    ⊎ (IsRecordFault fault × ((more : List Record) → squashed_in q.session q.series (r ∷ more) ≡ stopped [] (Err
+    fault)))
 step_failed q p r same fault (inl memory) = inl memory
 step_failed q p r same fault (inr ended) =
     inr (ended.0, step_ends q r fault (subst (λ (x : Squashing). step_at x r ≡ faulty fault) same ended.1))
@@ -354,13 +357,13 @@ each_even s (r ∷ rs) answer e =
     even_on (each_output s r).out (each_output s r).end (run_output_in normalising (judge s r).session rs) answer e
     (each_even (judge s r).session rs answer)
 
-squash_even : (s : Session) (run : Option Run) (rs : List Record) (answer : Result Outcome EngineFault)
-    → (squashed_in s run rs).stop ≡ Some answer → IsEven (squashed_in s run rs)
-squash_even s run [] answer e = absurd (let wrong : None ≡ Some answer = e in cc)
-squash_even s run (r ∷ rs) answer e =
-    let step = squash_step s run r (judge s r) in
-    even_on step.out step.end (squashed_in (judge s r).session step.run rs) answer e
-    (squash_even (judge s r).session step.run rs answer)
+squash_even : (s : Session) (series : Option OpenSeries) (rs : List Record) (answer : Result Outcome EngineFault)
+    → (squashed_in s series rs).stop ≡ Some answer → IsEven (squashed_in s series rs)
+squash_even s series [] answer e = absurd (let wrong : None ≡ Some answer = e in cc)
+squash_even s series (r ∷ rs) answer e =
+    let step = squash_step s series r (judge s r) in
+    even_on step.out step.end (squashed_in (judge s r).session step.series rs) answer e
+    (squash_even (judge s r).session step.series rs answer)
 
 -- An output of the records that stay settles and grows, if that of all records does.
 module _ (s : Session) (c : Selection) (g : List Record → RunOutput) where
@@ -406,6 +409,6 @@ pub run_of_squashed_kept : FirstLaw → VersionLaw → (q : Squashing) (c : Sele
       in_parts = false;
     }) max_turns before after result
 run_of_squashed_kept first version q c run whole =
-    run_of_course first version (squashed_of_kept q c) (kept_settles q.session c (squashed_in q.session q.run)
-    (settled squash_view q.run q.session) (squash_even q.session q.run))
-    (kept_grows q.session c (squashed_in q.session q.run) (grows squash_view q.run q.session)) false run whole
+    run_of_course first version (squashed_of_kept q c) (kept_settles q.session c (squashed_in q.session q.series)
+    (settled squash_view q.series q.session) (squash_even q.session q.series))
+    (kept_grows q.session c (squashed_in q.session q.series) (grows squash_view q.series q.session)) false run whole

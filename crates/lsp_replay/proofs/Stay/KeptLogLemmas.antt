@@ -21,7 +21,7 @@ use Rattle.lsp_replay.specs.inside.Commands.{run_output_in}
 use Rattle.lsp_replay.specs.inside.Joining.{IsChange}
 use Rattle.lsp_replay.specs.RunOutput.{RunOutput}
 use Rattle.lsp_replay.specs.Session.{Session, Verdict, answered, bad, judge, recorded}
-use Rattle.lsp_replay.specs.inside.Squashed.{Run, Step, squash_step, squashed_in}
+use Rattle.lsp_replay.specs.inside.Squashed.{OpenSeries, Step, squash_step, squashed_in}
 use Rattle.lsp_replay.proofs.Records.ChangeLemmas.{IsChangeKind, IsOtherKind, kind_of}
 use Rattle.lsp_replay.proofs.Stay.LeftOutLemmas.{IsHarmless, harmless, stays_alike}
 use Rattle.lsp_replay.proofs.Canonical.NormalisedLemmas.{went_on}
@@ -260,36 +260,37 @@ each_located s (r ∷ rs) at version goes =
     ∙ ap (continue_with given.out given.end) (each_located (judge s r).session rs (at + length (record_bytes version r))
     version on.1)
 
-module _ (s : Session) (run : Option Run) (at : ℕ) (r : Record) where
+module _ (s : Session) (series : Option OpenSeries) (at : ℕ) (r : Record) where
   abbrev change : Option ChangeData
   change = change_in (incoming_of (reading r.body))
 
-  located_step : (squash_step s run r (judge s r)).end ≡ None → squash_step s run (located at r) (judge s r)
-      ≡ squash_step s run r (judge s r)
+  located_step : (squash_step s series r (judge s r)).end ≡ None → squash_step s series (located at r) (judge s r)
+      ≡ squash_step s series r (judge s r)
   located_step e =
       ⊎_elim
       (λ (kind : IsOtherKind s.server change (judge s r).verdict).
-      step_other s.server (located at r) (front_of r.head) run change (judge s r).verdict kind.0 kind.1
-      ∙ sym (step_other s.server r (front_of r.head) run change (judge s r).verdict kind.0 kind.1))
+      step_other s.server (located at r) (front_of r.head) series change (judge s r).verdict kind.0 kind.1
+      ∙ sym (step_other s.server r (front_of r.head) series change (judge s r).verdict kind.0 kind.1))
       (λ (kind : IsChangeKind s.server change (judge s r).verdict).
       let is : IsChange s.server change (judge s r).verdict (frame (canonical_change_body s.server kind.0)) =
       record { params = kind.0; is = kind.1; accepted = kind.2; framed = record { is = refl; within = kind.3 } } in
-      step_changed s.server (located at r) (front_of r.head) (frame (canonical_change_body s.server kind.0)) run change
+      step_changed s.server (located at r) (front_of r.head) (frame (canonical_change_body s.server kind.0)) series
+      change
       (judge s r).verdict is
-      ∙ sym (step_changed s.server r (front_of r.head) (frame (canonical_change_body s.server kind.0)) run change
+      ∙ sym (step_changed s.server r (front_of r.head) (frame (canonical_change_body s.server kind.0)) series change
       (judge s r).verdict is))
-      (kind_of s.server r (front_of r.head) run change (judge s r).verdict e)
+      (kind_of s.server r (front_of r.head) series change (judge s r).verdict e)
 
-pub squash_located : (s : Session) (run : Option Run) (rs : List Record) (at : ℕ) (version : Version)
-    → (squashed_in s run rs).stop ≡ None → squashed_in s run (located_all at version rs) ≡ squashed_in s run rs
-squash_located s run [] at version goes = refl
-squash_located s run (r ∷ rs) at version goes =
-    let step = squash_step s run r (judge s r) in
-    let on = went_on step.out step.end (squashed_in (judge s r).session step.run rs) goes in
+pub squash_located : (s : Session) (series : Option OpenSeries) (rs : List Record) (at : ℕ) (version : Version)
+    → (squashed_in s series rs).stop ≡ None → squashed_in s series (located_all at version rs) ≡ squashed_in s series rs
+squash_located s series [] at version goes = refl
+squash_located s series (r ∷ rs) at version goes =
+    let step = squash_step s series r (judge s r) in
+    let on = went_on step.out step.end (squashed_in (judge s r).session step.series rs) goes in
     let later = located_all (at + length (record_bytes version r)) version rs in
-    ap (λ (g : Step). continue_with g.out g.end (squashed_in (judge s r).session g.run later))
-    (located_step s run at r on.0)
-    ∙ ap (continue_with step.out step.end) (squash_located (judge s r).session step.run rs
+    ap (λ (g : Step). continue_with g.out g.end (squashed_in (judge s r).session g.series later))
+    (located_step s series at r on.0)
+    ∙ ap (continue_with step.out step.end) (squash_located (judge s r).session step.series rs
     (at + length (record_bytes version r)) version on.1)
 
 -- ---- what `replay` reports

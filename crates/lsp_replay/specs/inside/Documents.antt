@@ -15,7 +15,7 @@ abbrev pub each_of_kept : Session → Selection → List Record → RunOutput
 each_of_kept s c rs = output_of_kept (run_output_in normalising s) (kept_in s c rs)
 
 abbrev pub squashed_of_kept : Squashing → Selection → List Record → RunOutput
-squashed_of_kept q c rs = output_of_kept (squashed_in q.session q.run) (kept_in q.session c rs)
+squashed_of_kept q c rs = output_of_kept (squashed_in q.session q.series) (kept_in q.session c rs)
 
 -- The engine, without squash and with it.
 abbrev pub each_documents_engine : Settings → Engine
@@ -32,7 +32,7 @@ squashed_documents_engine settings
     = record {
       log_rules = as_log settings;
       run_output
-          = squashed_of_kept (record { session = opened (log_config settings); run = None })
+          = squashed_of_kept (record { session = opened (log_config settings); series = None })
           nothing_selected;
       flushes = false;
       in_parts = false;

@@ -14,7 +14,7 @@ use Rattle.lsp_replay.specs.Commands.{canonical_if, canonical_change_body}
 use Rattle.lsp_replay.specs.Session.{Verdict, answered}
 use Rattle.lsp_replay.specs.inside.Squashed.{joined_by}
 
--- The batches of a run lead to the document that is open now, with the server's limits and
+-- The batches of a series lead to the document that is open now, with the server's limits and
 -- encoding.
 pub record IsOpenIn (server : ServerData) (squash : SquashData) : Type 0 where
   pub entry : DocumentItem
@@ -68,14 +68,15 @@ pub record IsChange (server : ServerData) (change : Option ChangeData) (verdict 
   pub accepted : verdict ≡ answered changed
   pub framed : IsFramed server params canonical
 
--- The open run is of the same document, and the change joins it.
-pub record IsLonger (run : Option SquashData) (p : ChangeData) (batches : SquashData) : Type 0 where
+-- The open series is of the same document, and the change joins it.
+pub record IsLonger (series : Option SquashData) (p : ChangeData) (batches : SquashData) :
+    Type 0 where
   pub before : SquashData
-  pub open_one : run ≡ Some before
+  pub open_one : series ≡ Some before
   pub same : bytes_eq p.uri before.uri ≡ true
   pub joined : batches ≡ joined_by p before
 
--- No run is open, or the open run is of another document.
+-- No series is open, or the open series is of another document.
 abbrev pub IsOther : Option SquashData → ChangeData → Type 0
 IsOther None p = ⊤
 IsOther (Some squash) p = bytes_eq p.uri squash.uri ≡ false
@@ -87,19 +88,19 @@ pub record IsBegun (server : ServerData) (p : ChangeData) (batches : SquashData)
   pub joined : batches ≡ joined_by p (squash_of server.config.limits (session_encoding server)
       entry)
 
--- How a record is written: as it is, as part of the open run, or as the first of a new one.
+-- How a record is written: as it is, as part of the open series, or as the first of a new one.
 abbrev pub IsWriting : ServerData → Option SquashData → Option ChangeData → Verdict → Writing
     → Type 0
-IsWriting server run change verdict (AsItIs ended) = (canonical_if server change verdict ≡ None)
-    × (ended ≡ run)
-IsWriting server run change verdict TooLong =
+IsWriting server series change verdict (AsItIs ended) = (canonical_if server change verdict ≡ None)
+    × (ended ≡ series)
+IsWriting server series change verdict TooLong =
     (p : ChangeData) × (change ≡ Some p) × (verdict ≡ answered changed)
     × (server.config.limits.max_body < length (canonical_change_body server p))
-IsWriting server run change verdict (Continues canonical batches) =
-    (is : IsChange server change verdict canonical.items) × IsLonger run is.params batches
-IsWriting server run change verdict (Begins canonical ended batches) =
-    (is : IsChange server change verdict canonical.items) × IsOther run is.params × (ended ≡ run)
-    × IsBegun server is.params batches
+IsWriting server series change verdict (Continues canonical batches) =
+    (is : IsChange server change verdict canonical.items) × IsLonger series is.params batches
+IsWriting server series change verdict (Begins canonical ended batches) =
+    (is : IsChange server change verdict canonical.items) × IsOther series is.params
+    × (ended ≡ series) × IsBegun server is.params batches
 
 -- The batches that are open afterwards lead to the document that is open then.
 abbrev pub IsOpenAfter : ServerData → Writing → Type 0
@@ -112,13 +113,13 @@ IsOpenAfter server (Begins canonical ended batches) = IsOpenIn server batches
 
 -- How a change is written, by whether the server refuses it.
 abbrev pub IsChangeWriting : ServerData → Option SquashData → ChangeData → Writing → Type 0
-IsChangeWriting server run p (AsItIs ended) = (refusal_of server p ≢ None) × (ended ≡ run)
-IsChangeWriting server run p TooLong = (refusal_of server p ≡ None)
+IsChangeWriting server series p (AsItIs ended) = (refusal_of server p ≢ None) × (ended ≡ series)
+IsChangeWriting server series p TooLong = (refusal_of server p ≡ None)
     × (server.config.limits.max_body < length (canonical_change_body server p))
-IsChangeWriting server run p (Continues canonical batches) =
-    (refusal_of server p ≡ None) × IsFramed server p canonical.items × IsLonger run p batches
+IsChangeWriting server series p (Continues canonical batches) =
+    (refusal_of server p ≡ None) × IsFramed server p canonical.items × IsLonger series p batches
     × IsOpenIn (server_after server p) batches
-IsChangeWriting server run p (Begins canonical ended batches) =
-    (refusal_of server p ≡ None) × IsFramed server p canonical.items × IsOther run p × (ended ≡ run)
-    × IsBegun server p batches
+IsChangeWriting server series p (Begins canonical ended batches) =
+    (refusal_of server p ≡ None) × IsFramed server p canonical.items × IsOther series p
+    × (ended ≡ series) × IsBegun server p batches
     × IsOpenIn (server_after server p) batches

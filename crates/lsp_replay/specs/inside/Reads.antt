@@ -21,13 +21,14 @@ use Rattle.lsp_replay.specs.inside.Verdicts.{IsAppended, verdict_view}
 abbrev pub IsReadOf : Head → List ℕ → RecordBody → Type 0
 IsReadOf head body read = body_view read ≡ body_read head.version head.side body
 
--- A record was judged, and an accepted change joined to the open run.
-pub record IsJoined (old new : Session) (run : Option SquashData) (head : Head) (body : List ℕ)
+-- A record was judged, and an accepted change joined to the open series.
+pub record IsJoined (old new : Session) (series : Option SquashData) (head : Head) (body : List ℕ)
     (verdict : declared.Verdict) (how : Writing) : Type 0 where
   pub judged : verdict_view verdict ≡ (judge_at old head body).verdict
   pub session : new ≡ (judge_at old head body).session
   pub writing : verdict_view verdict ≢ bad →
-      IsWriting old.server run (change_in (incoming_of (reading body))) (verdict_view verdict) how
+      IsWriting old.server series (change_in (incoming_of (reading body))) (verdict_view verdict)
+      how
 
 -- A record was judged, and the canonical body of an accepted change appended.
 pub record IsWritten (old new : Session) (before after : List ℕ) (head : Head) (body : List ℕ)

@@ -1,5 +1,5 @@
--- What `normalise` writes with squash, as the code makes it: of an open run the bytes are kept that
--- are written if its one message is refused. That it is the same is shown in
+-- What `normalise` writes with squash, as the code makes it: of an open series the bytes are kept
+-- that are written if its one message is refused. That it is the same is shown in
 -- `proofs/Squash/SeriesLemmas.antt`.
 use Rattle.std.specs.Prelude.{ℕ, ◌≡◌, ◌++◌, if◌then◌else◌, nat_lt, length, map, List, [], Option, Some, None, Result, Err}
 use Rattle.std.specs.Str.{bytes_eq}
@@ -20,10 +20,10 @@ use Rattle.lsp_replay.specs.RunOutput.{RunOutput}
 use Rattle.lsp_replay.specs.Commands.{View, output_in, front_of, change_in, canonical_change_body, line_if, log_config}
 use Rattle.lsp_replay.specs.Session.{Session, Verdict, answered, bad, Judged, judge, opened, outcome_of}
 
--- ---- a run, by the bytes that the code keeps of it
+-- ---- a series, by the bytes that the code keeps of it
 
--- An open run, as it is written once it ends.
-pub record Run : Type 0 where
+-- An open series, as it is written once it ends.
+pub record OpenSeries : Type 0 where
   -- the bytes before its first record's frame
   pub front : List ℕ
   -- its records as they are written without squash
@@ -31,28 +31,29 @@ pub record Run : Type 0 where
   -- its batches together, on the document before it
   pub squash : SquashData
 
--- A run is written as the one canonical message of all its batches. If that has too many changes or
--- is too long, the run is written as without squash.
-abbrev pub run_written : Run → Option Refusal → List ℕ
-run_written run None = run.front ++ squash_frame run.squash
-run_written run (Some refusal) = run.singles
+-- A series is written as the one canonical message of all its batches. If that has too many changes
+-- or is too long, the series is written as without squash.
+abbrev pub open_written : OpenSeries → Option Refusal → List ℕ
+open_written series None = series.front ++ squash_frame series.squash
+open_written series (Some refusal) = series.singles
 
--- The bytes of a run, by whether its one message is possible.
-abbrev pub run_bytes : Run → List ℕ
-run_bytes run = run_written run (squash_refusal run.squash)
+-- The bytes of a series, by whether its one message is possible.
+abbrev pub open_bytes : OpenSeries → List ℕ
+open_bytes series = open_written series (squash_refusal series.squash)
 
--- The output when the open run ends, if one is open.
-abbrev pub end_bytes : Option Run → List ℕ
+-- The output when the open series ends, if one is open.
+abbrev pub end_bytes : Option OpenSeries → List ℕ
 end_bytes None = []
-end_bytes (Some run) = run_bytes run
+end_bytes (Some series) = open_bytes series
 
 -- The batch of a change, after the batches of a squash.
 abbrev pub joined_by : ChangeData → SquashData → SquashData
 joined_by p squash = squash_after squash p.version (map edit_from_data p.changes)
 
--- A run that a change begins, on the document before it. `single` is the record as it is written
+-- A series that a change begins, on the document before it. `single` is the record as it is written
 -- without squash.
-abbrev pub begun_on : ServerData → ChangeData → List ℕ → List ℕ → Option DocumentItem → Option Run
+abbrev pub begun_on : ServerData → ChangeData → List ℕ → List ℕ → Option DocumentItem
+    → Option OpenSeries
 begun_on server p front single None = None
 begun_on server p front single (Some entry) =
     Some (record {
@@ -62,99 +63,101 @@ begun_on server p front single (Some entry) =
     })
 
 -- The same on the documents of a server.
-abbrev pub begun : ServerData → ChangeData → List ℕ → List ℕ → Option Run
+abbrev pub begun : ServerData → ChangeData → List ℕ → List ℕ → Option OpenSeries
 begun server p front single = begun_on server p front single (entry_at server.table p.uri)
 
--- A run after one more change.
-abbrev pub longer : Run → ChangeData → List ℕ → Run
-longer run p single
-    = record run { singles = run.singles ++ single; squash = joined_by p run.squash }
+-- A series after one more change.
+abbrev pub longer : OpenSeries → ChangeData → List ℕ → OpenSeries
+longer series p single
+    = record series { singles = series.singles ++ single; squash = joined_by p series.squash }
 
--- ---- the output of a record, and the run that is open after it
+-- ---- the output of a record, and the series that is open after it
 
--- A record's output, the result with which it ends the command's run, if it does, and the run that
--- is open after it.
+-- A record's output, the result with which it ends the command's run, if it does, and the series
+-- that is open after it.
 pub record Step : Type 0 where
   pub out : List ℕ
   pub end : Option (Result Outcome EngineFault)
-  pub run : Option Run
+  pub series : Option OpenSeries
 
--- After a fault nothing more is written, the open run neither.
+-- After a fault nothing more is written, the open series neither.
 abbrev pub faulty : EngineFault → Step
-faulty fault = record { out = []; end = Some (Err fault); run = None }
+faulty fault = record { out = []; end = Some (Err fault); series = None }
 
--- An accepted change joins the open run if it is of the same document. Else it ends that run and
--- begins one.
-abbrev pub change_output : ServerData → ChangeData → List ℕ → List ℕ → Option Run → Step
+-- An accepted change joins the open series if it is of the same document. Else it ends that series
+-- and begins one.
+abbrev pub change_output : ServerData → ChangeData → List ℕ → List ℕ → Option OpenSeries → Step
 change_output server p front single None
-    = record { out = []; end = None; run = begun server p front single }
-change_output server p front single (Some run) =
-    if bytes_eq p.uri run.squash.uri then
-    record { out = []; end = None; run = Some (longer run p single) }
-    else record { out = run_bytes run; end = None; run = begun server p front single }
+    = record { out = []; end = None; series = begun server p front single }
+change_output server p front single (Some series) =
+    if bytes_eq p.uri series.squash.uri then
+    record { out = []; end = None; series = Some (longer series p single) }
+    else record { out = open_bytes series; end = None; series = begun server p front single }
 
 -- Its own canonical message must not be too long.
-abbrev pub change_step : ServerData → Record → ChangeData → List ℕ → Option Run → Step
-change_step server r p front run =
+abbrev pub change_step : ServerData → Record → ChangeData → List ℕ → Option OpenSeries → Step
+change_step server r p front series =
     if nat_lt server.config.limits.max_body (length (canonical_change_body server p)) then
     faulty (BodyTooLong r.head.place)
-    else change_output server p front (front ++ frame (canonical_change_body server p)) run
+    else change_output server p front (front ++ frame (canonical_change_body server p)) series
 
--- Any other record ends the open run, and is written as it is.
-abbrev pub other_step : Record → List ℕ → Option Run → Step
-other_step r front run
-    = record { out = end_bytes run ++ (front ++ r.raw); end = None; run = None }
+-- Any other record ends the open series, and is written as it is.
+abbrev pub other_step : Record → List ℕ → Option OpenSeries → Step
+other_step r front series
+    = record { out = end_bytes series ++ (front ++ r.raw); end = None; series = None }
 
 -- A record's output, by the change in it and the judgement of it.
-abbrev pub step_if : ServerData → Record → List ℕ → Option Run → Option ChangeData → Verdict → Step
-step_if server r front run change bad = faulty (BadLog r.head.place)
-step_if server r front run (Some p) (answered changed) = change_step server r p front run
-step_if server r front run change verdict = other_step r front run
+abbrev pub step_if : ServerData → Record → List ℕ → Option OpenSeries → Option ChangeData
+    → Verdict → Step
+step_if server r front series change bad = faulty (BadLog r.head.place)
+step_if server r front series (Some p) (answered changed) = change_step server r p front series
+step_if server r front series change verdict = other_step r front series
 
 -- The same from the session before the record.
-abbrev pub squash_step : Session → Option Run → Record → Judged → Step
-squash_step s run r j
-    = step_if s.server r (front_of r.head) run (change_in (incoming_of (reading r.body))) j.verdict
+abbrev pub squash_step : Session → Option OpenSeries → Record → Judged → Step
+squash_step s series r j
+    = step_if s.server r (front_of r.head) series (change_in (incoming_of (reading r.body)))
+    j.verdict
 
 -- ---- all records
 
--- The state is the open run. The end of the input ends it. A log of version 2 without records is
+-- The state is the open series. The end of the input ends it. A log of version 2 without records is
 -- its line.
-abbrev pub squash_view : View (Option Run)
+abbrev pub squash_view : View (Option OpenSeries)
 squash_view = record {
-  record_output = λ run s r j.
-      record { out = (squash_step s run r j).out; end = (squash_step s run r j).end };
-  next = λ run s r j. (squash_step s run r j).run;
-  end_output = λ run s line_due. end_bytes run ++ line_if line_due;
-  outcome = λ run s. outcome_of s;
+  record_output = λ series s r j.
+      record { out = (squash_step s series r j).out; end = (squash_step s series r j).end };
+  next = λ series s r j. (squash_step s series r j).series;
+  end_output = λ series s line_due. end_bytes series ++ line_if line_due;
+  outcome = λ series s. outcome_of s;
 }
 
 -- ---- what only proofs and private contracts use
 
--- The open run: its bytes and its batches, if any are open.
-abbrev pub run_of : List ℕ → List ℕ → Option SquashData → Option Run
-run_of front singles None = None
-run_of front singles (Some squash)
+-- The open series: its bytes and its batches, if any are open.
+abbrev pub series_of : List ℕ → List ℕ → Option SquashData → Option OpenSeries
+series_of front singles None = None
+series_of front singles (Some squash)
     = Some (record { front = front; singles = singles; squash = squash })
 
--- How far a log is squashed: the session, and the open run.
+-- How far a log is squashed: the session, and the open series.
 pub record Squashing : Type 0 where
   pub session : Session
-  pub run : Option Run
+  pub series : Option OpenSeries
 
--- The output for records before which this run is open, and for all records.
-abbrev pub squashed_in : Session → Option Run → List Record → RunOutput
-squashed_in s run = output_in squash_view run s
+-- The output for records before which this series is open, and for all records.
+abbrev pub squashed_in : Session → Option OpenSeries → List Record → RunOutput
+squashed_in s series = output_in squash_view series s
 
 abbrev pub squashed_steps : Settings → List Record → RunOutput
 squashed_steps settings = squashed_in (opened (log_config settings)) None
 
 -- The step of a record.
 abbrev pub step_at : Squashing → Record → Step
-step_at old r = squash_step old.session old.run r (judge old.session r)
+step_at old r = squash_step old.session old.series r (judge old.session r)
 
 -- A record was written: this is its output, and the run of the command continues.
 pub record IsSquashStep (old : Squashing) (r : Record) (out : List ℕ)
     (new : Squashing) : Type 0 where
   pub session : new.session ≡ (judge old.session r).session
-  pub step : step_at old r ≡ record { out = out; end = None; run = new.run }
+  pub step : step_at old r ≡ record { out = out; end = None; series = new.series }

@@ -40,7 +40,7 @@ pub fn normalise_documents<R: Source, W: Sink>(
         (ports (R.seen reader.old) (W.seen writer.old))
         (ports (R.seen reader.new) (W.seen writer.new)) result }
 {
-    if settings.joins_runs() {
+    if settings.joins_series() {
         return documents_squashed(alloc, reader, writer, settings, max_turns);
     }
     documents_each(alloc, reader, writer, settings, max_turns)

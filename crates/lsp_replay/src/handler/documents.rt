@@ -93,7 +93,7 @@ pub struct SquashedDocuments {
 impl SquashedDocuments {
     /// Starts before the first record, over a new server.
     pub fn new(alloc: Global, config: Config) -> SquashedDocuments
-        ensures squashing { result.squashing ≡ record { session = opened config; run = None } }
+        ensures squashing { result.squashing ≡ record { session = opened config; series = None } }
         ensures selection { result.selection ≡ nothing_selected }
     {
         SquashedDocuments {

@@ -6,7 +6,7 @@ ghost use Rattle.lsp_replay.specs.Session.{opened, outcome_of};
 ghost use Rattle.lsp_replay.specs.Commands.{front_of};
 ghost use Rattle.lsp_replay.specs.inside.Reads.{IsReadOf, IsSelection};
 ghost use Rattle.lsp_replay.specs.inside.RunOutput.{IsRecordFault};
-ghost use Rattle.lsp_replay.specs.inside.Squashed.{IsSquashStep, end_bytes, faulty, run_of, squashed_in, step_at};
+ghost use Rattle.lsp_replay.specs.inside.Squashed.{IsSquashStep, end_bytes, faulty, series_of, squashed_in, step_at};
 
 use crate::handler::front::{push_front, push_line};
 use crate::handler::{Given, Handler, Output};
@@ -61,9 +61,9 @@ impl Texts {
 
     /// Writes a series that has ended, as the one canonical message of its batches. If that has too
     /// many changes or is too long, the series is written as without squash.
-    fn push_run(&self, output: &mut Vec<u8>, batches: &Batches) -> Result<(), AllocError>
+    fn push_series(&self, output: &mut Vec<u8>, batches: &Batches) -> Result<(), AllocError>
         ensures { OnOk result (output.new.items ≡ output.old.items
-            ++ end_bytes (run_of self.now.front.items self.now.singles.items (Some batches.now))) }
+            ++ end_bytes (series_of self.now.front.items self.now.singles.items (Some batches.now))) }
     {
         match unless_refused(batches.message())? {
             Some(frame) => {
@@ -77,10 +77,10 @@ impl Texts {
     /// Writes the series that has ended, if there is one.
     fn push_end(&self, output: &mut Vec<u8>, ended: &Option<Batches>) -> Result<(), AllocError>
         ensures { OnOk result (output.new.items ≡ output.old.items
-            ++ end_bytes (run_of self.now.front.items self.now.singles.items ended.now)) }
+            ++ end_bytes (series_of self.now.front.items self.now.singles.items ended.now)) }
     {
         match ended {
-            Some(batches) => self.push_run(output, batches),
+            Some(batches) => self.push_series(output, batches),
             None => Ok(()),
         }
     }
@@ -98,14 +98,14 @@ pub struct Squashing {
 
 impl Model for Squashing {
     ghost use Rattle.lsp_replay.specs.inside.Squashed as spec;
-    ghost use Rattle.lsp_replay.specs.inside.Squashed.{run_of};
+    ghost use Rattle.lsp_replay.specs.inside.Squashed.{series_of};
     ghost use Rattle.lsp_replay.specs.inside.Joining.{MayBeOpenIn};
 
     ghost Value = { spec.Squashing };
 
     ghost view = { λ h. record {
       session = h.session;
-      run = run_of h.texts.front.items h.texts.singles.items h.batches;
+      series = series_of h.texts.front.items h.texts.singles.items h.batches;
     } };
 
     ghost invariant = { λ h. MayBeOpenIn h.session.server h.batches };
@@ -114,7 +114,7 @@ impl Model for Squashing {
 impl Squashing {
     /// Starts before the first record, over a new server.
     pub fn new(alloc: Global, config: Config) -> Squashing
-        ensures { result ≡ record { session = opened config; run = None } }
+        ensures { result ≡ record { session = opened config; series = None } }
     {
         Squashing {
             session: Session::new(alloc, config),
@@ -128,7 +128,7 @@ impl Squashing {
 
     /// Writes the open series, if there is one.
     pub(super) fn push_open(&self, output: &mut Vec<u8>) -> Result<(), AllocError>
-        ensures { OnOk result (output.new.items ≡ output.old.items ++ end_bytes self.now.run) }
+        ensures { OnOk result (output.new.items ≡ output.old.items ++ end_bytes self.now.series) }
     {
         self.texts.push_end(output, &self.batches)
     }
@@ -166,8 +166,8 @@ impl Squashing {
             × (step_at self.old (record { head = head; raw = raw.now; body = body })
             ≡ faulty fault))) }
     {
-        let run = self.batches.take();
-        let (verdict, writing) = self.session.judge_and_join(read, run)?;
+        let series = self.batches.take();
+        let (verdict, writing) = self.session.judge_and_join(read, series)?;
         in_log(&verdict, head.place)?;
         match writing {
             Writing::AsItIs(ended) => {
@@ -200,7 +200,7 @@ impl Squashing {
 }
 
 impl Handler for Squashing {
-    ghost run_output = { λ squashing. squashed_in squashing.session squashing.run };
+    ghost run_output = { λ squashing. squashed_in squashing.session squashing.series };
 
     ghost FLUSHES = { false };
 

@@ -40,17 +40,17 @@ impl Session {
     pub fn judge_and_join(
         &mut self,
         read: RecordBody<'_>,
-        run: Option<Batches>,
+        series: Option<Batches>,
     ) -> Result<(Verdict, Writing), AllocError>
-        requires { MayBeOpenIn self.old.server run }
+        requires { MayBeOpenIn self.old.server series }
         ensures joined { (head : Head) (body : List ℕ) → IsReadOf head body read.entry →
             IfOk result
-            (λ judged. IsJoined self.old self.new run head body judged.0 judged.1) }
+            (λ judged. IsJoined self.old self.new series head body judged.0 judged.1) }
         ensures reached { IfOk result (λ judged. IsOpenAfter self.new.server judged.1) }
     {
         match self.received_change(&read) {
-            Some(params) => self.change_and_join(params, run),
-            None => Ok((self.take(read)?, Writing::AsItIs(run))),
+            Some(params) => self.change_and_join(params, series),
+            None => Ok((self.take(read)?, Writing::AsItIs(series))),
         }
     }
 
@@ -58,22 +58,22 @@ impl Session {
     fn change_and_join(
         &mut self,
         params: &ChangeParams,
-        run: Option<Batches>,
+        series: Option<Batches>,
     ) -> Result<(Verdict, Writing), AllocError>
         requires running { self.old.server.phase ≡ Running }
         requires known { self.old.expected ≡ None }
-        requires may_be_open { MayBeOpenIn self.old.server run }
+        requires may_be_open { MayBeOpenIn self.old.server series }
         ensures taken { IfOk result (λ judged.
             IsChangeTaken self.old (change_view params.now) (verdict_view judged.0) self.new) }
         ensures writing { IfOk result
-            (λ judged. IsChangeWriting self.old.server run (change_view params.now) judged.1) }
+            (λ judged. IsChangeWriting self.old.server series (change_view params.now) judged.1) }
     {
         match self.server.plan(params)? {
             PlannedChange::Accepted(plan) => {
-                let writing = self.join(params, &plan, run)?;
+                let writing = self.join(params, &plan, series)?;
                 Ok((self.commit(plan)?, writing))
             }
-            PlannedChange::Answered(answer) => Ok((self.refuse(answer), Writing::AsItIs(run))),
+            PlannedChange::Answered(answer) => Ok((self.refuse(answer), Writing::AsItIs(series))),
         }
     }
 
@@ -83,17 +83,17 @@ impl Session {
         &self,
         params: &ChangeParams,
         plan: &Plan<'_>,
-        run: Option<Batches>,
+        series: Option<Batches>,
     ) -> Result<Writing, AllocError>
         requires planned { IsPlanOfChange self.now.server (change_view params.now) plan.now }
-        requires may_be_open { MayBeOpenIn self.now.server run }
-        ensures { IfOk result (IsChangeWriting self.now.server run (change_view params.now)) }
+        requires may_be_open { MayBeOpenIn self.now.server series }
+        ensures { IfOk result (IsChangeWriting self.now.server series (change_view params.now)) }
     {
         let store = self.server.store();
         let Some(frame) = unless_refused(store.planned_message(plan))? else {
             return Ok(Writing::TooLong);
         };
-        let Some(mut batches) = run else {
+        let Some(mut batches) = series else {
             let begun = self.begin(params, plan)?;
             return Ok(Writing::Begins(frame, None, begun));
         };

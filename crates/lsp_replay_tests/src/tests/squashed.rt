@@ -82,7 +82,7 @@ static LOGS: [Squashed; 12] = [
         Bytes::Frames(&[INITIALIZE, OPEN, BOTH]),
         MANY,
     ),
-    // A record between them ends the run.
+    // A record between them ends the series.
     Squashed(
         Bytes::Frames(&[INITIALIZE, OPEN, WHOLE, SAVE, TYPED]),
         Bytes::Frames(&[INITIALIZE, OPEN, CANONICAL, SAVE, TYPED]),
@@ -99,13 +99,13 @@ static LOGS: [Squashed; 12] = [
         Bytes::Frames(&[INITIALIZE, OPEN, APART]),
         2,
     ),
-    // The run's message would have too many changes.
+    // Its message would have too many changes.
     Squashed(
         Bytes::Frames(&[INITIALIZE, OPEN, BEFORE, AFTER]),
         Bytes::Frames(&[INITIALIZE, OPEN, BEFORE, AFTER]),
         1,
     ),
-    // A refused change ends the run, and stays as it is.
+    // A refused change ends the series, and stays as it is.
     Squashed(
         Bytes::Frames(&[INITIALIZE, OPEN, WHOLE, STALE, TYPED]),
         Bytes::Frames(&[INITIALIZE, OPEN, CANONICAL, STALE, TYPED]),
@@ -123,7 +123,7 @@ static LOGS: [Squashed; 12] = [
         Bytes::Frames(&[INITIALIZE, OPEN, CANONICAL, INITIALIZED, TYPED]),
         MANY,
     ),
-    // The run is not the last of the log.
+    // The series is not the last of the log.
     Squashed(
         Bytes::Frames(&[INITIALIZE, OPEN, WHOLE, TYPED, CLOSE, OPEN, BEFORE, AWAY]),
         Bytes::Frames(&[INITIALIZE, OPEN, BOTH, CLOSE, OPEN, NONE]),
@@ -141,7 +141,7 @@ static LOGS: [Squashed; 12] = [
         Bytes::Marked(&[(">", INITIALIZE), ("<", REPLY), (">", OPEN), (">", BOTH)]),
         MANY,
     ),
-    // A server's record ends the run.
+    // A server's record ends the series.
     Squashed(
         Bytes::Marked(&[
             (">", INITIALIZE),
@@ -192,7 +192,7 @@ fn is_squashed(alloc: Global, row: &Squashed) -> Result<bool, Fail> {
 }
 
 #[test]
-fn runs_are_written_as_one(rt: HostRuntime) -> Result<(), Fail> {
+fn series_are_written_as_one(rt: HostRuntime) -> Result<(), Fail> {
     for row in &LOGS {
         assert!(rt; is_squashed(rt.alloc(), row)?);
     }
@@ -215,7 +215,7 @@ fn squashed_logs_have_these_lengths(rt: HostRuntime) -> Result<(), Fail> {
     Ok(())
 }
 
-/// Inputs with a fault after a run that hasn't ended: the fault, and what was written before it.
+/// Inputs with a fault after a series that hasn't ended: the fault, and what was written before it.
 static FAULTY: [(Bytes, EngineFault, Bytes); 4] = [
     (
         Bytes::Then(&[INITIALIZE, OPEN, WHOLE, TYPED], b"Content-Length: 9"),
@@ -263,7 +263,7 @@ fn is_left_out(alloc: Global, row: &(Bytes, EngineFault, Bytes)) -> Result<bool,
 }
 
 #[test]
-fn a_run_that_has_not_ended_is_not_written_after_a_fault(rt: HostRuntime) -> Result<(), Fail> {
+fn a_series_that_has_not_ended_is_not_written_after_a_fault(rt: HostRuntime) -> Result<(), Fail> {
     for row in &FAULTY {
         assert!(rt; is_left_out(rt.alloc(), row)?);
     }
@@ -292,7 +292,7 @@ fn put_letters(alloc: Global, count: usize, version: i32) -> Result<String, Allo
     change(alloc, version, &put)
 }
 
-/// Returns whether a run of two changes, which insert so many letters, is written as one message.
+/// Returns whether a series of two changes, which insert so many letters, is written as one message.
 /// Else it must stay as it is.
 fn is_one_message(alloc: Global, first: usize, second: usize, is_one: bool) -> Result<bool, Fail> {
     let both = put_letters(alloc, first.saturating_add(second), 3)?;
@@ -307,17 +307,17 @@ fn is_one_message(alloc: Global, first: usize, second: usize, is_one: bool) -> R
 }
 
 #[test]
-fn the_body_of_a_run_reaches_the_limit(rt: HostRuntime) -> Result<(), Fail> {
+fn the_body_of_a_series_reaches_the_limit(rt: HostRuntime) -> Result<(), Fail> {
     assert!(rt; is_one_message(rt.alloc(), 2_000, 1_882, true)?);
     assert!(rt; is_one_message(rt.alloc(), 2_000, 1_883, false)?);
     Ok(())
 }
 
-/// Bodies of records up to an open run, those of them that are written, and the byte offset of the
+/// Bodies of records up to an open series, those of them that are written, and the byte offset of the
 /// record after them.
 type Open = (&'static [&'static str], &'static [&'static str], u64);
 
-/// The run is of the document of the faulty change, or of another one.
+/// The series is of the document of the faulty change, or of another one.
 static OPEN_RUNS: [Open; 2] = [
     (&[INITIALIZE, OPEN, BEFORE], &[INITIALIZE, OPEN], 578),
     (
@@ -327,7 +327,7 @@ static OPEN_RUNS: [Open; 2] = [
     ),
 ];
 
-/// Returns whether no byte of the run is written if the message of the next change is too long.
+/// Returns whether no byte of the series is written if the message of the next change is too long.
 fn is_lost(alloc: Global, row: &Open) -> Result<bool, Fail> {
     let (before, written, place) = row;
     let mut input = log(alloc, before)?;
@@ -338,7 +338,7 @@ fn is_lost(alloc: Global, row: &Open) -> Result<bool, Fail> {
 }
 
 #[test]
-fn a_message_that_is_too_long_leaves_the_open_run_out(rt: HostRuntime) -> Result<(), Fail> {
+fn a_message_that_is_too_long_leaves_the_open_series_out(rt: HostRuntime) -> Result<(), Fail> {
     for row in &OPEN_RUNS {
         assert!(rt; is_lost(rt.alloc(), row)?, "{}", row.2);
     }

@@ -17,7 +17,7 @@ returns-clause-run g c =
     ) at c.run_engine.ensures.whole in
     run_of_squashed_kept c.run_engine.ensures.first c.run_engine.ensures.version (record {
       session = opened (log_config c.args.settings);
-      run = None;
+      series = None;
     }) nothing_selected run (λ _. whole (λ _. refl))
 
 pub returns-clause-documents : goal.returns-clause-documents

@@ -28,8 +28,8 @@ returns-in_default c =
           refused.fault refused.other refused.why,
     )
 
-pub returns-in_default-run : goal.returns-in_default-run
-returns-in_default-run c =
+pub returns-in_default-series : goal.returns-in_default-series
+returns-in_default-series c =
     let server : c.self.inside.server ≡ c.args.self.now.server = ap (λ s. s.server) c.self.view_is in
     let store : c.store-store.result.now ≡ store_of c.args.self.now.server = rw (c.store-store.ensures, server) refl in
     let made = message_is c.planned_message.result c.unless_refused.result c.unless_refused.ensures.ok
@@ -39,8 +39,8 @@ returns-in_default-run c =
     c.in-Some.frame.items (rw (made, store) at c.planned_message.ensures.framed) in (
       c.requires.planned.accepted,
       framed,
-      rw c.in_default-run.is tt,
-      sym c.in_default-run.is,
+      rw c.in_default-series.is tt,
+      sym c.in_default-series.is,
       c.in_ok-begun.ensures.begun,
       c.in_ok-begun.ensures.reached,
     )
@@ -56,10 +56,11 @@ pub add_plan-requires-clause-reached : goal.add_plan-requires-clause-reached
 add_plan-requires-clause-reached c =
     let server : c.self.inside.server ≡ c.args.self.now.server = ap (λ s. s.server) c.self.view_is in
     let store : c.store-store.result.now ≡ store_of c.args.self.now.server = rw (c.store-store.ensures, server) refl in
-    let at : IsOpenIn c.args.self.now.server c.in-Some-run.batches = rw c.in-Some-run.is at c.requires.may_be_open in
-    let same : string_bytes c.args.params.now.uri ≡ c.in-Some-run.batches.uri = search rules in
+    let at : IsOpenIn c.args.self.now.server c.in-Some-series.batches = rw c.in-Some-series.is at
+    c.requires.may_be_open in
+    let same : string_bytes c.args.params.now.uri ≡ c.in-Some-series.batches.uri = search rules in
     plan_reached_on c.args.self.now.server (change_view c.args.params.now) c.args.plan.now c.requires.planned
-    c.store-store.result.now store c.in-Some-run.batches at same
+    c.store-store.result.now store c.in-Some-series.batches at same
 
 pub returns-then-eq : goal.returns-then-eq
 returns-then-eq c =
@@ -70,11 +71,13 @@ returns-then-eq c =
     let framed : IsFramed c.args.self.now.server (change_view c.args.params.now) c.in-Some.frame.items =
     plan_framed c.args.self.now.server (change_view c.args.params.now) c.args.plan.now c.requires.planned
     c.in-Some.frame.items (rw (made, store) at c.planned_message.ensures.framed) in
-    let at : IsOpenIn c.args.self.now.server c.in-Some-run.batches = rw c.in-Some-run.is at c.requires.may_be_open in
-    let same : string_bytes c.args.params.now.uri ≡ c.in-Some-run.batches.uri = search rules in
+    let at : IsOpenIn c.args.self.now.server c.in-Some-series.batches = rw c.in-Some-series.is at
+    c.requires.may_be_open in
+    let same : string_bytes c.args.params.now.uri ≡ c.in-Some-series.batches.uri = search rules in
     let both = plan_continued c.args.self.now.server (change_view c.args.params.now) c.args.plan.now c.requires.planned
-    c.store-store.result.now store c.in-Some-run.batches c.add_plan.new.self at same c.in_ok-add_plan.ensures.added in
-    (c.requires.planned.accepted, framed, rw c.in-Some-run.is both.0, both.1)
+    c.store-store.result.now store c.in-Some-series.batches c.add_plan.new.self at same c.in_ok-add_plan.ensures.added
+    in
+    (c.requires.planned.accepted, framed, rw c.in-Some-series.is both.0, both.1)
 
 pub returns : goal.returns
 returns c =
@@ -85,11 +88,11 @@ returns c =
     let framed : IsFramed c.args.self.now.server (change_view c.args.params.now) c.in-Some.frame.items =
     plan_framed c.args.self.now.server (change_view c.args.params.now) c.args.plan.now c.requires.planned
     c.in-Some.frame.items (rw (made, store) at c.planned_message.ensures.framed) in
-    let differ : c.in-Some-run.batches.uri ≢ string_bytes c.args.params.now.uri = search rules in (
+    let differ : c.in-Some-series.batches.uri ≢ string_bytes c.args.params.now.uri = search rules in (
       c.requires.planned.accepted,
       framed,
-      rw c.in-Some-run.is (not_same (string_bytes c.args.params.now.uri) c.in-Some-run.batches.uri differ),
-      sym c.in-Some-run.is,
+      rw c.in-Some-series.is (not_same (string_bytes c.args.params.now.uri) c.in-Some-series.batches.uri differ),
+      sym c.in-Some-series.is,
       c.in_ok-begun-2.ensures.begun,
       c.in_ok-begun-2.ensures.reached,
     )

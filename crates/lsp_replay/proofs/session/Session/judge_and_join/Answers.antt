@@ -32,10 +32,11 @@ returns-in-Some-clause-joined c = λ head body is.
       judged = verdict;
       session = session;
       writing = λ not_bad.
-          subst (λ (v : Verdict). IsWriting c.args.self.now.server c.args.run (change_in (incoming_of (reading body))) v
+          subst (λ (v : Verdict). IsWriting c.args.self.now.server c.args.series (change_in (incoming_of (reading
+          body))) v
           judged.1) (sym verdict)
           (change_writing_at c.args.self.now head body c.args.self.now (body_view c.args.read) refl is
-          (change_view c.in-Some.params.now) c.in-Some.ensures c.args.run judged.1 writing);
+          (change_view c.in-Some.params.now) c.in-Some.ensures c.args.series judged.1 writing);
     })
     c.change_and_join.ensures.taken
     c.change_and_join.ensures.writing
@@ -45,7 +46,7 @@ returns-in-Some-clause-reached c =
     if_both c.change_and_join.result
     (λ judged taken writing.
     subst (λ (u : Session). IsOpenAfter u.server judged.1) (sym (taken.session One))
-    (change_open c.args.self.now One c.args.run (change_view c.in-Some.params.now) judged.1 c.in-Some.ensures.running
+    (change_open c.args.self.now One c.args.series (change_view c.in-Some.params.now) judged.1 c.in-Some.ensures.running
     c.in-Some.ensures.known writing))
     c.change_and_join.ensures.taken
     c.change_and_join.ensures.writing
@@ -59,5 +60,5 @@ returns-in_ok-take-in-None-clause-joined c = λ head body is.
       session = rw same at c.in_ok-take-in-None.ensures.session;
       writing = λ not_bad.
           rw verdict (none_writing c.args.self.now head body c.args.self.now (body_view c.args.read) refl is
-          c.in-None.ensures c.args.run (AsItIs c.args.run) (c.in-None.ensures, refl));
+          c.in-None.ensures c.args.series (AsItIs c.args.series) (c.in-None.ensures, refl));
     }

@@ -16,12 +16,12 @@ returns-in-AsItIs-clause-ok c = λ body is.
           c.self.inside.batches
           (record { head = c.args.head; raw = c.args.raw.now; body = body })
           (verdict_view c.in_ok-verdict.verdict) joined.judged
-          c.take-run.result c.take-run.ensures.value c.args.buffer.now.items c.requires
+          c.take-series.result c.take-series.ensures.value c.args.buffer.now.items c.requires
           c.in-AsItIs.ended writing.1 not_bad writing.0
           c.push_end.new.output.items c.push_front.new.output.items c.extend_from_slice.new.self.items
           c.in_ok-push_end-in-AsItIs.ensures c.in_ok-push_front-in-AsItIs.ensures
           c.in_ok-extend_from_slice-in-AsItIs.ensures.items
-          c.take-run.new.self c.take-run.ensures.after _ _;
+          c.take-series.new.self c.take-series.ensures.after _ _;
     })
 
 pub returns-in-TooLong-clause-error : goal.returns-in-TooLong-clause-error
@@ -50,7 +50,7 @@ returns-in-Continues-clause-ok c = λ body is.
           c.self.inside.batches
           (record { head = c.args.head; raw = c.args.raw.now; body = body })
           (verdict_view c.in_ok-verdict.verdict) joined.judged
-          c.take-run.result c.take-run.ensures.value c.args.buffer.now.items c.requires
+          c.take-series.result c.take-series.ensures.value c.args.buffer.now.items c.requires
           c.in-Continues.frame.items c.in-Continues.batches writing.0 writing.1
           c.deref.result.now c.continue_with.new.self.front.items c.continue_with.new.self.singles.items
           c.deref.ensures.value c.in_ok-continue_with-in-Continues.ensures.front
@@ -69,7 +69,7 @@ returns-clause-ok c = λ body is.
           c.self.inside.batches
           (record { head = c.args.head; raw = c.args.raw.now; body = body })
           (verdict_view c.in_ok-verdict.verdict) joined.judged
-          c.take-run.result c.take-run.ensures.value c.args.buffer.now.items c.requires
+          c.take-series.result c.take-series.ensures.value c.args.buffer.now.items c.requires
           c.in-Begins.frame.items c.in-Begins.ended c.in-Begins.batches writing.0 writing.1 writing.2 writing.3
           c.push_end-in-Begins.new.output.items c.deref-in-Begins.result.now c.begin.new.self.front.items
           c.begin.new.self.singles.items
