@@ -166,10 +166,7 @@ pub(crate) fn take_header(
     let mut at = 0;
     while at < piece.len() && !header.shape.is_end() {
         let window = first(&piece[at..], LONGEST_HEADER - buffered.len());
-        match take_line(buffered, header, window, max_body) {
-            Ok(taken) => at += taken,
-            Err(stop) => return Err(stop),
-        }
+        at += take_line(buffered, header, window, max_body)?;
         if buffered.len() == LONGEST_HEADER && !header.shape.is_end() {
             return Err(Stop::Fault(HeaderFault::HeaderTooLong, LONGEST_HEADER - 1));
         }
