@@ -1,5 +1,5 @@
 //! What comes before each block, kept as sums: the first byte of each block, and its first line.
-ghost use Rattle.std.specs.Prelude.{◌≡◌, ◌+◌, ◌-◌, ◌++◌, ◌≤◌, ◌<◌, ◌^◌, ℕ, IfOk, OnOk, length, map, take, drop, sum, slice_index, vec_len};
+ghost use Rattle.std.specs.Prelude.{◌≡◌, ◌+◌, ◌-◌, ◌++◌, ◌≤◌, ◌<◌, ◌^◌, ℕ, IfOk, OnOk, length, map, take, drop, sum, slice_index};
 ghost use Rattle.lsp_text.specs.Starts.{AreStarts, IsLineOf as IsBlockOf};
 ghost use Rattle.lsp_buffer.specs.Blocks.{ends_of, sums_from};
 
@@ -56,14 +56,14 @@ fn move_all(sums: &mut [u32], old: u32, new: u32)
 }
 
 /// Moves the sums from index `first` on by as much as `old` moves to `new`.
-pub fn move_from(sums: &mut Vec<u32>, first: usize, old: u32, new: u32)
-    requires first { first ≤ vec_len sums.old }
-    requires after { (k : ℕ) → k < length (drop first sums.old.items) →
-        old ≤ slice_index (drop first sums.old.items) k }
-    requires room { (k : ℕ) → k < length (drop first sums.old.items) →
-        slice_index (drop first sums.old.items) k - old + new < 2 ^ 32 }
-    ensures { sums.new.items ≡ take first sums.old.items
-        ++ map (λ start. start - old + new) (drop first sums.old.items) }
+pub fn move_from(sums: &mut [u32], first: usize, old: u32, new: u32)
+    requires first { first ≤ length sums.old }
+    requires after { (k : ℕ) → k < length (drop first sums.old) →
+        old ≤ slice_index (drop first sums.old) k }
+    requires room { (k : ℕ) → k < length (drop first sums.old) →
+        slice_index (drop first sums.old) k - old + new < 2 ^ 32 }
+    ensures { sums.new ≡ take first sums.old
+        ++ map (λ start. start - old + new) (drop first sums.old) }
 {
     move_all(&mut sums[first..], old, new);
 }

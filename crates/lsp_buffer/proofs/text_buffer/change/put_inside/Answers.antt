@@ -1,4 +1,6 @@
-use Rattle.std.proofs.Common.{refl, ◌≡◌, ◌+◌, ◌-◌, ◌++◌, ◌∷◌, ◌∙◌, ℕ, List, take, drop, map, length, set, arith, sym, ap, subst}
+use Rattle.std.proofs.Common.{refl, ◌≡◌, ◌+◌, ◌-◌, ◌^◌, ◌<◌, ◌≤◌, ◌++◌, ◌∷◌, ◌∙◌, ℕ, List, take, drop, map, length, set, slice_index, arith, sym, ap, subst}
+use Rattle.std.specs.Vec.{with_items}
+use Rattle.std.proofs.lemmas.List.{with_items_is}
 use Rattle.std.specs.List.{concat, replace_range}
 use Rattle.lsp_buffer.specs.Blocks.{IsBuffer, ends_of, sums_from}
 use Rattle.lsp_buffer.proofs.Blocks.BufferLemmas.{starts_count, lines_count}
@@ -110,6 +112,15 @@ overflow_cast-sizes-2 c = let put : IsPut c.args.blocks.now.items c.args.starts.
           c.index_mut.result.now c.index.result.now c.args.range.start c.args.range.end c.args.new.now put,
     )
 
+pub move_from-requires-clause-first : goal.move_from-requires-clause-first
+move_from-requires-clause-first c =
+    omega (
+      arith,
+      c.requires.first.within,
+      ap length c.deref_mut.ensures.value,
+      c.args.starts.now.ok.0,
+    )
+
 pub move_from-requires-clause-after : goal.move_from-requires-clause-after
 move_from-requires-clause-after c =
     let put : IsPut c.args.blocks.now.items c.args.starts.now.items c.args.lines.now.items c.args.range.first
@@ -126,7 +137,9 @@ move_from-requires-clause-after c =
       new_utf8 = c.utf8.new;
       room = c.requires.room;
     }) in
-    λ k h. omega (
+    subst (λ (ss : List ℕ). (k : ℕ) → k < length (drop (c.args.range.first + 1) ss) →
+    c.in_ok-sizes.sizes.old_len ≤ slice_index (drop (c.args.range.first + 1) ss) k) (sym c.deref_mut.ensures.value)
+    (λ k h. omega (
       arith,
       c.in_ok-sizes.ensures.old_len,
       sums_after (length {A = ℕ}) c.args.starts.now.items c.args.blocks.now.items c.args.range.first
@@ -139,7 +152,7 @@ move_from-requires-clause-after c =
             starts_count c.args.blocks.now.items c.args.starts.now.items c.args.lines.now.items c.requires.are,
           )) (block_whole c.args.blocks.now.items c.args.starts.now.items c.args.lines.now.items c.args.range.first
           c.index_mut.result.now c.index.result.now c.args.range.start c.args.range.end c.args.new.now put) k h,
-    )
+    ))
 
 pub move_from-requires-clause-room : goal.move_from-requires-clause-room
 move_from-requires-clause-room c =
@@ -161,7 +174,10 @@ move_from-requires-clause-room c =
     c.index.result.now)
     (c.args.range.end - c.index.result.now) c.args.new.now) =
     c.in_ok-sizes.ensures.len ∙ ap length c.in_ok-sizes.ensures.changed in
-    λ k h. omega (
+    subst (λ (ss : List ℕ). (k : ℕ) → k < length (drop (c.args.range.first + 1) ss) →
+    slice_index (drop (c.args.range.first + 1) ss) k - c.in_ok-sizes.sizes.old_len + c.in_ok-sizes.sizes.len < 2 ^ 32)
+    (sym c.deref_mut.ensures.value)
+    (λ k h. omega (
       arith,
       c.in_ok-sizes.ensures.old_len,
       len,
@@ -177,7 +193,7 @@ move_from-requires-clause-room c =
           c.index_mut.result.now c.index.result.now c.args.range.start c.args.range.end c.args.new.now put)
           (next_lengths c.args.blocks.now.items c.args.starts.now.items c.args.lines.now.items c.args.range.first
           c.index_mut.result.now c.index.result.now c.args.range.start c.args.range.end c.args.new.now put) k h,
-    )
+    ))
 
 pub overflow_cast-sizes-then-sizes : goal.overflow_cast-sizes-then-sizes
 overflow_cast-sizes-then-sizes c =
@@ -231,6 +247,7 @@ move_from-requires-then-sizes-clause-first c =
       c.requires.first.within,
       starts_count c.args.blocks.now.items c.args.starts.now.items c.args.lines.now.items c.requires.are,
       lines_count c.args.blocks.now.items c.args.starts.now.items c.args.lines.now.items c.requires.are,
+      ap length c.deref_mut-then-sizes.ensures.value,
       c.args.lines.now.ok.0,
     )
 
@@ -250,7 +267,10 @@ move_from-requires-then-sizes-clause-after c =
       new_utf8 = c.utf8.new;
       room = c.requires.room;
     }) in
-    λ k h. omega (
+    subst (λ (ss : List ℕ). (k : ℕ) → k < length (drop (c.args.range.first + 1) ss) →
+    c.in_ok-sizes.sizes.old_ends ≤ slice_index (drop (c.args.range.first + 1) ss) k) (sym
+    c.deref_mut-then-sizes.ensures.value)
+    (λ k h. omega (
       arith,
       c.in_ok-sizes.ensures.old_ends,
       sums_after ends_of c.args.lines.now.items c.args.blocks.now.items c.args.range.first c.index_mut.result.now
@@ -262,7 +282,7 @@ move_from-requires-then-sizes-clause-after c =
             starts_count c.args.blocks.now.items c.args.starts.now.items c.args.lines.now.items c.requires.are,
           )) (block_whole c.args.blocks.now.items c.args.starts.now.items c.args.lines.now.items c.args.range.first
           c.index_mut.result.now c.index.result.now c.args.range.start c.args.range.end c.args.new.now put) k h,
-    )
+    ))
 
 pub move_from-requires-then-sizes-clause-room : goal.move_from-requires-then-sizes-clause-room
 move_from-requires-then-sizes-clause-room c =
@@ -284,7 +304,10 @@ move_from-requires-then-sizes-clause-room c =
     ≡ ends_of (replace_range c.index_mut.result.now (c.args.range.start - c.index.result.now)
     (c.args.range.end - c.index.result.now) c.args.new.now) =
     c.in_ok-sizes.ensures.ends ∙ ap ends_of c.in_ok-sizes.ensures.changed in
-    λ k h. omega (
+    subst (λ (ss : List ℕ). (k : ℕ) → k < length (drop (c.args.range.first + 1) ss) →
+    slice_index (drop (c.args.range.first + 1) ss) k - c.in_ok-sizes.sizes.old_ends + c.in_ok-sizes.sizes.ends < 2 ^
+    32) (sym c.deref_mut-then-sizes.ensures.value)
+    (λ k h. omega (
       arith,
       c.in_ok-sizes.ensures.old_ends,
       ends,
@@ -299,7 +322,7 @@ move_from-requires-then-sizes-clause-room c =
           c.index_mut.result.now c.index.result.now c.args.range.start c.args.range.end c.args.new.now put)
           (next_ends c.args.blocks.now.items c.args.starts.now.items c.args.lines.now.items c.args.range.first
           c.index_mut.result.now c.index.result.now c.args.range.start c.args.range.end c.args.new.now put) k h,
-    )
+    ))
 
 pub returns-then-sizes-clause-are : goal.returns-then-sizes-clause-are
 returns-then-sizes-clause-are c =
@@ -321,13 +344,21 @@ returns-then-sizes-clause-are c =
     c.index.result.now)
     (c.args.range.end - c.index.result.now) c.args.new.now) =
     c.in_ok-sizes.ensures.len ∙ ap length c.in_ok-sizes.ensures.changed in
-    let starts : c.move_from.new.sums.items
+    let starts : (with_items c.args.starts.now c.move_from.new.sums).items
     ≡ sums_from 0
     (map (length {A = ℕ}) (take c.args.range.first c.args.blocks.now.items
     ++ (replace_range c.index_mut.result.now (c.args.range.start - c.index.result.now) (c.args.range.end -
     c.index.result.now)
     c.args.new.now) ∷ drop (c.args.range.first + 1) c.args.blocks.now.items)) =
-    c.move_from.ensures
+    with_items_is c.args.starts.now c.move_from.new.sums (omega (
+      arith,
+      c.move_from.auto.sums,
+      ap length c.deref_mut.ensures.value,
+      c.args.starts.now.ok.0,
+    )) ∙ (c.move_from.ensures
+    ∙ (ap (λ (ss : List ℕ). take (c.args.range.first + 1) ss ++ map (λ (s : ℕ). s - c.in_ok-sizes.sizes.old_len +
+    c.in_ok-sizes.sizes.len)
+    (drop (c.args.range.first + 1) ss)) c.deref_mut.ensures.value
     ∙ (ap (λ (o : ℕ). take (c.args.range.first + 1) c.args.starts.now.items
     ++ map (λ (s : ℕ). s - o + c.in_ok-sizes.sizes.len) (drop (c.args.range.first + 1) c.args.starts.now.items))
     c.in_ok-sizes.ensures.old_len ∙
@@ -343,7 +374,7 @@ returns-then-sizes-clause-are c =
       c.requires.first.within,
       starts_count c.args.blocks.now.items c.args.starts.now.items c.args.lines.now.items c.requires.are,
     )) (block_whole c.args.blocks.now.items c.args.starts.now.items c.args.lines.now.items c.args.range.first
-    c.index_mut.result.now c.index.result.now c.args.range.start c.args.range.end c.args.new.now put))) in
+    c.index_mut.result.now c.index.result.now c.args.range.start c.args.range.end c.args.new.now put))))) in
     let all : set c.args.blocks.now.items c.args.range.first c.put_in_block.new.block
     ≡ (take c.args.range.first c.args.blocks.now.items
     ++ (replace_range c.index_mut.result.now (c.args.range.start - c.index.result.now) (c.args.range.end -
@@ -357,13 +388,21 @@ returns-then-sizes-clause-are c =
     ≡ ends_of (replace_range c.index_mut.result.now (c.args.range.start - c.index.result.now)
     (c.args.range.end - c.index.result.now) c.args.new.now) =
     c.in_ok-sizes.ensures.ends ∙ ap ends_of c.in_ok-sizes.ensures.changed in
-    let lines : c.move_from-then-sizes.new.sums.items
+    let lines : (with_items c.args.lines.now c.move_from-then-sizes.new.sums).items
     ≡ sums_from 0
     (map ends_of (take c.args.range.first c.args.blocks.now.items
     ++ (replace_range c.index_mut.result.now (c.args.range.start - c.index.result.now) (c.args.range.end -
     c.index.result.now)
     c.args.new.now) ∷ drop (c.args.range.first + 1) c.args.blocks.now.items)) =
-    c.move_from-then-sizes.ensures
+    with_items_is c.args.lines.now c.move_from-then-sizes.new.sums (omega (
+      arith,
+      c.move_from-then-sizes.auto.sums,
+      ap length c.deref_mut-then-sizes.ensures.value,
+      c.args.lines.now.ok.0,
+    )) ∙ (c.move_from-then-sizes.ensures
+    ∙ (ap (λ (ss : List ℕ). take (c.args.range.first + 1) ss ++ map (λ (s : ℕ). s - c.in_ok-sizes.sizes.old_ends +
+    c.in_ok-sizes.sizes.ends)
+    (drop (c.args.range.first + 1) ss)) c.deref_mut-then-sizes.ensures.value
     ∙ (ap (λ (o : ℕ). take (c.args.range.first + 1) c.args.lines.now.items
     ++ map (λ (s : ℕ). s - o + c.in_ok-sizes.sizes.ends) (drop (c.args.range.first + 1) c.args.lines.now.items))
     c.in_ok-sizes.ensures.old_ends ∙
@@ -378,8 +417,9 @@ returns-then-sizes-clause-are c =
       c.requires.first.within,
       starts_count c.args.blocks.now.items c.args.starts.now.items c.args.lines.now.items c.requires.are,
     )) (block_whole c.args.blocks.now.items c.args.starts.now.items c.args.lines.now.items c.args.range.first
-    c.index_mut.result.now c.index.result.now c.args.range.start c.args.range.end c.args.new.now put))) in
-    subst (λ (bs : List (List ℕ)). IsBuffer bs c.move_from.new.sums.items c.move_from-then-sizes.new.sums.items)
+    c.index_mut.result.now c.index.result.now c.args.range.start c.args.range.end c.args.new.now put))))) in
+    subst (λ (bs : List (List ℕ)). IsBuffer bs (with_items c.args.starts.now c.move_from.new.sums).items (with_items
+    c.args.lines.now c.move_from-then-sizes.new.sums).items)
     (sym all)
     (record {
       are = next_are c.args.blocks.now.items c.args.starts.now.items c.args.lines.now.items c.args.range.first
@@ -438,13 +478,21 @@ returns-else-sizes-clause-are c =
     c.index.result.now)
     (c.args.range.end - c.index.result.now) c.args.new.now) =
     c.in_ok-sizes.ensures.len ∙ ap length c.in_ok-sizes.ensures.changed in
-    let starts : c.move_from.new.sums.items
+    let starts : (with_items c.args.starts.now c.move_from.new.sums).items
     ≡ sums_from 0
     (map (length {A = ℕ}) (take c.args.range.first c.args.blocks.now.items
     ++ (replace_range c.index_mut.result.now (c.args.range.start - c.index.result.now) (c.args.range.end -
     c.index.result.now)
     c.args.new.now) ∷ drop (c.args.range.first + 1) c.args.blocks.now.items)) =
-    c.move_from.ensures
+    with_items_is c.args.starts.now c.move_from.new.sums (omega (
+      arith,
+      c.move_from.auto.sums,
+      ap length c.deref_mut.ensures.value,
+      c.args.starts.now.ok.0,
+    )) ∙ (c.move_from.ensures
+    ∙ (ap (λ (ss : List ℕ). take (c.args.range.first + 1) ss ++ map (λ (s : ℕ). s - c.in_ok-sizes.sizes.old_len +
+    c.in_ok-sizes.sizes.len)
+    (drop (c.args.range.first + 1) ss)) c.deref_mut.ensures.value
     ∙ (ap (λ (o : ℕ). take (c.args.range.first + 1) c.args.starts.now.items
     ++ map (λ (s : ℕ). s - o + c.in_ok-sizes.sizes.len) (drop (c.args.range.first + 1) c.args.starts.now.items))
     c.in_ok-sizes.ensures.old_len ∙
@@ -460,7 +508,7 @@ returns-else-sizes-clause-are c =
       c.requires.first.within,
       starts_count c.args.blocks.now.items c.args.starts.now.items c.args.lines.now.items c.requires.are,
     )) (block_whole c.args.blocks.now.items c.args.starts.now.items c.args.lines.now.items c.args.range.first
-    c.index_mut.result.now c.index.result.now c.args.range.start c.args.range.end c.args.new.now put))) in
+    c.index_mut.result.now c.index.result.now c.args.range.start c.args.range.end c.args.new.now put))))) in
     let all : set c.args.blocks.now.items c.args.range.first c.put_in_block.new.block
     ≡ (take c.args.range.first c.args.blocks.now.items
     ++ (replace_range c.index_mut.result.now (c.args.range.start - c.index.result.now) (c.args.range.end -
@@ -490,7 +538,8 @@ returns-else-sizes-clause-are c =
       starts_count c.args.blocks.now.items c.args.starts.now.items c.args.lines.now.items c.requires.are,
     )) (block_whole c.args.blocks.now.items c.args.starts.now.items c.args.lines.now.items c.args.range.first
     c.index_mut.result.now c.index.result.now c.args.range.start c.args.range.end c.args.new.now put) same in
-    subst (λ (bs : List (List ℕ)). IsBuffer bs c.move_from.new.sums.items c.args.lines.now.items) (sym all)
+    subst (λ (bs : List (List ℕ)). IsBuffer bs (with_items c.args.starts.now c.move_from.new.sums).items
+    c.args.lines.now.items) (sym all)
     (record {
       are = next_are c.args.blocks.now.items c.args.starts.now.items c.args.lines.now.items c.args.range.first
           c.index_mut.result.now c.index.result.now c.args.range.start c.args.range.end c.args.new.now put;
