@@ -2,15 +2,15 @@
 use Rattle.std.specs.Prelude.{ℕ, suc, ◌≡◌, ◌-◌, ◌≤◌, false, List, ◌∷◌, length, map, filter}
 use Rattle.std.specs.Str.{chars}
 use Rattle.lsp_text.specs.Text.{place_of}
-use Rattle.lsp_text.specs.TextLines.{ends_line, splits_crlf, numbers_from}
+use Rattle.lsp_text.specs.TextLines.{starts_line, splits_crlf, numbers_from}
 
--- The indexes after `low`, up to `high`, that end a line.
-abbrev pub ends_between : List ℕ → ℕ → ℕ → List ℕ
-ends_between text low high = filter (ends_line text) (numbers_from (suc low) (high - low))
+-- The indexes after `low`, up to `high`, that start a line.
+abbrev pub starts_between : List ℕ → ℕ → ℕ → List ℕ
+starts_between text low high = filter (starts_line text) (numbers_from (suc low) (high - low))
 
--- The line starts as indexes, in order: 0, and each index that ends a line.
+-- The line starts as indexes, in order: 0, and each index that starts a line.
 abbrev pub line_starts : List ℕ → List ℕ
-line_starts text = 0 ∷ ends_between text 0 (length text)
+line_starts text = 0 ∷ starts_between text 0 (length text)
 
 -- Their byte offsets.
 abbrev pub start_places : List ℕ → List ℕ

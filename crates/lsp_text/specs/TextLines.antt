@@ -9,11 +9,11 @@ line_feed = 10
 abbrev pub carriage_return : ℕ
 carriage_return = 13
 
--- An index ends a line if a line feed is before it, or a carriage return with no line feed after
--- it.
-abbrev pub ends_line : List ℕ → ℕ → Bool
-ends_line text zero = false
-ends_line text (suc k) =
+-- An index starts a line if a line feed is before it, or a carriage return with no line feed after
+-- it. The first line starts at 0, which isn't counted here.
+abbrev pub starts_line : List ℕ → ℕ → Bool
+starts_line text zero = false
+starts_line text (suc k) =
     (slice_index text k == line_feed)
     || ((slice_index text k == carriage_return) && not (slice_index text (suc k) == line_feed))
 
@@ -23,10 +23,10 @@ splits_crlf text zero = false
 splits_crlf text (suc k) = (slice_index text k == carriage_return)
     && (slice_index text (suc k) == line_feed)
 
--- The line of an index: how many indexes up to it end a line.
+-- The line of an index: how many indexes up to it start one.
 abbrev pub line_at : List ℕ → ℕ → ℕ
 line_at text zero = 0
-line_at text (suc k) = if ends_line text (suc k) then suc (line_at text k) else line_at text k
+line_at text (suc k) = if starts_line text (suc k) then suc (line_at text k) else line_at text k
 
 -- How many line ends a text has. It has one line more.
 abbrev pub line_ends : List ℕ → ℕ

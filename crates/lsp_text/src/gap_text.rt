@@ -6,7 +6,7 @@ ghost use Rattle.std.specs.Str.{IsCharBoundary, IsUtf8, chars};
 ghost use Rattle.lsp_text.specs.Gapped.{without_gap};
 ghost use Rattle.lsp_text.specs.inside.Gapped.{IsInPlace};
 ghost use Rattle.lsp_text.specs.Text.{place_of};
-ghost use Rattle.lsp_text.specs.LineStarts.{Indexes, ends_between};
+ghost use Rattle.lsp_text.specs.LineStarts.{Indexes, starts_between};
 ghost use Rattle.lsp_text.specs.Starts.{AreStarts, IsLineOf};
 ghost use Rattle.lsp_text.specs.Units.{units_in};
 ghost use Rattle.lsp_text.specs.Positions.{denoted};

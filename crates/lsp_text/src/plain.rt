@@ -7,7 +7,7 @@
 
 ghost use Rattle.std.specs.Prelude.{◌≡◌, ◌≤◌, length, encode_utf8_all, option_map};
 ghost use Rattle.lsp_text.specs.Text.{place_of as spec_place_of};
-ghost use Rattle.lsp_text.specs.TextLines.{ends_line as spec_ends_line, splits_crlf as spec_splits_crlf, line_at as spec_line_at, line_ends as spec_line_ends, is_in_content as spec_is_in_content, line_start as spec_line_start, line_stop as spec_line_stop};
+ghost use Rattle.lsp_text.specs.TextLines.{starts_line as spec_starts_line, splits_crlf as spec_splits_crlf, line_at as spec_line_at, line_ends as spec_line_ends, is_in_content as spec_is_in_content, line_start as spec_line_start, line_stop as spec_line_stop};
 ghost use Rattle.lsp_text.specs.Units.{units_in, units_between as spec_units_between};
 ghost use Rattle.lsp_text.specs.Positions.{exact_position as spec_exact_position, denoted as spec_denoted};
 
@@ -15,11 +15,11 @@ use crate::encoding::Encoding;
 use crate::position::Position;
 use crate::position::units::{Units, Utf8, Utf16, Utf32};
 
-/// Returns whether an index ends a line: a line feed is before it, or a carriage return with no
+/// Returns whether an index starts a line: a line feed is before it, or a carriage return with no
 /// line feed after it.
-pub fn ends_line(text: &[char], index: usize) -> bool
+pub fn starts_line(text: &[char], index: usize) -> bool
     requires { index ≤ length text.now }
-    ensures { result ≡ spec_ends_line text.now index }
+    ensures { result ≡ spec_starts_line text.now index }
 {
     if index == 0 {
         return false;
@@ -39,7 +39,7 @@ pub fn splits_crlf(text: &[char], index: usize) -> bool
     index > 0 && index < text.len() && text[index - 1] == '\r' && text[index] == '\n'
 }
 
-/// Returns the line of an index: how many indexes up to it end a line.
+/// Returns the line of an index: how many indexes up to it start one.
 pub fn line_at(text: &[char], index: usize) -> usize
     requires { index ≤ length text.now }
     ensures value { result ≡ spec_line_at text.now index }
@@ -47,7 +47,7 @@ pub fn line_at(text: &[char], index: usize) -> usize
 {
     let mut line = 0;
     for before in 0..index {
-        if ends_line(text, before + 1) {
+        if starts_line(text, before + 1) {
             line += 1;
         }
     }

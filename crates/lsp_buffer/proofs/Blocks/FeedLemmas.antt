@@ -7,7 +7,7 @@ use Rattle.std.proofs.lemmas.Bool.{cases_lt}
 use Rattle.std.proofs.lemmas.List.{length-append, get_or-append_right, append-nil}
 use Rattle.std.proofs.lemmas.Str.{encodes-chars, encode_ascii, length-encode, len_utf8_bounds}
 use Rattle.lsp_text.specs.Text.{place_of}
-use Rattle.lsp_text.specs.TextLines.{ends_line, line_at, line_ends, line_start, line_feed}
+use Rattle.lsp_text.specs.TextLines.{starts_line, line_at, line_ends, line_start, line_feed}
 use Rattle.lsp_text.specs.LineStarts.{IsPlace}
 use Rattle.lsp_text.specs.Units.{units_between}
 use Rattle.lsp_text.proofs.TextLines.LineLemmas.{line_rises, splits_none_past, in_content_line, line_has_start}
@@ -70,7 +70,7 @@ feed_text (x ∷ y ∷ text) feed =
 empty_line : (units : ℕ → ℕ) (text : List ℕ) → EndsLine text → head units text ≡ 0
 empty_line units text feed =
     let count : suc (length text - 1) ≡ length text = omega (arith, feed.some) in
-    let ends : ends_line text (suc (length text - 1)) ≡ true = rw feed.feed refl in
+    let ends : starts_line text (suc (length text - 1)) ≡ true = rw feed.feed refl in
     let last : line_at text (suc (length text - 1)) ≡ suc (line_at text (length text - 1)) = rw ends refl in
     let start = line_has_start text (line_ends text) (omega arith) in
     let at : line_at text (line_start text (line_ends text)) ≡ line_ends text =

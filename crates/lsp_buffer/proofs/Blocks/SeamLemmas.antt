@@ -8,7 +8,7 @@ use Rattle.std.proofs.lemmas.List.Elements.{filter-append}
 use Rattle.std.proofs.lemmas.List.Sums.{sum_by-append}
 use Rattle.std.proofs.Math.Seq.{drop-append-add, take-append-add}
 use Rattle.lsp_text.specs.declared.position.Position.{Position}
-use Rattle.lsp_text.specs.TextLines.{ends_line, splits_crlf, line_at, line_ends, numbers_from, is_in_content, line_content, line_start, line_stop}
+use Rattle.lsp_text.specs.TextLines.{starts_line, splits_crlf, line_at, line_ends, numbers_from, is_in_content, line_content, line_start, line_stop}
 use Rattle.lsp_text.specs.Units.{units_between}
 use Rattle.lsp_text.specs.Positions.{exact_position, denoted}
 use Rattle.lsp_text.proofs.TextLines.LineLemmas.{line_rises, splits_none_past, in_content_line, line_has_start, line_has_stop, IsStart, IsStop}
@@ -111,7 +111,7 @@ module _ (a b : List ℕ) (clear : EndsClear a) where
       let at : slice_index a k ≡ slice_index a (length a - 1) = ap (slice_index a) (omega arith) in
       false_from_ne_true (slice_index a k == 13) (λ e. clear.clear (sym at ∙ eqb-true (slice_index a k) 13 e))
 
-  seam_ends : (k : ℕ) → k ≤ length a → ends_line (a ++ b) k ≡ ends_line a k
+  seam_ends : (k : ℕ) → k ≤ length a → starts_line (a ++ b) k ≡ starts_line a k
   seam_ends zero h = refl
   seam_ends (suc k) h =
       ⊎_elim
@@ -134,7 +134,7 @@ module _ (a b : List ℕ) (clear : EndsClear a) where
   pub seam_whole : splits_crlf a (length a) ≡ false
   seam_whole = splits_none_past a (length a) (omega arith)
 
-  beyond_ends : (k : ℕ) → ends_line (a ++ b) (suc (length a + k)) ≡ ends_line b (suc k)
+  beyond_ends : (k : ℕ) → starts_line (a ++ b) (suc (length a + k)) ≡ starts_line b (suc k)
   beyond_ends k =
       let next : slice_index (a ++ b) (suc (length a + k)) ≡ slice_index b (suc k) =
       ap (slice_index (a ++ b)) (omega arith) ∙ right_at a b (suc k) in
@@ -152,11 +152,11 @@ module _ (a b : List ℕ) (clear : EndsClear a) where
   beyond_line zero = ap (line_at (a ++ b)) (omega arith) ∙ (seam_line (length a) (omega arith) ∙ omega arith)
   beyond_line (suc k) =
       let at : length a + suc k ≡ suc (length a + k) = omega arith in
-      ap (line_at (a ++ b)) at ∙ step (ends_line b (suc k)) (beyond_ends k) (beyond_line k)
+      ap (line_at (a ++ b)) at ∙ step (starts_line b (suc k)) (beyond_ends k) (beyond_line k)
     where
-      step : (e : Bool) → ends_line (a ++ b) (suc (length a + k)) ≡ e → line_at (a ++ b) (length a + k) ≡ line_ends a
+      step : (e : Bool) → starts_line (a ++ b) (suc (length a + k)) ≡ e → line_at (a ++ b) (length a + k) ≡ line_ends a
           + line_at b k →
-          cond (ends_line (a ++ b) (suc (length a + k))) (suc (line_at (a ++ b) (length a + k)))
+          cond (starts_line (a ++ b) (suc (length a + k))) (suc (line_at (a ++ b) (length a + k)))
           (line_at (a ++ b) (length a + k)) ≡ line_ends a + cond e (suc (line_at b k)) (line_at b k)
       step true is ih = rw is (omega arith)
       step false is ih = rw is ih

@@ -7,7 +7,7 @@ use Rattle.std.proofs.lemmas.List.Elements.{All-nil, All-cons}
 use Rattle.std.proofs.lemmas.List.Sums.{sum_by-cons, sum_by-take-le, sum_by-take-drop, sum_by-le-sum_by}
 use Rattle.std.proofs.lemmas.Str.{length-encode, len_utf8_bounds}
 use Rattle.std.specs.Char.{len_utf8}
-use Rattle.lsp_text.specs.TextLines.{ends_line, line_at, line_start}
+use Rattle.lsp_text.specs.TextLines.{starts_line, line_at, line_start}
 use Rattle.lsp_text.specs.Units.{units_between}
 use Rattle.lsp_text.specs.Positions.{exact_position}
 use Rattle.lsp_edit.specs.Items.{Item}
@@ -33,9 +33,9 @@ chars_few (c ∷ text) = omega (arith, chars_few text, sum_by-cons len_utf8 c te
 line_few : (text : List ℕ) (k : ℕ) → line_at text k ≤ k
 line_few text zero = omega arith
 line_few text (suc k) =
-    ⊎_elim (λ (is : ends_line text (suc k) ≡ true). rw is (omega (arith, line_few text k)))
-    (λ (not : ends_line text (suc k) ≡ false). rw not (omega (arith, line_few text k)))
-    (cases_Bool (ends_line text (suc k)))
+    ⊎_elim (λ (is : starts_line text (suc k) ≡ true). rw is (omega (arith, line_few text k)))
+    (λ (not : starts_line text (suc k) ≡ false). rw not (omega (arith, line_few text k)))
+    (cases_Bool (starts_line text (suc k)))
 
 units_few : (units : ℕ → ℕ) → ((c : ℕ) → units c ≤ len_utf8 c) → (text : List ℕ) (from to : ℕ)
     → units_between units text from to ≤ sum_by len_utf8 text

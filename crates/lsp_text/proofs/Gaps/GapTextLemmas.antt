@@ -7,10 +7,10 @@ use Rattle.std.specs.List.{replace_range}
 use Rattle.std.specs.Str.{IsCharBoundary, IsUtf8}
 use Rattle.lsp_text.specs.Gapped.{IsGapText, starts_of_both}
 use Rattle.lsp_text.specs.inside.Gapped.{AreWithin, HasNoEnd}
-use Rattle.lsp_text.specs.LineStarts.{Indexes, ends_between, line_starts}
+use Rattle.lsp_text.specs.LineStarts.{Indexes, starts_between, line_starts}
 use Rattle.lsp_text.specs.Splice.{IsReplaced}
 use Rattle.lsp_text.specs.Starts.{AreStarts, IsLineOf}
-use Rattle.lsp_text.specs.TextLines.{line_feed, carriage_return, ends_line, splits_crlf}
+use Rattle.lsp_text.specs.TextLines.{line_feed, carriage_return, starts_line, splits_crlf}
 use Rattle.lsp_text.proofs.Gaps.GapStartsLemmas.{at_front, at_back, both_count}
 use Rattle.lsp_text.proofs.TextLines.SpliceLemmas.{IsCut, starts_cut, starts_spliced, filter_moved, filter_below, ends_behind}
 use Rattle.lsp_text.proofs.TextLines.StartLemmas.{starts_of_text}
@@ -25,7 +25,7 @@ assoc a b c = simp append_assoc
 start_within : (bytes : List ℕ) (k : ℕ) → k < length (line_starts bytes) → slice_index (line_starts bytes) k
     ≤ length bytes
 start_within bytes zero h = omega arith
-start_within bytes (suc k) h = omega (arith, filter_below (ends_line bytes) 1 (length bytes - 0) k (omega arith))
+start_within bytes (suc k) h = omega (arith, filter_below (starts_line bytes) 1 (length bytes - 0) k (omega arith))
 
 module _ (bytes before after : List ℕ) (is : IsGapText bytes before after) where
   pub gap_are : AreStarts (starts_of_both (length bytes) before after)
@@ -99,7 +99,7 @@ module _ (front back : List ℕ) (low high : ℕ) (order : low ≤ high) (within
   same_byte : (k : ℕ) → k < length front → slice_index front k ≡ slice_index (front ++ back) k
   same_byte k h = sym (get_or_append_left front back 0 k h)
 
-  same_end : (k : ℕ) → suc k ≤ high → ends_line front (suc k) ≡ ends_line (front ++ back) (suc k)
+  same_end : (k : ℕ) → suc k ≤ high → starts_line front (suc k) ≡ starts_line (front ++ back) (suc k)
   same_end k h =
       ⊎_elim
       (λ (inside : suc k < length front).
@@ -130,12 +130,12 @@ module _ (front back : List ℕ) (low high : ℕ) (order : low ≤ high) (within
       both false true false e = refl
       both false false c e = refl
 
-  pub ends_of_front : ends_between front low high ≡ ends_between (front ++ back) low high
+  pub ends_of_front : starts_between front low high ≡ starts_between (front ++ back) low high
   ends_of_front =
-      sym (map-id (ends_between front low high)) ∙
-      filter_moved (λ x. x) (ends_line front) (ends_line (front ++ back)) (suc low) (suc low) (high - low)
+      sym (map-id (starts_between front low high)) ∙
+      filter_moved (λ x. x) (starts_line front) (starts_line (front ++ back)) (suc low) (suc low) (high - low)
       (λ j h. let a : suc low + j ≡ suc (low + j) = omega arith in
-      ap (ends_line front) a ∙ (same_end (low + j) (omega (arith, h, order)) ∙ ap (ends_line (front ++ back)) (sym a)))
+      ap (starts_line front) a ∙ (same_end (low + j) (omega (arith, h, order)) ∙ ap (starts_line (front ++ back)) (sym a)))
       (λ j h. refl)
 
 -- ---- starts after a gap, whose distance to the end stays
@@ -162,7 +162,7 @@ module _ (old before after bytes front back new : List ℕ) (start stop : ℕ) (
     (same : starts_of_both (length old) first rest ≡ starts_of_both (length old) before after) (some : 0 < length first)
     (to_stop : IsLineOf (starts_of_both (length old) before after) stop (length first - 1))
     (kept : 0 < keep) (to_low : IsLineOf first (start - 1) (keep - 1))
-    (last_is : last ≡ take keep first ++ ends_between front (start - 1) (start + length new)) where
+    (last_is : last ≡ take keep first ++ starts_between front (start - 1) (start + length new)) where
   end : ℕ
   end = start + length new
 
@@ -202,7 +202,7 @@ module _ (old before after bytes front back new : List ℕ) (start stop : ℕ) (
   stop_cut = starts_cut old stop (length first) at_stop.0 some
       (subst (λ (xs : List ℕ). IsLineOf xs stop (length first - 1)) is.starts to_stop)
 
-  behind_is : rest_after ≡ ends_between old stop (length old)
+  behind_is : rest_after ≡ starts_between old stop (length old)
   behind_is = sym (drop_at first rest_after (length first) refl)
       ∙ (ap (drop (length first)) starts_are ∙ stop_cut.rest_after)
 
@@ -232,19 +232,19 @@ module _ (old before after bytes front back new : List ℕ) (start stop : ℕ) (
   kept_within : keep ≤ length first
   kept_within = omega (arith, to_low.within, kept)
 
-  kept_is : take keep first ≡ 0 ∷ ends_between old 0 (start - 1)
+  kept_is : take keep first ≡ 0 ∷ starts_between old 0 (start - 1)
   kept_is = sym (take-append-le keep first rest_after kept_within) ∙ (ap (take keep) starts_are ∙ low_cut.front)
 
-  found_is : ends_between front (start - 1) (start + length new) ≡ ends_between bytes (start - 1) (start + length new)
+  found_is : starts_between front (start - 1) (start + length new) ≡ starts_between bytes (start - 1) (start + length new)
   found_is =
       ends_of_front front back (start - 1) (start + length new) (omega arith) there
       (λ e. ap (λ (b : List ℕ). splits_crlf b (start + length new)) (sym whole) ∙ seam e)
-      ∙ ap (λ (b : List ℕ). ends_between b (start - 1) (start + length new)) (sym whole)
+      ∙ ap (λ (b : List ℕ). starts_between b (start - 1) (start + length new)) (sym whole)
 
   moved_is : map (λ (d : ℕ). length bytes - d) rest ≡ map (λ (s : ℕ). s - stop + (start + length new))
-      (ends_between old stop (length old))
+      (starts_between old stop (length old))
   moved_is =
-      let size : length (ends_between old stop (length old)) ≡ length rest =
+      let size : length (starts_between old stop (length old)) ≡ length rest =
       ap length (sym behind_is) ∙ length-map rest (λ (d : ℕ). length old - d) in
       moved_all (length old) (length bytes) stop (start + length new) rest bytes_len
       (λ k h. omega (
@@ -266,12 +266,12 @@ module _ (old before after bytes front back new : List ℕ) (start stop : ℕ) (
     some = omega (
       arith,
       ap length last_is,
-      length-append (take keep first) (ends_between front (start - 1) (start + length new)),
+      length-append (take keep first) (starts_between front (start - 1) (start + length new)),
       ap length kept_is,
     );
     starts =
         ap (λ (xs : List ℕ). xs ++ map (λ (d : ℕ). length bytes - d) rest) last_is
-        ∙ (assoc (take keep first) (ends_between front (start - 1) (start + length new))
+        ∙ (assoc (take keep first) (starts_between front (start - 1) (start + length new))
         (map (λ (d : ℕ). length bytes - d) rest)
         ∙ (ap₂ (λ (x y : List ℕ). x ++ y) kept_is (ap₂ (λ (x y : List ℕ). x ++ y) found_is moved_is)
         ∙ sym (starts_spliced old bytes start stop (length new) replaced)));
@@ -314,7 +314,7 @@ module _ (kind : ℕ → Bool) where
 
 module _ (old bytes : List ℕ) (feeds : (k : ℕ) → (slice_index bytes k == line_feed) ≡ (slice_index old k == line_feed))
     (returns : (k : ℕ) → (slice_index bytes k == carriage_return) ≡ (slice_index old k == carriage_return)) where
-  same_ends : (k : ℕ) → ends_line bytes k ≡ ends_line old k
+  same_ends : (k : ℕ) → starts_line bytes k ≡ starts_line old k
   same_ends zero = refl
   same_ends (suc k) =
       ap₂ (λ (a b : Bool). a || b) (feeds k) (ap₂ (λ (a b : Bool). a && not b) (returns k) (feeds (suc k)))
@@ -322,8 +322,8 @@ module _ (old bytes : List ℕ) (feeds : (k : ℕ) → (slice_index bytes k == l
   same_starts : length bytes ≡ length old → line_starts bytes ≡ line_starts old
   same_starts len =
       ap (λ (xs : List ℕ). 0 ∷ xs)
-      (ap (λ (n : ℕ). ends_between bytes 0 n) len
-      ∙ (sym (map-id (ends_between bytes 0 (length old))) ∙ filter_moved (λ x. x) (ends_line bytes) (ends_line old) 1 1
+      (ap (λ (n : ℕ). starts_between bytes 0 n) len
+      ∙ (sym (map-id (starts_between bytes 0 (length old))) ∙ filter_moved (λ x. x) (starts_line bytes) (starts_line old) 1 1
       (length old - 0) (λ j h. same_ends (1 + j)) (λ j h. refl)))
 
 module _ (old before after new : List ℕ) (start stop : ℕ) (is : IsGapText old before after) (new_utf8 : IsUtf8 new)

@@ -6,7 +6,7 @@ use Rattle.std.proofs.lemmas.List.{take-take, get_or-drop}
 use Rattle.std.proofs.lemmas.List.Sums.{sum_by-cons, prefix_len_is}
 use Rattle.std.specs.List.{prefix_len}
 use Rattle.lsp_text.specs.declared.position.Position.{Position}
-use Rattle.lsp_text.specs.TextLines.{line_feed, carriage_return, ends_line, splits_crlf, line_at, line_ends, is_in_content, line_content, line_start, line_stop}
+use Rattle.lsp_text.specs.TextLines.{line_feed, carriage_return, starts_line, splits_crlf, line_at, line_ends, is_in_content, line_content, line_start, line_stop}
 use Rattle.lsp_text.specs.Units.{units_between}
 use Rattle.lsp_text.specs.Positions.{denoted}
 use Rattle.lsp_text.proofs.TextLines.RowLemmas.{find_none}
@@ -267,7 +267,7 @@ next_inside text k same whole =
     (false_from_ne_true (slice_index text k == carriage_return)
     (λ e.
     let no_feed : (slice_index text (suc k) == line_feed) ≡ false = rw e at whole in
-    let ends : ends_line text (suc k) ≡ true =
+    let ends : starts_line text (suc k) ≡ true =
     or_right (slice_index text k == line_feed) ((slice_index text k == carriage_return)
     && not (slice_index text (suc k) == line_feed)) (and_from (slice_index text k == carriage_return)
     (not (slice_index text (suc k) == line_feed)) e (not_from_false (slice_index text (suc k) == line_feed) no_feed)) in

@@ -2,7 +2,7 @@
 use Rattle.std.proofs.Common.{ℕ, zero, suc, ◌≡◌, ◌+◌, ◌-◌, ◌<◌, ◌≤◌, true, false, ◌||◌, List, length, take, drop, get_or, slice_index, sum_by, ◌==◌, ⊎_elim, refl, sym, ap, ◌∙◌, arith, get_or-take}
 use Rattle.std.proofs.lemmas.Bool.{cases_eq, cases_Bool, and_cases}
 use Rattle.std.proofs.lemmas.List.{drop-take}
-use Rattle.lsp_text.specs.TextLines.{line_feed, carriage_return, ends_line, splits_crlf, line_at, is_in_content, line_start}
+use Rattle.lsp_text.specs.TextLines.{line_feed, carriage_return, starts_line, splits_crlf, line_at, is_in_content, line_start}
 use Rattle.lsp_text.specs.Units.{units_between}
 use Rattle.lsp_text.specs.Positions.{exact_position}
 use Rattle.lsp_text.proofs.TextLines.LineLemmas.{in_content, in_content_line, in_content_whole, start_in_content, IsStart}
@@ -22,7 +22,7 @@ agree_from_take text other k same j h =
     cc
 
 -- Where an index splits no CRLF, it ends a line exactly if a line feed or a carriage return stands before it.
-ends_line_whole : (text : List ℕ) (k : ℕ) → splits_crlf text (suc k) ≡ false → ends_line text (suc k)
+ends_line_whole : (text : List ℕ) (k : ℕ) → splits_crlf text (suc k) ≡ false → starts_line text (suc k)
     ≡ ((slice_index text k == line_feed) || (slice_index text k == carriage_return))
 ends_line_whole text k whole =
     ⊎_elim
@@ -40,12 +40,12 @@ module _ (text other : List ℕ) where
   splits_near k zero agree h = refl
   splits_near k (suc j) agree h = rw (agree j (omega arith), agree (suc j) h) refl
 
-  ends_near : (k j : ℕ) → AgreeBelow text other k → j < k → ends_line text j ≡ ends_line other j
+  ends_near : (k j : ℕ) → AgreeBelow text other k → j < k → starts_line text j ≡ starts_line other j
   ends_near k zero agree h = refl
   ends_near k (suc j) agree h = rw (agree j (omega arith), agree (suc j) h) refl
 
   ends_near_whole : (k : ℕ) → AgreeBelow text other k → splits_crlf text k ≡ false → splits_crlf other k ≡ false
-      → ends_line text k ≡ ends_line other k
+      → starts_line text k ≡ starts_line other k
   ends_near_whole zero agree whole other_whole = refl
   ends_near_whole (suc k) agree whole other_whole =
       rw (ends_line_whole text k whole, ends_line_whole other k other_whole, agree k (omega arith)) refl

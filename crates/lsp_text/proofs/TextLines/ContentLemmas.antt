@@ -8,7 +8,7 @@ use Rattle.std.proofs.lemmas.Bool.{cases_lt, cases_eq, cases_Bool, and_parts, an
 use Rattle.std.proofs.lemmas.Bool.Decides.{nat_tests}
 use Rattle.std.proofs.lemmas.Str.{encode_ascii}
 use Rattle.lsp_text.specs.Text.{place_of}
-use Rattle.lsp_text.specs.TextLines.{line_feed, carriage_return, ends_line, splits_crlf, line_at, line_ends, line_start, line_stop, is_in_content}
+use Rattle.lsp_text.specs.TextLines.{line_feed, carriage_return, starts_line, splits_crlf, line_at, line_ends, line_start, line_stop, is_in_content}
 use Rattle.lsp_text.specs.LineStarts.{line_starts}
 use Rattle.lsp_text.proofs.TextLines.LineLemmas.{line_rises, in_content, in_content_line, in_content_whole, line_has_start, line_has_stop, IsStop, splits_none_past}
 use Rattle.lsp_text.proofs.Positions.InLineLemmas.{is_inside_line, line_length}
@@ -23,7 +23,7 @@ before_split text k split =
     let both = and_parts (slice_index text k == carriage_return) (slice_index text (suc k) == line_feed) split in
     let is_return : slice_index text k ≡ 13 = eqb-true (slice_index text k) 13 both.0 in
     let is_feed : slice_index text (suc k) ≡ 10 = eqb-true (slice_index text (suc k)) 10 both.1 in
-    let continues : ends_line text (suc k) ≡ false = rw (is_return, is_feed) refl in
+    let continues : starts_line text (suc k) ≡ false = rw (is_return, is_feed) refl in
     (rw continues refl, whole k is_return)
   where
     whole : (k : ℕ) → slice_index text k ≡ 13 → splits_crlf text k ≡ false

@@ -4,11 +4,11 @@ use Rattle.std.proofs.lemmas.List.{length-take, length-take-le, length-drop, get
 use Rattle.std.proofs.lemmas.Bool.{cases_Bool}
 use Rattle.std.proofs.lemmas.Bool.Decides.{nat_tests}
 use Rattle.memchr.specs.Find.{places_from, places, is_byte2}
-use Rattle.lsp_text.specs.TextLines.{ends_line, numbers_from}
+use Rattle.lsp_text.specs.TextLines.{starts_line, numbers_from}
 
 -- the ends behind the marks at these offsets from `low`
 abbrev pub ends_of : List ℕ → ℕ → List ℕ → List ℕ
-ends_of text low marks = filter (ends_line text) (map (λ at. suc (low + at)) marks)
+ends_of text low marks = filter (starts_line text) (map (λ at. suc (low + at)) marks)
 
 -- each offset from `low` stays below `high`
 abbrev pub Marks : ℕ → ℕ → List ℕ → Type 0
@@ -16,19 +16,19 @@ Marks low high [] = Unit {0}
 Marks low high (at ∷ marks) = (low + at < high) × Marks low high marks
 
 -- behind any other character no line ends
-no_mark : (text : List ℕ) (k : ℕ) → is_byte2 10 13 (slice_index text k) ≡ false → ends_line text (suc k) ≡ false
+no_mark : (text : List ℕ) (k : ℕ) → is_byte2 10 13 (slice_index text k) ≡ false → starts_line text (suc k) ≡ false
 no_mark text k e = grind (arith, nat_tests)
 
 pub ends_of-places : (text part : List ℕ) (low i n : ℕ)
     → ((k : ℕ) → k < length part → get_or part k 0 ≡ get_or text (low + k) 0) → i + n ≡ length part →
-    ends_of text low (places_from (is_byte2 10 13) part i n) ≡ filter (ends_line text) (numbers_from (suc (low + i)) n)
+    ends_of text low (places_from (is_byte2 10 13) part i n) ≡ filter (starts_line text) (numbers_from (suc (low + i)) n)
 unfolding places_from
 ends_of-places text part low i zero same e = refl
 ends_of-places text part low i (suc n) same e =
     let more : ends_of text low (places_from (is_byte2 10 13) part (i + 1) n)
-    ≡ filter (ends_line text) (numbers_from (suc (suc (low + i))) n) =
+    ≡ filter (starts_line text) (numbers_from (suc (suc (low + i))) n) =
     ends_of-places text part low (i + 1) n same (omega arith)
-    ∙ ap (λ x. filter (ends_line text) (numbers_from (suc x) n)) (omega arith) in
+    ∙ ap (λ x. filter (starts_line text) (numbers_from (suc x) n)) (omega arith) in
     ⊎_elim
     (λ (y : is_byte2 10 13 (slice_index part i) ≡ true). rw (y, more) refl)
     (λ (y : is_byte2 10 13 (slice_index part i) ≡ false). rw (
@@ -52,7 +52,7 @@ Marks-places part low high i (suc n) e =
 -- The marks of the bytes from `low` to `high` give the ends behind `low`, up to `high`.
 pub ends_of-part : (text : List ℕ) (low high : ℕ) → low ≤ high → high ≤ length text →
     ends_of text low (places (is_byte2 10 13) (take (high - low) (drop low text)))
-    ≡ filter (ends_line text) (numbers_from (suc low) (high - low))
+    ≡ filter (starts_line text) (numbers_from (suc low) (high - low))
 ends_of-part text low high order within =
     let part = take (high - low) (drop low text) in
     let size : length part ≡ high - low =
@@ -62,8 +62,8 @@ ends_of-part text low high order within =
     let count : length part - 0 ≡ high - low = omega (arith, size) in
     let from : suc (low + 0) ≡ suc low = omega arith in
     ends_of-places text part low 0 (length part - 0) same (omega arith)
-    ∙ (ap (λ n. filter (ends_line text) (numbers_from (suc (low + 0)) n)) count
-    ∙ ap (λ x. filter (ends_line text) (numbers_from x (high - low))) from)
+    ∙ (ap (λ n. filter (starts_line text) (numbers_from (suc (low + 0)) n)) count
+    ∙ ap (λ x. filter (starts_line text) (numbers_from x (high - low))) from)
 
 pub Marks-part : (text : List ℕ) (low high : ℕ) → low ≤ high → high ≤ length text →
     Marks low high (places (is_byte2 10 13) (take (high - low) (drop low text)))
@@ -79,7 +79,7 @@ pub ends_of-all : (text : List ℕ) (low high : ℕ) (starts old marks : List �
     → marks ≡ [] →
     starts ++ ends_of text low marks
     ≡ old ++ ends_of text low (places (is_byte2 10 13) (take (high - low) (drop low text))) →
-    starts ≡ old ++ filter (ends_line text) (numbers_from (suc low) (high - low))
+    starts ≡ old ++ filter (starts_line text) (numbers_from (suc low) (high - low))
 ends_of-all text low high starts old marks order within none found =
     sym (append-nil starts) ∙ (ap (λ ms. starts ++ ends_of text low ms) (sym none)
     ∙ (found ∙ ap (λ zs. old ++ zs) (ends_of-part text low high order within)))

@@ -4,7 +4,7 @@ use Rattle.std.proofs.lemmas.List.{length-map, get_or-map}
 use Rattle.std.specs.Str.{chars, IsUtf8}
 use Rattle.lsp_text.specs.Text.{place_of}
 use Rattle.lsp_text.specs.TextLines.{line_ends, line_start, line_stop, splits_crlf}
-use Rattle.lsp_text.specs.LineStarts.{Indexes, line_starts, ends_between}
+use Rattle.lsp_text.specs.LineStarts.{Indexes, line_starts, starts_between}
 use Rattle.lsp_text.specs.Starts.{AreStarts}
 use Rattle.lsp_text.proofs.TextLines.StartLemmas.{starts_of_text}
 use Rattle.lsp_text.proofs.TextLines.StartRowLemmas.{line_starts_are, length-line_starts, start_at, next_start, IsNextStart}
@@ -23,10 +23,10 @@ starts_from bytes starts looks_made = subst AreStarts (sym looks_made) (line_sta
 
 -- `starts` after the first start was put in, and then the line ends; `read` are the bytes as they were lent
 pub made_whole : (bytes read before first starts : List ℕ) → read ≡ bytes → before ≡ [] → first ≡ before ++ 0 ∷ []
-    → starts ≡ first ++ ends_between read 0 (length read) → starts ≡ line_starts bytes
+    → starts ≡ first ++ starts_between read 0 (length read) → starts ≡ line_starts bytes
 made_whole bytes read before first starts same empty pushed found =
     found ∙
-    (ap (λ xs. xs ++ ends_between read 0 (length read)) (pushed ∙ ap (λ xs. xs ++ 0 ∷ []) empty) ∙
+    (ap (λ xs. xs ++ starts_between read 0 (length read)) (pushed ∙ ap (λ xs. xs ++ 0 ∷ []) empty) ∙
     ap line_starts same)
 
 pub indexes_count : (bytes lines : List ℕ) → Indexes lines bytes → length lines ≡ line_ends (chars bytes) + 1

@@ -2,7 +2,7 @@
 use Rattle.std.proofs.Common.{ℕ, zero, suc, ◌≡◌, ◌≤◌, true, false, not, ◌&&◌, List, length, slice_index, ◌==◌, ⊎_elim, refl, arith, eqb-true, eq-eqb}
 use Rattle.std.proofs.lemmas.Bool.{cases_Bool, cases_eq, and_parts, and_from, and_right, or_cases, not-true, not_from_false}
 use Rattle.std.proofs.lemmas.List.{get_or_past}
-use Rattle.lsp_text.specs.TextLines.{line_feed, carriage_return, ends_line, splits_crlf, line_at, line_ends, is_in_content, line_start, line_stop}
+use Rattle.lsp_text.specs.TextLines.{line_feed, carriage_return, starts_line, splits_crlf, line_at, line_ends, is_in_content, line_start, line_stop}
 use Rattle.lsp_text.proofs.TextLines.RowLemmas.{IsFirst, IsLast, first_passes, last_passes}
 
 -- One index on, the line is the same or the next.
@@ -10,9 +10,9 @@ pub line_step : (text : List ℕ) (k : ℕ) → (line_at text k ≤ line_at text
     × (line_at text (suc k) ≤ suc (line_at text k))
 line_step text k =
     ⊎_elim
-    (λ (e : ends_line text (suc k) ≡ true). rw e (omega arith, omega arith))
-    (λ (e : ends_line text (suc k) ≡ false). rw e (omega arith, omega arith))
-    (cases_Bool (ends_line text (suc k)))
+    (λ (e : starts_line text (suc k) ≡ true). rw e (omega arith, omega arith))
+    (λ (e : starts_line text (suc k) ≡ false). rw e (omega arith, omega arith))
+    (cases_Bool (starts_line text (suc k)))
 
 pub line_rises : (text : List ℕ) (j k : ℕ) → j ≤ k → line_at text j ≤ line_at text k
 line_rises text j zero order = let e : j ≡ 0 = omega arith in rw e (omega arith)
@@ -33,7 +33,7 @@ splits_none_past text (suc k) past =
     and_right (slice_index text k == carriage_return) (slice_index text (suc k) == line_feed) (rw e refl)
 
 -- An index that ends a line splits no CRLF.
-pub line_end_whole : (text : List ℕ) (k : ℕ) → ends_line text k ≡ true → splits_crlf text k ≡ false
+pub line_end_whole : (text : List ℕ) (k : ℕ) → starts_line text k ≡ true → splits_crlf text k ≡ false
 line_end_whole text zero ends = refl
 line_end_whole text (suc k) ends =
     ⊎_elim
@@ -98,7 +98,7 @@ reached text line (suc k) up_to = at_next (reached text line k)
     at_next : (line ≤ line_at text k → IsReached text line k) → IsReached text line (suc k)
     at_next before =
         ⊎_elim
-        (λ (e : ends_line text (suc k) ≡ true).
+        (λ (e : starts_line text (suc k) ≡ true).
         ⊎_elim
         (λ (o : line ≡ line_at text (suc k)).
         record {
@@ -109,9 +109,9 @@ reached text line (suc k) up_to = at_next (reached text line k)
         (λ (o : line ≡ line_at text (suc k) → ⊥).
         let s : line_at text (suc k) ≤ suc (line_at text k) = (line_step text k).1 in further (before (omega arith)))
         (cases_eq line (line_at text (suc k))))
-        (λ (e : ends_line text (suc k) ≡ false).
+        (λ (e : starts_line text (suc k) ≡ false).
         let s : line ≤ line_at text k = rw e at up_to in further (before s))
-        (cases_Bool (ends_line text (suc k)))
+        (cases_Bool (starts_line text (suc k)))
 
 pub line_has_start : (text : List ℕ) (line : ℕ) → line ≤ line_ends text → IsStart text line (line_start text line)
 line_has_start text line h = let r : IsReached text line (length text) = reached text line (length text) h in

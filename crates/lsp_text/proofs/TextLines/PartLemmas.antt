@@ -5,7 +5,7 @@ use Rattle.std.specs.List.{prefix_len}
 use Rattle.std.proofs.lemmas.List.{get_or-drop, length-take, length-drop}
 use Rattle.std.proofs.lemmas.List.Sums.{prefix_len_passes}
 use Rattle.std.proofs.lemmas.Bool.{cases_Bool, and_parts, or_cases, not-true, false≢true}
-use Rattle.lsp_text.specs.TextLines.{line_feed, carriage_return, ends_line, splits_crlf, line_ends, line_start, line_stop}
+use Rattle.lsp_text.specs.TextLines.{line_feed, carriage_return, starts_line, splits_crlf, line_ends, line_start, line_stop}
 use Rattle.lsp_text.specs.laws.Lines.{IsLineEnd, line_end_of, LinesPart}
 use Rattle.lsp_text.proofs.TextLines.LineLemmas.{line_rises}
 use Rattle.lsp_text.proofs.Positions.InLineLemmas.{is_inside_line, line_length}
@@ -42,7 +42,7 @@ take_two : (text : List ℕ) (k : ℕ) → suc k < length text → take 2 (drop 
 take_two text k h =
     ap (take 2) (drop-cons text k 0 (omega arith) ∙ ap (λ xs. get_or text k 0 ∷ xs) (drop-cons text (suc k) 0 h))
 
-one_end : (text : List ℕ) (k : ℕ) → k < length text → ends_line text (suc k) ≡ true → IsLineEnd (take 1 (drop k text))
+one_end : (text : List ℕ) (k : ℕ) → k < length text → starts_line text (suc k) ≡ true → IsLineEnd (take 1 (drop k text))
 one_end text k within ends =
     ⊎_elim
     (λ (h : (slice_index text k == line_feed) ≡ true). inl
@@ -72,12 +72,12 @@ line_end_is : (text : List ℕ) (line k : ℕ) → line < line_ends text → lin
     → IsLineEnd (line_end_of text line)
 line_end_is text line zero there start =
     let next = next_start text line there in
-    let ends : ends_line text 1 ≡ true = ap (ends_line text) (sym start) ∙ next.ends in
+    let ends : starts_line text 1 ≡ true = ap (starts_line text) (sym start) ∙ next.ends in
     end_from text line 0 1 (stop_is text line 0 there start) (omega (arith, start))
     (one_end text 0 (omega (arith, start, next.within)) ends)
 line_end_is text line (suc k) there start =
     let next = next_start text line there in
-    let ends : ends_line text (suc (suc k)) ≡ true = ap (ends_line text) (sym start) ∙ next.ends in
+    let ends : starts_line text (suc (suc k)) ≡ true = ap (starts_line text) (sym start) ∙ next.ends in
     let stop = stop_is text line (suc k) there start in
     ⊎_elim
     (λ (e : splits_crlf text (suc k) ≡ true).
@@ -109,7 +109,7 @@ return_alone text line k there start alone feed =
     let same : take 1 (drop k text) ≡ carriage_return ∷ [] = rw (one, stop) at alone in
     let last : get_or text k 0 ∷ [] ≡ carriage_return ∷ [] = sym (take_one text k within) ∙ same in
     let is_return : slice_index text k ≡ carriage_return = cc in
-    let ends : ends_line text (suc k) ≡ true = ap (ends_line text) (sym start) ∙ next.ends in
+    let ends : starts_line text (suc k) ≡ true = ap (starts_line text) (sym start) ∙ next.ends in
     ⊎_elim
     (λ (h : (slice_index text k == line_feed) ≡ true). absurd (omega (
       arith,

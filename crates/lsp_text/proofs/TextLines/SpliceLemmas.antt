@@ -4,8 +4,8 @@ use Rattle.std.proofs.Common.{◌≡◌, ℕ, zero, suc, ◌+◌, ◌-◌, ◌�
 use Rattle.std.proofs.lemmas.List.{length-append, length-drop, length-take, get_or-take, get_or-drop, get_or-append_right, get_or_append_left, take_at, drop_at, append_assoc, map-id}
 use Rattle.std.proofs.lemmas.List.Elements.{filter-append}
 use Rattle.std.proofs.lemmas.Bool.{cases_lt, cases_Bool}
-use Rattle.lsp_text.specs.TextLines.{ends_line, numbers_from}
-use Rattle.lsp_text.specs.LineStarts.{Indexes, ends_between, line_starts}
+use Rattle.lsp_text.specs.TextLines.{starts_line, numbers_from}
+use Rattle.lsp_text.specs.LineStarts.{Indexes, starts_between, line_starts}
 use Rattle.lsp_text.specs.Starts.{IsLineOf, AreStarts}
 use Rattle.lsp_text.specs.Splice.{IsReplaced}
 use Rattle.lsp_text.specs.inside.Splice.{Replaces}
@@ -27,16 +27,16 @@ numbers_split first (suc m) n =
     ∙ ap (λ f. numbers_from (suc first) m ++ numbers_from f n) b)
 
 -- The line ends of two neighbouring stretches are those of both.
-pub ends_split : (text : List ℕ) (low mid high : ℕ) → low ≤ mid → mid ≤ high → ends_between text low high
-    ≡ ends_between text low mid ++ ends_between text mid high
+pub ends_split : (text : List ℕ) (low mid high : ℕ) → low ≤ mid → mid ≤ high → starts_between text low high
+    ≡ starts_between text low mid ++ starts_between text mid high
 ends_split text low mid high first second =
     let sum : high - low ≡ (mid - low) + (high - mid) = omega arith in
     let from : suc low + (mid - low) ≡ suc mid = omega arith in
-    ap (λ n. filter (ends_line text) (numbers_from (suc low) n)) sum ∙
-    (ap (filter (ends_line text)) (numbers_split (suc low) (mid - low) (high - mid)) ∙
-    (filter-append (ends_line text) (numbers_from (suc low) (mid - low))
+    ap (λ n. filter (starts_line text) (numbers_from (suc low) n)) sum ∙
+    (ap (filter (starts_line text)) (numbers_split (suc low) (mid - low) (high - mid)) ∙
+    (filter-append (starts_line text) (numbers_from (suc low) (mid - low))
     (numbers_from (suc low + (mid - low)) (high - mid)) ∙
-    ap (λ f. ends_between text low mid ++ filter (ends_line text) (numbers_from f (high - mid))) from))
+    ap (λ f. starts_between text low mid ++ filter (starts_line text) (numbers_from f (high - mid))) from))
 
 -- Two tests that agree along two rows choose numbers that agree.
 pub filter_moved : (move : ℕ → ℕ) (test other : ℕ → Bool) (a b n : ℕ) → ((j : ℕ) → j < n → test (a + j) ≡ other (b + j))
@@ -70,14 +70,14 @@ filter_below test low (suc n) k h =
     one_more true later each (suc k) h = omega (arith, each k (omega arith))
     one_more false later each k h = omega (arith, each k h)
 
-ends_upto : (text : List ℕ) (low high k : ℕ) → low ≤ high → k < length (ends_between text low high)
-    → get_or (ends_between text low high) k 0 ≤ high
-ends_upto text low high k order h = omega (arith, filter_below (ends_line text) (suc low) (high - low) k h)
+ends_upto : (text : List ℕ) (low high k : ℕ) → low ≤ high → k < length (starts_between text low high)
+    → get_or (starts_between text low high) k 0 ≤ high
+ends_upto text low high k order h = omega (arith, filter_below (starts_line text) (suc low) (high - low) k h)
 
-pub ends_behind : (text : List ℕ) (low high k : ℕ) → k < length (ends_between text low high)
-    → low < get_or (ends_between text low high) k 0
+pub ends_behind : (text : List ℕ) (low high k : ℕ) → k < length (starts_between text low high)
+    → low < get_or (starts_between text low high) k 0
 ends_behind text low high k h =
-    ascends_from (suc low) (ends_between text low high) (filter_ascends (ends_line text) (suc low) (high - low)) k h
+    ascends_from (suc low) (starts_between text low high) (filter_ascends (starts_line text) (suc low) (high - low)) k h
 
 -- A row in two parts, where the first holds what is at most a place and the second what is above it: the last at most
 -- the place ends
@@ -106,14 +106,14 @@ count_front front rest_after place line some low high found =
 
 -- The starts up to a place, and those behind it.
 pub record IsCut (text : List ℕ) (place count : ℕ) : Type 0 where
-  pub front : take count (line_starts text) ≡ 0 ∷ ends_between text 0 place
-  pub rest_after : drop count (line_starts text) ≡ ends_between text place (length text)
+  pub front : take count (line_starts text) ≡ 0 ∷ starts_between text 0 place
+  pub rest_after : drop count (line_starts text) ≡ starts_between text place (length text)
 
 pub starts_cut : (text : List ℕ) (place count : ℕ) → place ≤ length text → 0 < count
     → IsLineOf (line_starts text) place (count - 1) → IsCut text place count
 starts_cut text place count within some found =
-    let front = 0 ∷ ends_between text 0 place in
-    let rest_after = ends_between text place (length text) in
+    let front = 0 ∷ starts_between text 0 place in
+    let rest_after = starts_between text place (length text) in
     let whole : line_starts text ≡ front ++ rest_after =
     ap (λ xs. 0 ∷ xs) (ends_split text 0 place (length text) (omega arith) within) in
     let counted : count - 1 + 1 ≡ length front =
@@ -125,7 +125,7 @@ starts_cut text place count within some found =
       rest_after = ap (drop count) whole ∙ drop_at front rest_after count size;
     }
   where
-    low : (place : ℕ) (k : ℕ) → k < length (0 ∷ ends_between text 0 place) → get_or (0 ∷ ends_between text 0 place) k 0
+    low : (place : ℕ) (k : ℕ) → k < length (0 ∷ starts_between text 0 place) → get_or (0 ∷ starts_between text 0 place) k 0
         ≤ place
     low place zero h = omega arith
     low place (suc k) h = ends_upto text 0 place k (omega arith) (omega arith)
@@ -142,13 +142,13 @@ module _ (old bytes : List ℕ) (from to len : ℕ) (is : IsReplaced old bytes f
   pub same_length : length bytes - (from + len) ≡ length old - to
   same_length = omega (arith, length-drop (from + len) bytes, length-drop to old, ap length is.back)
 
-  ends_front : (k : ℕ) → suc k < from → ends_line old (suc k) ≡ ends_line bytes (suc k)
+  ends_front : (k : ℕ) → suc k < from → starts_line old (suc k) ≡ starts_line bytes (suc k)
   ends_front k h =
       ap (λ x. (x == 10) || ((x == 13) && not (slice_index old (suc k) == 10))) (sym (same_front k (omega arith))) ∙
       ap (λ y. (slice_index bytes k == 10) || ((slice_index bytes k == 13) && not (y == 10)))
       (sym (same_front (suc k) h))
 
-  ends_back : (i : ℕ) → ends_line old (suc (to + i)) ≡ ends_line bytes (suc (from + len + i))
+  ends_back : (i : ℕ) → starts_line old (suc (to + i)) ≡ starts_line bytes (suc (from + len + i))
   ends_back i =
       let next : get_or old (suc (to + i)) 0 ≡ get_or bytes (suc (from + len + i)) 0 =
       ap (λ k. get_or old k 0) (omega arith) ∙ (same_back (suc i) ∙ ap (λ k. get_or bytes k 0) (omega arith)) in
@@ -157,38 +157,38 @@ module _ (old bytes : List ℕ) (from to len : ℕ) (is : IsReplaced old bytes f
       && not (y == 10))) next
 
   -- those before the edit stay
-  pub front_stays : ends_between old 0 (from - 1) ≡ ends_between bytes 0 (from - 1)
+  pub front_stays : starts_between old 0 (from - 1) ≡ starts_between bytes 0 (from - 1)
   front_stays =
-      sym (map-id (ends_between old 0 (from - 1))) ∙
-      filter_moved (λ x. x) (ends_line old) (ends_line bytes) 1 1 (from - 1 - 0)
+      sym (map-id (starts_between old 0 (from - 1))) ∙
+      filter_moved (λ x. x) (starts_line old) (starts_line bytes) 1 1 (from - 1 - 0)
       (λ j h. let a : 1 + j ≡ suc j = omega arith in
-      ap (ends_line old) a ∙ (ends_front j (omega arith) ∙ ap (ends_line bytes) (sym a)))
+      ap (starts_line old) a ∙ (ends_front j (omega arith) ∙ ap (starts_line bytes) (sym a)))
       (λ j h. refl)
 
   -- those behind it move with its end
-  pub back_moves : map (λ start. start - to + (from + len)) (ends_between old to (length old))
-      ≡ ends_between bytes (from + len) (length bytes)
+  pub back_moves : map (λ start. start - to + (from + len)) (starts_between old to (length old))
+      ≡ starts_between bytes (from + len) (length bytes)
   back_moves =
-      filter_moved (λ start. start - to + (from + len)) (ends_line old) (ends_line bytes) (suc to) (suc (from + len))
+      filter_moved (λ start. start - to + (from + len)) (starts_line old) (starts_line bytes) (suc to) (suc (from + len))
       (length old - to)
       (λ j h. let a : suc to + j ≡ suc (to + j) = omega arith in
       let b : suc (from + len) + j ≡ suc (from + len + j) = omega arith in
-      ap (ends_line old) a ∙ (ends_back j ∙ ap (ends_line bytes) (sym b)))
+      ap (starts_line old) a ∙ (ends_back j ∙ ap (starts_line bytes) (sym b)))
       (λ j h. omega arith) ∙
-      ap (λ n. filter (ends_line bytes) (numbers_from (suc (from + len)) n)) (sym same_length)
+      ap (λ n. filter (starts_line bytes) (numbers_from (suc (from + len)) n)) (sym same_length)
 
   -- So the starts are those before, those found anew, and those behind, moved.
-  pub starts_spliced : line_starts bytes ≡ (0 ∷ ends_between old 0 (from - 1))
-      ++ (ends_between bytes (from - 1) (from + len) ++ map (λ start. start - to + (from + len))
-      (ends_between old to (length old)))
+  pub starts_spliced : line_starts bytes ≡ (0 ∷ starts_between old 0 (from - 1))
+      ++ (starts_between bytes (from - 1) (from + len) ++ map (λ start. start - to + (from + len))
+      (starts_between old to (length old)))
   starts_spliced =
       ap (λ xs. 0 ∷ xs)
       (ends_split bytes 0 (from - 1) (length bytes) (omega arith) (omega (arith, is.inserted)) ∙
-      (ap (λ xs. ends_between bytes 0 (from - 1) ++ xs) (ends_split bytes (from - 1) (from + len) (length bytes)
+      (ap (λ xs. starts_between bytes 0 (from - 1) ++ xs) (ends_split bytes (from - 1) (from + len) (length bytes)
       (omega arith) is.inserted) ∙
-      (ap (λ xs. xs ++ (ends_between bytes (from - 1) (from + len) ++ ends_between bytes (from + len) (length bytes)))
+      (ap (λ xs. xs ++ (starts_between bytes (from - 1) (from + len) ++ starts_between bytes (from + len) (length bytes)))
       (sym front_stays) ∙
-      ap (λ xs. ends_between old 0 (from - 1) ++ (ends_between bytes (from - 1) (from + len) ++ xs)) (sym back_moves))))
+      ap (λ xs. starts_between old 0 (from - 1) ++ (starts_between bytes (from - 1) (from + len) ++ xs)) (sym back_moves))))
 
 -- What the code does: it cuts the starts at both ends of the edit, puts what it found between, and moves those behind.
 pub record IsPlaced (old bytes starts found now : List ℕ) (from to len keep past : ℕ) : Type 0 where
@@ -198,7 +198,7 @@ pub record IsPlaced (old bytes starts found now : List ℕ) (from to len keep pa
   pub keep_is : IsLineOf starts (from - 1) (keep - 1)
   pub some_past : 0 < past
   pub past_is : IsLineOf starts to (past - 1)
-  pub found_is : found ≡ ends_between bytes (from - 1) (from + len)
+  pub found_is : found ≡ starts_between bytes (from - 1) (from + len)
   pub now_is : now ≡ take keep starts ++ (found ++ drop past starts)
 
 module _ (old bytes starts found now : List ℕ) (from to len keep past : ℕ)
@@ -211,10 +211,10 @@ module _ (old bytes starts found now : List ℕ) (from to len keep past : ℕ)
   cut_past = starts_cut old to past placed.is.within placed.some_past
       (subst (λ xs. IsLineOf xs to (past - 1)) placed.starts_are placed.past_is)
 
-  front_is : take keep starts ≡ 0 ∷ ends_between old 0 (from - 1)
+  front_is : take keep starts ≡ 0 ∷ starts_between old 0 (from - 1)
   front_is = ap (take keep) placed.starts_are ∙ cut_keep.front
 
-  behind_is : drop past starts ≡ ends_between old to (length old)
+  behind_is : drop past starts ≡ starts_between old to (length old)
   behind_is = ap (drop past) placed.starts_are ∙ cut_past.rest_after
 
   front_length : length (take keep starts ++ found) ≡ keep + length found
@@ -248,7 +248,7 @@ module _ (old bytes starts found now : List ℕ) (from to len keep past : ℕ)
   behind_at : (k : ℕ) → keep + length found ≤ k → k < length now → (to < get_or now k 0) × (get_or now k 0 ≤ length old)
   behind_at k low high =
       let i = k - (keep + length found) in
-      let row = ends_between old to (length old) in
+      let row = starts_between old to (length old) in
       let at : get_or now k 0 ≡ get_or row i 0 =
       ap (λ n. get_or now n 0) (let e : k ≡ keep + length found + i = omega arith in e) ∙
       (sym (get_or-drop (keep + length found) now i 0) ∙ ap (λ xs. get_or xs i 0) (now_behind ∙ behind_is)) in
@@ -282,11 +282,11 @@ module _ (old bytes starts found now : List ℕ) (from to len keep past : ℕ)
       ap (λ xs. xs ++ map (λ start. start - to + (from + len)) (drop (keep + length found) now)) now_front ∙
       (ap (λ xs. (take keep starts ++ found) ++ map (λ start. start - to + (from + len)) xs) (now_behind ∙ behind_is) ∙
       (append_assoc (take keep starts) found
-      (map (λ start. start - to + (from + len)) (ends_between old to (length old))) ∙
-      (ap (λ xs. xs ++ (found ++ map (λ start. start - to + (from + len)) (ends_between old to (length old)))) front_is
+      (map (λ start. start - to + (from + len)) (starts_between old to (length old))) ∙
+      (ap (λ xs. xs ++ (found ++ map (λ start. start - to + (from + len)) (starts_between old to (length old)))) front_is
       ∙
-      (ap (λ xs. (0 ∷ ends_between old 0 (from - 1))
-      ++ (xs ++ map (λ start. start - to + (from + len)) (ends_between old to (length old)))) placed.found_is ∙
+      (ap (λ xs. (0 ∷ starts_between old 0 (from - 1))
+      ++ (xs ++ map (λ start. start - to + (from + len)) (starts_between old to (length old)))) placed.found_is ∙
       sym (starts_spliced old bytes from to len placed.is)))))
 
 pub line_of_same : (starts shown : List ℕ) (place error line : ℕ) → shown ≡ starts → error ≡ place
@@ -299,9 +299,9 @@ starts_are_same old starts shown same are = subst AreStarts (sym (same ∙ are))
 
 -- What was found anew, where nothing stood before.
 pub found_anew : (bytes before found : List ℕ) (low error end : ℕ) → before ≡ [] → error ≡ low
-    → found ≡ before ++ ends_between bytes error end → found ≡ ends_between bytes low end
+    → found ≡ before ++ starts_between bytes error end → found ≡ starts_between bytes low end
 found_anew bytes before found low error end empty is found_is =
-    found_is ∙ (ap (λ xs. xs ++ ends_between bytes error end) empty ∙ ap (λ l. ends_between bytes l end) is)
+    found_is ∙ (ap (λ xs. xs ++ starts_between bytes error end) empty ∙ ap (λ l. starts_between bytes l end) is)
 
 -- The same of the row as it was lent, and of the count as it was told.
 module _ (old bytes starts found now shown : List ℕ) (from to len keep past count : ℕ)

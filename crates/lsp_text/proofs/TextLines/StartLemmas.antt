@@ -11,7 +11,7 @@ use borrow.Author.Tests.{ltb-true}
 use Rattle.std.proofs.lemmas.Bool.Decides.{nat_tests}
 use Rattle.std.proofs.lemmas.Str.{encode_ascii, length-encode, len_utf8_ascii, len_utf8_bounds, encodes-chars}
 use Rattle.lsp_text.specs.Text.{place_of}
-use Rattle.lsp_text.specs.TextLines.{ends_line, numbers_from}
+use Rattle.lsp_text.specs.TextLines.{starts_line, numbers_from}
 use Rattle.lsp_text.specs.LineStarts.{line_starts, start_places}
 use Rattle.lsp_text.proofs.Positions.PlaceLemmas.{place_more}
 
@@ -19,11 +19,11 @@ use Rattle.lsp_text.proofs.Positions.PlaceLemmas.{place_more}
 abbrev pub weighed_ends : (ℕ → ℕ) → ℕ → List ℕ → List ℕ
 weighed_ends weight before [] = []
 weighed_ends weight before (c ∷ cs) =
-    cond (ends_line (c ∷ cs) 1) ((before + weight c) ∷ weighed_ends weight (before + weight c) cs)
+    cond (starts_line (c ∷ cs) 1) ((before + weight c) ∷ weighed_ends weight (before + weight c) cs)
     (weighed_ends weight (before + weight c) cs)
 
 -- An index ends a line in a text exactly as it does in what is left of the text before it.
-ends_left : (text : List ℕ) (k : ℕ) → ends_line (get_or text k 0 ∷ drop (suc k) text) 1 ≡ ends_line text (suc k)
+ends_left : (text : List ℕ) (k : ℕ) → starts_line (get_or text k 0 ∷ drop (suc k) text) 1 ≡ starts_line text (suc k)
 ends_left text k =
     ap (λ x. (slice_index text k == 10) || ((slice_index text k == 13) && not (x == 10)))
     (get_or-drop (suc k) text 0 0 ∙ ap (λ i. get_or text i 0) (omega arith))
@@ -36,7 +36,7 @@ map_cond f false x xs ys e = e
 -- `where_is` gives what stands before each index
 pub ends_weighed : (where_is weight : ℕ → ℕ) (text : List ℕ)
     → ((k : ℕ) → k < length text → where_is (suc k) ≡ where_is k + weight (get_or text k 0)) →
-    (k n : ℕ) → k + n ≡ length text → map where_is (filter (ends_line text) (numbers_from (suc k) n))
+    (k n : ℕ) → k + n ≡ length text → map where_is (filter (starts_line text) (numbers_from (suc k) n))
     ≡ weighed_ends weight (where_is k) (drop k text)
 ends_weighed where_is weight text more k zero e =
     ap (weighed_ends weight (where_is k)) (sym (drop_all k text (omega arith)))
@@ -45,10 +45,10 @@ ends_weighed where_is weight text more k (suc n) e =
     let rest = drop (suc k) text in
     let ends = λ (b : Bool) (m : ℕ). cond b (m ∷ weighed_ends weight m rest) (weighed_ends weight m rest) in
     let within : k < length text = omega arith in
-    map_cond where_is (ends_line text (suc k)) (suc k) (filter (ends_line text) (numbers_from (suc (suc k)) n))
+    map_cond where_is (starts_line text (suc k)) (suc k) (filter (starts_line text) (numbers_from (suc (suc k)) n))
     (weighed_ends weight (where_is (suc k)) rest)
     (ends_weighed where_is weight text more (suc k) n (omega arith)) ∙
-    (ap (λ m. ends (ends_line text (suc k)) m) (more k within) ∙
+    (ap (λ m. ends (starts_line text (suc k)) m) (more k within) ∙
     (ap (λ b. ends b (where_is k + weight x)) (sym (ends_left text k)) ∙
     ap (weighed_ends weight (where_is k)) (sym (drop-cons text k 0 within))))
 
@@ -57,7 +57,7 @@ abbrev pub AllHigh : List ℕ → Type 0
 AllHigh [] = Unit {0}
 AllHigh (b ∷ bs) = (128 ≤ b) × AllHigh bs
 
-high_ends_none : (b : ℕ) (bs : List ℕ) → 128 ≤ b → ends_line (b ∷ bs) 1 ≡ false
+high_ends_none : (b : ℕ) (bs : List ℕ) → 128 ≤ b → starts_line (b ∷ bs) 1 ≡ false
 high_ends_none b bs h = grind (arith, nat_tests)
 
 high_skipped : (high rest : List ℕ) (before : ℕ) → AllHigh high → weighed_ends (λ _. 1) before (high ++ rest)
@@ -106,9 +106,9 @@ ends_of_bytes (c ∷ cs) before =
     ⊎_elim
     (λ (h : c < 128).
     ap (λ bs. weighed_ends (λ _. 1) before (bs ++ bytes)) (encode_ascii c h) ∙
-    (ap (λ w. cond (ends_line (c ∷ bytes) 1) ((before + 1) ∷ w) w) (ends_of_bytes cs (before + 1)) ∙
+    (ap (λ w. cond (starts_line (c ∷ bytes) 1) ((before + 1) ∷ w) w) (ends_of_bytes cs (before + 1)) ∙
     (ap (λ x. ends ((c == 10) || ((c == 13) && not x)) (before + 1)) (first_line_feed cs) ∙
-    ap (λ n. ends (ends_line (c ∷ cs) 1) (before + n)) (sym (len_utf8_ascii c h)))))
+    ap (λ n. ends (starts_line (c ∷ cs) 1) (before + n)) (sym (len_utf8_ascii c h)))))
     (λ (h : 128 ≤ c).
     high_skipped (encode c) bytes before (encode_high c h) ∙
     (ap (λ n. weighed_ends (λ _. 1) (before + n) bytes) (length-encode c) ∙
@@ -121,7 +121,7 @@ pub starts_of_bytes : (text : List ℕ) → line_starts (encode_utf8_all text) �
 starts_of_bytes text =
     let bytes = encode_utf8_all text in
     ap (λ ends. 0 ∷ ends)
-    (sym (map-id (filter (ends_line bytes) (numbers_from 1 (length bytes - 0)))) ∙
+    (sym (map-id (filter (starts_line bytes) (numbers_from 1 (length bytes - 0)))) ∙
     (ends_weighed (λ n. n) (λ _. 1) bytes (λ k h. omega arith) 0 (length bytes - 0) (omega arith) ∙
     (ends_of_bytes text 0 ∙
     sym (ends_weighed (place_of text) len_utf8 text (place_more text) 0 (length text - 0) (omega arith)))))

@@ -1,7 +1,7 @@
 -- The row of a text's line starts: how many there are, which each is, and that they ascend.
 use Rattle.std.proofs.Common.{◌≡◌, ℕ, zero, suc, ◌+◌, ◌-◌, ◌≤◌, ◌<◌, Bool, true, false, cond, List, [], ◌∷◌, length, get_or, filter, refl, sym, ap, ◌∙◌, arith, ⊎_elim, subst}
 use Rattle.std.proofs.lemmas.Bool.{cases_lt, cases_Bool}
-use Rattle.lsp_text.specs.TextLines.{ends_line, numbers_from, line_at, line_ends, line_start}
+use Rattle.lsp_text.specs.TextLines.{starts_line, numbers_from, line_at, line_ends, line_start}
 use Rattle.lsp_text.specs.LineStarts.{line_starts}
 use Rattle.lsp_text.specs.Starts.{AreStarts}
 use Rattle.lsp_text.proofs.TextLines.LineLemmas.{line_rises, in_content, in_content_line, line_end_whole, line_has_start}
@@ -38,7 +38,7 @@ ascends_at low (x ∷ xs) a zero (suc k) order h = omega (arith, ascends_from (s
 ascends_at low (x ∷ xs) a (suc j) (suc k) order h = ascends_at (suc x) xs a.1 j k (omega arith) (omega arith)
 
 pub starts_ascend : (text : List ℕ) → Ascends 0 (line_starts text)
-starts_ascend text = (omega arith, filter_ascends (ends_line text) 1 (length text - 0))
+starts_ascend text = (omega arith, filter_ascends (starts_line text) 1 (length text - 0))
 
 pub line_starts_are : (text : List ℕ) → AreStarts (line_starts text)
 line_starts_are text = record {
@@ -53,23 +53,23 @@ line_starts_are text = record {
 }
 
 -- There is one start more than line ends.
-ends_counted : (text : List ℕ) (k n : ℕ) → length (filter (ends_line text) (numbers_from (suc k) n)) + line_at text k
+ends_counted : (text : List ℕ) (k n : ℕ) → length (filter (starts_line text) (numbers_from (suc k) n)) + line_at text k
     ≡ line_at text (k + n)
 ends_counted text k zero = omega (arith, ap (line_at text) (let e : k ≡ k + 0 = omega arith in e))
 ends_counted text k (suc n) =
-    let later : length (filter (ends_line text) (numbers_from (suc (suc k)) n)) + line_at text (suc k)
+    let later : length (filter (starts_line text) (numbers_from (suc (suc k)) n)) + line_at text (suc k)
     ≡ line_at text (suc k + n) = ends_counted text (suc k) n in
     let end : line_at text (suc k + n) ≡ line_at text (k + suc n) = ap (line_at text) (omega arith) in
     ⊎_elim
-    (λ (e : ends_line text (suc k) ≡ true). let l : line_at text (suc k) ≡ suc (line_at text k) = rw e refl in
+    (λ (e : starts_line text (suc k) ≡ true). let l : line_at text (suc k) ≡ suc (line_at text k) = rw e refl in
     rw e (omega arith))
-    (λ (e : ends_line text (suc k) ≡ false). let l : line_at text (suc k) ≡ line_at text k = rw e refl in
+    (λ (e : starts_line text (suc k) ≡ false). let l : line_at text (suc k) ≡ line_at text k = rw e refl in
     rw e (omega arith))
-    (cases_Bool (ends_line text (suc k)))
+    (cases_Bool (starts_line text (suc k)))
 
 pub length-line_starts : (text : List ℕ) → length (line_starts text) ≡ suc (line_ends text)
 length-line_starts text =
-    let counted : length (filter (ends_line text) (numbers_from 1 (length text - 0))) + 0
+    let counted : length (filter (starts_line text) (numbers_from 1 (length text - 0))) + 0
     ≡ line_at text (0 + (length text - 0)) = ends_counted text 0 (length text - 0) in
     let end : line_at text (0 + (length text - 0)) ≡ line_at text (length text) = ap (line_at text) (omega arith) in
     omega arith
@@ -78,10 +78,10 @@ length-line_starts text =
 record IsEnd (text : List ℕ) (k n line end : ℕ) : Type 0 where
   rest_after : k < end
   within : end ≤ k + n
-  ends : ends_line text end ≡ true
+  ends : starts_line text end ≡ true
   line_is : line_at text end ≡ line
 
-one_further : (text : List ℕ) (k n : ℕ) (b : Bool) → ends_line text (suc k) ≡ b → (later : List ℕ) →
+one_further : (text : List ℕ) (k n : ℕ) (b : Bool) → starts_line text (suc k) ≡ b → (later : List ℕ) →
     ((j : ℕ) → j < length later → IsEnd text (suc k) n (line_at text (suc k) + suc j) (get_or later j 0)) →
     (j : ℕ) → j < length (cond b (suc k ∷ later) later) → IsEnd text k (suc n) (line_at text k + suc j)
     (get_or (cond b (suc k ∷ later) later) j 0)
@@ -107,15 +107,15 @@ one_further text k n false e later each j h =
       line_is = omega (arith, end.line_is);
     }
 
-end_at : (text : List ℕ) (k n j : ℕ) → j < length (filter (ends_line text) (numbers_from (suc k) n)) →
-    IsEnd text k n (line_at text k + suc j) (get_or (filter (ends_line text) (numbers_from (suc k) n)) j 0)
+end_at : (text : List ℕ) (k n j : ℕ) → j < length (filter (starts_line text) (numbers_from (suc k) n)) →
+    IsEnd text k n (line_at text k + suc j) (get_or (filter (starts_line text) (numbers_from (suc k) n)) j 0)
 end_at text k zero j h = absurd (omega arith)
 end_at text k (suc n) j h =
-    one_further text k n (ends_line text (suc k)) refl (filter (ends_line text) (numbers_from (suc (suc k)) n))
+    one_further text k n (starts_line text (suc k)) refl (filter (starts_line text) (numbers_from (suc (suc k)) n))
     (end_at text (suc k) n) j h
 
 -- An index that ends a line is the start of its line.
-end_starts : (text : List ℕ) (end : ℕ) → end ≤ length text → 0 < end → ends_line text end ≡ true
+end_starts : (text : List ℕ) (end : ℕ) → end ≤ length text → 0 < end → starts_line text end ≡ true
     → line_start text (line_at text end) ≡ end
 end_starts text zero within some ends = absurd (omega arith)
 end_starts text (suc k) within some ends =
@@ -144,7 +144,7 @@ pub start_at : (text : List ℕ) (line : ℕ) → line ≤ line_ends text → ge
     ≡ line_start text line
 start_at text zero h = sym (first_starts text)
 start_at text (suc j) h =
-    let row = filter (ends_line text) (numbers_from 1 (length text - 0)) in
+    let row = filter (starts_line text) (numbers_from 1 (length text - 0)) in
     let size : suc (length row) ≡ suc (line_ends text) = length-line_starts text in
     let end : IsEnd text 0 (length text - 0) (0 + suc j) (get_or row j 0) =
     end_at text 0 (length text - 0) j (omega arith) in
@@ -156,13 +156,13 @@ start_at text (suc j) h =
 pub record IsNextStart (text : List ℕ) (line next : ℕ) : Type 0 where
   pub some : 0 < next
   pub within : next ≤ length text
-  pub ends : ends_line text next ≡ true
+  pub ends : starts_line text next ≡ true
   pub line_is : line_at text next ≡ suc line
 
 pub next_start : (text : List ℕ) (line : ℕ) → suc line ≤ line_ends text
     → IsNextStart text line (line_start text (suc line))
 next_start text line h =
-    let row = filter (ends_line text) (numbers_from 1 (length text - 0)) in
+    let row = filter (starts_line text) (numbers_from 1 (length text - 0)) in
     let size : suc (length row) ≡ suc (line_ends text) = length-line_starts text in
     let end : IsEnd text 0 (length text - 0) (0 + suc line) (get_or row line 0) =
     end_at text 0 (length text - 0) line (omega arith) in

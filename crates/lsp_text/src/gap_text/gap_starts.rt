@@ -3,7 +3,7 @@
 ghost use Rattle.std.specs.Prelude.{◌≡◌, ◌+◌, ◌-◌, ◌++◌, ◌≤◌, ◌<◌, ℕ, [], IfOk, OnOk, OnErr, length, map, take, drop, slice_index, vec_len};
 ghost use Rattle.lsp_text.specs.Gapped.{starts_of_both};
 ghost use Rattle.lsp_text.specs.inside.Gapped.{AreWithin};
-ghost use Rattle.lsp_text.specs.LineStarts.{ends_between};
+ghost use Rattle.lsp_text.specs.LineStarts.{starts_between};
 ghost use Rattle.lsp_text.specs.Starts.{AreStarts, IsLineOf};
 
 use crate::gap_text::gap::{move_back, move_on, widen, write};
@@ -227,7 +227,7 @@ impl GapStarts {
         ensures front { OnOk result
             ((keep : ℕ) × (0 < keep) × IsLineOf self.old.front (from - 1) (keep - 1)
             × (self.new.front
-            ≡ take keep self.old.front ++ ends_between bytes.now (from - 1) end)) }
+            ≡ take keep self.old.front ++ starts_between bytes.now (from - 1) end)) }
         ensures back { OnOk result (self.new.back ≡ self.old.back) }
     {
         let low = from.saturating_sub(1);

@@ -1,8 +1,8 @@
 //! The search for line ends in bytes.
 ghost use Rattle.std.specs.Prelude.{◌≡◌, ◌++◌, ◌≤◌, ◌<◌, suc, length, OnOk, IsTrue};
-ghost use Rattle.lsp_text.specs.TextLines.{ends_line, splits_crlf};
+ghost use Rattle.lsp_text.specs.TextLines.{starts_line, splits_crlf};
 ghost use Rattle.lsp_text.specs.inside.Gapped.{HasNoEnd};
-ghost use Rattle.lsp_text.specs.LineStarts.{ends_between};
+ghost use Rattle.lsp_text.specs.LineStarts.{starts_between};
 
 use memchr::{memchr2, memchr2_iter};
 use std::alloc::AllocError;
@@ -10,7 +10,7 @@ use std::alloc::AllocError;
 /// Returns whether a line ends right after the byte at `at`.
 fn ends_line_after(bytes: &[u8], at: usize) -> bool
     requires { at < length bytes.now }
-    ensures { result ≡ ends_line bytes.now (suc at) }
+    ensures { result ≡ starts_line bytes.now (suc at) }
 {
     match bytes[at] {
         b'\n' => true,
@@ -46,7 +46,7 @@ pub fn push_ends(
     requires within { high ≤ length bytes.now }
     requires size { length bytes.now ≤ 2147483648 }
     ensures ok { OnOk result
-        (starts.new.items ≡ starts.old.items ++ ends_between bytes.now low high) }
+        (starts.new.items ≡ starts.old.items ++ starts_between bytes.now low high) }
 {
     for at in memchr2_iter(b'\n', b'\r', &bytes[low..high]) {
         if ends_line_after(bytes, low + at) {

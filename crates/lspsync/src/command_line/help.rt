@@ -221,7 +221,7 @@ error says what, and for 5 where: `lspsync: truncated at 505` is byte 505 of the
 
 `lspsync COMMAND --help` has the options of a command and an example to paste.
 
-lspsync 0.1.0, proved with rattle-kit-13f";
+lspsync 0.1.0, proved with rattle-kit-13b";
 
 const MAX_BODY: &str = "Greatest length of a message, in bytes, from 4096 to 1073741824";
 
