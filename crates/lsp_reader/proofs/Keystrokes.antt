@@ -1,5 +1,5 @@
 -- What the lexemes of a change in its usual layout are read as.
-use Rattle.std.proofs.Common.{◌≡◌, ℕ, ℤ, suc, List, [], ◌∷◌, Option, Some, None, option_and_then, refl, ap, ◌∙◌, codes}
+use Rattle.std.proofs.Common.{◌≡◌, ℕ, ℤ, suc, List, [], ◌∷◌, Option, Some, None, option_and_then, refl, sym, ap, ◌∙◌, codes}
 use Rattle.json.specs.Token.{end_object}
 use Rattle.json.specs.Lex.{Lexeme, token, comma, lex, between, fresh, punctuate}
 use Rattle.json.specs.Json.{if_last, value, items, members}
@@ -9,7 +9,9 @@ use Rattle.lsp_text.specs.declared.position.Position.{Position}
 use Rattle.lsp_text.specs.declared.position.Range.{Range}
 use Rattle.lsp_message.specs.Message.{message_of}
 use Rattle.lsp_message.specs.Params.{coordinate_in, version_in, position_in, range_in, edit_in}
+use Rattle.lsp_message.specs.Values.{member_at, natural_in}
 use Rattle.lsp_reader.specs.Incoming.{incoming_of, did_change}
+use Rattle.lsp_reader.specs.Lengths.{lengths_of}
 use Rattle.lsp_reader.specs.inside.Lexemes.{RangeDigits, AreVersionDigits, AreRangeDigits, AreLengthDigits, document_lexemes, changes_lexemes, head_lexemes, one_change, IsKeystroke}
 
 -- ---- the value
@@ -86,18 +88,25 @@ message_is : (uri text : List ℕ) (v : Num) (edit : Data) (version : ℤ) (r : 
     ≡ did_change (Some (one_change uri version r text))
 message_is uri text v edit version r is change = rw (is, change) refl
 
+lengths_are : (uri : List ℕ) (v : Num) (edit : Data) (length : Option ℕ)
+    → natural_in (member_at (codes "rangeLength") (Some edit)) ≡ length
+    → lengths_of (message_of (message_data (params_data (document_data uri v) edit))) ≡ length ∷ []
+lengths_are uri v edit length is = ap (λ n. n ∷ []) is
+
 -- ---- the body
 
-abbrev IsRead : List ℕ → List ℕ → ℤ → Range → List ℕ → Type 0
-IsRead body uri version range text = (d : Data) × (read body ≡ Some d)
+abbrev IsRead : List ℕ → List ℕ → ℤ → Range → Option ℕ → List ℕ → Type 0
+IsRead body uri version range length text = (d : Data) × (read body ≡ Some d)
     × (incoming_of (message_of d) ≡ did_change (Some (one_change uri version range text)))
+    × (lengths_of (message_of d) ≡ length ∷ [])
 
-read_by : (body uri text version_digits : List ℕ) (version : ℤ) (range : Range) (digits : RangeDigits)
-    (length : Option (List ℕ)) → AreVersionDigits version_digits version → AreRangeDigits digits range
-    → AreLengthDigits length → lex between body ≡ head_lexemes (document_lexemes uri version_digits (comma
-    ∷ changes_lexemes digits length text (token end_object ∷ token end_object ∷ [])))
-    → IsRead body uri version range text
-read_by body uri text version_digits version range digits None v r length_is lexemes =
+read_by : (body uri text version_digits : List ℕ) (version : ℤ) (range : Range) (length : Option ℕ)
+    (digits : RangeDigits) (length_digits : Option (List ℕ)) → AreVersionDigits version_digits version
+    → AreRangeDigits digits range → AreLengthDigits length_digits length
+    → lex between body ≡ head_lexemes (document_lexemes uri version_digits (comma
+    ∷ changes_lexemes digits length_digits text (token end_object ∷ token end_object ∷ [])))
+    → IsRead body uri version range length text
+read_by body uri text version_digits version range length digits None v r length_is lexemes =
     let a = r.start in
     let b = r.stop in
     let start = position_data a.line.value a.character.value in
@@ -110,8 +119,9 @@ read_by body uri text version_digits version range digits None v r length_is lex
       message_is uri text v.value edit version range v.within (edit_is None start stop range text
           (range_is start stop range (position_is a.line.value a.character.value range.start a.line.within a.character.within)
           (position_is b.line.value b.character.value range.stop b.line.within b.character.within))),
+      lengths_are uri v.value edit None refl ∙ ap (λ n. n ∷ []) (sym length_is),
     )
-read_by body uri text version_digits version range digits (Some s) v r length_is lexemes =
+read_by body uri text version_digits version range length digits (Some s) v r length_is lexemes =
     let a = r.start in
     let b = r.stop in
     let start = position_data a.line.value a.character.value in
@@ -125,9 +135,11 @@ read_by body uri text version_digits version range digits (Some s) v r length_is
       message_is uri text v.value edit version range v.within (edit_is (Some n) start stop range text
           (range_is start stop range (position_is a.line.value a.character.value range.start a.line.within a.character.within)
           (position_is b.line.value b.character.value range.stop b.line.within b.character.within))),
+      lengths_are uri v.value edit (Some length_is.0) refl ∙ ap (λ n. n ∷ []) (sym length_is.2),
     )
 
-pub keystroke_read : (body uri : List ℕ) (version : ℤ) (range : Range) (text : List ℕ)
-    → IsKeystroke body uri version range text → IsRead body uri version range text
-keystroke_read body uri version range text k =
-    read_by body uri text k.version_digits version range k.digits k.length k.version_is k.is k.length_is k.lexemes
+pub keystroke_read : (body uri : List ℕ) (version : ℤ) (range : Range) (length : Option ℕ) (text : List ℕ)
+    → IsKeystroke body uri version range length text → IsRead body uri version range length text
+keystroke_read body uri version range length text k =
+    read_by body uri text k.version_digits version range length k.digits k.length_digits k.version_is k.is k.length_is
+    k.lexemes

@@ -1,3 +1,4 @@
 pub mod Incoming
 pub mod Seen
+pub mod Lengths
 pub mod inside

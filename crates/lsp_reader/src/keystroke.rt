@@ -3,13 +3,14 @@
 //! What editors send at each keystroke has the members in one order. Spaces and line feeds between
 //! them may be there or not. A body of any other layout is left to the reader of tokens.
 
-ghost use Rattle.std.specs.Prelude.{◌≡◌, Some, IfOk, IfSome};
+ghost use Rattle.std.specs.Prelude.{◌≡◌, ◌∷◌, [], Some, IfOk, IfSome};
 ghost use Rattle.json.specs.Lex.{lex, between};
 ghost use Rattle.serde_json.specs.Data.{Data};
 ghost use Rattle.serde_json.specs.Read.{read as read_value};
 ghost use Rattle.lsp_message.specs.Message.{message_of};
 ghost use Rattle.lsp_message.specs.Seen.{change_view};
 ghost use Rattle.lsp_reader.specs.Incoming.{incoming_of};
+ghost use Rattle.lsp_reader.specs.Lengths.{lengths_of};
 ghost use Rattle.lsp_reader.specs.Seen.{incoming_view};
 ghost use Rattle.lsp_reader.specs.inside.Lexemes.{head_lexemes, IsPositionAt, IsRangeAt, IsLengthAt, IsDocumentAt, IsChangesAt, IsKeystroke, one_change};
 
@@ -31,6 +32,8 @@ struct Document<'a> {
 #[derive(Clone, Copy, Drop)]
 struct Edit<'a> {
     range: Range,
+    /// Its `rangeLength`, if it has one.
+    length: Option<u64>,
     text: &'a str,
 }
 
@@ -107,23 +110,25 @@ impl<'a> Cursor<'a> {
 
     /// Reads the member `rangeLength` and its comma, if they are next.
     #[inline(always)]
-    fn range_length(&mut self) -> Option<()>
-        ensures { IfSome result (λ _. IsLengthAt self.old.rest.now self.new.rest.now) }
+    fn range_length(&mut self) -> Option<Option<u64>>
+        ensures { IfSome result
+            (λ length. IsLengthAt self.old.rest.now length self.new.rest.now) }
     {
         let before = *self;
         let Some(()) = self.take("\"rangeLength\":") else {
             *self = before;
-            return Some(());
+            return Some(None);
         };
-        self.natural()?;
-        self.take(",")
+        let length = self.natural()?;
+        self.take(",")?;
+        Some(Some(length))
     }
 
     /// Reads the member `contentChanges`, with one change of a range.
     #[inline(always)]
     fn changes(&mut self) -> Option<Edit<'a>>
-        ensures { IfSome result (λ e. IsChangesAt self.old.rest.now e.range e.text.now
-            self.new.rest.now) }
+        ensures { IfSome result (λ e. IsChangesAt self.old.rest.now e.range e.length
+            e.text.now self.new.rest.now) }
     {
         self.take("\"contentChanges\":")?;
         self.take("[")?;
@@ -131,19 +136,23 @@ impl<'a> Cursor<'a> {
         self.take("\"range\":")?;
         let range = self.range()?;
         self.take(",")?;
-        self.range_length()?;
+        let length = self.range_length()?;
         self.take("\"text\":")?;
         let text = self.plain_text()?;
         self.take("}")?;
         self.take("]")?;
-        Some(Edit { range, text })
+        Some(Edit {
+            range,
+            length,
+            text,
+        })
     }
 }
 
 /// Reads a whole text as a message with one change.
 fn keystroke_of(text: &str) -> Option<Keystroke<'_>>
     ensures { IfSome result (λ k. IsKeystroke text.now k.document.uri.now k.document.version
-        k.edit.range k.edit.text.now) }
+        k.edit.range k.edit.length k.edit.text.now) }
 {
     let mut cursor = Cursor::new(text);
     cursor.head()?;
@@ -187,4 +196,14 @@ pub(crate) fn read_keystroke(alloc: Global, text: &str) -> Result<Option<Incomin
     };
     let params = found.params(alloc)?;
     Ok(Some(Incoming::DidChange(Some(params))))
+}
+
+/// Returns the `rangeLength` of the change of a text that is a message with one change in its usual
+/// layout; `None` where it is another text.
+pub(crate) fn keystroke_length(text: &str) -> Option<Option<u64>>
+    ensures { IfSome result (λ length. (d : Data) × (read_value text.now ≡ Some d)
+        × (lengths_of (message_of d) ≡ length ∷ [])) }
+{
+    let found = keystroke_of(text)?;
+    Some(found.edit.length)
 }

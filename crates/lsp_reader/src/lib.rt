@@ -19,6 +19,7 @@
 //!   protocol, each with the members that are kept of it.
 //! - `keystroke`: a `didChange` in its usual layout, read by its bytes; `cursor`: what is left of a
 //!   text.
+//! - `lengths`: the `rangeLength` of changes, which nobody needs to apply them.
 //! - `scalar`: a member of which a text or a whole number is kept.
 //! - `number`: which numbers are in range.
 //! - `opening`: the first token of an object.
@@ -33,6 +34,7 @@ mod document;
 mod fault;
 mod incoming;
 mod keystroke;
+mod lengths;
 mod message;
 mod number;
 mod opening;
@@ -44,3 +46,4 @@ mod skip;
 
 pub use incoming::Incoming;
 pub use json::Scratch;
+pub use lengths::range_lengths;

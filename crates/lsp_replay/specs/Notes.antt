@@ -4,7 +4,7 @@ use Rattle.std.specs.Prelude.{ℕ, ℤ, suc, Bool, true, false, ◌&&◌, ◌||�
 use Rattle.std.specs.Fmt.{signed_decimal}
 use Rattle.std.specs.Result.{result_ok}
 use Rattle.std.specs.Str.{bytes_eq, chars}
-use Rattle.serde_json.specs.Data.{Data, Items, no_items, item}
+use Rattle.serde_json.specs.Data.{Data}
 use Rattle.lsp_text.specs.Positions.{denoted, exact_position}
 use Rattle.lsp_text.specs.Units.{units_in}
 use Rattle.lsp_text.specs.declared.encoding.Encoding.TheVariants.{Utf16}
@@ -16,12 +16,12 @@ use Rattle.lsp_edit.specs.Indexed.{text_within}
 use Rattle.lsp_edit.specs.declared.fault.Side.{Side}
 use Rattle.lsp_edit.specs.declared.fault.Side.TheVariants.{Start, Stop}
 use Rattle.lsp_message.specs.Agreement.{announced_of}
-use Rattle.lsp_message.specs.Message.{IdData, Reading, message, notification, reading}
+use Rattle.lsp_message.specs.Message.{IdData, Reading, reading}
 use Rattle.lsp_message.specs.Params.{DocumentItem, ChangeData}
-use Rattle.lsp_message.specs.Values.{items_in, member_at, natural_in}
 use Rattle.lsp_message.specs.declared.agreement.Announced.{Announced}
 use Rattle.lsp_message.specs.declared.agreement.SyncKind.{SyncKind}
 use Rattle.lsp_message.specs.declared.agreement.SyncKind.TheVariants.{Incremental}
+use Rattle.lsp_reader.specs.Lengths.{lengths_of}
 use Rattle.lsp_store.specs.Table.{entry_at, greatest_batch}
 use Rattle.lsp_server.specs.Answer.{changed}
 use Rattle.lsp_server.specs.Incoming.{IncomingData, did_open, did_change, incoming_of}
@@ -33,24 +33,6 @@ use Rattle.lsp_replay.specs.declared.notes.Note.{Note}
 use Rattle.lsp_replay.specs.declared.notes.Note.TheVariants.{OpenAlready, OldVersion, NoChanges, WholeText, PastEnd, WrongLength, SameText}
 use Rattle.lsp_replay.specs.Reasons.{position_words}
 use Rattle.lsp_replay.specs.Session.{Session, Verdict, answered, result_for}
-
--- ---- the `rangeLength` of the changes of a body (LSP 3.17, TextDocumentContentChangeEvent)
-
--- That of each item of `contentChanges`, if it has one.
-abbrev pub lengths_in : Items → List (Option ℕ)
-lengths_in no_items = []
-lengths_in (item d ds) = natural_in (member_at (codes "rangeLength") (Some d)) ∷ lengths_in ds
-
--- The same, where there may be no such items.
-abbrev pub lengths_found : Option Items → List (Option ℕ)
-lengths_found None = []
-lengths_found (Some items) = lengths_in items
-
--- Those of the params of a notification.
-abbrev pub lengths_of : Reading → List (Option ℕ)
-lengths_of (message (notification method params))
-    = lengths_found (items_in (member_at (codes "contentChanges") params))
-lengths_of body = []
 
 -- ---- one change on the text before it (LSP 3.17, TextDocumentContentChangeEvent); a character `c`
 -- has `units c` units, and `index` is the change's index in its message

@@ -1,7 +1,7 @@
 //! What of an accepted message is suspicious, though it has a meaning.
 
 pub(crate) mod changes;
-pub(crate) mod lengths;
+pub(crate) mod units;
 
 use lsp_edit::Side;
 use lsp_text::Position;

@@ -1,6 +1,6 @@
 -- The lexemes of a change in its usual layout: one change of a range, with the members in the order
 -- in which they are sent. The suffix `_lexemes`: those of the part, before the others.
-use Rattle.std.specs.Prelude.{◌≡◌, ℕ, ℤ, List, [], ◌∷◌, Option, Some, None, IfSome, codes}
+use Rattle.std.specs.Prelude.{◌≡◌, ℕ, ℤ, List, [], ◌∷◌, Option, Some, None, codes}
 use Rattle.json.specs.Token.{begin_object, end_object, begin_array, end_array, string}
 use Rattle.json.specs.Token as tokens
 use Rattle.json.specs.Lex.{Lexeme, token, comma, colon, lex, between}
@@ -123,14 +123,16 @@ pub record IsRangeAt (old : List ℕ) (r : Range) (new : List ℕ) : Type 0 wher
   pub is : AreRangeDigits digits r
   pub lexemes : lex between old ≡ range_lexemes digits (lex between new)
 
--- Digits of a whole number, or none.
-abbrev pub AreLengthDigits : Option (List ℕ) → Type 0
-AreLengthDigits digits = IfSome digits (λ s. (n : ℕ) × (number_of s ≡ Some (unsigned n)))
+-- The digits are those of this length, if there is one.
+abbrev pub AreLengthDigits : Option (List ℕ) → Option ℕ → Type 0
+AreLengthDigits None length = length ≡ None
+AreLengthDigits (Some digits) length =
+    (n : ℕ) × (number_of digits ≡ Some (unsigned n)) × (length ≡ Some n)
 
 -- The text `old` begins with the member `rangeLength`, or without one, and `new` is what follows.
-pub record IsLengthAt (old new : List ℕ) : Type 0 where
+pub record IsLengthAt (old : List ℕ) (length : Option ℕ) (new : List ℕ) : Type 0 where
   pub digits : Option (List ℕ)
-  pub is : AreLengthDigits digits
+  pub is : AreLengthDigits digits length
   pub lexemes : lex between old ≡ length_lexemes digits (lex between new)
 
 -- The text `old` begins with the member `textDocument`, and `new` is what follows it.
@@ -140,12 +142,13 @@ pub record IsDocumentAt (old uri : List ℕ) (version : ℤ) (new : List ℕ) : 
   pub lexemes : lex between old ≡ document_lexemes uri digits (lex between new)
 
 -- The text `old` begins with the member `contentChanges`, and `new` is what follows it.
-pub record IsChangesAt (old : List ℕ) (range : Range) (text new : List ℕ) : Type 0 where
+pub record IsChangesAt (old : List ℕ) (range : Range) (length : Option ℕ) (text new : List ℕ)
+    : Type 0 where
   pub digits : RangeDigits
-  pub length : Option (List ℕ)
+  pub length_digits : Option (List ℕ)
   pub is : AreRangeDigits digits range
-  pub length_is : AreLengthDigits length
-  pub lexemes : lex between old ≡ changes_lexemes digits length text (lex between new)
+  pub length_is : AreLengthDigits length_digits length
+  pub lexemes : lex between old ≡ changes_lexemes digits length_digits text (lex between new)
 
 -- The params of a message with one change of a range.
 abbrev pub one_change : List ℕ → ℤ → Range → List ℕ → ChangeData
@@ -156,14 +159,14 @@ one_change uri version range text = record {
 }
 
 -- The body is a message with one change of a range.
-pub record IsKeystroke (body uri : List ℕ) (version : ℤ) (range : Range) (text : List ℕ) : Type 0
-  where
-    pub version_digits : List ℕ
-    pub digits : RangeDigits
-    pub length : Option (List ℕ)
-    pub version_is : AreVersionDigits version_digits version
-    pub is : AreRangeDigits digits range
-    pub length_is : AreLengthDigits length
-    pub lexemes : lex between body
-        ≡ head_lexemes (document_lexemes uri version_digits (comma
-        ∷ changes_lexemes digits length text (token end_object ∷ token end_object ∷ [])))
+pub record IsKeystroke (body uri : List ℕ) (version : ℤ) (range : Range) (length : Option ℕ)
+    (text : List ℕ) : Type 0 where
+  pub version_digits : List ℕ
+  pub digits : RangeDigits
+  pub length_digits : Option (List ℕ)
+  pub version_is : AreVersionDigits version_digits version
+  pub is : AreRangeDigits digits range
+  pub length_is : AreLengthDigits length_digits length
+  pub lexemes : lex between body
+      ≡ head_lexemes (document_lexemes uri version_digits (comma
+      ∷ changes_lexemes digits length_digits text (token end_object ∷ token end_object ∷ [])))

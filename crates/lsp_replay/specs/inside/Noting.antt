@@ -1,12 +1,12 @@
 -- What there is to note of a record that was read.
-use Rattle.std.specs.Prelude.{ℕ, Bool, List, [], Option}
+use Rattle.std.specs.Prelude.{ℕ, Bool, List, []}
 use Rattle.lsp_text.specs.Units.{units_in}
-use Rattle.lsp_message.specs.Message.{MessageData, Reading, message}
+use Rattle.lsp_message.specs.Message.{Reading}
 use Rattle.lsp_server.specs.Step.{ServerData}
 use Rattle.lsp_replay.specs.declared.notes.Note.{Note}
 use Rattle.lsp_replay.specs.declared.notes.changes.Terms.{Terms}
 use Rattle.lsp_replay.specs.Notes as spec
-use Rattle.lsp_replay.specs.Notes.{lengths_of, notes_on}
+use Rattle.lsp_replay.specs.Notes.{notes_on}
 use Rattle.lsp_replay.specs.inside.Bodies.{BodyData, from_client, from_server}
 
 -- The terms of the code as their value.
@@ -16,9 +16,6 @@ terms_view terms = record {
   lengths = terms.lengths.now;
   ranged = terms.ranged;
 }
-
-abbrev pub lengths_in_message : MessageData → List (Option ℕ)
-lengths_in_message m = lengths_of (message m)
 
 -- By what was read of a body. A server's record has no notes.
 abbrev pub notes_on_read : ServerData → Bool → Reading → BodyData → List Note

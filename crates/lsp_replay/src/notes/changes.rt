@@ -10,7 +10,7 @@ ghost use Rattle.lsp_replay.specs.Notes.{notes_from, range_notes, replaced_by, s
 ghost use Rattle.lsp_replay.specs.inside.Noting.{terms_view};
 
 use crate::notes::Note;
-use crate::notes::lengths::units_of;
+use crate::notes::units::units_of;
 use lsp_buffer::TextBuffer;
 use lsp_edit::{Change, IndexedText, MAX_NEW_TEXT, MAX_OLD_TEXT, Side, TextFault};
 use lsp_text::{Encoding, Position, Range};

@@ -15,12 +15,12 @@ ghost use Rattle.lsp_replay.specs.inside.Verdicts.{verdict_view};
 
 use crate::notes::Note;
 use crate::notes::changes::{Terms, push_batch_notes};
-use crate::notes::lengths::range_lengths;
 use crate::session::known::{About, Known, Noted};
 use crate::session::tracing::{copied_text, is_change, uri_of};
 use crate::session::{RecordBody, Session, Verdict, in_log};
 use lsp_log::{Head, Side};
 use lsp_message::{ChangeParams, OpenParams};
+use lsp_reader::range_lengths;
 use lsp_server::{Answer, Incoming};
 use lsp_stream::EngineFault;
 use lsp_text::Encoding;

@@ -7,5 +7,5 @@ pub returns : goal.returns
 returns c =
     let found = c.in-Some.found in
     let read = keystroke_read c.args.text.now found.document.uri.now found.document.version found.edit.range
-    found.edit.text.now c.in-Some.ensures in
+    found.edit.length found.edit.text.now c.in-Some.ensures in
     (read.0, read.1, ap (λ p. did_change (Some p)) c.in_ok-params.ensures ∙ sym read.2)

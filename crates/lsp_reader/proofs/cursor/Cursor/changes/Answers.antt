@@ -7,7 +7,7 @@ returns c =
     let length = c.in_ok-range_length.ensures in
     record {
       digits = range.digits;
-      length = length.digits;
+      length_digits = length.digits;
       is = range.is;
       length_is = length.is;
       lexemes = changes_read c.args.self.now.rest.now c.take.new.self.rest.now c.take-2.new.self.rest.now

@@ -1,36 +1,56 @@
-//! The `rangeLength` of the changes of a body, which is read once more for them.
+//! The `rangeLength` of the changes of a body (LSP 3.17, TextDocumentContentChangeEvent).
 
-ghost use Rattle.std.specs.Prelude.{◌≡◌, IfOk, Some, codes, option_map, sum_by};
-ghost use Rattle.std.specs.Str.{chars};
+ghost use Rattle.std.specs.Prelude.{◌≡◌, ◌∷◌, [], IfOk, IfSome, Some, codes};
 ghost use Rattle.serde_json.specs.View.{items_view, view};
-ghost use Rattle.lsp_message.specs.Message.{reading};
+ghost use Rattle.lsp_message.specs.Message.{message, reading};
 ghost use Rattle.lsp_message.specs.Seen.{message_view};
 ghost use Rattle.lsp_message.specs.Values.{items_in, member_at, natural_in};
-ghost use Rattle.lsp_text.specs.Units.{units_in};
-ghost use Rattle.lsp_replay.specs.Notes.{lengths_found, lengths_in, lengths_of};
-ghost use Rattle.lsp_replay.specs.inside.Noting.{lengths_in_message};
+ghost use Rattle.lsp_reader.specs.Lengths.{lengths_found, lengths_in, lengths_of};
 
-use crate::session::results::message_of;
-use lsp_message::{Message, read};
-use lsp_text::Encoding;
-use lsp_text::plain::units;
+use crate::keystroke::keystroke_length;
+use lsp_message::{Message, ReadFault, read};
 use serde_json::Value;
 use std::alloc::{AllocError, Global};
 
-/// Returns the `rangeLength` of each change in a body, if it is a notification with changes.
+/// Returns the `rangeLength` of each change in a body, if it is a notification with changes. It is
+/// `None` for a change without one, and for one that is no whole number in the range of `u64`.
+///
+/// Linear in the body. A keystroke is read by its bytes, and takes memory for the result alone. For
+/// any other body a tree of its JSON is built.
 pub fn range_lengths(alloc: Global, body: &[u8]) -> Result<Vec<Option<u64>>, AllocError>
     ensures { IfOk result (λ lengths. lengths.items ≡ lengths_of (reading body.now)) }
 {
-    match message_of(read(alloc, body))? {
-        Some(message) => lengths_in_message(alloc, &message),
-        None => Ok(Vec::new(alloc)),
+    match length_by_bytes(body) {
+        Some(length) => Ok(vec![in alloc; length]?),
+        None => lengths_by_tree(alloc, body),
+    }
+}
+
+/// Returns that of a keystroke's change; `None` where the body is no keystroke.
+fn length_by_bytes(body: &[u8]) -> Option<Option<u64>>
+    ensures { IfSome result (λ length. lengths_of (reading body.now) ≡ length ∷ []) }
+{
+    let Ok(text) = std::str::from_utf8(body) else {
+        return None;
+    };
+    keystroke_length(text)
+}
+
+/// Returns those of a body that is read as a tree.
+fn lengths_by_tree(alloc: Global, body: &[u8]) -> Result<Vec<Option<u64>>, AllocError>
+    ensures { IfOk result (λ lengths. lengths.items ≡ lengths_of (reading body.now)) }
+{
+    match read(alloc, body) {
+        Ok(message) => lengths_in_message(alloc, &message),
+        Err(ReadFault::NoMemory) => Err(AllocError),
+        Err(_) => Ok(Vec::new(alloc)),
     }
 }
 
 /// Returns those of a message.
 fn lengths_in_message(alloc: Global, message: &Message) -> Result<Vec<Option<u64>>, AllocError>
     ensures { IfOk result
-        (λ lengths. lengths.items ≡ lengths_in_message (message_view message.now)) }
+        (λ lengths. lengths.items ≡ lengths_of (message (message_view message.now))) }
 {
     let Message::Notification { params, .. } = message else {
         return Ok(Vec::new(alloc));
@@ -72,15 +92,4 @@ fn length_of(change: &Value) -> Option<u64>
     ensures { result ≡ natural_in (member_at (codes "rangeLength") (Some (view change.now))) }
 {
     change.get("rangeLength")?.as_u64()
-}
-
-/// Returns how many units the characters of a text have.
-pub fn units_of(encoding: Encoding, text: &str) -> usize
-    ensures { result ≡ sum_by (units_in encoding) (chars text.now) }
-{
-    let mut count = 0;
-    for c in text.chars() {
-        count += units(encoding, c) as usize;
-    }
-    count
 }

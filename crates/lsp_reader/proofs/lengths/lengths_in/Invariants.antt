@@ -1,7 +1,7 @@
 use Rattle.std.proofs.Common.{◌≡◌, ◌++◌, drop}
 use Rattle.serde_json.specs.View.{items_view}
-use Rattle.lsp_replay.specs.Notes.{lengths_in}
-use Rattle.lsp_replay.proofs.notes.lengths.lengths_in.Given as goal
+use Rattle.lsp_reader.specs.Lengths.{lengths_in}
+use Rattle.lsp_reader.proofs.lengths.lengths_in.Given as goal
 
 -- those so far, and those of the rest
 abbrev pub invariant-loop-change : goal.invariant-loop-change

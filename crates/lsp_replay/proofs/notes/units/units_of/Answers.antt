@@ -2,7 +2,7 @@ use Rattle.std.proofs.Common.{ap, sum_by, arith}
 use Rattle.std.proofs.lemmas.Str.{IsUtf8-past_char}
 use Rattle.lsp_text.specs.Units.{units_in}
 use Rattle.lsp_store.proofs.Queries.UnitsBeforeLemmas.{chars_none, units_few, units_next}
-use Rattle.lsp_replay.proofs.notes.lengths.units_of.Goals as goal
+use Rattle.lsp_replay.proofs.notes.units.units_of.Goals as goal
 
 pub overflow_add-count : goal.overflow_add-count
 overflow_add-count c =
