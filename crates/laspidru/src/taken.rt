@@ -12,15 +12,16 @@ use lsp_frame::{FrameFault, Framer};
 #[repr(C)]
 #[derive(Clone, Copy, Debug, PartialEq, Eq)]
 pub struct Taken {
-    /// OK: how many bytes of the piece were taken.
+    /// OK, or OUT_OF_MEMORY of the two `take` calls, where a message is whole and waits: how many
+    /// bytes of the piece were taken.
     pub bytes: usize,
-    /// OK: how many bytes the body has, once the message is whole.
+    /// The same codes: how many bytes the body has, once the message is whole.
     pub body_len: usize,
     /// BAD_FRAME: the byte offset in the stream on which the fault was decided.
     pub place: u64,
     /// BAD_FRAME: the number of the fault, 1 to 7 for F1 to F7.
     pub frame: u32,
-    /// OK: whether the message is whole.
+    /// The same codes: whether the message is whole.
     pub is_whole: bool,
 }
 

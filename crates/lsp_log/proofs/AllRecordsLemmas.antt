@@ -9,8 +9,8 @@ use Rattle.lsp_frame.specs.laws.Frames.{DecisionLaw}
 use Rattle.lsp_frame.specs.Faults.{place_after}
 use Rattle.lsp_log.specs.declared.record.Version.{Version}
 use Rattle.lsp_log.specs.declared.record.Version.TheVariants.{One, Two}
-use Rattle.lsp_log.specs.declared.record.Side.{Side}
-use Rattle.lsp_log.specs.declared.record.Side.TheVariants.{Client, Server}
+use Rattle.lsp_log.specs.declared.record.Sender.{Sender}
+use Rattle.lsp_log.specs.declared.record.Sender.TheVariants.{Client, Server}
 use Rattle.lsp_log.specs.Log.{LogRules, Record, AreRecords, IsVersion, together, record_bytes, mark_of, line_of, is_line_due, version_line}
 use Rattle.lsp_log.specs.laws.Logs.{AllRecords, AllRecordsLaw}
 use Rattle.lsp_log.proofs.OpeningLemmas.{starts_front, starts_known}
@@ -37,7 +37,7 @@ version_decided true input =
 -- ---- the next record
 
 record NextRecord (max_body : ℕ) (version : Version) (bytes : List ℕ) : Type 0 where
-  side : Side
+  side : Sender
   frame : List ℕ
   body : List ℕ
   more : List ℕ
@@ -58,7 +58,7 @@ nothing_marked max_body Client frame body more s e = omega (arith, ap length e)
 nothing_marked max_body Server frame body more s e = omega (arith, ap length e)
 
 module _ (decision : DecisionLaw) where
-  marked : (max_body b : ℕ) (rest : List ℕ) (side : Side) → b ∷ [] ≡ mark_of Two side
+  marked : (max_body b : ℕ) (rest : List ℕ) (side : Sender) → b ∷ [] ≡ mark_of Two side
       → NextRecord max_body Two (b ∷ rest) ⊎ IsEnd max_body Two (b ∷ rest)
   marked max_body b rest side e =
       elim (decision max_body rest) [

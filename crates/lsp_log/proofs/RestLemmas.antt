@@ -5,8 +5,8 @@ use Rattle.lsp_frame.specs.Frame.{IsFrameOf}
 use Rattle.lsp_frame.specs.Stream.{IsFrame}
 use Rattle.lsp_log.specs.declared.record.Version.{Version}
 use Rattle.lsp_log.specs.declared.record.Version.TheVariants.{One, Two}
-use Rattle.lsp_log.specs.declared.record.Side.{Side}
-use Rattle.lsp_log.specs.declared.record.Side.TheVariants.{Client, Server}
+use Rattle.lsp_log.specs.declared.record.Sender.{Sender}
+use Rattle.lsp_log.specs.declared.record.Sender.TheVariants.{Client, Server}
 use Rattle.lsp_log.specs.declared.splitter.Splitter.{Splitter}
 use Rattle.lsp_log.specs.Log.{LogRules, Record, HasNoRecord, mark_of}
 use Rattle.lsp_log.specs.Splitting.{IsReady, IsAfter, log_at, buffered_of, mark_part}
@@ -14,7 +14,7 @@ use Rattle.lsp_log.specs.laws.Logs.{BufferedLaw, RestLaw}
 use Rattle.lsp_log.proofs.SplitLemmas.{given_reads, some_side, some_or, frame_len}
 
 -- Two marks of one version have one length.
-behind_mark : (version : Version) (side other : Side) (a b : List ℕ) → mark_of version side ++ a ≡ mark_of version other
+behind_mark : (version : Version) (side other : Sender) (a b : List ℕ) → mark_of version side ++ a ≡ mark_of version other
     ++ b → a ≡ b
 behind_mark One side other a b e = e
 behind_mark Two Client Client a b e = ap (drop 1) e
@@ -33,7 +33,7 @@ no_record log_rules input records s ready at other raw body more is_frame_of e =
     elim (some_or s.side) [
       | inl known ↦
           let known_plain : mark_of s.version known.0 ++ s.framer.buffered ≡ mark_of s.version other ++ (raw ++ more) =
-          ap (λ (o : Option Side). mark_part s.version o ++ s.framer.buffered) (sym known.1) ∙ plain in
+          ap (λ (o : Option Sender). mark_part s.version o ++ s.framer.buffered) (sym known.1) ∙ plain in
           let same : s.framer.buffered ≡ raw ++ more =
           behind_mark s.version known.0 other s.framer.buffered (raw ++ more) known_plain in
           let nothing : more ≡ [] = at.one raw body more is_frame_of same in
@@ -44,7 +44,7 @@ no_record log_rules input records s ready at other raw body more is_frame_of e =
           })
       | inr unknown ↦
           let empty : mark_part s.version s.side ++ s.framer.buffered ≡ [] =
-          ap (λ (o : Option Side). mark_part s.version o ++ s.framer.buffered) unknown ∙ ready.fed.between unknown in
+          ap (λ (o : Option Sender). mark_part s.version o ++ s.framer.buffered) unknown ∙ ready.fed.between unknown in
           omega (
             arith,
             ap length plain,
@@ -67,14 +67,14 @@ rest_law log_rules input records s ready at =
         | inl known ↦ inr (record {
           side = known.0;
           part = s.framer.buffered;
-          is = append-nil (buffered_of s) ∙ ap (λ (o : Option Side). mark_part s.version o ++ s.framer.buffered)
+          is = append-nil (buffered_of s) ∙ ap (λ (o : Option Sender). mark_part s.version o ++ s.framer.buffered)
               known.1;
           begins = at.part;
           some = some;
           none = no_record log_rules input records s ready at;
         })
         | inr unknown ↦ inl (append-nil (buffered_of s)
-            ∙ ap (λ (o : Option Side). mark_part s.version o ++ s.framer.buffered) unknown ∙ ready.fed.between unknown)
+            ∙ ap (λ (o : Option Sender). mark_part s.version o ++ s.framer.buffered) unknown ∙ ready.fed.between unknown)
       ]
     ]
 

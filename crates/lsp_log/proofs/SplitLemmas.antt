@@ -13,8 +13,8 @@ use Rattle.lsp_frame.specs.declared.fault.FrameFault.TheVariants as fault_of
 use Rattle.lsp_frame.proofs.StreamLemmas.{nothing_part}
 use Rattle.lsp_log.specs.declared.record.Version.{Version}
 use Rattle.lsp_log.specs.declared.record.Version.TheVariants.{One, Two}
-use Rattle.lsp_log.specs.declared.record.Side.{Side}
-use Rattle.lsp_log.specs.declared.record.Side.TheVariants.{Client}
+use Rattle.lsp_log.specs.declared.record.Sender.{Sender}
+use Rattle.lsp_log.specs.declared.record.Sender.TheVariants.{Client}
 use Rattle.lsp_log.specs.declared.splitter.Splitter.{Splitter}
 use Rattle.lsp_log.specs.Log.{LogRules, Record, IsRecord, IsReadAs, IsMalformed, line_of, mark_of, is_line_due, together, record_bytes}
 use Rattle.lsp_log.specs.Splitting.{IsFed, IsReady, IsAfter, IsSplitFault, IsSide, IsOpen, mark_part, buffered_of, log_at, side_of, record_at}
@@ -37,19 +37,19 @@ pub no_empty_frame : (max_body : ℕ) → IsFrame max_body [] → ⊥
 no_empty_frame max_body frame = omega (arith, frame_len max_body [] frame.body frame.is_frame_of)
 
 -- Who wrote the record that comes in is known.
-record KnownSide (o : Option Side) : Type 0 where
-  side : Side
+record KnownSide (o : Option Sender) : Type 0 where
+  side : Sender
   is : o ≡ Some side
 
-known_side : (o : Option Side) → (o ≡ None → ⊥) → KnownSide o
+known_side : (o : Option Sender) → (o ≡ None → ⊥) → KnownSide o
 known_side None some = absurd (some refl)
 known_side (Some side) some = record { side = side; is = refl }
 
-pub some_or : (o : Option Side) → ((side : Side) × (o ≡ Some side)) ⊎ (o ≡ None)
+pub some_or : (o : Option Sender) → ((side : Sender) × (o ≡ Some side)) ⊎ (o ≡ None)
 some_or None = inr refl
 some_or (Some side) = inl (side, refl)
 
-pub not_none : (o : Option Side) (none : Bool) → is_some o ≡ not none → none ≡ false → o ≡ None → ⊥
+pub not_none : (o : Option Sender) (none : Bool) → is_some o ≡ not none → none ≡ false → o ≡ None → ⊥
 not_none o none said some is = let two : false ≡ true = sym (ap is_some is) ∙ said ∙ ap not some in cc
 
 -- Bytes were taken.
@@ -95,7 +95,7 @@ fed_stands log_rules input piece records s f k e part one at =
     is_after
 
 -- No more of them can be taken.
-malformed : (log_rules : LogRules) (input piece : List ℕ) (records : List Record) (s : Splitter) (side : Side)
+malformed : (log_rules : LogRules) (input piece : List ℕ) (records : List Record) (s : Splitter) (side : Sender)
     (n : FramerData) (fault : FrameFault) → s.side ≡ Some side
     → IsStreamFault s.framer n piece fault → IsAfter log_rules input piece records s
     → IsMalformed log_rules.max_body input fault (log_at s records piece)
@@ -105,14 +105,14 @@ malformed log_rules input piece records s side n fault is why at =
     record {
       side = side;
       part = s.framer.buffered ++ piece;
-      is = ap (λ (o : Option Side). (mark_part s.version o ++ s.framer.buffered) ++ piece) is
+      is = ap (λ (o : Option Sender). (mark_part s.version o ++ s.framer.buffered) ++ piece) is
           ∙ append_assoc (mark_of s.version side) s.framer.buffered piece;
       decided = subst (λ (p : ℕ). IsDecided log_rules.max_body p (s.framer.buffered ++ piece) fault) at.framed limited;
       hopeless = λ more raw body tail t. why.hopeless more raw body tail
           (subst (λ (m : ℕ). IsFrameOf m raw body) (sym at.limit) t);
     }
 
-split_fault : (log_rules : LogRules) (input piece : List ℕ) (records : List Record) (s : Splitter) (side : Side)
+split_fault : (log_rules : LogRules) (input piece : List ℕ) (records : List Record) (s : Splitter) (side : Sender)
     (n : FramerData) (fault : FrameFault) → s.side ≡ Some side
     → IsFeedFault s.framer n piece fault → s.framer.failed ≡ false → IsAfter log_rules input piece records s
     → IsSplitFault log_rules.max_body input (log_at s records piece) (engine_fault fault)
@@ -181,15 +181,15 @@ two_between One side = absurd side
 two_between Two side = refl
 
 pub marked_stands : (log_rules : LogRules) (input piece tail : List ℕ) (mark : ℕ) (records : List Record) (s : Splitter)
-    (side : Side) (f : FramerData) → s.side ≡ None → s.framer.buffered ≡ []
+    (side : Sender) (f : FramerData) → s.side ≡ None → s.framer.buffered ≡ []
     → piece ≡ mark ∷ tail → mark_of Two side ≡ mark ∷ [] → f ≡ record s.framer { place = place_after s.framer.place 1 }
     → IsAfter log_rules input piece records s
     → IsAfter log_rules input tail records (record s { framer = f; side = Some side })
 marked_stands log_rules input piece tail mark records s side f none nothing is said e at =
-    let two : s.version ≡ Two = two_between s.version (subst (λ (o : Option Side). IsSide s.version o) none at.side) in
+    let two : s.version ≡ Two = two_between s.version (subst (λ (o : Option Sender). IsSide s.version o) none at.side) in
     let marked : mark_of s.version side ≡ mark ∷ [] = ap (λ (v : Version). mark_of v side) two ∙ said in
     let was : buffered_of s ++ piece ≡ mark ∷ tail =
-    ap (λ (o : Option Side). (mark_part s.version o ++ s.framer.buffered) ++ piece) none ∙ ap (λ z. z ++ piece) nothing
+    ap (λ (o : Option Sender). (mark_part s.version o ++ s.framer.buffered) ++ piece) none ∙ ap (λ z. z ++ piece) nothing
     ∙ is in
     let now : (mark_of s.version side ++ s.framer.buffered) ++ tail ≡ mark ∷ tail =
     ap (λ z. (z ++ s.framer.buffered) ++ tail) marked ∙ ap (λ z. ((mark ∷ []) ++ z) ++ tail) nothing in
@@ -219,11 +219,11 @@ marked_stands log_rules input piece tail mark records s side f none nothing is s
     is_after
 
 -- A record was given up.
-one_side : (version : Version) (side : Side) → IsSide version (Some side) → version ≡ One → side ≡ Client
+one_side : (version : Version) (side : Sender) → IsSide version (Some side) → version ≡ One → side ≡ Client
 one_side One side is e = is
 one_side Two side is e = let other : Two ≡ One = e in cc
 
-known_reads : (log_rules : LogRules) (input more body : List ℕ) (records : List Record) (s : Splitter) (was : Side)
+known_reads : (log_rules : LogRules) (input more body : List ℕ) (records : List Record) (s : Splitter) (was : Sender)
     → s.side ≡ Some was → IsFrameOf log_rules.max_body s.framer.buffered body
     → IsAfter log_rules input more records s → IsReadAs log_rules input (record {
       version = s.version;
@@ -232,14 +232,14 @@ known_reads : (log_rules : LogRules) (input more body : List ℕ) (records : Lis
     })
 known_reads log_rules input more body records s was is is_frame_of at =
     let bytes : buffered_of s ≡ record_bytes s.version (record_at s body) =
-    ap (λ (o : Option Side). mark_part s.version o ++ s.framer.buffered) is
-    ∙ ap (λ (w : Side). mark_of s.version w ++ s.framer.buffered) (sym (ap side_of is)) in
+    ap (λ (o : Option Sender). mark_part s.version o ++ s.framer.buffered) is
+    ∙ ap (λ (w : Sender). mark_of s.version w ++ s.framer.buffered) (sym (ap side_of is)) in
     let len = input_len log_rules input (log_at s records more) at.reads in
     let record_here : IsRecord log_rules.max_body s.version
     (length (line_of s.version) + length (together s.version records [])) (is_line_due s.version records)
     (record_at s body) = record {
       is_frame_of = is_frame_of;
-      side = λ one. ap side_of is ∙ one_side s.version was (subst (λ (o : Option Side). IsSide s.version o) is at.side)
+      side = λ one. ap side_of is ∙ one_side s.version was (subst (λ (o : Option Sender). IsSide s.version o) is at.side)
           one;
       of_version = refl;
       placed = at.placed ∙ ap (place_after 0) (omega (arith, len));
@@ -258,7 +258,7 @@ known_reads log_rules input more body records s was is is_frame_of at =
     }
 
 given_known : (log_rules : LogRules) (input more body : List ℕ) (records : List Record) (s : Splitter) (f : FramerData)
-    (was : Side) (side : Option Side) (mark place : ℕ) → s.side ≡ Some was
+    (was : Sender) (side : Option Sender) (mark place : ℕ) → s.side ≡ Some was
     → f ≡ released s.framer → IsSide s.version side → mark_part s.version side ≡ []
     → mark ≡ length (mark_of s.version was)
     → place ≡ min (min (s.place + mark) (2 ^ 64 - 1) + length s.framer.buffered) (2 ^ 64 - 1)
@@ -275,7 +275,7 @@ given_known log_rules input more body records s f was side mark place is e sided
     let buffered : length (buffered_of s) ≡ mark + length s.framer.buffered =
     omega (
       arith,
-      ap (λ (o : Option Side). length (mark_part s.version o ++ s.framer.buffered)) is,
+      ap (λ (o : Option Sender). length (mark_part s.version o ++ s.framer.buffered)) is,
       length-append (mark_of s.version was) s.framer.buffered,
       marked,
     ) in
@@ -326,9 +326,9 @@ given_reads log_rules input more body records s some is_frame_of at =
     known_reads log_rules input more body records s known.side known.is is_frame_of at
 
 pub given_stands : (log_rules : LogRules) (input more body : List ℕ) (records : List Record) (s : Splitter)
-    (f : FramerData) (side : Option Side) (mark place : ℕ) → (s.side ≡ None → ⊥)
+    (f : FramerData) (side : Option Sender) (mark place : ℕ) → (s.side ≡ None → ⊥)
     → f ≡ released s.framer → IsSide s.version side → mark_part s.version side ≡ []
-    → ((was : Side) → mark ≡ length (mark_of s.version was))
+    → ((was : Sender) → mark ≡ length (mark_of s.version was))
     → place ≡ min (min (s.place + mark) (2 ^ 64 - 1) + length s.framer.buffered) (2 ^ 64 - 1)
     → IsFrameOf log_rules.max_body s.framer.buffered body → IsAfter log_rules input more records s
     → IsAfter log_rules input more (records ++ record_at s body ∷ [])
@@ -338,7 +338,7 @@ given_stands log_rules input more body records s f side mark place some e sided 
     given_known log_rules input more body records s f known.side side mark place known.is e sided none
     (marked known.side) placed is_frame_of at
 
-pub given_ready : (s : Splitter) (f : FramerData) (side : Option Side) (place : ℕ) → f ≡ released s.framer
+pub given_ready : (s : Splitter) (f : FramerData) (side : Option Sender) (place : ℕ) → f ≡ released s.framer
     → s.framer.failed ≡ false
     → IsReady (record { framer = f; version = s.version; side = side; place = place; line_due = false })
 given_ready s f side place e sound =

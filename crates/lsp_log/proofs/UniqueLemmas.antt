@@ -5,8 +5,8 @@ use Rattle.lsp_frame.specs.Frame.{IsFrameOf}
 use Rattle.lsp_frame.specs.laws.Frames.{FrontLaw, SameFrame}
 use Rattle.lsp_log.specs.declared.record.Version.{Version}
 use Rattle.lsp_log.specs.declared.record.Version.TheVariants.{One, Two}
-use Rattle.lsp_log.specs.declared.record.Side.{Side}
-use Rattle.lsp_log.specs.declared.record.Side.TheVariants.{Client, Server}
+use Rattle.lsp_log.specs.declared.record.Sender.{Sender}
+use Rattle.lsp_log.specs.declared.record.Sender.TheVariants.{Client, Server}
 use Rattle.lsp_log.specs.Log.{Record, IsRecord, AreRecords, HasNoRecord, together, record_bytes, mark_of, line_of, is_line_due}
 use Rattle.lsp_log.specs.laws.Logs.{UniqueLaw, FirstLaw, VersionLaw}
 
@@ -20,7 +20,7 @@ pub first_byte : (x y : ℕ) (xs ys : List ℕ) → x ∷ xs ≡ y ∷ ys → x 
 first_byte x y xs ys e = cc
 
 -- Two marks are one where the same stands behind them.
-same_mark : (version : Version) (side other : Side) (a b : List ℕ) → (version ≡ One → side ≡ Client)
+same_mark : (version : Version) (side other : Sender) (a b : List ℕ) → (version ≡ One → side ≡ Client)
     → (version ≡ One → other ≡ Client) → mark_of version side ++ a ≡ mark_of version other ++ b
     → (side ≡ other) × (a ≡ b)
 same_mark One side other a b one also e = (one refl ∙ sym (also refl), e)
@@ -62,7 +62,7 @@ same_record front max_body version place due r q rest other is also e =
 
 -- No record begins a rest.
 abbrev pub IsEnd : ℕ → Version → List ℕ → Type 0
-IsEnd max_body version rest = (side : Side) (raw body more : List ℕ) → IsFrameOf max_body raw body
+IsEnd max_body version rest = (side : Sender) (raw body more : List ℕ) → IsFrameOf max_body raw body
     → rest ≢ mark_of version side ++ (raw ++ more)
 
 -- The records of an input are the first of all its records.

@@ -6,8 +6,8 @@ use Rattle.lsp_frame.specs.Faults.{IsDecided, place_after}
 use Rattle.lsp_frame.specs.declared.fault.FrameFault.{FrameFault}
 use Rattle.lsp_log.specs.declared.record.Version.{Version}
 use Rattle.lsp_log.specs.declared.record.Version.TheVariants.{One, Two}
-use Rattle.lsp_log.specs.declared.record.Side.{Side}
-use Rattle.lsp_log.specs.declared.record.Side.TheVariants.{Client, Server}
+use Rattle.lsp_log.specs.declared.record.Sender.{Sender}
+use Rattle.lsp_log.specs.declared.record.Sender.TheVariants.{Client, Server}
 use Rattle.lsp_log.specs.declared.record.Head.{Head}
 
 -- How an input is read.
@@ -36,7 +36,7 @@ IsVersion versions Two input = (versions ≡ true)
 
 -- The mark before a frame: `>` for one of the client's, `<` for one of the server's. Version 1 has
 -- none.
-abbrev pub mark_of : Version → Side → List ℕ
+abbrev pub mark_of : Version → Sender → List ℕ
 mark_of One side = []
 mark_of Two Client = 62 ∷ []
 mark_of Two Server = 60 ∷ []
@@ -107,12 +107,12 @@ rest_at input log = length input - length log.rest
 
 -- No complete record begins the rest: all complete records of the input were found.
 abbrev pub HasNoRecord : ℕ → Log → Type 0
-HasNoRecord max_body log = (side : Side) (raw body more : List ℕ) →
+HasNoRecord max_body log = (side : Sender) (raw body more : List ℕ) →
     IsFrameOf max_body raw body → log.rest ≢ mark_of log.version side ++ (raw ++ more)
 
 -- The input is cut: the rest is an incomplete record, so far without a fault.
 pub record IsCut (max_body : ℕ) (log : Log) : Type 0 where
-  pub side : Side
+  pub side : Sender
   pub part : List ℕ
   pub is : log.rest ≡ mark_of log.version side ++ part
   pub begins : IsPart max_body part
@@ -127,7 +127,7 @@ IsUndecided max_body log = (log.rest ≡ []) ⊎ IsCut max_body log
 -- input.
 pub record IsMalformed (max_body : ℕ) (input : List ℕ) (fault : FrameFault)
     (log : Log) : Type 0 where
-  pub side : Side
+  pub side : Sender
   pub part : List ℕ
   pub is : log.rest ≡ mark_of log.version side ++ part
   pub decided : IsDecided max_body (place_after 0 (length input - length part)) part fault

@@ -4,8 +4,8 @@ use Rattle.lsp_frame.specs.Stream.{IsFrame, IsPart, HoldsOne}
 use Rattle.lsp_frame.specs.Faults.{place_after}
 use Rattle.lsp_log.specs.declared.record.Version.{Version}
 use Rattle.lsp_log.specs.declared.record.Version.TheVariants.{One, Two}
-use Rattle.lsp_log.specs.declared.record.Side.{Side}
-use Rattle.lsp_log.specs.declared.record.Side.TheVariants.{Client}
+use Rattle.lsp_log.specs.declared.record.Sender.{Sender}
+use Rattle.lsp_log.specs.declared.record.Sender.TheVariants.{Client}
 use Rattle.lsp_log.specs.declared.record.Head.{Head}
 use Rattle.lsp_stream.specs.declared.fault.EngineFault.{EngineFault}
 use Rattle.lsp_stream.specs.declared.fault.EngineFault.TheVariants.{Frame, NoMemory, BadLog}
@@ -23,7 +23,7 @@ pub record IsReady (s : Splitter) : Type 0 where
   pub none : IsFrame s.framer.limits.max_body s.framer.buffered → ⊥
 
 -- The mark of the record that is coming in, if it has come.
-abbrev pub mark_part : Version → Option Side → List ℕ
+abbrev pub mark_part : Version → Option Sender → List ℕ
 mark_part version None = []
 mark_part version (Some side) = mark_of version side
 
@@ -32,7 +32,7 @@ abbrev pub buffered_of : Splitter → List ℕ
 buffered_of s = mark_part s.version s.side ++ s.framer.buffered
 
 -- The side may be unknown only in version 2; in version 1 each record is the client's.
-abbrev pub IsSide : Version → Option Side → Type 0
+abbrev pub IsSide : Version → Option Sender → Type 0
 IsSide One None = ⊥
 IsSide One (Some side) = side ≡ Client
 IsSide Two side = Unit {0}
@@ -64,7 +64,7 @@ pub record IsOpen (log_rules : LogRules) (input : List ℕ) (version : Version)
   pub is : input ≡ line_of version ++ more
 
 -- Who wrote the record that is coming in.
-abbrev pub side_of : Option Side → Side
+abbrev pub side_of : Option Sender → Sender
 side_of None = Client
 side_of (Some side) = side
 

@@ -13,5 +13,5 @@ mod splitter;
 
 pub use laws::reading_laws;
 pub use opening::{Opening, read_opening};
-pub use record::{Head, Side, VERSION_LINE, Version};
+pub use record::{Head, Sender, VERSION_LINE, Version};
 pub use splitter::Splitter;

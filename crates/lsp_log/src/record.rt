@@ -34,20 +34,20 @@ impl Version {
 
 /// The end that wrote a record.
 #[derive(Clone, Copy, Debug, PartialEq, Eq)]
-pub enum Side {
+pub enum Sender {
     Client,
     Server,
 }
 
-impl Side {
+impl Sender {
     /// Returns who wrote a record with this mark of version 2. `None` if no record has it.
-    pub fn of_mark(mark: u8) -> Option<Side>
+    pub fn of_mark(mark: u8) -> Option<Sender>
         ensures { MatchOption result ((mark ≢ 62) × (mark ≢ 60))
             (λ side. mark_of Version.Two side ≡ mark ∷ []) }
     {
         match mark {
-            b'>' => Some(Side::Client),
-            b'<' => Some(Side::Server),
+            b'>' => Some(Sender::Client),
+            b'<' => Some(Sender::Server),
             _ => None,
         }
     }
@@ -57,7 +57,7 @@ impl Side {
 #[derive(Clone, Copy, Debug, PartialEq, Eq)]
 pub struct Head {
     /// Who wrote it. In version 1 all records are the client's.
-    pub side: Side,
+    pub side: Sender,
     /// The version of the log that it is in.
     pub version: Version,
     /// The byte offset of the record in the input: of its mark in version 2, else of its frame. It

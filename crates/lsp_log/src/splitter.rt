@@ -7,7 +7,7 @@ ghost use Rattle.lsp_log.specs.Log.{LogRules, Record, mark_of};
 ghost use Rattle.lsp_log.specs.Splitting.{IsSplitterFault};
 ghost use Rattle.lsp_log.specs.Splitting.{IsReady, IsFed, IsAfter, IsSplitFault, IsOpen, IsSide, log_at, head_of, buffered_of, mark_part};
 
-use crate::record::{Head, Side, Version};
+use crate::record::{Head, Sender, Version};
 use lsp_frame::{Framer, Limits};
 use lsp_stream::EngineFault;
 use std::alloc::Global;
@@ -19,7 +19,7 @@ pub struct Splitter {
     framer: Framer,
     version: Version,
     // Who wrote the record that is coming in; unknown until its mark has come.
-    side: Option<Side>,
+    side: Option<Sender>,
     place: u64,
     line_due: bool,
 }
@@ -98,7 +98,7 @@ impl Splitter {
         let Some(mark) = piece.first() else {
             return Ok(0);
         };
-        match Side::of_mark(*mark) {
+        match Sender::of_mark(*mark) {
             Some(side) => {
                 self.side = Some(side);
                 self.framer.skip(1);
@@ -167,7 +167,7 @@ impl Splitter {
         ensures { result ≡ head_of self.now }
     {
         Head {
-            side: self.side.unwrap_or(Side::Client),
+            side: self.side.unwrap_or(Sender::Client),
             version: self.version,
             place: self.place,
             line_due: self.line_due,
@@ -176,19 +176,19 @@ impl Splitter {
 }
 
 /// Returns who wrote the next record, as far as that is known without a mark.
-fn first_side(version: Version) -> Option<Side>
+fn first_side(version: Version) -> Option<Sender>
     ensures side { IsSide version result }
     ensures none { mark_part version result ≡ [] }
 {
     match version {
-        Version::One => Some(Side::Client),
+        Version::One => Some(Sender::Client),
         Version::Two => None,
     }
 }
 
 /// Returns the length of a mark.
 fn mark_len(version: Version) -> u64
-    ensures { (side : Side) → result ≡ length (mark_of version side) }
+    ensures { (side : Sender) → result ≡ length (mark_of version side) }
 {
     match version {
         Version::One => 0,

@@ -4,6 +4,7 @@ mod agreement;
 mod bodies;
 mod faults;
 mod params;
+mod read_back;
 mod refused;
 mod texts;
 

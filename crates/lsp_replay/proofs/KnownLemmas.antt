@@ -4,8 +4,8 @@ use Rattle.std.specs.Prelude.{◌⊎◌, Result, Ok, Err}
 use Rattle.lsp_message.specs.Message.{reading}
 use Rattle.lsp_server.specs.Incoming.{IncomingData, incoming_of}
 use Rattle.lsp_log.specs.declared.record.Head.{Head}
-use Rattle.lsp_log.specs.declared.record.Side.{Side}
-use Rattle.lsp_log.specs.declared.record.Side.TheVariants.{Client, Server}
+use Rattle.lsp_log.specs.declared.record.Sender.{Sender}
+use Rattle.lsp_log.specs.declared.record.Sender.TheVariants.{Client, Server}
 use Rattle.lsp_log.specs.declared.record.Version.{Version}
 use Rattle.lsp_log.specs.Log.{Record}
 use Rattle.lsp_replay.specs.declared.notes.Note.{Note}
@@ -43,7 +43,7 @@ module _ (s : Session) (body : List ℕ) where
   abbrev asked : IncomingData
   asked = incoming_of (reading body)
 
-  uri_at : (version : Version) (side : Side) → uri_read (body_read version side body) ≡ uri_of side asked
+  uri_at : (version : Version) (side : Sender) → uri_read (body_read version side body) ≡ uri_of side asked
   uri_at version Client = refl
   uri_at version Server = refl
 
@@ -58,7 +58,7 @@ module _ (s : Session) (body : List ℕ) where
   no_notes notes verdict (inl e) = rw e refl
   no_notes notes verdict (inr e) = rw e refl
 
-  mention_at : (version : Version) (side : Side) → is_mention (is_change_read (body_read version side body))
+  mention_at : (version : Version) (side : Sender) → is_mention (is_change_read (body_read version side body))
       (judge_from s version side body).verdict ≡ is_mention (is_change asked) (judge_from s version side body).verdict
   mention_at version Client = refl
   mention_at version Server =
@@ -67,7 +67,7 @@ module _ (s : Session) (body : List ℕ) where
       no_mention false (judge_server s announced).verdict heard
       ∙ sym (no_mention (is_change asked) (judge_server s announced).verdict heard)
 
-  notes_at : (ranged : Bool) (version : Version) (side : Side)
+  notes_at : (ranged : Bool) (version : Version) (side : Sender)
       → notes_if (notes_on_read s.server ranged (reading body) (body_read version side body))
       (judge_from s version side body).verdict ≡ notes_of s ranged body (judge_from s version side body).verdict
   notes_at ranged version Client = refl

@@ -9,8 +9,8 @@ use Rattle.lsp_server.specs.declared.phase.Phase.{Phase}
 use Rattle.lsp_server.specs.Incoming.{IncomingData, response, initialize, shutdown, other_request, other_notification, incoming_of}
 use Rattle.lsp_stream.specs.declared.fault.EngineFault.{EngineFault}
 use Rattle.lsp_stream.specs.Ports.{Ports}
-use Rattle.lsp_log.specs.declared.record.Side.{Side}
-use Rattle.lsp_log.specs.declared.record.Side.TheVariants.{Client, Server}
+use Rattle.lsp_log.specs.declared.record.Sender.{Sender}
+use Rattle.lsp_log.specs.declared.record.Sender.TheVariants.{Client, Server}
 use Rattle.lsp_log.specs.declared.record.Head.{Head}
 use Rattle.lsp_log.specs.Log.{Record, Log, IsReadAs}
 use Rattle.lsp_replay.specs.declared.commands.Settings.{Settings}
@@ -47,7 +47,7 @@ is_answer_to id body = false
 
 -- Does a record stay? One of the server's does if it answers the accepted `initialize`, or the last
 -- request that stayed, whose id is `waiting`.
-abbrev pub record_stays : Session → Option IdData → Side → List ℕ → Bool
+abbrev pub record_stays : Session → Option IdData → Sender → List ℕ → Bool
 record_stays s waiting Client body
     = message_stays s.server.phase (incoming_of (reading body))
 record_stays s waiting Server body
@@ -61,7 +61,7 @@ waiting_for waiting (other_request id method) = Some id
 waiting_for waiting m = waiting
 
 -- The same after a record that stays. Once it is answered nothing is waited for.
-abbrev pub waiting_after : Option IdData → Side → List ℕ → Option IdData
+abbrev pub waiting_after : Option IdData → Sender → List ℕ → Option IdData
 waiting_after waiting Client body = waiting_for waiting (incoming_of (reading body))
 waiting_after waiting Server body
     = if is_answer_to waiting (reading body) then None else waiting

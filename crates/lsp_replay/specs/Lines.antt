@@ -7,8 +7,8 @@ use Rattle.lsp_server.specs.Answer.{refused}
 use Rattle.lsp_server.specs.Incoming.{IncomingData, did_open, did_change, did_close, incoming_of}
 use Rattle.lsp_server.specs.declared.answer.Refusal.TheVariants.{Store}
 use Rattle.lsp_log.specs.declared.record.Head.{Head}
-use Rattle.lsp_log.specs.declared.record.Side.{Side}
-use Rattle.lsp_log.specs.declared.record.Side.TheVariants.{Client}
+use Rattle.lsp_log.specs.declared.record.Sender.{Sender}
+use Rattle.lsp_log.specs.declared.record.Sender.TheVariants.{Client}
 use Rattle.lsp_log.specs.Log.{Record}
 use Rattle.lsp_replay.specs.declared.notes.Note.{Note}
 use Rattle.lsp_replay.specs.Commands.{View, unless_bad, writes}
@@ -18,7 +18,7 @@ use Rattle.lsp_replay.specs.Session.{Session, Judged, Verdict, answered, is_chan
 
 -- The document that a record of one side is about: the URI in valid parameters of an editor's
 -- message.
-abbrev pub uri_of : Side → IncomingData → Option (List ℕ)
+abbrev pub uri_of : Sender → IncomingData → Option (List ℕ)
 uri_of Client (did_open (Some p)) = Some p.uri
 uri_of Client (did_change (Some p)) = Some p.uri
 uri_of Client (did_close (Some p)) = Some p.uri
@@ -53,7 +53,7 @@ is_strict_refusal (answered (refused (Store (StaleVersion current)))) = true
 is_strict_refusal verdict = false
 
 -- The documents that were opened, closed or refused last, after a record of one side that asks `m`.
-abbrev pub mentions_after : List Mention → Side → IncomingData → Judged → List Mention
+abbrev pub mentions_after : List Mention → Sender → IncomingData → Judged → List Mention
 mentions_after mentions side m j =
     mentioned (is_mention (is_change m) j.verdict) (uri_of side m) j.session.records mentions
 

@@ -21,8 +21,8 @@ use Rattle.lsp_replay.specs.declared.outcome.Outcome.{Outcome}
 use Rattle.lsp_stream.specs.Ports.{one_more}
 use Rattle.lsp_log.specs.declared.record.Version.{Version}
 use Rattle.lsp_log.specs.declared.record.Version.TheVariants.{Two}
-use Rattle.lsp_log.specs.declared.record.Side.{Side}
-use Rattle.lsp_log.specs.declared.record.Side.TheVariants.{Client, Server}
+use Rattle.lsp_log.specs.declared.record.Sender.{Sender}
+use Rattle.lsp_log.specs.declared.record.Sender.TheVariants.{Client, Server}
 use Rattle.lsp_log.specs.Log.{Record}
 
 -- A server that is run on a log, and what is counted.
@@ -162,7 +162,7 @@ judge_server s (Some (Some encoding)) =
 -- ---- any record
 
 -- A record of one side, in a log of a version.
-abbrev pub judge_from : Session → Version → Side → List ℕ → Judged
+abbrev pub judge_from : Session → Version → Sender → List ℕ → Judged
 judge_from s version Client body = judge_client s version (incoming_of (reading body))
 judge_from s version Server body = judge_server s (encoding_for s.expected (reading body))
 

@@ -10,8 +10,8 @@ use Rattle.lsp_store.specs.Table.{entry_at}
 use Rattle.lsp_server.specs.Incoming.{IncomingData, not_json, not_a_message, response, initialize, shutdown, other_request, exit, did_open, did_change, did_close, other_notification, incoming_of}
 use Rattle.lsp_server.specs.Answer.{changed}
 use Rattle.lsp_log.specs.declared.record.Head.{Head}
-use Rattle.lsp_log.specs.declared.record.Side.{Side}
-use Rattle.lsp_log.specs.declared.record.Side.TheVariants.{Client, Server}
+use Rattle.lsp_log.specs.declared.record.Sender.{Sender}
+use Rattle.lsp_log.specs.declared.record.Sender.TheVariants.{Client, Server}
 use Rattle.lsp_log.specs.Log.{Record}
 use Rattle.lsp_replay.specs.declared.commands.Settings.{Settings}
 use Rattle.lsp_replay.specs.declared.commands.traced.Details.{Details}
@@ -44,7 +44,7 @@ id_json (text s) = json_string s
 -- ---- what a record is, whatever is answered
 
 -- Who sent it.
-abbrev pub side_word : Side → List ℕ
+abbrev pub side_word : Sender → List ℕ
 side_word Client = codes "editor"
 side_word Server = codes "server"
 

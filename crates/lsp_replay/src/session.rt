@@ -33,7 +33,7 @@ pub(crate) mod writing;
 use crate::outcome::Outcome;
 use crate::session::counting::{is_refused, one_more};
 use crate::session::results::copied;
-use lsp_log::{Head, Side, Version};
+use lsp_log::{Head, Sender, Version};
 use lsp_message::{ChangeParams, Id};
 use lsp_server::{Answer, Config, Incoming, Phase, Server};
 use lsp_stream::EngineFault;
@@ -181,8 +181,8 @@ impl Session {
         ensures unchanged { self.new ≡ self.old }
     {
         match head.side {
-            Side::Client => Ok(RecordBody::Client(head.version, self.server.read(body)?)),
-            Side::Server => Ok(RecordBody::Server(body)),
+            Sender::Client => Ok(RecordBody::Client(head.version, self.server.read(body)?)),
+            Sender::Server => Ok(RecordBody::Server(body)),
         }
     }
 

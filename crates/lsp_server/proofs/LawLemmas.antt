@@ -18,7 +18,7 @@ use Rattle.lsp_server.specs.declared.phase.Phase.TheVariants.{New, Running, Down
 use Rattle.lsp_server.specs.Answer.{AnswerData, reply, changed, exits}
 use Rattle.lsp_server.specs.Choice.{chosen, announced_kind}
 use Rattle.lsp_reader.specs.Incoming.{IncomingData, response, initialize, shutdown, other_request, exit, did_open, did_change, did_close, other_notification, request_of, notification_of}
-use Rattle.lsp_server.specs.laws.Steps.{RepliesTo, way_of, IsRefusal}
+use Rattle.lsp_server.specs.laws.Steps.{RepliesTo, way_of, ChangesNothing}
 use Rattle.lsp_server.specs.Step.{ServerData, Step, stays, step_to, begins, obeyed, step_in}
 
 -- ---- requests
@@ -128,14 +128,14 @@ pub record Keeps (p : Phase) (s : ServerData) (next : Step) : Type 0 where
   pub config : next.state.config ≡ s.config
   pub forward : way_of p ≤ way_of next.state.phase
   pub documents : next.answer ≢ changed → next.state.table ≡ s.table
-  pub refusal : IsRefusal next.answer → next.state ≡ s
+  pub refusal : ChangesNothing next.answer → next.state ≡ s
 
 stays_kept : (p : Phase) (s : ServerData) (answer : AnswerData OutgoingData) → s.phase ≡ p → Keeps p s (stays s answer)
 stays_kept p s answer e =
     record { config = refl; forward = rw e (omega arith); documents = λ _. refl; refusal = λ _. refl }
 
 goes_kept : (p q : Phase) (s : ServerData) (answer : AnswerData OutgoingData) → way_of p ≤ way_of q
-    → (IsRefusal answer → ⊥) → Keeps p s (step_to s q answer)
+    → (ChangesNothing answer → ⊥) → Keeps p s (step_to s q answer)
 goes_kept p q s answer on apart =
     record { config = refl; forward = on; documents = λ _. refl; refusal = λ h. absurd (apart h) }
 

@@ -10,7 +10,7 @@ use Rattle.lsp_server.specs.declared.answer.Answer.TheVariants.{Reply, Changed, 
 use Rattle.lsp_server.specs.declared.answer.Answer.TheVariants as variants
 use Rattle.lsp_server.specs.Answer.{AnswerData, Sent, reply, changed, dropped, ignored, already_ended, refused, exits, as_sent}
 use Rattle.lsp_server.specs.Calls.{IsRowOf}
-use Rattle.lsp_server.specs.laws.Steps.{IsRefusal}
+use Rattle.lsp_server.specs.laws.Steps.{ChangesNothing}
 use Rattle.lsp_server.specs.Seen.{answer_view, IsRefusing}
 use Rattle.lsp_server.specs.Step.{ServerData, step_on}
 use Rattle.lsp_server.proofs.LawLemmas.{kept}
@@ -33,7 +33,7 @@ as_viewed (variants.Exit status) h = h
 no_code : IsSome {T = ErrorCode} None → ⊥
 no_code h = cc
 
-as_answered : (a : AnswerData OutgoingData) → IsRefusingSent (as_sent a) → IsRefusal a
+as_answered : (a : AnswerData OutgoingData) → IsRefusingSent (as_sent a) → ChangesNothing a
 as_answered (reply (outgoing.error_reply id error)) h = tt
 as_answered (reply (outgoing.initialize offers)) h = no_code h
 as_answered (reply outgoing.initialized) h = no_code h

@@ -14,8 +14,8 @@ use Rattle.lsp_server.specs.declared.config.EncodingChoice.TheVariants.{Fixed, N
 use Rattle.lsp_server.specs.declared.config.ChangeForm.{ChangeForm}
 use Rattle.lsp_server.specs.declared.config.ChangeForm.TheVariants.{Incremental, Full}
 
--- The encoding of a session: a fixed one whatever is offered, else the preferred one if it is
--- offered, else UTF-16.
+-- The encoding of a session: a fixed one whatever is offered (LSP 3.17 allows one that was offered,
+-- or UTF-16), else the preferred one if it is offered, else UTF-16.
 abbrev pub chosen : EncodingChoice → Offers → Encoding
 chosen (Fixed encoding) offers = encoding
 chosen (Negotiated prefer) offers = if is_offered offers prefer then prefer else Utf16

@@ -119,7 +119,8 @@ step_in New s (initialize id (Some offers)) = begins s id offers
 step_in New s (shutdown id) = fails s (Some id) ServerNotInitialized
 step_in New s (other_request id method) = fails s (Some id) ServerNotInitialized
 step_in New s notification = stays s dropped
--- `initialize` is accepted only once (Initialize Request).
+-- `initialize` is accepted only once (Initialize Request). The standard says that it comes once;
+-- this error is this project's choice.
 step_in Running s (initialize id offers) = fails s (Some id) InvalidRequest
 -- `shutdown` has a result, and from then on only `exit` is awaited (Shutdown Request).
 step_in Running s (shutdown id) = step_to s Down (reply (shutdown_result id))
@@ -135,7 +136,8 @@ step_in Running s (did_change None) = stays s (refused params_invalid)
 step_in Running s (did_close None) = stays s (refused params_invalid)
 -- Any other notification is ignored, also one whose name begins with `$/`.
 step_in Running s (other_notification method) = stays s ignored
--- After `shutdown` requests are errors, and notifications are dropped (Shutdown Request).
+-- After `shutdown` requests are errors (Shutdown Request), and notifications are dropped, of which
+-- the standard doesn't speak: this project's choice.
 step_in Down s (initialize id offers) = fails s (Some id) InvalidRequest
 step_in Down s (shutdown id) = fails s (Some id) InvalidRequest
 step_in Down s (other_request id method) = fails s (Some id) InvalidRequest

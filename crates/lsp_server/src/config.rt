@@ -38,7 +38,8 @@ impl Default for Config {
 #[derive(Clone, Copy, Debug, PartialEq, Eq, Hash)]
 pub enum EncodingChoice {
     /// This one, whatever the client offers: for logs, whose encoding is known, and for
-    /// sessions in UTF-16.
+    /// sessions in UTF-16. LSP 3.17 allows one that was offered, or UTF-16: fix another only
+    /// where you write the editor too.
     Fixed(Encoding),
     /// The preferred one if the client offers it, else UTF-16, which every client accepts.
     Negotiated { prefer: Encoding },

@@ -1,7 +1,7 @@
 //! Writes conformance vectors: cases of text synchronisation with what they mean by the proved
 //! programs of `lsp_text`, `lsp_edit`, `lsp_store` and `lsp_frame`. Changes and text edits are
-//! applied by the plain program of the definitions, then by those that a server uses (`beside`); it
-//! stops where the two differ.
+//! applied by the plain program of the definitions, then by those that a server uses; it stops where
+//! the two differ.
 //!
 //! A case is a line of JSON, an object of one of four kinds. Its member `changes` is the content of
 //! one `textDocument/didChange`, `edits` a list of text edits, `messages` several messages in a
@@ -11,6 +11,14 @@
 //! Without arguments the cases of standard input are written with their meanings. Each argument
 //! names a file of vectors; of those the lines are written that are not as computed, and how many,
 //! and on how many messages and positions the programs agreed.
+//!
+//! - `case`: cases of each kind, and what they mean.
+//! - `answer`: what changes and text edits mean; of changes by the plain program.
+//! - `beside`: the same by the programs that a server uses.
+//! - `session`: several messages in a row, and the documents after them.
+//! - `frames`: the frames of a stream.
+//! - `fault`: why a case has no meaning.
+//! - `written`: meanings as JSON.
 #![tactic(auto)]
 
 mod answer;

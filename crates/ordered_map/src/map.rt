@@ -108,8 +108,8 @@ impl<V> OrderedMap<V> {
         ensures value { option_map (λ entry. entry.1.now) result
             ≡ lookup (is_key key.now) self.now.entries }
     {
-        let slot = *self.slot_of_key.get(key)?;
-        self.slots[slot].entry()
+        let found = *self.slot_of_key.get(key)?;
+        self.slots[found].entry()
     }
 
     /// Returns the entry of a key, with its index. Costs a hash look-up, and what

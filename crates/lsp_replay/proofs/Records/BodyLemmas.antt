@@ -3,8 +3,8 @@ use Rattle.std.proofs.Common.{◌≡◌, ℕ, List, Option, Some, None, refl, sy
 use Rattle.lsp_edit.specs.Edited as given
 use Rattle.lsp_log.specs.declared.record.Version.{Version}
 use Rattle.lsp_log.specs.declared.record.Head.{Head}
-use Rattle.lsp_log.specs.declared.record.Side.{Side}
-use Rattle.lsp_log.specs.declared.record.Side.TheVariants.{Client, Server}
+use Rattle.lsp_log.specs.declared.record.Sender.{Sender}
+use Rattle.lsp_log.specs.declared.record.Sender.TheVariants.{Client, Server}
 use Rattle.lsp_message.specs.Message.{reading}
 use Rattle.lsp_message.specs.Params.{ChangeData}
 use Rattle.lsp_server.specs.Incoming.{incoming_of, did_change}
@@ -23,19 +23,19 @@ use Rattle.lsp_replay.proofs.Records.JudgeLemmas.{asks_change}
 
 -- ---- a record is judged as its bytes are
 
-judged_of : (s : Session) (version : Version) (side : Side) (body : List ℕ) → judge_read s (body_read version side body)
+judged_of : (s : Session) (version : Version) (side : Sender) (body : List ℕ) → judge_read s (body_read version side body)
     ≡ judge_from s version side body
 judged_of s version Client body = refl
 judged_of s version Server body = refl
 
-canonical_of : (s : Session) (version : Version) (side : Side) (body : List ℕ)
+canonical_of : (s : Session) (version : Version) (side : Sender) (body : List ℕ)
     → canonical_read s (body_read version side body) ≡ canonical_if s.server (change_in (incoming_of (reading body)))
     (judge_from s version side body).verdict
 canonical_of s version Client body = refl
 canonical_of s version Server body =
     sym (heard_has_none s.server (change_in (incoming_of (reading body))) s (encoding_for s.expected (reading body)))
 
-writing_of : (s : Session) (series : Option SquashData) (version : Version) (side : Side) (body : List ℕ) (w : Writing)
+writing_of : (s : Session) (series : Option SquashData) (version : Version) (side : Sender) (body : List ℕ) (w : Writing)
     → IsWriting s.server series (change_of (body_read version side body))
     (judge_read s (body_read version side body)).verdict w
     → IsWriting s.server series (change_in (incoming_of (reading body))) (judge_from s version side body).verdict w

@@ -10,8 +10,8 @@ use Rattle.lsp_server.specs.Answer.{AnswerData, Sent, reply, changed, dropped, i
 use Rattle.lsp_server.specs.Incoming.{incoming_of, did_change}
 use Rattle.lsp_server.specs.Step.{ServerData}
 use Rattle.lsp_log.specs.declared.record.Version.{Version}
-use Rattle.lsp_log.specs.declared.record.Side.{Side}
-use Rattle.lsp_log.specs.declared.record.Side.TheVariants.{Client, Server}
+use Rattle.lsp_log.specs.declared.record.Sender.{Sender}
+use Rattle.lsp_log.specs.declared.record.Sender.TheVariants.{Client, Server}
 use Rattle.lsp_log.specs.Log.{Record}
 use Rattle.lsp_stream.specs.declared.fault.EngineFault.TheVariants.{BadLog, BodyTooLong}
 use Rattle.lsp_stream.specs.Ports.{one_more}
@@ -114,7 +114,7 @@ was_accepted s r p is error = by r.head.side refl
     asks : incoming_of (reading r.body) ≡ did_change (Some p)
     asks = asks_change (incoming_of (reading r.body)) p is
 
-    by : (side : Side) → r.head.side ≡ side → IsAccepted s r p
+    by : (side : Sender) → r.head.side ≡ side → IsAccepted s r p
     by Server server =
         let heard = ap (λ side. (judge_from s r.head.version side r.body).verdict) (sym server) ∙ error in
         let none : canonical_if s.server (Some p) (answered changed) ≡ None =

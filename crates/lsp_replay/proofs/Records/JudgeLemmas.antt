@@ -12,8 +12,8 @@ use Rattle.lsp_server.specs.Incoming.{IncomingData, not_json, not_a_message, res
 use Rattle.lsp_server.specs.Step.{ServerData, Step, step_on, with_encoding}
 use Rattle.lsp_log.specs.declared.record.Version.{Version}
 use Rattle.lsp_log.specs.declared.record.Version.TheVariants.{One, Two}
-use Rattle.lsp_log.specs.declared.record.Side.{Side}
-use Rattle.lsp_log.specs.declared.record.Side.TheVariants.{Client, Server}
+use Rattle.lsp_log.specs.declared.record.Sender.{Sender}
+use Rattle.lsp_log.specs.declared.record.Sender.TheVariants.{Client, Server}
 use Rattle.lsp_log.specs.declared.record.Head.{Head}
 use Rattle.lsp_log.specs.Log.{Record}
 use Rattle.lsp_replay.specs.Session.{Session, Verdict, answered, recorded, bad, Judged, judged, judge, judge_from, judge_client, judge_server, encoding_for, handled, is_ended, is_early, is_new, expected_of, count_if, is_refused}
@@ -49,7 +49,7 @@ module _ (P : Judged → Type 0) (s : Session) where
       (both P (is_early s m) (judged bad s) (handled s version m (step_on s.server m).state
       (as_sent (step_on s.server m).answer)) refuses goes)
 
-from_held : (limits : LimitsData) (s : Session) (version : Version) (side : Side) (body : List ℕ)
+from_held : (limits : LimitsData) (s : Session) (version : Version) (side : Sender) (body : List ℕ)
     → IsHeldState limits s.server → IsHeldState limits (judge_from s version side body).session.server
 from_held limits s version Client body received =
     of_incoming (λ (j : Judged). IsHeldState limits j.session.server) s version (incoming_of (reading body)) received
@@ -146,7 +146,7 @@ again_incoming s version p again same =
     (as_sent (step_on s.server (did_change (Some p))).answer))
 
 -- a body is judged as another, and it is its own canonical body
-abbrev IsJudgedAgain : Session → Version → Side → List ℕ → List ℕ → Type 0
+abbrev IsJudgedAgain : Session → Version → Sender → List ℕ → List ℕ → Type 0
 IsJudgedAgain s version side body again =
     (judge_from s version side again ≡ judge_from s version side body)
     × (canonical_if s.server (change_in (incoming_of (reading again))) (judge_from s version side body).verdict
@@ -178,7 +178,7 @@ module _ (limits : LimitsData) (ranges : AreInRange limits) where
             ∙ ap (canonical_if s.server (Some set.again)) c.error ∙ ap Some (set.same_body ∙ sym c.is),
       )
 
-  again_from : (s : Session) (version : Version) (side : Side) (body again : List ℕ) → IsHeldState limits s.server
+  again_from : (s : Session) (version : Version) (side : Sender) (body again : List ℕ) → IsHeldState limits s.server
       → canonical_if s.server (change_in (incoming_of (reading body))) (judge_from s version side body).verdict
       ≡ Some again → length again ≤ limits.max_body → IsJudgedAgain s version side body again
   again_from s version Client body again received canonical_log fits =

@@ -7,8 +7,8 @@ use Rattle.lsp_server.specs.Answer.{as_sent}
 use Rattle.lsp_server.specs.Incoming.{IncomingData, incoming_of}
 use Rattle.lsp_server.specs.Step.{step_on}
 use Rattle.lsp_log.specs.declared.record.Version.{Version}
-use Rattle.lsp_log.specs.declared.record.Side.{Side}
-use Rattle.lsp_log.specs.declared.record.Side.TheVariants.{Client, Server}
+use Rattle.lsp_log.specs.declared.record.Sender.{Sender}
+use Rattle.lsp_log.specs.declared.record.Sender.TheVariants.{Client, Server}
 use Rattle.lsp_log.specs.Log.{Record}
 use Rattle.lsp_replay.specs.Session.{Session, bad, Judged, counted, judged, judge, judge_from, judge_client, judge_server, encoding_for, handled, is_ended, is_early}
 
@@ -54,7 +54,7 @@ module _ (n m : ℕ) where
         (n, m, refl),
       ) (refl, (n, (handled (numbered n m s) version x step.state (as_sent step.answer)).session.messages, refl)))
 
-  alike_from : (s : Session) (version : Version) (side : Side) (body : List ℕ)
+  alike_from : (s : Session) (version : Version) (side : Sender) (body : List ℕ)
       → AreAlike (judge_from s version side body) (judge_from (numbered n m s) version side body)
   alike_from s version Client body = alike_incoming s version (incoming_of (reading body))
   alike_from s version Server body = alike_server s (encoding_for s.expected (reading body))

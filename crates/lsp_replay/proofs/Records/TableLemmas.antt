@@ -12,8 +12,8 @@ use Rattle.lsp_server.specs.declared.phase.Phase.{Phase}
 use Rattle.lsp_server.specs.declared.phase.Phase.TheVariants.{New, Running, Down, Ended}
 use Rattle.lsp_server.specs.Incoming.{IncomingData, incoming_of, not_json, not_a_message, response, initialize, shutdown, other_request, exit, did_open, did_change, did_close, other_notification}
 use Rattle.lsp_server.specs.Step.{ServerData, Step, step_in, step_on, obeyed, edit_from_data, session_encoding}
-use Rattle.lsp_log.specs.declared.record.Side.{Side}
-use Rattle.lsp_log.specs.declared.record.Side.TheVariants.{Client, Server}
+use Rattle.lsp_log.specs.declared.record.Sender.{Sender}
+use Rattle.lsp_log.specs.declared.record.Sender.TheVariants.{Client, Server}
 use Rattle.lsp_log.specs.declared.record.Version.{Version}
 use Rattle.lsp_log.specs.Log.{Record}
 use Rattle.lsp_replay.specs.Session.{Session, Judged, answered, bad, judged, handled, is_ended, is_early, judge, judge_from, judge_client, encoding_for}
@@ -67,7 +67,7 @@ same_open table entry uri other = same_last (after_close table entry.uri) entry 
 -- ---- a step
 
 -- Is a step of an accepted message about this document?
-abbrev Touches : List ℕ → Side → IncomingData → Step → Bool
+abbrev Touches : List ℕ → Sender → IncomingData → Step → Bool
 Touches uri side m step = is_changed (answered (as_sent step.answer)) && is_document uri (uri_of side m)
 
 abbrev Keeps : List ℕ → ServerData → IncomingData → Step → Type 0
@@ -130,7 +130,7 @@ step_keeps Down uri s (other_notification method) other = refl
 
 -- ---- a record
 
-abbrev IsKept : List ℕ → Session → Side → IncomingData → Judged → Type 0
+abbrev IsKept : List ℕ → Session → Sender → IncomingData → Judged → Type 0
 IsKept uri s side m j = (is_changed j.verdict && is_document uri (uri_of side m)) ≡ false
     → entry_at j.session.server.table uri ≡ entry_at s.server.table uri
 
@@ -145,7 +145,7 @@ client_keeps uri s version m = by (is_ended s.server.phase) (is_early s m)
     by false true other = refl
     by false false other = step_keeps s.server.phase uri s.server m other
 
-side_keeps : (uri : List ℕ) (s : Session) (version : Version) (side : Side) (body : List ℕ)
+side_keeps : (uri : List ℕ) (s : Session) (version : Version) (side : Sender) (body : List ℕ)
     → IsKept uri s side (incoming_of (reading body)) (judge_from s version side body)
 side_keeps uri s version Client body = client_keeps uri s version (incoming_of (reading body))
 side_keeps uri s version Server body =

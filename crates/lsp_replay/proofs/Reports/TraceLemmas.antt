@@ -8,8 +8,8 @@ use Rattle.lsp_server.specs.Incoming.{IncomingData, incoming_of}
 use Rattle.lsp_server.specs.Step.{step_on}
 use Rattle.lsp_stream.specs.Ports.{one_more}
 use Rattle.lsp_log.specs.declared.record.Version.{Version}
-use Rattle.lsp_log.specs.declared.record.Side.{Side}
-use Rattle.lsp_log.specs.declared.record.Side.TheVariants.{Client, Server}
+use Rattle.lsp_log.specs.declared.record.Sender.{Sender}
+use Rattle.lsp_log.specs.declared.record.Sender.TheVariants.{Client, Server}
 use Rattle.lsp_log.specs.Log.{Record}
 use Rattle.lsp_replay.specs.declared.commands.traced.Details.{Details}
 use Rattle.lsp_replay.specs.declared.session.tracing.Traced.{Traced}
@@ -43,7 +43,7 @@ of_incoming s version m =
     step.state (as_sent step.answer)) s.records refl
     (either (is_early s m) (judged bad s) (handled s version m step.state (as_sent step.answer)) s.records refl refl)
 
-of_body : (s : Session) (version : Version) (side : Side) (body : List ℕ)
+of_body : (s : Session) (version : Version) (side : Sender) (body : List ℕ)
     → (judge_from s version side body).session.records ≡ s.records
 of_body s version Client body = of_incoming s version (incoming_of (reading body))
 of_body s version Server body = of_server s (encoding_for s.expected (reading body))

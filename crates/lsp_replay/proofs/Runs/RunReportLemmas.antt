@@ -8,8 +8,8 @@ use Rattle.lsp_stream.specs.declared.fault.EngineFault.{EngineFault}
 use Rattle.lsp_stream.specs.declared.fault.EngineFault.TheVariants.{Read, Write, Frame, Truncated, BodyTooLong, NoMemory, TooManyTurns, BadLog}
 use Rattle.lsp_log.specs.declared.record.Version.{Version}
 use Rattle.lsp_log.specs.declared.record.Version.TheVariants.{One, Two}
-use Rattle.lsp_log.specs.declared.record.Side.{Side}
-use Rattle.lsp_log.specs.declared.record.Side.TheVariants.{Client, Server}
+use Rattle.lsp_log.specs.declared.record.Sender.{Sender}
+use Rattle.lsp_log.specs.declared.record.Sender.TheVariants.{Client, Server}
 use Rattle.lsp_stream.specs.Ports.{Ports}
 use Rattle.lsp_stream.specs.Turns.{AppendsFront, AppendsShort}
 use Rattle.lsp_log.specs.Log.{LogRules, Record, Log, IsVersion, IsReadAs, HasNoRecord, IsCut, IsMalformed, IsBadMark, mark_of}
@@ -71,7 +71,7 @@ grows view state s (r ∷ rs) more =
 
 -- ---- rests that no record begins
 
-behind_marks : (version : Version) (side other : Side) (a b : List ℕ) → mark_of version side ++ a
+behind_marks : (version : Version) (side other : Sender) (a b : List ℕ) → mark_of version side ++ a
     ≡ mark_of version other ++ b → a ≡ b
 behind_marks One side other a b e = e
 behind_marks Two Client Client a b e = ap (drop 1) e
@@ -85,7 +85,7 @@ malformed_rest max_body input fault log is side raw body more is_frame_of e =
     is.hopeless [] raw body more is_frame_of (append-nil is.part ∙ behind_marks log.version is.side side is.part
     (raw ++ more) (sym is.is ∙ e))
 
-bad_marks : (version : Version) (side : Side) (byte : ℕ) (a b : List ℕ) → version ≡ Two → byte ≢ 62 → byte ≢ 60
+bad_marks : (version : Version) (side : Sender) (byte : ℕ) (a b : List ℕ) → version ≡ Two → byte ≢ 62 → byte ≢ 60
     → byte ∷ a ≡ mark_of version side ++ b → ⊥
 bad_marks One side byte a b two client server e = absurd (cc)
 bad_marks Two Client byte a b two client server e = client (first_byte byte 62 a b e)

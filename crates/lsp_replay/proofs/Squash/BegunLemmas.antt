@@ -10,9 +10,9 @@ use Rattle.lsp_store.specs.Squash.{squash_of}
 use Rattle.lsp_store.specs.Table.{entry_at}
 use Rattle.lsp_server.specs.Step.{ServerData, edit_from_data, session_encoding}
 use Rattle.lsp_log.specs.declared.record.Version.{Version}
-use Rattle.lsp_log.specs.declared.record.Side.TheVariants.{Client}
+use Rattle.lsp_log.specs.declared.record.Sender.TheVariants.{Client}
 use Rattle.lsp_log.specs.Log.{Record, record_bytes, mark_of}
-use Rattle.lsp_log.specs.declared.record.Side.{Side}
+use Rattle.lsp_log.specs.declared.record.Sender.{Sender}
 use Rattle.lsp_store.proofs.LawLemmas.{MayChange, change_parts, within_at}
 use Rattle.lsp_store.specs.laws.Tables.{IsWithin}
 use Rattle.lsp_replay.proofs.Squash.JoiningLemmas.{uri_at}
@@ -189,7 +189,7 @@ module _ (limits : LimitsData) (ranges : AreInRange limits) (at : ℕ) (version 
           ap (λ f. f ++ frame (canonical_change_body s.server p)) front_in ∙ append_assoc (line_if due)
           (mark_of version Client) (frame (canonical_change_body s.server p))
           ∙ ap (λ z. line_if due ++ z)
-          (ap₂ (λ (side : Side) (b : List ℕ). mark_of version side ++ frame b) (sym a.side)
+          (ap₂ (λ (side : Sender) (b : List ℕ). mark_of version side ++ frame b) (sym a.side)
           (ap (λ (server : ServerData). canonical_change_body server p) (sym there))
           ∙ sym (append-nil (record_bytes version q)));
       last = (judge t q).session;

@@ -6,7 +6,7 @@ use Rattle.lsp_message.specs.Params.{ChangeData}
 use Rattle.lsp_store.specs.Table.{entry_at}
 use Rattle.lsp_server.specs.Step.{ServerData, session_encoding}
 use Rattle.lsp_log.specs.declared.record.Version.{Version}
-use Rattle.lsp_log.specs.declared.record.Side.TheVariants.{Client}
+use Rattle.lsp_log.specs.declared.record.Sender.TheVariants.{Client}
 use Rattle.lsp_log.specs.Log.{Record, IsRecord, together, record_bytes, mark_of}
 use Rattle.lsp_log.proofs.LogLemmas.{are_push, together_push}
 use Rattle.std.proofs.lemmas.Slice.Eq.{bytes_eq-Decides}

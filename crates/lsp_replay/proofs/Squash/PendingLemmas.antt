@@ -16,7 +16,7 @@ use Rattle.lsp_server.specs.Incoming.{incoming_of}
 use Rattle.lsp_server.specs.Answer.{changed}
 use Rattle.lsp_server.specs.Step.{ServerData, session_encoding}
 use Rattle.lsp_log.specs.declared.record.Version.{Version}
-use Rattle.lsp_log.specs.declared.record.Side.TheVariants.{Client}
+use Rattle.lsp_log.specs.declared.record.Sender.TheVariants.{Client}
 use Rattle.lsp_log.specs.Log.{Record, AreRecords, together, mark_of}
 use Rattle.lsp_log.proofs.LogLemmas.{due_after}
 use Rattle.lsp_replay.specs.RunOutput.{written_first}

@@ -6,8 +6,8 @@ use Rattle.lsp_stream.specs.declared.fault.EngineFault.{EngineFault}
 use Rattle.lsp_stream.specs.declared.fault.EngineFault.TheVariants.{BadLog, NoMemory}
 use Rattle.lsp_stream.specs.Ports.{Ports}
 use Rattle.lsp_log.specs.declared.record.Head.{Head}
-use Rattle.lsp_log.specs.declared.record.Side.{Side}
-use Rattle.lsp_log.specs.declared.record.Side.TheVariants.{Client, Server}
+use Rattle.lsp_log.specs.declared.record.Sender.{Sender}
+use Rattle.lsp_log.specs.declared.record.Sender.TheVariants.{Client, Server}
 use Rattle.lsp_log.specs.declared.record.Version.{Version}
 use Rattle.lsp_log.specs.Log.{LogRules, Record}
 use Rattle.lsp_log.specs.laws.Logs.{FirstLaw, VersionLaw}
@@ -31,12 +31,12 @@ use Rattle.lsp_replay.proofs.Runs.RunReportLemmas.{Grows, GrowsAll, NoneCut, Set
 
 -- ---- what was read of a record decides whether it stays
 
-stays_of : (s : Session) (waiting : Option IdData) (version : Version) (side : Side) (body : List ℕ)
+stays_of : (s : Session) (waiting : Option IdData) (version : Version) (side : Sender) (body : List ℕ)
     → stays_read s waiting (body_read version side body) ≡ record_stays s waiting side body
 stays_of s waiting version Client body = refl
 stays_of s waiting version Server body = refl
 
-waiting_of : (waiting : Option IdData) (version : Version) (side : Side) (body : List ℕ)
+waiting_of : (waiting : Option IdData) (version : Version) (side : Sender) (body : List ℕ)
     → waiting_read waiting (body_read version side body) ≡ waiting_after waiting side body
 waiting_of waiting version Client body = refl
 waiting_of waiting version Server body = refl

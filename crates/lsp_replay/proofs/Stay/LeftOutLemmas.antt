@@ -15,8 +15,8 @@ use Rattle.lsp_server.specs.Step.{ServerData, Step, stays, step_in, step_on}
 use Rattle.lsp_stream.specs.Ports.{one_more}
 use Rattle.lsp_log.specs.declared.record.Version.{Version}
 use Rattle.lsp_log.specs.declared.record.Version.TheVariants.{One, Two}
-use Rattle.lsp_log.specs.declared.record.Side.{Side}
-use Rattle.lsp_log.specs.declared.record.Side.TheVariants.{Client, Server}
+use Rattle.lsp_log.specs.declared.record.Sender.{Sender}
+use Rattle.lsp_log.specs.declared.record.Sender.TheVariants.{Client, Server}
 use Rattle.lsp_log.specs.Log.{Record}
 use Rattle.lsp_replay.specs.Documents.{is_answer_to, message_stays, record_stays}
 use Rattle.lsp_replay.specs.Commands.{canonical_if, change_in}
@@ -208,7 +208,7 @@ server_harmless s waiting change body e =
 
 -- ---- any record
 
-from_harmless : (s : Session) (waiting : Option IdData) (version : Version) (side : Side) (body : List ℕ)
+from_harmless : (s : Session) (waiting : Option IdData) (version : Version) (side : Sender) (body : List ℕ)
     → record_stays s waiting side body ≡ false → IsHarmless s (change_in (incoming_of (reading body)))
     (judge_from s version side body)
 from_harmless s waiting version Client body e = client_harmless s version (incoming_of (reading body)) e
@@ -233,7 +233,7 @@ harmless s waiting r e = counted_harmless s _ (judge_from s r.head.version r.hea
     (from_harmless s waiting r.head.version r.head.side r.body e)
 
 -- Whether a record stays doesn't depend on the counts.
-stays_numbered : (n m : ℕ) (s : Session) (waiting : Option IdData) (side : Side) (body : List ℕ)
+stays_numbered : (n m : ℕ) (s : Session) (waiting : Option IdData) (side : Sender) (body : List ℕ)
     → record_stays (record {
       server = s.server;
       expected = s.expected;
@@ -244,7 +244,7 @@ stays_numbered : (n m : ℕ) (s : Session) (waiting : Option IdData) (side : Sid
 stays_numbered n m s waiting Client body = refl
 stays_numbered n m s waiting Server body = refl
 
-pub stays_alike : (s t : Session) (waiting : Option IdData) (side : Side) (body : List ℕ) → IsAlike s t
+pub stays_alike : (s t : Session) (waiting : Option IdData) (side : Sender) (body : List ℕ) → IsAlike s t
     → record_stays t waiting side body ≡ record_stays s waiting side body
 stays_alike s t waiting side body like = ap (λ (u : Session). record_stays u waiting side body) like.2
     ∙ stays_numbered like.0 like.1 s waiting side body

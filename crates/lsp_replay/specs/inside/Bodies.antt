@@ -1,8 +1,8 @@
 -- The body of a record, as a session reads it once.
 use Rattle.std.specs.Prelude.{ℕ, ◌≡◌, List, Option, Some, None}
 use Rattle.lsp_log.specs.declared.record.Version.{Version}
-use Rattle.lsp_log.specs.declared.record.Side.{Side}
-use Rattle.lsp_log.specs.declared.record.Side.TheVariants as side
+use Rattle.lsp_log.specs.declared.record.Sender.{Sender}
+use Rattle.lsp_log.specs.declared.record.Sender.TheVariants as side
 use Rattle.lsp_message.specs.Message.{reading}
 use Rattle.lsp_message.specs.Params.{ChangeData}
 use Rattle.lsp_server.specs.declared.phase.Phase.TheVariants.{Running}
@@ -25,7 +25,7 @@ body_view (Client version incoming) = from_client version (incoming_view incomin
 body_view (Server body) = from_server body.now
 
 -- The body of a record of one side, in a log of a version.
-abbrev pub body_read : Version → Side → List ℕ → BodyData
+abbrev pub body_read : Version → Sender → List ℕ → BodyData
 body_read version side.Client body = from_client version (incoming_of (reading body))
 body_read version side.Server body = from_server body
 

@@ -5,7 +5,7 @@ use Rattle.lsp_message.specs.Message.{Reading, reading}
 use Rattle.lsp_server.specs.Incoming.{incoming_of}
 use Rattle.lsp_server.specs.Step.{ServerData}
 use Rattle.lsp_log.specs.declared.record.Head.{Head}
-use Rattle.lsp_log.specs.declared.record.Side.TheVariants.{Client}
+use Rattle.lsp_log.specs.declared.record.Sender.TheVariants.{Client}
 use Rattle.lsp_replay.specs.declared.session.Verdict as declared
 use Rattle.lsp_replay.specs.declared.session.known.About.{About}
 use Rattle.lsp_replay.specs.declared.session.known.Noted.{Noted}

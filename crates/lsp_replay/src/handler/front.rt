@@ -4,7 +4,7 @@ ghost use Rattle.std.specs.Prelude.{◌≡◌, ◌≤◌, ◌++◌, length, OnOk
 ghost use Rattle.lsp_log.specs.Log.{mark_of};
 ghost use Rattle.lsp_replay.specs.Commands.{line_if, front_of};
 
-use lsp_log::{Head, Side, VERSION_LINE, Version};
+use lsp_log::{Head, Sender, VERSION_LINE, Version};
 use std::alloc::AllocError;
 
 /// Returns the line of version 2, if it is due.
@@ -22,8 +22,8 @@ pub fn mark_bytes(head: Head) -> &'static [u8]
 {
     match (head.version, head.side) {
         (Version::One, _) => b"",
-        (Version::Two, Side::Client) => b">",
-        (Version::Two, Side::Server) => b"<",
+        (Version::Two, Sender::Client) => b">",
+        (Version::Two, Sender::Server) => b"<",
     }
 }
 

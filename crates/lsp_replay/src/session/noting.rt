@@ -18,7 +18,7 @@ use crate::notes::changes::{Terms, push_batch_notes};
 use crate::session::known::{About, Known, Noted};
 use crate::session::tracing::{copied_text, is_change, uri_of};
 use crate::session::{RecordBody, Session, Verdict, in_log};
-use lsp_log::{Head, Side};
+use lsp_log::{Head, Sender};
 use lsp_message::{ChangeParams, OpenParams};
 use lsp_reader::range_lengths;
 use lsp_server::{Answer, Incoming};
@@ -87,7 +87,7 @@ impl Session {
             });
         };
         Ok(About {
-            uri: copied_text(self.alloc, uri_of(Side::Client, incoming))?,
+            uri: copied_text(self.alloc, uri_of(Sender::Client, incoming))?,
             is_change: is_change(incoming),
             notes: self.notes_on(ranged, body, incoming)?,
         })

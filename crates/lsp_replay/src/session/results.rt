@@ -11,7 +11,7 @@ ghost use Rattle.lsp_replay.specs.Session.{encoding_for, encoding_in, judge_serv
 ghost use Rattle.lsp_replay.specs.inside.Verdicts.{verdict_view};
 
 use crate::session::{Session, Verdict};
-use lsp_log::{Head, Side};
+use lsp_log::{Head, Sender};
 use lsp_message::{Id, Message, Outcome, ReadFault, SyncKind, read, result_initialize};
 use serde_json::Value;
 use std::alloc::{AllocError, Global};
@@ -61,7 +61,7 @@ impl Session {
             (λ after. after ≡ ranged_after ranged self.now head.side body.now) }
     {
         match (head.side, &self.expected) {
-            (Side::Server, Some(id)) => {
+            (Sender::Server, Some(id)) => {
                 let result = result_for(self.alloc, id, body)?;
                 Ok(ranged_by(self.alloc, ranged, result))
             }

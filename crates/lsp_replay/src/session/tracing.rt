@@ -20,7 +20,7 @@ use crate::session::counting::one_more;
 use crate::session::known::{Known, Noted};
 use crate::session::writing::Appended;
 use crate::session::{RecordBody, Session, in_log};
-use lsp_log::{Head, Side};
+use lsp_log::{Head, Sender};
 use lsp_message::Id;
 use lsp_server::Incoming;
 use lsp_stream::EngineFault;
@@ -115,8 +115,8 @@ fn record_body<'a>(head: Head, body: &'a [u8], incoming: Incoming) -> RecordBody
         body_view result ≡ body_read head.version head.side body.entry.now }
 {
     match head.side {
-        Side::Client => RecordBody::Client(head.version, incoming),
-        Side::Server => RecordBody::Server(body),
+        Sender::Client => RecordBody::Client(head.version, incoming),
+        Sender::Server => RecordBody::Server(body),
     }
 }
 
@@ -163,12 +163,12 @@ fn push_head(buffer: &mut Vec<u8>, number: u64, head: Head) -> Result<(), AllocE
     buffer.extend_from_slice(b"\"")
 }
 
-fn side_word(side: Side) -> &'static str
+fn side_word(side: Sender) -> &'static str
     ensures { result.now ≡ side_word side }
 {
     match side {
-        Side::Client => "editor",
-        Side::Server => "server",
+        Sender::Client => "editor",
+        Sender::Server => "server",
     }
 }
 
@@ -218,13 +218,13 @@ fn id_of(incoming: &Incoming) -> Option<&Id>
 }
 
 /// Returns the URI in valid parameters of an editor's message about a document.
-pub fn uri_of(side: Side, incoming: &Incoming) -> Option<&str>
+pub fn uri_of(side: Sender, incoming: &Incoming) -> Option<&str>
     ensures { option_map (λ uri. uri.now) result ≡ uri_of side (incoming_view incoming.now) }
 {
     match (side, incoming) {
-        (Side::Client, Incoming::DidOpen(Some(params))) => Some(params.uri.as_str()),
-        (Side::Client, Incoming::DidChange(Some(params))) => Some(params.uri.as_str()),
-        (Side::Client, Incoming::DidClose(Some(params))) => Some(params.uri.as_str()),
+        (Sender::Client, Incoming::DidOpen(Some(params))) => Some(params.uri.as_str()),
+        (Sender::Client, Incoming::DidChange(Some(params))) => Some(params.uri.as_str()),
+        (Sender::Client, Incoming::DidClose(Some(params))) => Some(params.uri.as_str()),
         _ => None,
     }
 }

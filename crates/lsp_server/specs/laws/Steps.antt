@@ -64,19 +64,19 @@ DocumentsLaw = (s : ServerData) (body : Reading) → (step s body).answer ≢ ch
 
 -- An answer after which nothing has changed: an error response, dropped, ignored, refused, or no
 -- answer.
-abbrev pub IsRefusal : AnswerData OutgoingData → Type 0
-IsRefusal (reply (error_reply id error)) = Unit {0}
-IsRefusal (reply m) = ⊥
-IsRefusal dropped = Unit {0}
-IsRefusal ignored = Unit {0}
-IsRefusal already_ended = Unit {0}
-IsRefusal (refused why) = Unit {0}
-IsRefusal changed = ⊥
-IsRefusal (exits status) = ⊥
+abbrev pub ChangesNothing : AnswerData OutgoingData → Type 0
+ChangesNothing (reply (error_reply id error)) = Unit {0}
+ChangesNothing (reply m) = ⊥
+ChangesNothing dropped = Unit {0}
+ChangesNothing ignored = Unit {0}
+ChangesNothing already_ended = Unit {0}
+ChangesNothing (refused why) = Unit {0}
+ChangesNothing changed = ⊥
+ChangesNothing (exits status) = ⊥
 
 -- What is refused, dropped or ignored changes nothing.
 abbrev pub RefusalLaw : Type 0
-RefusalLaw = (s : ServerData) (body : Reading) → IsRefusal (step s body).answer
+RefusalLaw = (s : ServerData) (body : Reading) → ChangesNothing (step s body).answer
     → (step s body).state ≡ s
 
 -- An encoding that is negotiated was offered (PositionEncodingKind).

@@ -149,8 +149,8 @@ messages that wait for the server and for the client, and the documents of both 
 Exit status: 0 all events were made, 2 the command line is wrong or the ends don't fit together,
 3 reading or writing failed, 4 out of memory, 5 a line is no event.
 
-Example, messages that arrive late:
-  ./lsp_simulate < examples/late-delivery.events";
+Example, messages that arrive late; examples/ may be /usr/share/doc/laspidru/examples:
+  lsp_simulate < examples/late-delivery.events";
 
 static UTF8: &str = "The client offers to count characters in UTF-8";
 

@@ -9,7 +9,7 @@ with the error `method not found`, and ends at `exit`. Put it where an editor wa
 status is 0 where the editor asked for `shutdown` before `exit`, else 1.
 
 Example, which answers a recorded session; it ends before `exit`, so the status is 1:
-  ./lspsync serve < examples/whole-text.log";
+  lspsync serve < examples/whole-text.log";
 
 pub static CHECK: &str = "Print what a server answers to each message of a log, a line for each";
 
@@ -23,8 +23,8 @@ With `--explain` a line of an error, a refusal or `exit 1` also has the document
 message to see, one of a suspicious message notes, and one or two last lines say what to do next.
 
 Example, a session with two changes that a server must refuse:
-  ./lspsync check < examples/stale-version.log
-  ./lspsync check --explain < examples/stale-version.log";
+  lspsync check < examples/stale-version.log
+  lspsync check --explain < examples/stale-version.log";
 
 pub static TRACE: &str =
     "Print a line of JSON for each message of a log: what it is, what a server answers, and why";
@@ -36,8 +36,8 @@ or refused the document, `notes` on what is suspicious of an accepted one, the d
 it, and the `canonical` message of an accepted change. The status is that of `check`.
 
 Example, and the refused messages alone where `jq` is there:
-  ./lspsync trace < examples/stale-version.log
-  ./lspsync trace < examples/stale-version.log | jq -c 'select(.reason)'";
+  lspsync trace < examples/stale-version.log
+  lspsync trace < examples/stale-version.log | jq -c 'select(.reason)'";
 
 pub static REPLAY: &str =
     "Print the documents that are open at the end of a log, a line of JSON for each";
@@ -52,9 +52,9 @@ the last text that it had. Where there is no such record, or the document was ne
 standard error says so, and the status is 1.
 
 Example, and a document's text alone, then and after the third record:
-  ./lspsync replay < examples/typing.log
-  ./lspsync replay --uri file:///home/ada/hello.py < examples/typing.log
-  ./lspsync replay --uri file:///home/ada/hello.py --at 3 < examples/typing.log";
+  lspsync replay < examples/typing.log
+  lspsync replay --uri file:///home/ada/hello.py < examples/typing.log
+  lspsync replay --uri file:///home/ada/hello.py --at 3 < examples/typing.log";
 
 pub static NORMALISE: &str =
     "Write a log with each accepted change as the one canonical message that means the same";
@@ -65,17 +65,17 @@ pub static NORMALISE_EXAMPLE: &str =
 characters and insert the same texts, so such logs can be compared. The status is that of `check`.
 
 Example, a change of the whole text, which becomes one with a range:
-  ./lspsync normalise < examples/whole-text.log
+  lspsync normalise < examples/whole-text.log
 
 With `--documents` all messages are left out that are neither about the session nor about a document's
 text: requests for features and their answers, and most notifications. `didSave` stays, and so does
 what was refused. `replay` reports the same documents and the same status.
 
 Example, what a person typed, as one change:
-  ./lspsync normalise --squash < examples/typing.log
+  lspsync normalise --squash < examples/typing.log
 
 Example, what was done between two saves, of a log with a request after each key:
-  ./lspsync normalise --documents --squash < examples/two-saves-with-requests.log";
+  lspsync normalise --documents --squash < examples/two-saves-with-requests.log";
 
 pub static CONVERT: &str =
     "Write a log in the format of version 2, which holds the server's replies too";
@@ -86,8 +86,8 @@ pub static CONVERT_EXAMPLE: &str =
 read both versions, `convert` reads version 1 alone. The status is that of `check`.
 
 Example, and what its output says:
-  ./lspsync convert < examples/whole-text.log
-  ./lspsync convert < examples/whole-text.log | ./lspsync check";
+  lspsync convert < examples/whole-text.log
+  lspsync convert < examples/whole-text.log | lspsync check";
 
 pub static ENCODING: &str =
     "What a position's character counts in this log; one of version 2 says it itself";

@@ -235,7 +235,7 @@ static DEFAULTS: [&str; 3] = ["[default: 16777216]", "[default: 1024]", "[defaul
 /// Returns whether the help of a command has its options with their defaults, and an example of its
 /// call.
 fn has_options(alloc: Global, command: &str, words: &[&str]) -> Result<bool, Fail> {
-    let example = format!(in alloc; "  ./lspsync {command} < examples/")?;
+    let example = format!(in alloc; "  lspsync {command} < examples/")?;
     let output = help(alloc, words)?;
     let text = str::from_utf8(&output)?;
     if !text.contains(example.as_str()) || !has_all(text, &OPTIONS) {
