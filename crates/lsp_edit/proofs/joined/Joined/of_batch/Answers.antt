@@ -30,16 +30,16 @@ pub loop-series-preserved : goal.loop-series-preserved
 loop-series-preserved c =
     let steps = c.in-Some.ensures.steps in
     let f = (λ (change : Change). string_len change.text) in
-    let sum : sum_by f (chunks_rest c.loop-series.series-iterator) ≡ sum_by f c.in-Some.series'.now
+    let sum : sum_by f (chunks_rest c.loop-series.series-iterator) ≡ sum_by f c.in-Some.series.now
     + sum_by f (chunks_rest c.next.new.self)
-    = ap (sum_by f) steps.1.0 ∙ sum_by-append f c.in-Some.series'.now (chunks_rest c.next.new.self) in (
+    = ap (sum_by f) steps.1.0 ∙ sum_by-append f c.in-Some.series.now (chunks_rest c.next.new.self) in (
       omega (arith, steps.0, c.loop-series.invariant.0),
       omega (arith, sum, c.loop-series.invariant.1),
       series_next (units_in c.args.encoding) c.args.before.now (map edit_of c.args.changes.now) c.loop-series.joined
           c.change.new.self c.loop-series.reached c.change.new.reached
-          (map edit_of c.in-Some.series'.now) (map edit_of (chunks_rest c.loop-series.series-iterator))
+          (map edit_of c.in-Some.series.now) (map edit_of (chunks_rest c.loop-series.series-iterator))
           (map edit_of (chunks_rest c.next.new.self)) c.loop-series.invariant.2
-          (ap (map edit_of) steps.1.0 ∙ map-append edit_of c.in-Some.series'.now (chunks_rest c.next.new.self))
+          (ap (map edit_of) steps.1.0 ∙ map-append edit_of c.in-Some.series.now (chunks_rest c.next.new.self))
           c.in_ok-change.ensures.ok c.in_ok-change.ensures.reached c.in_ok-change.ensures.changed,
     )
 
