@@ -26,7 +26,7 @@ pub fn range_lengths(alloc: Global, body: &[u8]) -> Result<Vec<Option<u64>>, All
     }
 }
 
-/// Returns that of a keystroke's change; `None` where the body is no keystroke.
+/// Returns the `rangeLength` of a keystroke's change; `None` where the body is no keystroke.
 fn length_by_bytes(body: &[u8]) -> Option<Option<u64>>
     ensures { IfSome result (λ length. lengths_of (reading body.now) ≡ length ∷ []) }
 {
@@ -36,7 +36,7 @@ fn length_by_bytes(body: &[u8]) -> Option<Option<u64>>
     keystroke_length(text)
 }
 
-/// Returns those of a body that is read as a tree.
+/// Returns the `rangeLength` of each change in a body, which is read as a tree.
 fn lengths_by_tree(alloc: Global, body: &[u8]) -> Result<Vec<Option<u64>>, AllocError>
     ensures { IfOk result (λ lengths. lengths.items ≡ lengths_of (reading body.now)) }
 {
@@ -47,7 +47,7 @@ fn lengths_by_tree(alloc: Global, body: &[u8]) -> Result<Vec<Option<u64>>, Alloc
     }
 }
 
-/// Returns those of a message.
+/// Returns the `rangeLength` of each change in a message.
 fn lengths_in_message(alloc: Global, message: &Message) -> Result<Vec<Option<u64>>, AllocError>
     ensures { IfOk result
         (λ lengths. lengths.items ≡ lengths_of (message (message_view message.now))) }
@@ -61,7 +61,7 @@ fn lengths_in_message(alloc: Global, message: &Message) -> Result<Vec<Option<u64
     lengths_found(alloc, params)
 }
 
-/// Returns those of the params of a notification.
+/// Returns the `rangeLength` of each change in a notification's params.
 fn lengths_found(alloc: Global, params: &Value) -> Result<Vec<Option<u64>>, AllocError>
     ensures { IfOk result (λ lengths. lengths.items ≡ lengths_found
         (items_in (member_at (codes "contentChanges") (Some (view params.now))))) }
@@ -75,7 +75,7 @@ fn lengths_found(alloc: Global, params: &Value) -> Result<Vec<Option<u64>>, Allo
     lengths_in(alloc, changes)
 }
 
-/// Returns that of each change.
+/// Returns the `rangeLength` of each change.
 fn lengths_in(alloc: Global, changes: &[Value]) -> Result<Vec<Option<u64>>, AllocError>
     ensures { IfOk result
         (λ lengths. lengths.items ≡ lengths_in (items_view changes.now)) }
@@ -87,7 +87,7 @@ fn lengths_in(alloc: Global, changes: &[Value]) -> Result<Vec<Option<u64>>, Allo
     Ok(lengths)
 }
 
-/// Returns that of a change.
+/// Returns the `rangeLength` of a change.
 fn length_of(change: &Value) -> Option<u64>
     ensures { result ≡ natural_in (member_at (codes "rangeLength") (Some (view change.now))) }
 {

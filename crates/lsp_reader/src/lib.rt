@@ -1,8 +1,8 @@
 //! Reads what a body asks of a language server, in one pass over the tokens of its JSON.
 //!
-//! No tree is built, but for `initialize`: the members that the protocol names are kept, and all
-//! others are skipped. The result is what `lsp_message` defines for the value that `serde_json`
-//! reads, for each body.
+//! No tree is built, but for `initialize`, and by [`range_lengths`] where the body is no keystroke:
+//! the members that the protocol names are kept, and all others are skipped. The result is what
+//! `lsp_message` defines for the value that `serde_json` reads, for each body.
 //!
 //! ```text
 //! let mut scratch = Scratch::new(alloc);

@@ -4,6 +4,7 @@ mod bodies;
 mod both_ways;
 mod generated;
 mod layouts;
+mod lengths;
 mod refused;
 
 use lsp_message::{ReadFault, read};

@@ -99,12 +99,12 @@ length_notes units index (Some sent) (Some replaced) =
     WrongLength index sent (utf16_units replaced) ∷ []
 length_notes units index sent replaced = []
 
--- The note that a change's text is what it replaces.
+-- The note that a change's text is what it replaces, character by character.
 abbrev pub same_notes : ℕ → List ℕ → Option (List ℕ) → List Note
 same_notes index new None = []
 same_notes index new (Some replaced) = if bytes_eq new replaced then SameText index ∷ [] else []
 
--- The notes of a change.
+-- The notes of a change, with this index, on the characters of a text.
 abbrev pub change_notes : Terms → List ℕ → ℕ → Edit → List Note
 change_notes terms text index change =
     whole_notes terms.ranged index change.range
@@ -127,7 +127,7 @@ abbrev pub notes_after : (List ℕ → List Note) → Option (List ℕ) → List
 notes_after rest None = []
 notes_after rest (Some text) = rest text
 
--- The notes of changes from an index on, each on the text that the one before it leaves.
+-- The notes of changes from an index on, each on the bytes that the one before it leaves.
 abbrev pub notes_from : Terms → ℕ → List ℕ → List Edit → List Note
 notes_from terms index text [] = []
 notes_from terms index text (change ∷ changes) =

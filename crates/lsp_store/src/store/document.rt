@@ -42,7 +42,7 @@ impl<'a> Model for Document<'a> {
 
 impl<'a> Document<'a> {
     /// Returns the document of a URI.
-    pub fn new(uri: &'a str, stored: &'a Stored) -> Self
+    pub(crate) fn new(uri: &'a str, stored: &'a Stored) -> Self
         ensures { result ≡ entry_under uri.now stored.now }
     {
         Document { uri, stored }
