@@ -7,9 +7,8 @@ use std::process::Command;
 const ARCHIVE: &str = "liblaspidru.a";
 
 /// The folder lib of this package. The crate that `make packages` makes has it, the repository doesn't.
-fn packaged() -> Option<PathBuf> {
-    let folder = Path::new(&env::var_os("CARGO_MANIFEST_DIR")?).join("lib");
-    folder.join(ARCHIVE).exists().then_some(folder)
+fn packaged() -> PathBuf {
+    Path::new(&env::var_os("CARGO_MANIFEST_DIR").unwrap_or_default()).join("lib")
 }
 
 /// The folder of the installed library.
@@ -30,19 +29,20 @@ fn folder() -> Option<PathBuf> {
         system == "linux" && processor == "x86_64",
         "laspidru's library is for Linux on x86-64, and this is built for {system} on {processor}"
     );
-    packaged().or_else(installed)
+    Some(packaged()).filter(|it| it.join(ARCHIVE).exists()).or_else(installed)
 }
 
 fn main() {
     println!("cargo:rerun-if-env-changed=LASPIDRU_LIB_DIR");
     println!("cargo:rerun-if-env-changed=PKG_CONFIG_PATH");
     let folder = folder();
-    if !folder.as_ref().is_some_and(|it| it.join(ARCHIVE).exists()) {
+    // A program is linked anew once the archive is another. While there is none, cargo runs this again at each build.
+    let archive = folder.clone().unwrap_or_else(packaged).join(ARCHIVE);
+    println!("cargo:rerun-if-changed={}", archive.display());
+    if !archive.exists() {
         println!("cargo:warning=no {ARCHIVE}: set LASPIDRU_LIB_DIR to its folder, or install the library");
     }
     if let Some(folder) = folder {
-        // (a program is linked anew once the archive is another)
-        println!("cargo:rerun-if-changed={}", folder.join(ARCHIVE).display());
         println!("cargo:rustc-link-search=native={}", folder.display());
     }
     println!("cargo:rustc-link-lib=static=laspidru");
