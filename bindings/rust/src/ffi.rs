@@ -212,14 +212,7 @@ impl Handle {
         self.with_batch(laspidru_document_change, encoding, edits, texts, fault)
     }
 
-    pub fn document_canonical(
-        &self,
-        encoding: u32,
-        edits: &[Edit],
-        texts: &[u8],
-        batch: &Handle,
-        fault: &mut Fault,
-    ) -> u32 {
+    pub fn document_canonical(&self, encoding: u32, edits: &[Edit], texts: &[u8], batch: &Handle, fault: &mut Fault) -> u32 {
         self.batch_by(laspidru_document_canonical, encoding, edits, texts, batch, fault)
     }
 
@@ -255,9 +248,7 @@ impl Handle {
     }
 
     pub fn document_bytes(&self, start: usize, len: usize) -> Vec<u8> {
-        copied(len, |out, copied| unsafe {
-            laspidru_document_copy(&mut *self.0.borrow_mut(), start, out, len, copied)
-        })
+        copied(len, |out, copied| unsafe { laspidru_document_copy(&mut *self.0.borrow_mut(), start, out, len, copied) })
     }
 
     pub fn batch_len(&self, len: &mut usize) -> u32 {
@@ -265,9 +256,7 @@ impl Handle {
     }
 
     pub fn batch_edit(&self, index: usize, edit: &mut Edit, out: &mut [u8], copied: &mut usize) -> u32 {
-        unsafe {
-            laspidru_batch_edit(&mut *self.0.borrow_mut(), index, edit, out.as_mut_ptr(), out.len(), copied)
-        }
+        unsafe { laspidru_batch_edit(&mut *self.0.borrow_mut(), index, edit, out.as_mut_ptr(), out.len(), copied) }
     }
 
     pub fn framer_new(&self, max_body: usize) -> u32 {
@@ -319,9 +308,7 @@ impl Handle {
         let (edits, count) = (edits.as_ptr(), edits.len());
         let (texts, len) = (texts.as_ptr(), texts.len());
         unsafe {
-            laspidru_server_batch_of_edits(
-                handle, uri.as_ptr(), uri.len(), encoding, edits, count, texts, len, batch, fault,
-            )
+            laspidru_server_batch_of_edits(handle, uri.as_ptr(), uri.len(), encoding, edits, count, texts, len, batch, fault)
         }
     }
 

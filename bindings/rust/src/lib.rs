@@ -195,14 +195,22 @@ impl Document {
     pub fn offset(&self, position: Position) -> Result<usize, Error> {
         let mut offset = 0;
         let code = self.handle.document_offset(self.encoding as u32, position, &mut offset);
-        if code == ffi::OK { Ok(offset) } else { Err(Error::NoPlace) }
+        if code == ffi::OK {
+            Ok(offset)
+        } else {
+            Err(Error::NoPlace)
+        }
     }
 
     /// The exact position of a byte offset.
     pub fn position(&self, offset: usize) -> Result<Position, Error> {
         let mut position = Position::default();
         let code = self.handle.document_position(self.encoding as u32, offset, &mut position);
-        if code == ffi::OK { Ok(position) } else { Err(Error::NoPlace) }
+        if code == ffi::OK {
+            Ok(position)
+        } else {
+            Err(Error::NoPlace)
+        }
     }
 
     fn length(&self) -> ffi::Length {

@@ -1,6 +1,6 @@
 //! The commands of `lspsync` on the bytes of a log.
 
-use crate::{DEFAULT_LIMITS, Encoding, ffi};
+use crate::{ffi, Encoding, DEFAULT_LIMITS};
 use std::fmt;
 
 /// How a log is read. The default is that of `lspsync`.
@@ -20,15 +20,7 @@ pub struct LogSettings {
 impl Default for LogSettings {
     fn default() -> Self {
         let [max_body, max_text, max_docs, max_changes] = DEFAULT_LIMITS;
-        LogSettings {
-            max_body,
-            max_text,
-            max_docs,
-            max_changes,
-            encoding: Encoding::Utf16,
-            squash: false,
-            lenient: false,
-        }
+        LogSettings { max_body, max_text, max_docs, max_changes, encoding: Encoding::Utf16, squash: false, lenient: false }
     }
 }
 

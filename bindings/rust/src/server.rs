@@ -2,9 +2,7 @@
 
 use crate::framer::FrameError;
 use crate::received::{NotTaken, Received};
-use crate::{
-    batch, changes_of, demand_edits, ffi, passed_edits, Change, Encoding, Error, Position, TextEdit, DEFAULT_LIMITS,
-};
+use crate::{batch, changes_of, demand_edits, ffi, passed_edits, Change, Encoding, Error, Position, TextEdit, DEFAULT_LIMITS};
 use std::fmt;
 
 /// How a server is set up. The default is that of `lspsync serve`.
@@ -283,9 +281,7 @@ impl Server {
         match self.handle.server_canonical_message(uri, version, units, &edits, &texts, &output, &mut fault) {
             (ffi::OK, len) => Ok(output.output_copy(len)),
             (ffi::OUT_OF_MEMORY, _) => Err(MessageError::OutOfMemory),
-            (ffi::INSIDE_CHARACTER, _) => {
-                Err(MessageError::InsideCharacter { change: fault.change, at_end: fault.at_end })
-            }
+            (ffi::INSIDE_CHARACTER, _) => Err(MessageError::InsideCharacter { change: fault.change, at_end: fault.at_end }),
             (ffi::REVERSED_RANGE, _) => Err(MessageError::ReversedRange { change: fault.change }),
             (code, _) => Err(MessageError::Refused(refusal(code))),
         }

@@ -1,4 +1,4 @@
-use laspidru::log::{LogError, LogFault, LogSettings, check, convert, normalise, replay};
+use laspidru::log::{check, convert, normalise, replay, LogError, LogFault, LogSettings};
 
 const STALE: &[u8] = include_bytes!("../../../examples/stale-version.log");
 const CUT: &[u8] = include_bytes!("../../../examples/cut-short.log");

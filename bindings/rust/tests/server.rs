@@ -17,8 +17,7 @@ fn open(text: &str) -> String {
 }
 
 fn change(version: i32, text: &str) -> String {
-    let params =
-        format!(r#"{{"textDocument":{{"uri":"{URI}","version":{version}}},"contentChanges":[{{"text":"{text}"}}]}}"#);
+    let params = format!(r#"{{"textDocument":{{"uri":"{URI}","version":{version}}},"contentChanges":[{{"text":"{text}"}}]}}"#);
     notification("textDocument/didChange", &params)
 }
 
@@ -73,7 +72,9 @@ fn each_refusal_has_its_name() -> Result<(), ServerError> {
     assert_eq!(server.handle(open("").as_bytes())?, Answer::Dropped);
     assert!(replies(&mut server, &request(1, "initialize", r#"{"capabilities":{}}"#), None)?);
     assert_eq!(server.handle(open("\u{1F600}").as_bytes())?, Answer::Changed);
-    let ranged = |start, end| format!(r#"{{"range":{{"start":{{"line":0,"character":{start}}},"end":{{"line":0,"character":{end}}}}},"text":""}}"#);
+    let ranged = |start, end| {
+        format!(r#"{{"range":{{"start":{{"line":0,"character":{start}}},"end":{{"line":0,"character":{end}}}}},"text":""}}"#)
+    };
     let rows = [
         (ranged(0, 1), Refusal::InsideCharacter),
         (ranged(2, 0), Refusal::ReversedRange),
@@ -151,7 +152,8 @@ fn the_canonical_message_of_changes() -> Result<(), Box<dyn std::error::Error>> 
 
 #[test]
 fn the_encoding_is_known_once_it_is_chosen() -> Result<(), ServerError> {
-    let mut server = Server::new(&Settings { choice: EncodingChoice::Negotiated { prefer: Encoding::Utf8 }, ..Settings::default() })?;
+    let mut server =
+        Server::new(&Settings { choice: EncodingChoice::Negotiated { prefer: Encoding::Utf8 }, ..Settings::default() })?;
     assert_eq!(server.encoding(), None);
     let offers = r#"{"capabilities":{"general":{"positionEncodings":["utf-8"]}}}"#;
     assert!(replies(&mut server, &request(1, "initialize", offers), None)?);

@@ -19,25 +19,9 @@ extern "C" {
     ) -> u32;
     pub fn laspidru_document_size(document: *mut Raw, length: *mut Length) -> u32;
     pub fn laspidru_document_line(document: *mut Raw, line: u32, range: *mut Line) -> u32;
-    pub fn laspidru_document_copy(
-        document: *mut Raw,
-        start: usize,
-        out: *mut u8,
-        out_len: usize,
-        copied: *mut usize,
-    ) -> u32;
-    pub fn laspidru_document_offset(
-        document: *mut Raw,
-        encoding: u32,
-        position: Position,
-        offset: *mut usize,
-    ) -> u32;
-    pub fn laspidru_document_position(
-        document: *mut Raw,
-        encoding: u32,
-        offset: usize,
-        position: *mut Position,
-    ) -> u32;
+    pub fn laspidru_document_copy(document: *mut Raw, start: usize, out: *mut u8, out_len: usize, copied: *mut usize) -> u32;
+    pub fn laspidru_document_offset(document: *mut Raw, encoding: u32, position: Position, offset: *mut usize) -> u32;
+    pub fn laspidru_document_position(document: *mut Raw, encoding: u32, offset: usize, position: *mut Position) -> u32;
     pub fn laspidru_document_canonical(
         document: *mut Raw,
         encoding: u32,
@@ -77,19 +61,8 @@ extern "C" {
         copied: *mut usize,
     ) -> u32;
     pub fn laspidru_server_new(server: *mut Raw, settings: *const Settings) -> u32;
-    pub fn laspidru_server_handle(
-        server: *mut Raw,
-        body: *const u8,
-        body_len: usize,
-        answer: *mut Answer,
-    ) -> u32;
-    pub fn laspidru_server_reply(
-        server: *mut Raw,
-        start: usize,
-        out: *mut u8,
-        out_len: usize,
-        copied: *mut usize,
-    ) -> u32;
+    pub fn laspidru_server_handle(server: *mut Raw, body: *const u8, body_len: usize, answer: *mut Answer) -> u32;
+    pub fn laspidru_server_reply(server: *mut Raw, start: usize, out: *mut u8, out_len: usize, copied: *mut usize) -> u32;
     pub fn laspidru_server_take(
         server: *mut Raw,
         piece: *const u8,
@@ -126,12 +99,7 @@ extern "C" {
         frame_len: *mut usize,
     ) -> u32;
     pub fn laspidru_server_documents(server: *mut Raw, len: *mut usize) -> u32;
-    pub fn laspidru_server_document(
-        server: *mut Raw,
-        uri: *const u8,
-        uri_len: usize,
-        document: *mut Opened,
-    ) -> u32;
+    pub fn laspidru_server_document(server: *mut Raw, uri: *const u8, uri_len: usize, document: *mut Opened) -> u32;
     pub fn laspidru_server_text(
         server: *mut Raw,
         uri: *const u8,
@@ -157,13 +125,7 @@ extern "C" {
         offset: usize,
         position: *mut Position,
     ) -> u32;
-    pub fn laspidru_server_line(
-        server: *mut Raw,
-        uri: *const u8,
-        uri_len: usize,
-        line: u32,
-        range: *mut Line,
-    ) -> u32;
+    pub fn laspidru_server_line(server: *mut Raw, uri: *const u8, uri_len: usize, line: u32, range: *mut Line) -> u32;
     pub fn laspidru_log_check(
         output: *mut Raw,
         settings: *const LogSettings,
@@ -192,13 +154,7 @@ extern "C" {
         log_len: usize,
         ending: *mut Ending,
     ) -> u32;
-    pub fn laspidru_output_copy(
-        output: *mut Raw,
-        start: usize,
-        out: *mut u8,
-        out_len: usize,
-        copied: *mut usize,
-    ) -> u32;
+    pub fn laspidru_output_copy(output: *mut Raw, start: usize, out: *mut u8, out_len: usize, copied: *mut usize) -> u32;
     pub fn laspidru_framer_new(framer: *mut Raw, max_body: usize) -> u32;
     pub fn laspidru_framer_feed(framer: *mut Raw, piece: *const u8, piece_len: usize, taken: *mut Taken) -> u32;
     pub fn laspidru_framer_body(framer: *mut Raw, start: usize, out: *mut u8, out_len: usize, copied: *mut usize) -> u32;
@@ -269,11 +225,5 @@ extern "C" {
         offset: usize,
         position: *mut Position,
     ) -> u32;
-    pub fn laspidru_client_line(
-        client: *mut Raw,
-        uri: *const u8,
-        uri_len: usize,
-        line: u32,
-        range: *mut Line,
-    ) -> u32;
+    pub fn laspidru_client_line(client: *mut Raw, uri: *const u8, uri_len: usize, line: u32, range: *mut Line) -> u32;
 }
