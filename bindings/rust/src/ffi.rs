@@ -312,7 +312,7 @@ impl Handle {
         }
     }
 
-    /// The frame of a canonical message, in the handle `output`, which was empty.
+    /// The frame of a canonical message, or the code of why there is none.
     pub fn server_canonical_message(
         &self,
         uri: &str,
@@ -320,15 +320,13 @@ impl Handle {
         encoding: u32,
         edits: &[Edit],
         texts: &[u8],
-        output: &Handle,
         fault: &mut Fault,
-    ) -> (u32, usize) {
-        let (handle, output) = (&mut *self.0.borrow_mut(), &mut *output.0.borrow_mut());
+    ) -> Result<Vec<u8>, u32> {
+        let (output, mut frame_len) = (Handle::empty(), 0);
         let (edits, count) = (edits.as_ptr(), edits.len());
-        let mut frame_len = 0;
         let code = unsafe {
             laspidru_server_canonical_message(
-                handle,
+                &mut *self.0.borrow_mut(),
                 uri.as_ptr(),
                 uri.len(),
                 version,
@@ -337,12 +335,16 @@ impl Handle {
                 count,
                 texts.as_ptr(),
                 texts.len(),
-                output,
+                &mut *output.0.borrow_mut(),
                 fault,
                 &mut frame_len,
             )
         };
-        (code, frame_len)
+        if code == OK {
+            Ok(output.output_copy(frame_len))
+        } else {
+            Err(code)
+        }
     }
 
     pub fn server_documents(&self, len: &mut usize) -> u32 {

@@ -276,15 +276,14 @@ impl Server {
     /// version greater than its own. Positions count units of [`Server::encoding`]. The document stays as it is.
     pub fn canonical_message(&self, uri: &str, version: i32, changes: &[Change]) -> Result<Vec<u8>, MessageError> {
         let (edits, texts) = batch(changes);
-        let (mut fault, output) = (ffi::Fault::default(), ffi::Handle::empty());
-        let units = self.units();
-        match self.handle.server_canonical_message(uri, version, units, &edits, &texts, &output, &mut fault) {
-            (ffi::OK, len) => Ok(output.output_copy(len)),
-            (ffi::OUT_OF_MEMORY, _) => Err(MessageError::OutOfMemory),
-            (ffi::INSIDE_CHARACTER, _) => Err(MessageError::InsideCharacter { change: fault.change, at_end: fault.at_end }),
-            (ffi::REVERSED_RANGE, _) => Err(MessageError::ReversedRange { change: fault.change }),
-            (code, _) => Err(MessageError::Refused(refusal(code))),
-        }
+        let (mut fault, units) = (ffi::Fault::default(), self.units());
+        let frame = self.handle.server_canonical_message(uri, version, units, &edits, &texts, &mut fault);
+        frame.map_err(|code| match code {
+            ffi::OUT_OF_MEMORY => MessageError::OutOfMemory,
+            ffi::INSIDE_CHARACTER => MessageError::InsideCharacter { change: fault.change, at_end: fault.at_end },
+            ffi::REVERSED_RANGE => MessageError::ReversedRange { change: fault.change },
+            code => MessageError::Refused(refusal(code)),
+        })
     }
 
     /// How many documents are open.
