@@ -5,7 +5,7 @@ use std::fmt;
 
 /// How a log is read. The default is that of `lspsync`.
 #[derive(Clone, Copy, Debug, PartialEq, Eq)]
-pub struct LogSettings {
+pub struct Settings {
     pub max_body: usize,
     pub max_text: usize,
     pub max_docs: usize,
@@ -17,10 +17,10 @@ pub struct LogSettings {
     pub lenient: bool,
 }
 
-impl Default for LogSettings {
+impl Default for Settings {
     fn default() -> Self {
         let [max_body, max_text, max_docs, max_changes] = DEFAULT_LIMITS;
-        LogSettings { max_body, max_text, max_docs, max_changes, encoding: Encoding::Utf16, squash: false, lenient: false }
+        Settings { max_body, max_text, max_docs, max_changes, encoding: Encoding::Utf16, squash: false, lenient: false }
     }
 }
 
@@ -78,26 +78,26 @@ impl fmt::Display for LogError {
 impl std::error::Error for LogError {}
 
 /// What a server answers to each record of a log, a line for each.
-pub fn check(log: &[u8], settings: &LogSettings) -> Result<Output, LogError> {
+pub fn check(log: &[u8], settings: &Settings) -> Result<Output, LogError> {
     run(ffi::Command::Check, log, settings)
 }
 
 /// The documents that are open at the end of a log, a line of JSON for each.
-pub fn replay(log: &[u8], settings: &LogSettings) -> Result<Output, LogError> {
+pub fn replay(log: &[u8], settings: &Settings) -> Result<Output, LogError> {
     run(ffi::Command::Replay, log, settings)
 }
 
 /// The log with each accepted change as its canonical message.
-pub fn normalise(log: &[u8], settings: &LogSettings) -> Result<Output, LogError> {
+pub fn normalise(log: &[u8], settings: &Settings) -> Result<Output, LogError> {
     run(ffi::Command::Normalise, log, settings)
 }
 
 /// A log of version 1 in version 2, with the replies that a server gives.
-pub fn convert(log: &[u8], settings: &LogSettings) -> Result<Output, LogError> {
+pub fn convert(log: &[u8], settings: &Settings) -> Result<Output, LogError> {
     run(ffi::Command::Convert, log, settings)
 }
 
-fn run(command: ffi::Command, log: &[u8], settings: &LogSettings) -> Result<Output, LogError> {
+fn run(command: ffi::Command, log: &[u8], settings: &Settings) -> Result<Output, LogError> {
     let settings = ffi::LogSettings {
         max_body: settings.max_body,
         max_text: settings.max_text,

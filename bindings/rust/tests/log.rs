@@ -1,4 +1,4 @@
-use laspidru::log::{check, convert, normalise, replay, LogError, LogFault, LogSettings};
+use laspidru::log::{check, convert, normalise, replay, LogError, LogFault, Settings};
 
 const STALE: &[u8] = include_bytes!("../../../examples/stale-version.log");
 const CUT: &[u8] = include_bytes!("../../../examples/cut-short.log");
@@ -8,14 +8,14 @@ const SAVES: &[u8] = include_bytes!("../../../examples/two-saves.log");
 
 #[test]
 fn commands_write_what_lspsync_does() -> Result<(), LogError> {
-    let settings = LogSettings::default();
+    let settings = Settings::default();
     let checked = check(STALE, &settings)?;
     assert_eq!(checked.bytes, b"1 reply\n2 changed\n3 refused S5\n4 refused S4\n5 changed\n");
     assert_eq!((checked.messages, checked.refused), (5, 2));
-    let lenient = LogSettings { lenient: true, ..settings };
+    let lenient = Settings { lenient: true, ..settings };
     assert_eq!(check(STALE, &lenient)?.bytes, b"1 reply\n2 changed\n3 changed\n4 refused S4\n5 changed\n");
     assert_eq!(convert(TYPING, &settings)?.bytes, WITH_REPLIES);
-    let squash = LogSettings { squash: true, ..settings };
+    let squash = Settings { squash: true, ..settings };
     let squashed = normalise(SAVES, &squash)?.bytes;
     assert!(squashed.len() < normalise(SAVES, &settings)?.bytes.len());
     assert_eq!(normalise(&squashed, &squash)?.bytes, squashed);
@@ -26,9 +26,9 @@ fn commands_write_what_lspsync_does() -> Result<(), LogError> {
 #[test]
 fn a_fault_has_a_place_and_the_output_up_to_it() {
     let fault = |fault, place, output: &[u8]| Err(LogError::Fault { fault, place, output: output.into() });
-    let settings = LogSettings::default();
+    let settings = Settings::default();
     assert_eq!(check(CUT, &settings), fault(LogFault::Cut, 505, b"1 reply\n2 changed\n"));
     assert_eq!(replay(b"Content-Length 2", &settings), fault(LogFault::BadFrame(1), 14, b""));
     assert_eq!(convert(b"lsp-session-log 2\n", &settings), fault(LogFault::BadLog, 0, b""));
-    assert_eq!(check(b"", &LogSettings { max_body: 1, ..settings }), Err(LogError::BadLimit));
+    assert_eq!(check(b"", &Settings { max_body: 1, ..settings }), Err(LogError::BadLimit));
 }
