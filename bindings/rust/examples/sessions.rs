@@ -53,7 +53,7 @@ fn sent(found: Result<Vec<u8>, ClientError>, to_server: &mut Frames) -> String {
         Err(ClientError::Refused(refusal)) => code(refusal),
         Err(ClientError::InsideCharacter { .. }) => 6,
         Err(ClientError::ReversedRange { .. }) => 7,
-        Err(error) => panic!("{error}"),
+        Err(error) => panic!("{error:?}"),
     };
     format!("refused {refused}")
 }

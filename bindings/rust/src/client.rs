@@ -103,19 +103,27 @@ impl fmt::Display for ClientError {
     fn fmt(&self, f: &mut fmt::Formatter<'_>) -> fmt::Result {
         match self {
             ClientError::WrongPhase => write!(f, "not in this phase of the session"),
-            ClientError::Refused(refusal) => write!(f, "refused: {refusal}"),
+            ClientError::Refused(_) => write!(f, "the call was refused"),
             ClientError::InsideCharacter { change, at_end } => {
                 write!(f, "{}", Error::InsideCharacter { change: *change, at_end: *at_end })
             }
             ClientError::ReversedRange { change } => write!(f, "{}", Error::ReversedRange { change: *change }),
             ClientError::OutOfMemory => write!(f, "out of memory"),
             ClientError::BadLimit => write!(f, "a limit is out of its range"),
-            ClientError::Frame(error) => write!(f, "{error}"),
+            ClientError::Frame(_) => write!(f, "the stream is faulty"),
         }
     }
 }
 
-impl std::error::Error for ClientError {}
+impl std::error::Error for ClientError {
+    fn source(&self) -> Option<&(dyn std::error::Error + 'static)> {
+        match self {
+            ClientError::Refused(refusal) => Some(refusal),
+            ClientError::Frame(error) => Some(error),
+            _ => None,
+        }
+    }
+}
 
 /// A client's end of a session, without input and output of its own: each call returns the frame to send, and bytes that
 /// were read go in by [`Client::receive`].

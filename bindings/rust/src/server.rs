@@ -116,6 +116,8 @@ impl fmt::Display for Refusal {
     }
 }
 
+impl std::error::Error for Refusal {}
+
 /// Why there is no server, or no answer. Then nothing changed.
 #[derive(Clone, Copy, Debug, PartialEq, Eq)]
 #[non_exhaustive]
@@ -136,12 +138,19 @@ impl fmt::Display for ServerError {
             ServerError::OutOfMemory => write!(f, "out of memory"),
             ServerError::BadLimit => write!(f, "a limit is out of its range"),
             ServerError::Ended => write!(f, "the session has ended"),
-            ServerError::Frame(error) => write!(f, "{error}"),
+            ServerError::Frame(_) => write!(f, "the stream is faulty"),
         }
     }
 }
 
-impl std::error::Error for ServerError {}
+impl std::error::Error for ServerError {
+    fn source(&self) -> Option<&(dyn std::error::Error + 'static)> {
+        match self {
+            ServerError::Frame(error) => Some(error),
+            _ => None,
+        }
+    }
+}
 
 /// Why there is no canonical message.
 #[derive(Clone, Copy, Debug, PartialEq, Eq)]
@@ -160,7 +169,7 @@ pub enum MessageError {
 impl fmt::Display for MessageError {
     fn fmt(&self, f: &mut fmt::Formatter<'_>) -> fmt::Result {
         match *self {
-            MessageError::Refused(refusal) => write!(f, "refused: {refusal}"),
+            MessageError::Refused(_) => write!(f, "the call was refused"),
             MessageError::InsideCharacter { change, at_end } => write!(f, "{}", Error::InsideCharacter { change, at_end }),
             MessageError::ReversedRange { change } => write!(f, "{}", Error::ReversedRange { change }),
             MessageError::OutOfMemory => write!(f, "out of memory"),
@@ -168,7 +177,14 @@ impl fmt::Display for MessageError {
     }
 }
 
-impl std::error::Error for MessageError {}
+impl std::error::Error for MessageError {
+    fn source(&self) -> Option<&(dyn std::error::Error + 'static)> {
+        match self {
+            MessageError::Refused(refusal) => Some(refusal),
+            _ => None,
+        }
+    }
+}
 
 /// A server's end of a session, without input and output of its own: bytes that were read go in, frames to send come out.
 ///

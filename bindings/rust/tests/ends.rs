@@ -2,9 +2,10 @@
 
 use laspidru::client::{Client, ClientError, Delivered, Phase, Reason};
 use laspidru::framer::{FrameError, Framer};
-use laspidru::server::{Answer, ChangeForm, EncodingChoice, Refusal, Server, ServerError};
+use laspidru::server::{Answer, ChangeForm, EncodingChoice, MessageError, Refusal, Server, ServerError};
 use laspidru::{client, server, Change, Document, Encoding, Error, Position, Range};
 use std::collections::VecDeque;
+use std::error::Error as _;
 
 /// Numbers that look random.
 struct Chance(u64);
@@ -223,6 +224,21 @@ fn refused_calls_say_why() {
     assert_eq!(client.text("a").as_deref(), Some("\u{e9}"));
     let bad = client::Settings { max_body: 1, ..Default::default() };
     assert_eq!(Client::new(&bad).err(), Some(ClientError::BadLimit));
+}
+
+#[test]
+fn errors_have_a_source() {
+    let (fault, refusal) = (FrameError::Fault { number: 5, place: 20 }, Refusal::NotOpen);
+    let with_source =
+        |error: &dyn std::error::Error| (error.to_string(), error.source().map(ToString::to_string).unwrap_or_default());
+    let faulty = ("the stream is faulty".into(), "frame fault F5 at 20".into());
+    assert_eq!([with_source(&ServerError::Frame(fault)), with_source(&ClientError::Frame(fault))], [faulty.clone(), faulty]);
+    let refused = ("the call was refused".into(), "the document is not open".into());
+    assert_eq!(
+        [with_source(&ClientError::Refused(refusal)), with_source(&MessageError::Refused(refusal))],
+        [refused.clone(), refused]
+    );
+    assert!(ServerError::Ended.source().is_none() && ClientError::WrongPhase.source().is_none() && refusal.source().is_none());
 }
 
 #[test]
