@@ -1,5 +1,13 @@
 //! Texts that are kept as LSP 3.17 says, and both ends of a session, by a library that is proved.
 //!
+//! - [`Document`] is a text with its lines. It makes the changes of a `didChange` or text edits, and finds positions.
+//! - [`Server`] keeps the documents of a session behind your server: bytes that were read go in, and replies come out.
+//! - [`Client`] keeps the documents of an editor: each call returns the frame to send.
+//! - [`Framer`] takes a stream apart into the bodies of its messages.
+//! - [`log`] has the commands of `lspsync` on the bytes of a log.
+//!
+//! The feature `lsp-types` has `From` both ways between positions, ranges, text edits and changes and that crate's types.
+//!
 //! ```
 //! use laspidru::{Change, Document, Encoding, Position, Range};
 //!
@@ -9,6 +17,16 @@
 //! assert_eq!(document.text(), "aXc\n");
 //! # Ok::<(), laspidru::Error>(())
 //! ```
+//!
+//! # The library
+//!
+//! `liblaspidru.a` is for Linux on x86-64. For another system the build ends, and says so. The first of these that is there is linked:
+//!
+//! 1. the one in the folder that the variable `LASPIDRU_LIB_DIR` names by an absolute path, for any system;
+//! 2. the one in the folder `lib` of this package, which the crate has and the repository doesn't;
+//! 3. the installed one, which `pkg-config` finds.
+//!
+//! Where there is none, cargo warns of that before the linker fails.
 
 #![deny(unsafe_code)]
 
