@@ -86,7 +86,9 @@ local CODES = {
 local Refusal = {}
 Refusal.__index = Refusal
 function Refusal.__tostring(self)
-    local where = self.change and ("change " .. self.change .. ": ") or self.edit and ("edit " .. self.edit .. ": ") or ""
+    local where = self.change and "change at index " .. self.change .. ": "
+        or self.other and "edits at the indexes " .. self.edit .. " and " .. self.other .. ": "
+        or self.edit and "edit at index " .. self.edit .. ": " or ""
     return where .. self.code
 end
 

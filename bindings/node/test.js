@@ -28,10 +28,10 @@ assert.deepStrictEqual([document.uri, document.languageId], ['file:///a', 'plain
 assert.strictEqual(document.version, 2);
 
 assert.throws(() => TextDocument.update(document, [change(at(0, 1), at(0, 0), '')], 3),
-  { name: 'RangeError', message: 'change 0: REVERSED_RANGE', code: 'REVERSED_RANGE', change: 0, atEnd: false });
+  { name: 'RangeError', message: 'change at index 0: REVERSED_RANGE', code: 'REVERSED_RANGE', change: 0, atEnd: false });
 for (const refusing of [TextDocument.update, TextDocument.canonical]) {
   assert.throws(() => refusing(document, [change(at(0, 0), at(0, 0), ''), change(at(1, 0), at(1, 3), '')], 3),
-    { message: 'change 1: INSIDE_CHARACTER', code: 'INSIDE_CHARACTER', change: 1, atEnd: true });
+    { message: 'change at index 1: INSIDE_CHARACTER', code: 'INSIDE_CHARACTER', change: 1, atEnd: true });
 }
 assert.strictEqual(document.getText(), 'Qa\r\nXY\u{1F600}');
 assert.strictEqual(document.version, 2);
@@ -96,9 +96,9 @@ assert.strictEqual(TextDocument.applyEdits(formatted, [edit(at(0, 0), at(0, 0), 
 assert.strictEqual(TextDocument.applyEdits(formatted, [edit(at(0, 1), at(0, 1), '1'), edit(at(0, 1), at(0, 1), '2')]), 'a12bc');
 for (const refusing of [TextDocument.applyEdits, TextDocument.batchOfEdits]) {
   assert.throws(() => refusing(formatted, [edit(at(0, 1), at(0, 3), ''), edit(at(0, 0), at(0, 2), '')]),
-    { name: 'RangeError', message: 'edits 1 and 0: OVERLAP', code: 'OVERLAP', edit: 1, other: 0 });
+    { name: 'RangeError', message: 'edits at the indexes 1 and 0: OVERLAP', code: 'OVERLAP', edit: 1, other: 0 });
   assert.throws(() => refusing(TextDocument.create('file:///d', 'plain', 1, '\u{1F600}'), [edit(at(0, 0), at(0, 1), '')]),
-    { message: 'edit 0: INSIDE_CHARACTER', code: 'INSIDE_CHARACTER', edit: 0, atEnd: true });
+    { message: 'edit at index 0: INSIDE_CHARACTER', code: 'INSIDE_CHARACTER', edit: 0, atEnd: true });
 }
 const separate = [edit(at(0, 0), at(0, 0), '1'), edit(at(0, 1), at(0, 2), '2\u{1F600}')];
 assert.deepStrictEqual(TextDocument.batchOfEdits(formatted, separate),

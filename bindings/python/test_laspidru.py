@@ -135,7 +135,7 @@ class Tests(unittest.TestCase):
                                        (document.apply_edits, edit), (document.batch_of_edits, edit)):
                     for start, end in ((place, at(0, 0)), (at(0, 0), place)):
                         fault = self.refuses(11, refusing, [make(at(0, 0), at(0, 0), ""), make(start, end, "")])
-                        self.assertEqual((fault.change, str(fault)), (1, "change 1: out of range"))
+                        self.assertEqual((fault.change, str(fault)), (1, "change at index 1: out of range"))
         for number in (-1, 2 ** 64, 2 ** 64 + 5):
             self.refuses(11, document.position, number)
             self.refuses(12, check, b"", max_body=number)
@@ -149,7 +149,7 @@ class Tests(unittest.TestCase):
         document = Document("ab")
         self.refuses(1, Document, "a\ud83d")
         fault = self.refuses(1, document.change, [{"text": ""}, change(at(0, 0), at(0, 0), "\ude00")])
-        self.assertEqual((fault.change, str(fault)), (1, "change 1: the text is not UTF-8"))
+        self.assertEqual((fault.change, str(fault)), (1, "change at index 1: the text is not UTF-8"))
         self.refuses(1, document.apply_edits, [edit(at(0, 0), at(0, 0), "\ude00")])
         for refused in (lambda: Document(b"a"), lambda: document.change([{"text": None}]), lambda: check("text"),
                         lambda: document.apply_edits([{"newText": "all"}]), lambda: document.batch_of_edits([{"newText": ""}])):
@@ -181,7 +181,7 @@ class Tests(unittest.TestCase):
                 overlapping([edit(at(0, 1), at(0, 3), ""), edit(at(0, 0), at(0, 2), "")])
             fault = raised.exception
             self.assertEqual((fault.code, fault.edit, fault.other), (laspidru.OVERLAP, 1, 0))
-            self.assertEqual(str(fault), "edits 1 and 0: two edits overlap")
+            self.assertEqual(str(fault), "edits at the indexes 1 and 0: two edits overlap")
         self.assertEqual(document.text, "1a2c")
 
     def test_text_document(self):

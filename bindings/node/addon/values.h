@@ -85,7 +85,7 @@ static napi_value refuse_change(napi_env env, laspidru_u32 code, laspidru_fault 
     char message[MESSAGE_LEN];
     if (code != LASPIDRU_INSIDE_CHARACTER && code != LASPIDRU_REVERSED_RANGE)
         return refuse(env, code);
-    snprintf(message, sizeof message, "change %zu: %s", (size_t)fault.change, word_of(code));
+    snprintf(message, sizeof message, "change at index %zu: %s", (size_t)fault.change, word_of(code));
     napi_value error = range_error(env, code, message);
     if (error == NULL || !set_number(env, error, "change", (double)fault.change) || !set_boolean(env, error, "atEnd", fault.at_end))
         return refuse(env, LASPIDRU_OUT_OF_MEMORY);
@@ -100,9 +100,9 @@ static napi_value refuse_text_edits(napi_env env, laspidru_u32 code, laspidru_ed
         return refuse(env, code);
     int are_two = code == LASPIDRU_OVERLAP;
     if (are_two)
-        snprintf(message, sizeof message, "edits %zu and %zu: %s", (size_t)fault.edit, (size_t)fault.other, word_of(code));
+        snprintf(message, sizeof message, "edits at the indexes %zu and %zu: %s", (size_t)fault.edit, (size_t)fault.other, word_of(code));
     else
-        snprintf(message, sizeof message, "edit %zu: %s", (size_t)fault.edit, word_of(code));
+        snprintf(message, sizeof message, "edit at index %zu: %s", (size_t)fault.edit, word_of(code));
     napi_value error = range_error(env, code, message);
     int is_made = error != NULL && set_number(env, error, "edit", (double)fault.edit) &&
                   set_boolean(env, error, "atEnd", fault.at_end) &&

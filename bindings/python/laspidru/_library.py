@@ -205,23 +205,23 @@ FAST = _fast()
 
 
 class LaspidruError(ValueError):
-    """A refused call, which changed nothing: its code, and for a faulty change its number and which end is faulty."""
+    """A refused call, which changed nothing: its code, and for a faulty change its index and which end is faulty."""
 
     def __init__(self, code: int, change: Optional[int] = None, at_end: Optional[bool] = None) -> None:
-        where = "" if change is None else f"change {change}: "
+        where = "" if change is None else f"change at index {change}: "
         super().__init__(where + WHY.get(code, f"code {code}"))
         self.code, self.change, self.at_end = code, change, at_end
 
 
 class EditsFault(LaspidruError):
-    """A fault of text edits: its code, the number of the faulty edit, which end is faulty, and for two that overlap the other's."""
+    """A fault of text edits: its code, the index of the faulty edit, which end is faulty, and for two that overlap the other's."""
 
     def __init__(self, code: int, edit: int, other: Optional[int], at_end: bool) -> None:
         super().__init__(code)
         self.edit, self.other, self.at_end = edit, other, at_end
 
     def __str__(self) -> str:
-        which = f"edits {self.edit} and {self.other}" if self.other is not None else f"edit {self.edit}"
+        which = f"edits at the indexes {self.edit} and {self.other}" if self.other is not None else f"edit at index {self.edit}"
         return f"{which}: {super().__str__()}"
 
 
