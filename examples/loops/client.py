@@ -7,7 +7,8 @@ import sys
 
 from laspidru import Client, Framer
 
-URI = "file:///tmp/notes.txt"
+ROOT, URI = "file:///tmp", "file:///tmp/notes.txt"
+CAPABILITIES = {"textDocument": {"hover": {"contentFormat": ["plaintext"]}}}
 CHANGE = {"range": {"start": {"line": 0, "character": 7}, "end": {"line": 0, "character": 10}}, "text": "2"}
 
 
@@ -20,12 +21,26 @@ def answered(body):
     return message.get("id") if isinstance(message, dict) and "method" not in message else None
 
 
+def framed(message):
+    body = json.dumps(message).encode()
+    return b"Content-Length: %d\r\n\r\n%s" % (len(body), body)
+
+
+def own_initialize(start):
+    """The client's `initialize`, with the editor's root and capabilities. The id, 1, and `general` with its `positionEncodings` stay the
+    client's, which judges the response by them."""
+    message = json.loads(start.partition(b"\r\n\r\n")[2])
+    params = message["params"]
+    params.update(rootUri=ROOT, capabilities={**CAPABILITIES, **params["capabilities"]})
+    return framed(message)
+
+
 class Editor:
     def __init__(self, command):
         self.client, self.framer = Client(), Framer()  # positions count UTF-16 units; client.encoding says so too
         self.asked, self.responses = 0, {}
         self.server = subprocess.Popen(command, bufsize=0, stdin=subprocess.PIPE, stdout=subprocess.PIPE)
-        self.send(self.client.start())
+        self.send(own_initialize(self.client.start()))
         self.read_until(lambda: self.client.phase == "ready")
 
     def send(self, frame):
@@ -58,8 +73,7 @@ class Editor:
         """A request of the editor's own. Its id is a string: 1 and 2 are the client's."""
         self.asked += 1
         name = f"own {self.asked}"
-        body = json.dumps({"jsonrpc": "2.0", "id": name, "method": method, "params": params}).encode()
-        self.send(b"Content-Length: %d\r\n\r\n%s" % (len(body), body))
+        self.send(framed({"jsonrpc": "2.0", "id": name, "method": method, "params": params}))
         self.read_until(lambda: name in self.responses)
         return self.responses.pop(name)
 
