@@ -85,7 +85,7 @@ pub enum Delivered {
 pub enum ClientError {
     /// The call isn't allowed in this phase.
     WrongPhase,
-    /// The documents refuse it, or its message would be too long.
+    /// The documents refuse it, or its message would be too long: the source says why.
     Refused(Refusal),
     /// An end of the range of the change at this index, counted from 0, lies inside a character.
     InsideCharacter { change: usize, at_end: bool },
@@ -95,7 +95,7 @@ pub enum ClientError {
     OutOfMemory,
     /// A limit is out of its range.
     BadLimit,
-    /// The stream is faulty, and no more of it is taken.
+    /// The stream is faulty, as the source says, and no more of it is taken.
     Frame(FrameError),
 }
 

@@ -128,7 +128,7 @@ pub enum ServerError {
     BadLimit,
     /// `exit` came before.
     Ended,
-    /// The stream is faulty, and no more of it is taken.
+    /// The stream is faulty, as the source says, and no more of it is taken.
     Frame(FrameError),
 }
 
@@ -156,7 +156,7 @@ impl std::error::Error for ServerError {
 #[derive(Clone, Copy, Debug, PartialEq, Eq)]
 #[non_exhaustive]
 pub enum MessageError {
-    /// The documents refuse the changes, or their message would be too long.
+    /// The documents refuse the changes, or their message would be too long: the source says why.
     Refused(Refusal),
     /// An end of the range of the change at this index, counted from 0, lies inside a character.
     InsideCharacter { change: usize, at_end: bool },
