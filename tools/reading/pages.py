@@ -18,7 +18,7 @@ class Page:
     def __init__(self, title, row):
         self.title, self.sentence = title, row.get("sentence")
         self.of, self.given, self.most = words_of(row["of"]), words_of(row.get("given", "")), int(row["lines"])
-        self.held = None
+        self.held = self.below = None
 
     def targets(self, repository):
         return [target_named(repository, it) for it in self.of]
@@ -59,6 +59,25 @@ class Pages:
         if page.held is None:
             page.held = page.closure(self.repository)
         return page.held
+
+    def next_below(self, page):
+        """Returns the pages that tell what a page leaves out."""
+        if page.below is None:
+            tellers = (self.teller_of(it, page) for it in sorted(self.closure_of(page).given) if it not in self.tokens)
+            page.below = list(dict.fromkeys(it for it in tellers if it))
+        return page.below
+
+    def all_below(self, page):
+        """Returns the pages that a page builds on, those that they build on, and so on, each once."""
+        found = [page]
+        for one in found:
+            found += [it for it in self.next_below(one) if it not in found]
+        return found[1:]
+
+    def size_in_all(self, page):
+        """Returns the lines of definitions of a page and of all pages that it builds on, each definition counted once."""
+        held = {one for it in (page, *self.all_below(page)) for one in self.closure_of(it).definitions}
+        return sum(it.size for it in held)
 
     # ---- users
 
@@ -103,8 +122,8 @@ class Pages:
         for sentence, page in said.items():
             if sentence not in points:
                 yield f"tools/pages: no point under \"What is proved\" of README.md begins with \"{sentence}\""
-            elif f"(`{page.of[0]}`: {page.most} lines)" not in points[sentence]:
-                yield f"README.md doesn't say \"(`{page.of[0]}`: {page.most} lines)\" at \"{sentence}\""
+            elif (wanted := f"(`{page.of[0]}`: {page.most} lines, {self.size_in_all(page):,} in all)") not in points[sentence]:
+                yield f"README.md doesn't say \"{wanted}\" at \"{sentence}\""
 
     def faults_of(self, page):
         closure = self.closure_of(page)

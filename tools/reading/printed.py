@@ -3,6 +3,7 @@ import collections
 import os
 
 from .antt import Definition
+from .closures import Closure
 
 
 def short(module):
@@ -24,11 +25,12 @@ def print_page(pages, closure, page):
     repository = closure.repository
     if page:
         print(page.title + (f" (README.md, \"{page.sentence}\")" if page.sentence else ""))
-    for target in closure.targets:
-        if not isinstance(target.one, Definition):
-            heading(f"{target.one.short()}, {repository.place(target.one.file.path, target.one.line)}")
-            for clause in target.required + target.clauses:
-                block(clause.comment + clause.lines)
+    for call, clauses in clauses_by_call(closure).items():
+        heading(f"{call.short()}, {repository.place(call.file.path, call.line)}")
+        block(call.signature)
+        for clause in clauses:
+            print()
+            block(clause.comment + clause.lines)
     for one, last in zip(ordered := closure.in_order(), [None, *ordered]):
         place = repository.place(one.module.path, one.line)
         heading(place) if not last or last.module is not one.module else print(f"\n# {place}")
@@ -43,6 +45,16 @@ def print_page(pages, closure, page):
     print_rest(pages, closure, page)
 
 
+def clauses_by_call(closure):
+    """Returns the clauses of each call that a page is of: what the call requires comes first."""
+    found = {}
+    for target in closure.targets:
+        if not isinstance(target.one, Definition):
+            held = found.setdefault(target.one, [])
+            held += [it for it in target.required + target.clauses if it not in held]
+    return found
+
+
 def print_rest(pages, closure, page):
     """Prints what isn't on the page, and how long the page is."""
     if closure.given:
@@ -55,6 +67,19 @@ def print_rest(pages, closure, page):
     types = sum(it.size for it in closure.types)
     print(f"\n{closure.size} lines in {len(closure.definitions)} definitions of {files} files; types {types}; "
           f"given {len(closure.given)}; kit {sum(it.size for it in closure.kit_definitions) if closure.repository.kit else 'not read'}")
+    if page:
+        print_below(pages, page)
+
+
+def print_below(pages, page):
+    """Prints the pages that a page builds on, and how long all of them are together."""
+    below, most = pages.all_below(page), pages.size_in_all(page)
+    if not below:
+        print(f"{most} lines in all: it builds on no other page")
+        return
+    needed = Closure(pages.repository, page.targets(pages.repository), pages.tokens).size
+    print(f"{most:,} lines in all, with the pages that it builds on, each definition counted once; {needed:,} of them are needed here")
+    print(f"builds on {len(below)}: " + "; ".join(it.title for it in below))
 
 
 def print_kit(closure):
@@ -81,11 +106,11 @@ def print_kit(closure):
 
 def pages_table(pages):
     """Returns the table of docs/DEFINITIONS.md."""
-    rows = ["| page | printed by `tools/definitions --of` | lines | types | of Rattle's crates |", "|---|---|---|---|---|"]
+    rows = ["| page | printed by `tools/definitions --of` | lines | in all | types | of Rattle's crates |", "|---|---|---|---|---|---|"]
     for page in pages.pages:
         closure = pages.closure_of(page)
         types, kit = sum(it.size for it in closure.types), sum(it.size for it in closure.kit_definitions)
-        rows.append(f"| {page.title} | `{page.of[0]}` | {closure.size} | {types} | {kit} |")
+        rows.append(f"| {page.title} | `{page.of[0]}` | {closure.size} | {pages.size_in_all(page):,} | {types} | {kit} |")
     return "\n".join(rows) + "\n"
 
 
