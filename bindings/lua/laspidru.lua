@@ -262,8 +262,9 @@ end
 local Client = {}
 Client.__index = Client
 
--- Options are `utf8`, `utf32` (what it offers beside UTF-16), `max_body`, `max_text`, `max_docs`, `max_changes`, and
--- `lenient`: an edit of any version is taken, and an open document may be opened again.
+-- Options are `utf8`, `utf32` (what it offers beside UTF-16, always in the order utf-8, utf-16, utf-32, which LSP reads as
+-- a preference), `max_body`, `max_text`, `max_docs`, `max_changes`, and `lenient`: an edit of any version is taken, and an
+-- open document may be opened again.
 function Client.new(options)
     options = options or {}
     local self = setmetatable({ handle = new_handle(), rest = "" }, Client)

@@ -209,7 +209,10 @@ export type ClientEvent = { body: Uint8Array } & (
 
 export interface Client extends OpenDocuments {}
 
-/** A client's end of a session: it keeps an editor's documents, and each call returns the bytes to send. UTF-16 is always offered. */
+/**
+ * A client's end of a session: it keeps an editor's documents, and each call returns the bytes to send. UTF-16 is always offered, after
+ * UTF-8 and before UTF-32: an order that LSP reads as a preference.
+ */
 export class Client {
   constructor(options?: Limits & { utf8?: boolean; utf32?: boolean });
 

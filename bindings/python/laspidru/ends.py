@@ -332,7 +332,7 @@ class ClientEvent(NamedTuple):
 
 class Client(_End):
     """A client's end of a session: it keeps an editor's documents, and each call returns the bytes to send. UTF-16 is always
-    offered. `lenient` is as for a Server."""
+    offered, after UTF-8 and before UTF-32, an order that LSP reads as a preference. `lenient` is as for a Server."""
 
     _names = "client"
 

@@ -6,7 +6,7 @@ use crate::server::{refusal, Refusal};
 use crate::{batch, ffi, Change, Encoding, Error, Position, DEFAULT_LIMITS};
 use std::fmt;
 
-/// How a client is set up. UTF-16 is always offered.
+/// How a client is set up. UTF-16 is always offered, after UTF-8 and before UTF-32: an order that LSP reads as a preference.
 #[derive(Clone, Copy, Debug, PartialEq, Eq)]
 pub struct Settings {
     /// 4,096 to 1,073,741,824 bytes of a message, of the client's and of the server's.

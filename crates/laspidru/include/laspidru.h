@@ -177,7 +177,7 @@ typedef struct laspidru_taken {
     laspidru_bool is_whole; /* whether the message is whole */
 } laspidru_taken;
 
-/* How a client is set up. It offers UTF-16, and these. */
+/* How a client is set up. It offers UTF-16, and these, always in the order utf-8, utf-16, utf-32, which LSP reads as a preference. */
 typedef struct laspidru_client_settings {
     laspidru_size max_body;    /* 4,096 to 1,073,741,824 bytes of a message: of one that it sends for a document, and of its stream */
     laspidru_size max_text;    /* up to 1,073,741,824 bytes */
