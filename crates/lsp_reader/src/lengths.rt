@@ -2,7 +2,8 @@
 
 ghost use Rattle.std.specs.Prelude.{◌≡◌, ◌∷◌, [], IfOk, IfSome, Some, codes};
 ghost use Rattle.serde_json.specs.View.{items_view, view};
-ghost use Rattle.lsp_message.specs.Message.{message, reading};
+ghost use Rattle.lsp_message.specs.Message as spec;
+ghost use Rattle.lsp_message.specs.Message.{reading};
 ghost use Rattle.lsp_message.specs.Seen.{message_view};
 ghost use Rattle.lsp_message.specs.Values.{items_in, member_at, natural_in};
 ghost use Rattle.lsp_reader.specs.Lengths.{lengths_found, lengths_in, lengths_of};
@@ -50,7 +51,7 @@ fn lengths_by_tree(alloc: Global, body: &[u8]) -> Result<Vec<Option<u64>>, Alloc
 /// Returns the `rangeLength` of each change in a message.
 fn lengths_in_message(alloc: Global, message: &Message) -> Result<Vec<Option<u64>>, AllocError>
     ensures { IfOk result
-        (λ lengths. lengths.items ≡ lengths_of (message (message_view message.now))) }
+        (λ lengths. lengths.items ≡ lengths_of (spec.message (message_view message.now))) }
 {
     let Message::Notification { params, .. } = message else {
         return Ok(Vec::new(alloc));

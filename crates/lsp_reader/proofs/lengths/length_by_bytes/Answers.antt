@@ -4,8 +4,8 @@ use Rattle.lsp_reader.specs.Lengths.{lengths_of}
 use Rattle.lsp_reader.proofs.Messages.{if_some_weaker}
 use Rattle.lsp_reader.proofs.lengths.length_by_bytes.Goals as goal
 
-pub returns-in_default : goal.returns-in_default
-returns-in_default c =
-    let same = c.in_default.ensures.cases in
+pub returns : goal.returns
+returns c =
+    let same = c.in-Ok.ensures.cases in
     if_some_weaker c.keystroke_length.result _ _ (λ length read. ap lengths_of
     (reading_of_value c.args.body.now read.0 same.1 (rw (← same.0) read.1)) ∙ read.2) c.keystroke_length.ensures

@@ -4,7 +4,7 @@ use Rattle.lsp_reader.proofs.cursor.Cursor.changes.Goals as goal
 pub returns : goal.returns
 returns c =
     let range = c.in_ok-range.ensures in
-    let length = c.in_ok-range_length.ensures in
+    let length = c.in_ok-length.ensures in
     record {
       digits = range.digits;
       length_digits = length.digits;
