@@ -17,7 +17,7 @@ returns-clause-session c =
 pub returns-clause-kept : goal.returns-clause-kept
 returns-clause-kept c =
     kept_over c.args.self.now c.read.new.self c.take.new.self (body_view c.in_ok-read.read)
-    (option_map string_bytes c.args.uri.now)
+    (option_map (λ uri. uri.now) c.args.uri)
     (option_map string_bytes c.in_ok-closed.closed) (option_map string_bytes c.args.kept.now)
     (option_map string_bytes c.keep.new.kept)
     c.read.ensures.unchanged c.in_ok-closed.ensures c.in_ok-verdict.ensures.session c.keep.ensures
