@@ -1,5 +1,5 @@
 -- A session that is written line by line.
-use Rattle.std.proofs.Common.{◌≡◌, ◌⊎◌, ◌↔◌, ◌≤◌, ◌<◌, ◌^◌, inl, inr, ℕ, ◌+◌, suc, true, false, List, [], ◌∷◌, ◌++◌, length, codes, decimal, Option, Result, Ok, Err, refl, sym, ap, ◌∙◌, subst, arith, append_assoc, append-nil}
+use Rattle.std.proofs.Common.{◌≡◌, ◌⊎◌, ◌↔◌, ◌≤◌, ◌<◌, inl, inr, ℕ, ◌+◌, suc, true, false, List, [], ◌∷◌, ◌++◌, length, codes, decimal, Option, Result, Ok, Err, refl, sym, ap, ◌∙◌, subst, arith, append_assoc, append-nil}
 use Rattle.std.proofs.KnownBytes.{Appends-nil, Appends-trans}
 use Rattle.std.specs.Io.KnownBytes.{Appends}
 use Rattle.lsp_stream.specs.declared.fault.EngineFault.{EngineFault}
@@ -15,7 +15,7 @@ use Rattle.lsp_pair.specs.declared.setting.PairFault.TheVariants.{NotUtf16, Limi
 use Rattle.lsp_pair.specs.Pair.{PairData, IsFitting, IsStep, are_within, is_utf16, new_pair}
 use Rattle.lsp_simulate.specs.declared.command_line.Setting.{Setting}
 use Rattle.lsp_simulate.specs.declared.run.RunFault.{RunFault}
-use Rattle.lsp_simulate.specs.declared.run.RunFault.TheVariants.{Pair, Read, Write, NoMemory, BadEvent}
+use Rattle.lsp_simulate.specs.declared.run.RunFault.TheVariants.{Read, Write, NoMemory, BadEvent}
 use Rattle.lsp_simulate.specs.Run.{run_fault}
 use Rattle.lsp_simulate.specs.Words.{happened_words}
 use Rattle.lsp_simulate.specs.Session.{AppendsLines, AreLines, AreSteps, HasFailed, IsRefused, RanSteps, Step, WroteSession, WroteSteps, document_line, document_lines, end_lines, next_number, pair_setting, step_line, step_lines, waiting_line}

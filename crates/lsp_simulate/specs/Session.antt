@@ -13,7 +13,7 @@ use Rattle.lsp_pair.specs.Events.{Setting as PairSetting, EventData}
 use Rattle.lsp_pair.specs.Pair.{PairData, IsFitting, IsStep, are_within, is_utf16, new_pair}
 use Rattle.lsp_simulate.specs.declared.command_line.Setting.{Setting}
 use Rattle.lsp_simulate.specs.declared.run.RunFault.{RunFault}
-use Rattle.lsp_simulate.specs.declared.run.RunFault.TheVariants.{Pair, Read, Write, NoMemory, BadEvent}
+use Rattle.lsp_simulate.specs.declared.run.RunFault.TheVariants.{Pair, Write, NoMemory, BadEvent}
 use Rattle.lsp_simulate.specs.Words.{happened_words}
 
 -- A step: an event, and what happened.

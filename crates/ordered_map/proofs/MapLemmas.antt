@@ -1,5 +1,5 @@
 -- What the calls of a map make of its slots.
-use Rattle.std.proofs.Common.{◌≡◌, ◌<◌, ◌≤◌, ◌+◌, ℕ, zero, suc, true, List, [], ◌∷◌, ◌++◌, length, map, set, slice_get, position, option_map, Bor, Option, Some, None, String, string_bytes, refl, sym, ap, ◌∙◌, subst, arith, one-add, zero-add}
+use Rattle.std.proofs.Common.{◌≡◌, ◌<◌, ◌≤◌, ℕ, zero, suc, true, List, [], ◌∷◌, ◌++◌, length, map, set, slice_get, position, option_map, Bor, Option, Some, None, String, string_bytes, refl, sym, ap, ◌∙◌, subst, arith, one-add, zero-add}
 use Rattle.std.proofs.lemmas.List.{map-set, set-append_left}
 use Rattle.std.proofs.lemmas.Option.{slice_get_within}
 use Rattle.std.proofs.lemmas.Slice.Eq.{bytes_eq-Decides}
@@ -10,7 +10,7 @@ use Rattle.ordered_map.specs.Entries.{Entries, is_key, set_value_at, slot_entry,
 use Rattle.ordered_map.specs.declared.slot.Slot.{Slot}
 use Rattle.ordered_map.specs.declared.slot.Slot.TheVariants.{Vacant, Live}
 use Rattle.ordered_map.specs.inside.Slots.{IsLive, IsOrderedMap, entries_in, keys_in, live_to, slot_key, somes, with_value}
-use Rattle.ordered_map.proofs.SlotLemmas.{entries_are, entry_at, key_at, live_keys, slot_with_key, somes_at}
+use Rattle.ordered_map.proofs.SlotLemmas.{entries_are, entry_at, live_keys, slot_with_key, somes_at}
 use Rattle.ordered_map.proofs.FindLemmas.{IsMissing, found, missing, position_found}
 use Rattle.ordered_map.proofs.KeySlotLemmas.{no_slot, only_slot}
 

@@ -3,7 +3,6 @@ use Rattle.std.specs.Prelude.{ℕ, ◌≡◌, ◌+◌, ◌<◌, List, ◌++◌, 
 use Rattle.lsp_frame.specs.Header.{Line, AreLines, header_of, BeginsHeader}
 use Rattle.lsp_frame.specs.declared.fault.HeaderFault.{HeaderFault}
 use Rattle.lsp_frame.specs.declared.fault.HeaderFault.TheVariants.{MissingLength, RepeatedHeader, BadLength, BodyTooLong, BadCharset, BadHeader}
-use Rattle.lsp_frame.specs.declared.framer.shape.Shape.TheVariants as shape
 use Rattle.lsp_frame.specs.declared.framer.notes.Length.{Length}
 use Rattle.lsp_frame.specs.declared.framer.notes.Length.TheVariants as said
 use Rattle.lsp_frame.specs.declared.framer.notes.Charset.{Charset}

@@ -4,7 +4,6 @@ use Rattle.lsp_message.specs.declared.message.Message.{Message}
 use Rattle.lsp_message.specs.declared.message.ReadFault.{ReadFault}
 use Rattle.lsp_message.specs.declared.message.ReadFault.TheVariants.{NotJson, NotAMessage, NoMemory}
 use Rattle.lsp_message.specs.Message as spec
-use Rattle.lsp_message.specs.Outgoing as out
 use Rattle.lsp_message.specs.Seen.{id_view, message_view}
 
 -- The result of a private part of reading is exactly this reading.

@@ -1,4 +1,4 @@
-use Rattle.std.proofs.Common.{sym, ap, ◌∙◌}
+use Rattle.std.proofs.Common.{ap, ◌∙◌}
 use Rattle.lsp_message.proofs.Readings.{reading_of_value}
 use Rattle.lsp_reader.specs.Lengths.{lengths_of}
 use Rattle.lsp_reader.proofs.Messages.{if_some_weaker}
