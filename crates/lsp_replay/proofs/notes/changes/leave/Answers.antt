@@ -1,6 +1,7 @@
-use Rattle.std.proofs.Common.{arith}
+use Rattle.std.proofs.Common.{◌∙◌, arith}
 use Rattle.lsp_text.specs.Units.{units_in}
-use Rattle.lsp_replay.proofs.Reports.NoteLemmas.{nothing_left, text_left}
+use Rattle.lsp_edit.proofs.Deltas.OnceLemmas.{if_ok}
+use Rattle.lsp_replay.proofs.Reports.NoteLemmas.{all_left, nothing_left, range_left}
 use Rattle.lsp_replay.proofs.notes.changes.leave.Goals as goal
 
 pub returns-then-len-gt-MAX_NEW_TEXT-clause-left : goal.returns-then-len-gt-MAX_NEW_TEXT-clause-left
@@ -8,8 +9,16 @@ returns-then-len-gt-MAX_NEW_TEXT-clause-left c =
     nothing_left (units_in c.args.encoding) c.args.text.now c.args.change.now
     (omega (arith, c.if-len-gt-MAX_NEW_TEXT.true, c.len.ensures))
 
-pub returns-in-Ok-clause-left : goal.returns-in-Ok-clause-left
-returns-in-Ok-clause-left c =
-    text_left (units_in c.args.encoding) c.args.text.now c.args.change.now _
-    (omega (arith, c.if-len-gt-MAX_NEW_TEXT.false, c.len.ensures))
-    (rw c.from_ref.ensures.value at c.in-Ok.ensures.changed)
+-- The change is the whole text.
+pub returns-in_ok-text-in-None-clause-left : goal.returns-in_ok-text-in-None-clause-left
+returns-in_ok-text-in-None-clause-left c =
+    all_left (units_in c.args.encoding) c.args.text.now c.args.change.now _
+    (omega (arith, c.if-len-gt-MAX_NEW_TEXT.false, c.len.ensures)) c.in-None.is
+    (c.in_ok-text-in-None.ensures ∙ (c.in_ok-from_str-in-None.ensures.ok ∙ c.deref.ensures))
+
+pub returns-in-Some-clause-left : goal.returns-in-Some-clause-left
+returns-in-Some-clause-left c =
+    if_ok c.leave_range.result
+    (λ is_left is. range_left (units_in c.args.encoding) c.args.text.now c.args.change.now c.in-Some.range _
+    (omega (arith, c.if-len-gt-MAX_NEW_TEXT.false, c.len.ensures)) c.in-Some.is is)
+    (rw c.deref-in-Some.ensures at c.leave_range.ensures.left)

@@ -11,7 +11,7 @@ loop-index-preserved c =
     (drop_more c.args.changes.now c.loop-index.index c.index-changes-index.result c.loop-index-test.true
     ∙ ap (λ (x : Change). x ∷ drop (c.loop-index.index + 1) c.args.changes.now) (sym c.index-changes-index.is))
     c.loop-index.invariant
-    (rw c.text.ensures at c.in_ok-push_change_notes.ensures)
+    c.in_ok-push_change_notes.ensures
     _ (rw c.if-not-branch.false at c.in_ok-leave.ensures.left) c.in_ok-leave.ensures.size
 
 -- Nothing is left by the change, so nothing more is noted.
@@ -21,5 +21,5 @@ returns-then-not-branch c =
     (drop_more c.args.changes.now c.loop-index.index c.index-changes-index.result c.loop-index-test.true
     ∙ ap (λ (x : Change). x ∷ drop (c.loop-index.index + 1) c.args.changes.now) (sym c.index-changes-index.is))
     c.loop-index.invariant
-    (rw c.text.ensures at c.in_ok-push_change_notes.ensures)
+    c.in_ok-push_change_notes.ensures
     (rw c.if-not-branch.true at c.in_ok-leave.ensures.left)
