@@ -48,9 +48,10 @@ abbrev pub continue_with : List ℕ → Option (Result Outcome EngineFault) → 
 continue_with out None c = written_first out c
 continue_with out (Some answer) c = stopped out answer
 
--- How an engine reads a log, with a state of its own. `record_output` is a record's output, from
--- the state and the session before it and the judgement of it, `next` the state after it.
--- `end_output` is the output at the end, `outcome` the outcome then.
+-- What a command writes of a log, with a state of its own. `record_output` is a record's output,
+-- from the state and the session before it and the judgement of it, `next` the state after it.
+-- `end_output` is the output at the end, with the line of version 2 due and without, `outcome` the
+-- outcome then.
 pub record View (State : Type 0) : Type 0 where
   pub record_output : State → Session → Record → Judged → RecordOutput
   pub next : State → Session → Record → Judged → State

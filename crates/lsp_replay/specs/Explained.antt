@@ -53,7 +53,8 @@ explained_line known s r j m =
 
 -- ---- what to do next, after so many refusals
 
--- By the number of refusals and, where there is none, by whether a record has notes.
+-- The line at the end that says what to do next, by the number of refusals and, where there is
+-- none, by whether a record has notes.
 abbrev pub first_advice : ℕ → Bool → List ℕ
 first_advice refusals suspicious =
     if refusals == 0 then (if suspicious then
@@ -62,13 +63,13 @@ first_advice refusals suspicious =
     else
     codes "Refused messages change nothing. `lspsync replay --at N`: the texts after message N.\n"
 
--- By whether a record is refused with S1 or S5.
+-- The line after it, by whether a record is refused with S1 or S5.
 abbrev pub lenient_advice : Bool → List ℕ
 lenient_advice strict_refusal = if strict_refusal then
     codes "Many servers don't refuse what is S1 or S5 here. `--lenient` doesn't either.\n"
     else []
 
--- All of it, by what is known of all records.
+-- Both lines, by what is known of all records.
 abbrev pub advice : ℕ → Known → List ℕ
 advice count known = first_advice count known.suspicious ++ lenient_advice known.strict_refusal
 

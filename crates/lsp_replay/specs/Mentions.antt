@@ -30,7 +30,8 @@ abbrev pub newest_first : List ℕ → ℕ → List Mention → List Mention
 newest_first uri number mentions =
     take most_mentions (record { uri = uri; number = number } ∷ without uri mentions)
 
--- The record to look at, by the document of one that the documents refuse.
+-- Of a record that the documents refuse: the number of the one that opened, closed or refused its
+-- document last.
 abbrev pub last_for : List Mention → Option (List ℕ) → Verdict → Option ℕ
 last_for mentions uri (answered (refused refusal))
     = option_and_then (λ uri. last_record uri mentions) uri
@@ -45,4 +46,4 @@ is_mention change verdict = false
 -- The documents that were opened, closed or refused last, after a record with this number.
 abbrev pub mentioned : Bool → Option (List ℕ) → ℕ → List Mention → List Mention
 mentioned true (Some uri) number mentions = newest_first uri number mentions
-mentioned is_mention uri number mentions = mentions
+mentioned counts uri number mentions = mentions

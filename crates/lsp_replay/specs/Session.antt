@@ -29,7 +29,7 @@ use Rattle.lsp_log.specs.Log.{Record}
 pub record Session : Type 0 where
   -- the server that the client's records are handed to
   pub server : ServerData
-  -- the id of the accepted `initialize`, until its result has come in a log of version 2
+  -- in a log of version 2, the id of the accepted `initialize` until its result has come
   pub expected : Option IdData
   -- how many records were judged
   pub records : ℕ
@@ -61,7 +61,7 @@ is_refusing None = false
 is_refusing (Some MethodNotFound) = false
 is_refusing (Some error) = true
 
--- So do a refusal, and an `exit` without `shutdown`.
+-- A refusal counts as refused, and so does an `exit` without `shutdown`.
 abbrev pub is_refused : AnswerData Sent → Bool
 is_refused (reply m) = is_refusing m.code
 is_refused (refused refusal) = true
@@ -94,12 +94,13 @@ abbrev pub is_change : IncomingData → Bool
 is_change (did_change params) = true
 is_change m = false
 
--- A change comes too early if the result of `initialize`, which says its encoding, is still to
--- come.
+-- A change to a running server comes too early if the result of `initialize`, which says its
+-- encoding, is still to come.
 abbrev pub is_early : Session → IncomingData → Bool
 is_early s m = is_some s.expected && is_running s.server.phase && is_change m
 
--- The id of the `initialize` that is accepted. In a log of version 2 its result is waited for.
+-- The id of the `initialize` that is accepted. In a log of version 2 its result is waited for. Any
+-- other message changes nothing of that.
 abbrev pub expected_of : Version → IncomingData → Option IdData → Option IdData
 expected_of Two (initialize id (Some offers)) expected = Some id
 expected_of version m expected = expected
@@ -146,7 +147,8 @@ result_for id body = None
 abbrev pub encoding_in : Data → Option Encoding
 encoding_in result = option_and_then (λ (a : Announced). a.encoding) (announced_of result)
 
--- What a body announces by the result that is waited for, if it has that.
+-- What a body announces by the result that is waited for. `None`: it isn't that result.
+-- `Some None`: it is, and it can't be read or names an encoding that nobody knows.
 abbrev pub encoding_for : Option IdData → Reading → Option (Option Encoding)
 encoding_for expected body =
     option_map encoding_in (option_and_then (λ id. result_for id body) expected)

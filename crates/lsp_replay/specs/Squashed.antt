@@ -73,8 +73,8 @@ series_change s r j =
     change_if s r (normalising.record_output tt s r j).out
     (change_in (incoming_of (reading r.body))) j.verdict
 
--- The series that is open after a record: any record but a change ends it, and so does a change of
--- another document, which begins one.
+-- The series that is open after a record: any record but an accepted change ends it, and so does a
+-- change of another document, which begins one.
 abbrev pub series_after : List SeriesChange → Option SeriesChange → List SeriesChange
 series_after series None = []
 series_after series (Some c) = if joins series c then series ++ c ∷ [] else c ∷ []
