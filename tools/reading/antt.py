@@ -47,10 +47,11 @@ class Scope:
 
 
 class Definition:
-    """A definition: where it is, its lines as they stand there, and those that count."""
+    """A definition: where it is, the heading that it is under, its lines as they stand there, and those that count."""
 
     def __init__(self, module, name, kind, line, comment):
         self.module, self.name, self.kind, self.line, self.comment = module, name, kind, line, comment
+        self.section = module.section
         self.text, self.counted = [], []
 
     @property
@@ -93,16 +94,24 @@ class Definition:
 
 
 class Module:
-    """One .antt file: its definitions in order, the variants of its types, and what it imports and passes on."""
+    """One .antt file: what its first comment says of it, its definitions in order, the variants of its types, and what it imports and passes
+    on. A heading is a comment that begins with `-- ----`, up to an empty line."""
 
     def __init__(self, name, path, text):
         self.name, self.path = name, path
         self.scope, self.exports = Scope(text), Scope(text, public_only=True)
         self.definitions, self.variants = {}, {}
+        self.head, self.section = [], []
         comment, current = [], None
         for number, line in enumerate(text.split("\n"), 1):
             word = line.strip()
             if not word or USE.match(word) or re.match(r"(pub )?mod ", word) or word.startswith("-- ----"):
+                if not self.section and not self.definitions:
+                    self.head = self.head or comment
+                elif not word:
+                    self.section += comment
+                if word.startswith("-- ----"):
+                    self.section = [line]
                 comment = []
                 continue
             if word.startswith("--"):

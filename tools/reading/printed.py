@@ -32,8 +32,9 @@ def print_page(pages, closure, page):
             print()
             block(clause.comment + clause.lines)
     for one, last in zip(ordered := closure.in_order(), [None, *ordered]):
-        place = repository.place(one.module.path, one.line)
-        heading(place) if not last or last.module is not one.module else print(f"\n# {place}")
+        place, is_first = repository.place(one.module.path, one.line), not last or last.module is not one.module
+        heading(place) if is_first else print(f"\n# {place}")
+        print_above(one, is_first, last)
         print("\n".join(one.comment + one.text))
     for one in closure.types:
         heading(f"{one.kind} {one.name}, {repository.place(one.file.path, one.line)}")
@@ -43,6 +44,14 @@ def print_page(pages, closure, page):
         else:
             block(one.text())
     print_rest(pages, closure, page)
+
+
+def print_above(one, is_first, last):
+    """Prints what the file says of itself above its first definition on the page, and a heading above the first one under it."""
+    if is_first and one.module.head:
+        print("\n".join(one.module.head) + "\n")
+    if one.section and (is_first or last.section is not one.section):
+        print("\n".join(one.section) + "\n")
 
 
 def clauses_by_call(closure):
