@@ -11,6 +11,7 @@ Each log begins with initialize, initialized and the documents that are opened. 
   whole        the whole text of a document, with one character more in the middle
   opens        documents that are opened and closed again
   foreign      requests and notifications of 10 KB that aren't about texts, and one keystroke in twenty messages
+  tiny         notifications of 30 bytes
 """
 import argparse
 import json
@@ -234,6 +235,11 @@ def foreign(options, chance):
         yield message(method, params, number if is_request else None)
 
 
+def tiny(options, chance):
+    while True:
+        yield frame('{"jsonrpc":"2.0","method":"a"}')
+
+
 KINDS = {
     "keystrokes": keystrokes,
     "requests": requests,
@@ -243,6 +249,7 @@ KINDS = {
     "whole": whole,
     "opens": opens,
     "foreign": foreign,
+    "tiny": tiny,
 }
 
 
