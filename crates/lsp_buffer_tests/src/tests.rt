@@ -7,6 +7,7 @@ mod changes;
 mod copies;
 mod long_lines;
 mod reads;
+mod refused;
 
 use lsp_buffer::TextBuffer;
 use lsp_text::{Encoding, Lines, Position};

@@ -2,6 +2,7 @@
 
 ghost use Rattle.lsp_text.specs.LineStarts.{Indexes};
 
+use super::reads::seamed;
 use super::{MOST, Pair, both_of, change, same, same_chunks, same_offsets};
 use lsp_buffer::TextBuffer;
 use lsp_text::{Lines, Position};
@@ -210,5 +211,37 @@ fn is_joined(alloc: Global) -> Result<bool, AllocError> {
 #[test]
 fn a_long_line_is_joined_by_deletions(rt: HostRuntime) -> Result<(), Fail> {
     assert!(rt; is_joined(rt.alloc())?);
+    Ok(())
+}
+
+/// Takes away each line end of a text of 1,000 lines, from the first on or from the last back.
+/// Returns whether it is one line then, which is in several chunks.
+fn is_one_line(alloc: Global, from_last: bool) -> Result<bool, AllocError> {
+    let mut both = both_of(alloc, &seamed(alloc)?)?;
+    let mut end = if from_last { 16_000_usize } else { 16 };
+    for turn in 0..1_000 {
+        if !change(&mut both, end.saturating_sub(2), end, "")?
+            || turn % 100 == 99 && !same_far(alloc, &both, 0, 517)?
+        {
+            return Ok(false);
+        }
+        end = if from_last {
+            end.saturating_sub(16)
+        } else {
+            end.saturating_add(14)
+        };
+    }
+    Ok(
+        both.buffer.line_count() == 1
+            && both.buffer.len() == 14_000
+            && both.buffer.as_str().is_none(),
+    )
+}
+
+#[test]
+fn all_lines_become_one(rt: HostRuntime) -> Result<(), Fail> {
+    for from_last in &[false, true] {
+        assert!(rt; is_one_line(rt.alloc(), *from_last)?, "{from_last}");
+    }
     Ok(())
 }

@@ -9,12 +9,12 @@ use std::test::Fail;
 type Change = (usize, usize, &'static str);
 
 /// Returns a text of lines of sixteen bytes, each of which ends with a CRLF, and so do its blocks.
-fn seamed(alloc: Global) -> Result<String, AllocError> {
+pub(super) fn seamed(alloc: Global) -> Result<String, AllocError> {
     "0123456789\u{1F600}\r\n".repeat(alloc, 1_000)
 }
 
-/// Changes at the end of the first block, at the 4,096th byte.
-static AT_SEAM: [Change; 12] = [
+/// Changes at the end of the first block, at the 4,096th byte, and at the two ends of the text.
+static AT_ENDS: [Change; 22] = [
     (4_096, 4_096, "\n"),
     (4_096, 4_096, "\r"),
     (4_095, 4_095, "\r"),
@@ -27,27 +27,71 @@ static AT_SEAM: [Change; 12] = [
     (0, 8_192, "\r"),
     (1_000, 16_000, ""),
     (0, 16_000, "a"),
+    (0, 0, "a"),
+    (0, 0, "\n"),
+    (0, 0, "\r"),
+    (16_000, 16_000, "a"),
+    (16_000, 16_000, "\n"),
+    (16_000, 16_000, "\r"),
+    (15_999, 15_999, "\r"),
+    (15_999, 16_000, ""),
+    (15_984, 15_998, ""),
+    (15_984, 16_000, ""),
 ];
 
-/// Returns whether a change at a seam does what it does to a string.
+/// Returns whether a change does what it does to a string.
 fn is_seamless(alloc: Global, (start, end, new): Change) -> Result<bool, AllocError> {
     let mut both = both_of(alloc, &seamed(alloc)?)?;
     Ok(change(&mut both, start, end, new)? && same(alloc, &both, start, 1)?)
 }
 
 #[test]
-fn a_change_at_a_seam_is_one_of_the_text(rt: HostRuntime) -> Result<(), Fail> {
-    for row in &AT_SEAM {
+fn a_change_at_a_seam_or_an_end_is_one_of_the_text(rt: HostRuntime) -> Result<(), Fail> {
+    for row in &AT_ENDS {
         assert!(rt; is_seamless(rt.alloc(), *row)?, "{row:?}");
     }
     Ok(())
 }
 
-/// Deletes the text line by line, from the front, until it is empty.
-fn is_emptied(alloc: Global) -> Result<bool, AllocError> {
+/// Changes at one CRLF at the end of the first block, one after another: its LF is deleted and
+/// inserted again, then its CR. Something comes between them, and goes again.
+static PARTED: [Change; 9] = [
+    (4_095, 4_096, ""),
+    (4_095, 4_095, "\n"),
+    (4_094, 4_095, ""),
+    (4_094, 4_094, "\r"),
+    (4_095, 4_095, "\u{1F600}"),
+    (4_095, 4_099, ""),
+    (4_095, 4_095, "\r\n"),
+    (4_096, 4_098, ""),
+    (4_095, 4_096, "\n"),
+];
+
+/// Returns whether a CRLF at a seam can be parted and joined again.
+fn is_parted_and_joined(alloc: Global) -> Result<bool, AllocError> {
+    let text = seamed(alloc)?;
+    let mut both = both_of(alloc, &text)?;
+    for (start, end, new) in &PARTED {
+        if !change(&mut both, *start, *end, new)? || !same(alloc, &both, 4_090, 1)? {
+            return Ok(false);
+        }
+    }
+    Ok(both.plain == text)
+}
+
+#[test]
+fn a_crlf_at_a_seam_is_parted_and_joined(rt: HostRuntime) -> Result<(), Fail> {
+    assert!(rt; is_parted_and_joined(rt.alloc())?);
+    Ok(())
+}
+
+/// Deletes the text line by line, from the front or from the end, until it is empty.
+fn is_emptied(alloc: Global, from_end: bool) -> Result<bool, AllocError> {
     let mut both = both_of(alloc, &seamed(alloc)?)?;
     for turn in 0..1_000 {
-        if !change(&mut both, 0, 16, "")? || turn % 100 == 0 && !same(alloc, &both, 0, 16)? {
+        let end = if from_end { both.plain.len() } else { 16 };
+        let is_changed = change(&mut both, end.saturating_sub(16), end, "")?;
+        if !is_changed || turn % 100 == 0 && !same(alloc, &both, 0, 16)? {
             return Ok(false);
         }
     }
@@ -56,7 +100,31 @@ fn is_emptied(alloc: Global) -> Result<bool, AllocError> {
 
 #[test]
 fn a_text_is_emptied_line_by_line(rt: HostRuntime) -> Result<(), Fail> {
-    assert!(rt; is_emptied(rt.alloc())?);
+    for from_end in &[false, true] {
+        assert!(rt; is_emptied(rt.alloc(), *from_end)?, "{from_end}");
+    }
+    Ok(())
+}
+
+/// Inserts lines at the front or at the end of a text, one after another. Each begins with the LF
+/// of a CRLF, whose CR the one beside it has.
+fn is_lengthened(alloc: Global, at_end: bool) -> Result<bool, AllocError> {
+    let mut both = both_of(alloc, &seamed(alloc)?)?;
+    for turn in 0..600 {
+        let at = if at_end { both.plain.len() } else { 0 };
+        let is_changed = change(&mut both, at, at, "\n0123456789\u{E9}\r")?;
+        if !is_changed || turn % 100 == 99 && !same(alloc, &both, at, 11)? {
+            return Ok(false);
+        }
+    }
+    Ok(both.buffer.len() == 16_000 + 600 * 14)
+}
+
+#[test]
+fn lines_are_inserted_at_the_ends_of_a_text(rt: HostRuntime) -> Result<(), Fail> {
+    for at_end in &[false, true] {
+        assert!(rt; is_lengthened(rt.alloc(), *at_end)?, "{at_end}");
+    }
     Ok(())
 }
 
