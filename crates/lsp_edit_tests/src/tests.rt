@@ -3,6 +3,7 @@
 
 mod buffer;
 mod faults;
+mod in_blocks;
 mod joined_batches;
 mod long_batches;
 mod made_again;

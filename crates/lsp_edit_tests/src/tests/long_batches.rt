@@ -9,9 +9,9 @@ use std::alloc::{AllocError, Global};
 use std::test::Fail;
 
 /// A text, a batch, and the text that it leaves.
-type Row = (&'static str, &'static [Edit], &'static str);
+pub(super) type Row = (&'static str, &'static [Edit], &'static str);
 
-static BATCHES: [Row; 12] = [
+pub(super) static BATCHES: [Row; 12] = [
     (
         "a\nb\nc\n",
         &[(2, 0, 2, 1, "C"), (1, 0, 1, 1, "B"), (0, 0, 0, 1, "A")],
@@ -60,9 +60,9 @@ static BATCHES: [Row; 12] = [
 ];
 
 /// A text, a batch, and why it has no result.
-type Faulty = (&'static str, &'static [Edit], TextFault);
+pub(super) type Faulty = (&'static str, &'static [Edit], TextFault);
 
-static FAULTS: [Faulty; 3] = [
+pub(super) static FAULTS: [Faulty; 3] = [
     (
         "\u{E9}\u{1F600}b",
         &[(0, 0, 0, 1, "x"), (0, 2, 0, 3, "")],
@@ -85,8 +85,13 @@ static FAULTS: [Faulty; 3] = [
 
 const MAX_LEN: usize = 14;
 
-/// Returns whether the stored lines are those of the text, by the offset where each starts.
-fn has_its_lines(alloc: Global, text: &IndexedText) -> Result<bool, AllocError> {
+/// Returns whether nine stored lines from this one on are those of the text, by the offset where
+/// each starts.
+pub(super) fn has_its_lines(
+    alloc: Global,
+    text: &IndexedText,
+    first: u32,
+) -> Result<bool, AllocError> {
     if text.len() > MAX_TEXT {
         return Err(AllocError);
     }
@@ -95,8 +100,11 @@ fn has_its_lines(alloc: Global, text: &IndexedText) -> Result<bool, AllocError> 
     if lines.count() != text.text().line_count() {
         return Ok(false);
     }
-    for line in 0..9 {
-        let start = Position { line, character: 0 };
+    for number in 0..9_u32 {
+        let start = Position {
+            line: number.saturating_add(first),
+            character: 0,
+        };
         let kept = text.text().resolve(Encoding::Utf8, start);
         if kept != lines.resolve(&joined, Encoding::Utf8, start) {
             return Ok(false);
@@ -110,7 +118,7 @@ fn leaves(alloc: Global, row: &Row) -> Result<bool, AllocError> {
     let changes = batch(alloc, edits)?;
     let mut text = kept(alloc, before)?;
     let is_applied = applied(&mut text, &changes, MAX_OLD_TEXT).is_ok();
-    Ok(is_applied && text.text().is_text(after) && has_its_lines(alloc, &text)?)
+    Ok(is_applied && text.text().is_text(after) && has_its_lines(alloc, &text, 0)?)
 }
 
 #[test]
@@ -126,7 +134,7 @@ fn fails(alloc: Global, row: &Faulty) -> Result<bool, AllocError> {
     let changes = batch(alloc, edits)?;
     let mut text = kept(alloc, before)?;
     let answer = applied(&mut text, &changes, MAX_LEN);
-    Ok(answer == Err(fault) && text.text().is_text(before) && has_its_lines(alloc, &text)?)
+    Ok(answer == Err(fault) && text.text().is_text(before) && has_its_lines(alloc, &text, 0)?)
 }
 
 #[test]
