@@ -4,6 +4,7 @@
 mod canonical;
 mod documents;
 mod faults;
+mod in_blocks;
 mod lenient;
 mod limits;
 mod made_again;
