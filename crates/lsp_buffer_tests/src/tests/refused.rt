@@ -206,16 +206,6 @@ static READS: [Row; 7] = [
     (Read::Shown, 0, 11_200),
 ];
 
-/// Appends the bytes up to `end` to those before byte 4,000.
-fn appended(alloc: Global, text: &TextBuffer, end: usize) -> Result<Option<String>, AllocError> {
-    if end < 4_000 || !text.is_char_boundary(4_000) || !text.is_char_boundary(end) {
-        return Ok(None);
-    }
-    let mut out = text.slice(alloc, 0, 4_000)?;
-    text.push_range(&mut out, 4_000, end)?;
-    Ok(Some(out))
-}
-
 /// Copies the bytes from `start` to `end`.
 fn sliced(
     alloc: Global,
@@ -227,6 +217,18 @@ fn sliced(
         return Ok(None);
     }
     Ok(Some(text.slice(alloc, start, end)?))
+}
+
+/// Appends the bytes up to `end` to those before byte 4,000.
+fn appended(alloc: Global, text: &TextBuffer, end: usize) -> Result<Option<String>, AllocError> {
+    let Some(mut out) = sliced(alloc, text, 0, 4_000)? else {
+        return Ok(None);
+    };
+    if end < 4_000 || !text.is_char_boundary(4_000) || !text.is_char_boundary(end) {
+        return Ok(None);
+    }
+    text.push_range(&mut out, 4_000, end)?;
+    Ok(Some(out))
 }
 
 /// Reads a part of a text.
