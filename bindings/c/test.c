@@ -48,6 +48,7 @@ static const char sample[] = "a\r\nb\xf0\x9f\x98\x80";
 #include "test/streams.h"
 #include "test/edits.h"
 #include "test/memory.h"
+#include "test/greatest.h"
 
 int main(void) {
     test_open();
@@ -85,6 +86,8 @@ int main(void) {
     test_refused(run_refused_client);
     test_refused(run_refused_take);
     test_refused(run_refused_served);
+    if (getenv("LASPIDRU_GREATEST"))
+        test_greatest();
     CHECK(heap_blocks() == 0);
     printf("%d passed, %d failed\n", passed, failed);
     return failed != 0;
