@@ -33,11 +33,7 @@ def units(character, encoding):
 
 def line_starts(text):
     """The indexes at which lines start, by a plain search."""
-    starts = [0]
-    for index, character in enumerate(text):
-        if character == "\n" or character == "\r" and text[index + 1:index + 2] != "\n":
-            starts.append(index + 1)
-    return starts
+    return [0] + [end.end() for end in re.finditer("\r\n|\r|\n", text)]
 
 
 def denoted(text, position, encoding):
@@ -275,19 +271,60 @@ class Tests(unittest.TestCase):
             old = text(10)
             changes = [{"text": text(4)} if chance.random() < 0.1 else change(place(), place(), text(4))
                        for _ in range(chance.randrange(4))]
-            wanted, document = changed(old, changes, encoding), Document(old, encoding)
-            if isinstance(wanted, str):
-                canonical = document.canonical(changes)
+            document = Document(old, encoding)
+            wanted = self.changes_plainly(document, old, changes, encoding)
+            lines = [document.line(number) for number in range(document.line_count)]
+            self.assertEqual(lines, re.split("\r\n|\r|\n", wanted))
+            self.has_places(document, wanted, place(), encoding)
+
+    def changes_plainly(self, document, old, changes, encoding):
+        """Changes a document of the old text, compares it and the canonical batch with the plain program, and returns its text."""
+        wanted = changed(old, changes, encoding)
+        if not isinstance(wanted, str):
+            with self.assertRaises(LaspidruError) as raised:
                 document.change(changes)
-                self.assertEqual(document.text, wanted)
-                self.assertEqual(changed(old, canonical, encoding), wanted)
-                lines = [document.line(number) for number in range(document.line_count)]
-                self.assertEqual(lines, re.split("\r\n|\r|\n", wanted))
-                self.has_places(document, wanted, place(), encoding)
-            else:
-                with self.assertRaises(LaspidruError) as raised:
-                    document.change(changes)
-                self.assertEqual((raised.exception.change, document.text), (wanted, old))
+            self.assertEqual((raised.exception.change, document.text), (wanted, old))
+            return old
+        canonical = document.canonical(changes)
+        document.change(changes)
+        self.assertEqual(document.text, wanted)
+        self.assertEqual(changed(old, canonical, encoding), wanted)
+        return wanted
+
+    def test_random_in_blocks(self):
+        """Random batches, one after another, on texts of 20,000 letters against the plain program, in three encodings.
+
+        The library keeps such a text in blocks. Lines are short, long, or longer than a block."""
+        chance = random.Random(3)
+        letters = "abcdefgh" * 4 + "\u00e9\u2028\U0001F600"
+
+        def text(count, width):
+            return "".join(chance.choice(["\r", "\n", "\r\n"]) if chance.random() < 1 / width else chance.choice(letters)
+                           for _ in range(count))
+
+        def one(lines, width):
+            start = at(chance.randrange(lines + 1), chance.randrange(width))
+            end = dict(start)
+            if chance.random() < 0.1:
+                end = at(start["line"] + chance.randrange(lines // 10 + 1), chance.randrange(width))
+            elif chance.random() < 0.5:
+                end["character"] += chance.randrange(9)
+            return change(start, end, text(chance.choice([0, 1, 5, 1000]), width))
+
+        for encoding in ("utf-8", "utf-16", "utf-32"):
+            for width in (10, 60, 2000, 9000):
+                old = text(20000, width)
+                document = Document(old, encoding)
+                for _ in range(20):
+                    lines = document.line_count
+                    old = self.changes_plainly(document, old, [one(lines, width) for _ in range(chance.choice([1, 1, 3]))], encoding)
+                    self.assertEqual(document.line_count, len(line_starts(old)))
+                    place = at(chance.randrange(lines + 1), chance.randrange(width))
+                    index = denoted(old, place, encoding)
+                    if index is None:
+                        self.refuses(6, document.byte_offset, place)
+                    else:
+                        self.assertEqual(document.byte_offset(place), len(old[:index].encode()))
 
     def has_places(self, document, text, place, encoding):
         """Compares the offset of a position, and the position of each offset, with the plain program."""
