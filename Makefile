@@ -48,7 +48,7 @@ define IN_THE_REPOSITORY
 
 To change it (docs/DEVELOPING.md)
   make ready           what is to be mended before a push (CRATE="lsp_store ..")           rt                          under a minute
-  make pages           its part on pages: links, files, versions, definitions that grew    python3                     seconds
+  make pages           its part on pages: links, versions, widths, words, and so on        python3                     seconds
   make gate            .ci/run: all proofs, tests, programs and must-fail edits            rt                          90 minutes, later less
   make minutes         the gate, and where its minutes and its memory go                   rt, python3                 as the gate
   make edits           must-fail edits, also those that the gate leaves out (CRATE)        rt, python3                 minutes a crate
