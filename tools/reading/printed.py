@@ -123,16 +123,20 @@ def pages_table(pages):
     return "\n".join(rows) + "\n"
 
 
-def print_users(pages):
+def print_users(pages, public):
+    """Prints how many lines the calls of each user speak of, and how many clauses the public calls of the libraries have."""
     print("| user | calls | definitions | lines | by crate |\n|---|---|---|---|---|")
     rows = [(user, [call for entry in entries for call in pages.calls_of(entry)]) for user, entries in pages.users.items()]
-    for user, calls in [*rows, ("**all**", list(pages.user_calls()))]:
+    calls = list(pages.user_calls())
+    for user, calls in [*rows, ("**all**", calls), ("**all but C**", [it for it in calls if not it.is_exported])]:
         definitions = pages.closure_of_calls(calls).definitions
         crates = collections.Counter()
         for it in definitions:
             crates[it.crate.removeprefix("lsp_")] += it.size
         by_crate = ", ".join(f"{name} {lines}" for name, lines in crates.most_common())
         print(f"| {user} | {len(calls)} | {len(definitions)} | {sum(crates.values())} | {by_crate} |")
+    promised = sum(len(it.ensures()) for it in public)
+    print(f"\n{len(public)} public calls: {promised} clauses `ensures`, {sum(len(it.clauses) for it in public) - promised} `requires`")
 
 
 def print_files(pages, reached, own):
