@@ -34,48 +34,54 @@ class Allowed:
         self.file.optionxform = str
         with open(path, encoding="utf-8") as source:
             self.file.read_file(source)
-        self.used = set()
+        self.needed = set()
 
-    def refused(self, section, name, value):
-        """Returns None where an exception is for just this, and else what it is for, to be added to the fault."""
-        self.used.add((section, name))
+    def has(self, section, name, value):
+        """Returns whether there is an exception for just this."""
+        self.needed.add((section, name))
+        return self.file.get(section, name, fallback=None) == value
+
+    def note(self, section, name):
+        """Returns what to add to a fault that has an exception for something else."""
         said = self.file.get(section, name, fallback=None)
-        return None if said == value else f" (tools/allowed says {said})" if said else ""
+        return f" (tools/allowed says {said})" if said else ""
 
-    def unused(self):
-        for section in self.file.sections():
-            yield from (f"tools/allowed: nothing needs the row {it} under [{section}]" for it in self.file[section] if (section, it) not in self.used)
+    def unneeded(self):
+        rows = [(section, name) for section in self.file.sections() for name in self.file[section]]
+        return [f"tools/allowed: nothing needs the row {name} under [{section}]" for section, name in rows if (section, name) not in self.needed]
 
 
-def in_prose(text):
-    """Yields the lines of a page's prose with their numbers: without blocks of code and tables."""
-    is_code = False
-    for number, line in enumerate(text.split("\n"), 1):
+def numbered(text):
+    return enumerate(text.split("\n"), 1)
+
+
+def prose_of(text, with_tables):
+    """Returns the lines of a page by their numbers, without blocks of code."""
+    found, is_code = {}, False
+    for number, line in numbered(text):
         is_code ^= line.startswith("```")
-        if not is_code and not line.startswith(("```", "    ", "|")):
-            yield number, line
+        if not is_code and not line.startswith(("```", "    ")) and (with_tables or not line.startswith("|")):
+            found[number] = line
+    return found
 
 
 def wide_lines(path, text):
     """Returns the numbers of lines that are too wide, and how wide a line may be."""
     if path.endswith(".md"):
-        return [number for number, line in in_prose(text) if len(line) > PROSE], PROSE
-    lines = enumerate(text.split("\n") if PROOFS.match(path) else (), 1)
+        return [number for number, line in prose_of(text, False).items() if len(line) > PROSE], PROSE
+    lines = numbered(text) if PROOFS.match(path) else ()
     return [number for number, line in lines if len(line) > PROOF and not USE.match(line.strip())], PROOF
 
 
 def said_in(path, text):
-    """Yields the words of a page or of comments that aren't used here, each with its line and what to say in its place."""
-    if path.endswith(".md"):
-        is_said = {number for number, _ in in_prose(text)} | {number for number, line in enumerate(text.split("\n"), 1) if line.startswith("|")}
-    elif COMMENTS.match(path):
-        is_said = {number for number, line in enumerate(text.split("\n"), 1) if line.lstrip().startswith(("//", "--", "/*", "*"))}
-    else:
-        return
+    """Returns the words of a page or of comments that aren't used here, each with its line and what to say in its place."""
+    said = prose_of(text, True) if path.endswith(".md") else {}
+    if COMMENTS.match(path):
+        said = {number: line for number, line in numbered(text) if line.lstrip().startswith(("//", "--", "/*", "*"))}
     # (what is in backticks is code; a phrase may go on in the next line)
-    plain = re.sub(r"`[^`\n]*`", "``", "\n".join(line if number in is_said else "" for number, line in enumerate(text.split("\n"), 1)))
-    for found in WORD.finditer(plain):
-        yield plain.count("\n", 0, found.start()) + 1, " ".join(found[0].split()), list(WORDS.values())[found.lastindex - 1]
+    plain = re.sub(r"`[^`\n]*`", "``", "\n".join(said.get(number, "") for number, _ in numbered(text)))
+    better = list(WORDS.values())
+    return [(plain.count("\n", 0, it.start()) + 1, " ".join(it[0].split()), better[it.lastindex - 1]) for it in WORD.finditer(plain)]
 
 
 def doubles(texts):
@@ -93,12 +99,12 @@ def faults(texts, allowed):
     """Yields what isn't as it is elsewhere in these texts, by their paths."""
     for path, text in texts.items():
         wide, most = wide_lines(path, text)
-        if wide and (but := allowed.refused("wide lines", path, str(len(wide)))) is not None:
-            yield f"{path}: lines of over {most} columns: {', '.join(map(str, wide))}{but}"
-        said = list(said_in(path, text))
-        if said and (but := allowed.refused("words", path, ", ".join(sorted({word for _, word, _ in said})))) is not None:
-            yield from (f"{path}:{line}: \"{word}\": write {better}{but}" for line, word, better in said)
+        if wide and not allowed.has("wide lines", path, str(len(wide))):
+            yield f"{path}: lines of over {most} columns: {', '.join(map(str, wide))}{allowed.note('wide lines', path)}"
+        said = said_in(path, text)
+        if said and not allowed.has("words", path, ", ".join(sorted({word for _, word, _ in said}))):
+            yield from (f"{path}:{line}: \"{word}\": write {better}{allowed.note('words', path)}" for line, word, better in said)
     for name, crates in doubles(texts).items():
-        if (but := allowed.refused("names", name, listed := ", ".join(crates))) is not None:
-            yield f"`{name}` is defined in specs/ of {listed}: one name has one meaning here{but}"
-    yield from allowed.unused()
+        if not allowed.has("names", name, listed := ", ".join(crates)):
+            yield f"`{name}` is defined in specs/ of {listed}: one name has one meaning here{allowed.note('names', name)}"
+    yield from allowed.unneeded()
