@@ -117,7 +117,7 @@ export interface Limits {
   lenient?: boolean;
 }
 
-/** A faulty frame. No more of its stream is taken; `events` came before it. */
+/** A faulty frame. No more of its stream is taken; `events` has what `receive` had before it. */
 export class FrameFault<Event = unknown> extends Error {
   private constructor();
   readonly code: 'BAD_FRAME';
@@ -182,7 +182,17 @@ export class Server {
    */
   constructor(options?: Limits & { encoding?: Encoding; isFixed?: boolean; isFull?: boolean });
 
-  /** What the server does with each message that ends in these bytes. A faulty frame throws FrameFault. */
+  /**
+   * What the server does with each message that ends in these bytes. Each is handled at its own step: until the next one the documents
+   * are those that a request speaks of. A faulty frame throws FrameFault at its step, with no `events`. A loop that ends early leaves the
+   * rest to the next call.
+   */
+  messages(bytes: Uint8Array): IterableIterator<ServerEvent>;
+
+  /**
+   * The same as an array, once all of these messages are handled: the documents are then those after the last one. So answer requests by
+   * `messages`. A faulty frame throws FrameFault.
+   */
   receive(bytes: Uint8Array): ServerEvent[];
 
   /** What the server does with the body of a message. */
@@ -224,7 +234,10 @@ export class Client {
   shutdown(): Buffer;
   exit(): Buffer;
 
-  /** What the client does with each message that ends in these bytes. A faulty frame throws FrameFault. */
+  /**
+   * What the client does with each message that ends in these bytes, once all are handled. They change no document: the client's own calls
+   * do. A faulty frame throws FrameFault.
+   */
   receive(bytes: Uint8Array): ClientEvent[];
 
   /** What the client does with the body of a message. */

@@ -254,7 +254,7 @@ function limitsOf(options) {
 }
 
 /** A fault of a stream: which of F1 to F7 its `frame` has, and the byte offset `place` on which that was decided. No more of the
- * stream is taken. `events` came before it. */
+ * stream is taken. `events` has what `receive` had before it. */
 class FrameFault extends Error {
   constructor(frame, place) {
     super(`F${frame} at ${place}`);
@@ -298,22 +298,47 @@ class Framer {
   }
 }
 
+/** What `handle` has of the next body that is whole, or undefined. A body that memory ran out for waits. */
+function nextOf(framer, handle) {
+  const body = framer.next();
+  if (body === undefined) return undefined;
+  framer.waiting = body;
+  try {
+    const event = handle(body);
+    framer.waiting = undefined;
+    return event;
+  } catch (error) {
+    if (error.code !== 'OUT_OF_MEMORY') framer.waiting = undefined;
+    throw error;
+  }
+}
+
+/** What `handle` has of each body that is whole. Each body is handled at its own step. */
+function* steps(framer, handle) {
+  for (let count = 0; ; count++) {
+    let event;
+    try {
+      event = nextOf(framer, handle);
+    } catch (error) {
+      // An end that listens no more has no use for what follows.
+      if (count > 0 && ['ENDED', 'WRONG_PHASE'].includes(error.code)) return;
+      throw error;
+    }
+    if (event === undefined) return;
+    yield event;
+  }
+}
+
 /** What `handle` has of each body that ends in these bytes. Where memory runs out after some they are returned, and a call with no
  * bytes continues. */
 function receive(framer, bytes, handle) {
   const events = [];
   framer.add(bytes);
   try {
-    for (let body = framer.next(); body !== undefined; body = framer.next()) {
-      framer.waiting = body;
-      events.push(handle(body));
-      framer.waiting = undefined;
-    }
+    for (const event of steps(framer, handle)) events.push(event);
   } catch (error) {
-    if (error.code !== 'OUT_OF_MEMORY') framer.waiting = undefined;
     if (error instanceof FrameFault) error.events = events;
-    // (an end that listens no more has no use for what follows)
-    else if (events.length > 0 && ['OUT_OF_MEMORY', 'ENDED', 'WRONG_PHASE'].includes(error.code)) return events;
+    else if (events.length > 0 && error.code === 'OUT_OF_MEMORY') return events;
     throw error;
   }
   return events;
@@ -401,7 +426,16 @@ class Server extends End {
     this.#framer = new Framer({ maxBody: numbers[0] });
   }
 
-  /** What the server does with each message that ends in these bytes. A faulty frame throws FrameFault, whose `events` came before it. */
+  /** What the server does with each message that ends in these bytes. Each is handled at its own step: until the next one the documents
+   * are those that a request speaks of. A faulty frame throws FrameFault at its step, with no `events`. A loop that ends early leaves the
+   * rest to the next call. */
+  messages(bytes) {
+    this.#framer.add(Buffer.from(bytesOf(bytes))); // (a copy, since the steps come later)
+    return steps(this.#framer, (body) => this.handle(body));
+  }
+
+  /** The same as an array, once all of these messages are handled: the documents are then those after the last one. So answer requests by
+   * `messages`. A faulty frame throws FrameFault, whose `events` came before it. */
   receive(bytes) {
     return receive(this.#framer, bytes, (body) => this.handle(body));
   }
@@ -485,7 +519,8 @@ class Client extends End {
     return addon.call(this.#client, 2);
   }
 
-  /** What the client does with each message that ends in these bytes. A faulty frame throws FrameFault, whose `events` came before it. */
+  /** What the client does with each message that ends in these bytes, once all are handled. They change no document: the client's own calls
+   * do. A faulty frame throws FrameFault, whose `events` came before it. */
   receive(bytes) {
     return receive(this.#framer, bytes, (body) => this.deliver(body));
   }

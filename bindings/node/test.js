@@ -219,7 +219,7 @@ class Pair {
   serve(count) {
     const piece = this.toServer.subarray(0, count);
     this.toServer = this.toServer.subarray(count);
-    for (const { kind, frame } of this.server.receive(piece)) {
+    for (const { kind, frame } of below(2) ? this.server.messages(piece) : this.server.receive(piece)) {
       this.kinds.push(kind);
       if (frame) this.toClient = Buffer.concat([this.toClient, frame]);
     }
@@ -311,6 +311,35 @@ const exit = framed('{"jsonrpc":"2.0","method":"exit"}');
 const ended = new Server();
 assert.deepStrictEqual(ended.receive(Buffer.concat([exit, exit])).map((event) => [event.kind, event.status]), [['exited', 1]]);
 assert.throws(() => ended.receive(exit), { code: 'ENDED' });
+
+// Each message is handled at its own step.
+{
+  const [serving, editing] = [new Server(), new Client()];
+  editing.receive(serving.receive(editing.start())[0].frame);
+  const asks = framed('{"jsonrpc":"2.0","id":"x","method":"a/b"}');
+  const opens = editing.open('a', 'c', 1, 'x');
+  const edits = editing.edit('a', 2, [change(at(0, 0), at(0, 0), 'y')]);
+  const texts = [];
+  for (const { kind } of serving.messages(Buffer.concat([opens, asks, edits, asks, editing.close('a'), asks]))) {
+    if (kind === 'replied') texts.push(serving.text('a'));
+  }
+  assert.deepStrictEqual(texts, ['x', 'yx', undefined]);
+  // The bytes are taken by the call itself, and may be used again. A loop that ends early leaves the rest to the next call.
+  const piece = Buffer.concat([opens, asks, edits.subarray(0, 50)]);
+  const left = serving.messages(piece);
+  piece.fill(0);
+  assert.deepStrictEqual([left.next().value.kind, serving.text('a')], ['changed', 'x']);
+  assert.deepStrictEqual([...serving.messages(edits.subarray(50))].map(({ kind }) => kind), ['replied', 'changed']);
+  assert.deepStrictEqual([[...left], [...serving.messages(Buffer.alloc(0))], serving.text('a')], [[], [], 'yx']);
+  const faulty = serving.messages(Buffer.concat([asks, Buffer.from('Content-Length 2')]));
+  assert.strictEqual(faulty.next().value.kind, 'replied');
+  assert.throws(() => faulty.next(), (error) => error instanceof FrameFault && error.frame === 1 && error.events.length === 0);
+  assert.throws(() => [...serving.messages(asks)], { code: 'FAILED' });
+  assert.throws(() => serving.messages('text'), TypeError);
+  const last = new Server();
+  assert.deepStrictEqual([...last.messages(Buffer.concat([exit, exit]))].map(({ kind }) => kind), ['exited']);
+  assert.throws(() => [...last.messages(exit)], { code: 'ENDED' });
+}
 
 // What edits mean on a server's documents.
 const serving = new Server();

@@ -48,7 +48,7 @@ class Pair:
 
     def serve(self, count):
         piece, self.to_server = self.to_server[:count], self.to_server[count:]
-        for event in self.server.receive(piece):
+        for event in self.chance.choice([self.server.receive, self.server.messages])(piece):
             self.kinds.append(event.kind)
             self.to_client += event.frame
 
@@ -169,6 +169,31 @@ class Tests(unittest.TestCase):
         self.refuses(laspidru.ENDED, server.receive, exits)
         self.assertRaises(TypeError, server.receive, "text")
         self.refuses(laspidru.BAD_ENCODING, Server, "utf-7")
+
+    def test_messages(self):
+        """Each message is handled at its own step."""
+        client, server = Client(), Server()
+        client.receive(server.receive(client.start())[0].frame)
+        asks = frame(b'{"jsonrpc":"2.0","id":"x","method":"a/b"}')
+        opens, edits = client.open("a", "c", 1, "x"), client.edit("a", 2, [change(at(0, 0), at(0, 0), "y")])
+        stream = opens + asks + edits + asks + client.close("a") + asks
+        self.assertEqual([server.text("a") for event in server.messages(stream) if event.kind == "replied"], ["x", "yx", None])
+        # The bytes are taken by the call itself. A loop that ends early leaves the rest to the next call.
+        steps = server.messages(opens + asks + edits[:50])
+        self.assertEqual((next(steps).kind, server.text("a")), ("changed", "x"))
+        self.assertEqual([event.kind for event in server.messages(edits[50:])], ["replied", "changed"])
+        self.assertEqual((list(steps), list(server.messages(b"")), server.text("a")), ([], [], "yx"))
+        steps = server.messages(asks + b"Content-Length 2")
+        self.assertEqual(next(steps).kind, "replied")
+        with self.assertRaises(FrameFault) as raised:
+            next(steps)
+        self.assertEqual((raised.exception.frame, raised.exception.events), (1, []))
+        self.refuses(laspidru.FAILED, list, server.messages(asks))
+        self.assertRaises(TypeError, server.messages, "text")
+        server, exits = Server(), frame(b'{"jsonrpc":"2.0","method":"exit"}')
+        self.assertEqual([event.kind for event in server.messages(exits + exits)], ["exited"])
+        self.refuses(laspidru.ENDED, list, server.messages(exits))
+        self.assertEqual(list(server.messages(b"")), [])
 
     def test_lenient(self):
         server, client = Server(lenient=True), Client(lenient=True)

@@ -4,7 +4,7 @@
     document.change([{"range": {"start": {"line": 0, "character": 1}, "end": {"line": 0, "character": 2}}, "text": "X"}])
     document.text                      # "aXc\\n"
     server = Server()
-    for event in server.receive(data): # the bytes that were read
+    for event in server.messages(data): # the bytes that were read
         output.write(event.frame)
     check(log).output                  # what a server answers to each record of a log, as bytes
 

@@ -238,7 +238,7 @@ class LogFault(LaspidruError):
 
 class FrameFault(LaspidruError):
     """A fault of a stream: which of F1 to F7, and the byte offset in the stream on which it was decided. No more of the stream is
-    taken. `events` has what came before it: a framer's bodies, or the events of an end."""
+    taken. `events` has what `receive` had before it: a framer's bodies, or the events of an end."""
 
     def __init__(self, place: int, frame: int, events: List[Any]) -> None:
         super().__init__(BAD_FRAME)

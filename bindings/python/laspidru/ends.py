@@ -1,11 +1,11 @@
-"""Both ends of a session, without input and output of their own: bytes that were read go in by `receive`, which returns what
-happened, and each call returns the bytes to send."""
+"""Both ends of a session, without input and output of their own: bytes that were read go in by `receive`, or by a server's `messages`,
+which return what happened, and each call returns the bytes to send."""
 from __future__ import annotations
 
 import ctypes
 import threading
 from ctypes import byref, c_bool, c_size_t, c_uint32, create_string_buffer
-from typing import Any, Dict, List, NamedTuple, Optional, Sequence, Tuple
+from typing import Any, Dict, Iterator, List, NamedTuple, Optional, Sequence, Tuple
 
 from ._library import (BAD_FRAME, BAD_LIMIT, ENDED, LIBRARY, NOT_OPEN, OK, OUT_OF_MEMORY, UTF16, WRONG_PHASE, Answer,
                        ClientSettings, Fault, FrameFault, Handle, LaspidruError, Line, Opened, Place, Settings, State, Taken,
@@ -107,7 +107,8 @@ class _End:
     _names = ""
 
     def __init__(self) -> None:
-        self._handle, self._lock, self._received = Handle(), threading.Lock(), _Received()
+        # (`_receive` takes the lock around steps that take it too)
+        self._handle, self._lock, self._received = Handle(), threading.RLock(), _Received()
         # The answer to a message that isn't reported yet, and how many bytes its body has.
         self._answered: Optional[Tuple[Answer, int]] = None
 
@@ -136,29 +137,40 @@ class _End:
         self._answered = None
         return event
 
+    def _messages(self, data: bytes) -> Iterator[Any]:
+        """Takes bytes at once. Each step then handles one of the messages that end in them."""
+        with self._lock:
+            self._received.add(data)
+            return self._steps(self._received.is_empty())
+
+    def _steps(self, may_have_ended: bool) -> Iterator[Any]:
+        while True:
+            try:
+                with self._lock:
+                    event = self._next_event()
+            except LaspidruError as error:
+                # An end that listens no more has no use for what follows.
+                if may_have_ended and error.code in (ENDED, WRONG_PHASE):
+                    return
+                raise
+            if event is None:
+                return
+            may_have_ended = True
+            yield event
+
     def _receive(self, data: bytes) -> List[Any]:
         events: List[Any] = []
         with self._lock:
-            self._received.add(data)
-            is_empty = self._received.is_empty()
             try:
-                while True:
-                    event = self._next_event()
-                    if event is None:
-                        return events
+                for event in self._messages(data):
                     events.append(event)
             except MemoryError:
-                if events:
-                    return events
-                raise
+                if not events:
+                    raise
             except FrameFault as fault:
                 fault.events = events
                 raise
-            except LaspidruError as error:
-                # An end that listens no more has no use for what follows.
-                if error.code in (ENDED, WRONG_PHASE) and (events or is_empty):
-                    return events
-                raise
+        return events
 
     def _opened(self, uri: str) -> Optional[Opened]:
         data, opened = utf8(uri), Opened()
@@ -255,10 +267,17 @@ class Server(_End):
         super().__init__()
         demand(LIBRARY.laspidru_server_new(byref(self._handle), byref(settings)))
 
+    def messages(self, data: bytes) -> Iterator[ServerEvent]:
+        """What the server does with each message that ends in these bytes. Each is handled at its own step: until the next one the
+        documents are those that a request speaks of. A faulty frame raises FrameFault at its step, with no `events`; out of memory
+        raises MemoryError, and `messages(b"")` continues. A loop that ends early leaves the rest to the next call. After `exit`
+        nothing more is handled."""
+        return self._messages(data)
+
     def receive(self, data: bytes) -> List[ServerEvent]:
-        """What the server does with the messages that end in these bytes. A faulty frame raises FrameFault, whose `events` came before
-        it. After `exit` nothing more is handled. Where memory runs out after some events they are returned, else MemoryError is
-        raised; `receive(b"")` continues."""
+        """The same as a list, once all of these messages are handled: the documents are then those after the last one. So answer
+        requests by `messages`. A faulty frame raises FrameFault, whose `events` came before it. Where memory runs out after some
+        events they are returned, else MemoryError is raised; `receive(b"")` continues."""
         return self._receive(data)
 
     def handle(self, body: bytes) -> ServerEvent:
@@ -385,8 +404,9 @@ class Client(_End):
         return self.__call("exit")
 
     def receive(self, data: bytes) -> List[ClientEvent]:
-        """What the client does with the messages that end in these bytes. A faulty frame raises FrameFault, whose `events` came before
-        it. Where memory runs out after some events they are returned, else MemoryError is raised; `receive(b"")` continues."""
+        """What the client does with the messages that end in these bytes, once all are handled. They change no document: the client's
+        own calls do. A faulty frame raises FrameFault, whose `events` came before it. Where memory runs out after some events they
+        are returned, else MemoryError is raised; `receive(b"")` continues."""
         return self._receive(data)
 
     def deliver(self, body: bytes) -> ClientEvent:
