@@ -351,21 +351,23 @@ function Client:deliver(body)
     return event_of(self, answer, body)
 end
 
--- What the client did with the next message of what was received, or nil where the rest of it is to come.
-local function next_event(self)
+-- What the client did with the next message of what was received, or nil where the rest of it is to come. `last` is what it did with
+-- the message before, if there was one.
+local function next_event(self, last)
     local handle, taken, answer = self.handle, ffi.new("laspidru_taken"), ffi.new("laspidru_answer")
-    local code = C.laspidru_client_take(handle, self.rest, #self.rest, taken, answer)
-    self.rest = self.rest:sub(tonumber(taken.bytes) + 1)
+    local code, has_rest = C.laspidru_client_take(handle, self.rest, #self.rest, taken, answer), self.rest ~= ""
+    -- Of a stream that is refused no more is taken.
+    self.rest = (code == 0 or code == 2) and self.rest:sub(tonumber(taken.bytes) + 1) or ""
     if code == 21 then refuse(code, { frame = taken.frame, place = tonumber(taken.place) }) end
-    -- A client that takes no more is asked for nothing.
-    if code == 28 and self.rest == "" then return nil end
+    -- A client that listens no more has no use for what follows.
+    if code == 28 and (last or not has_rest) then return nil end
     demand(code)
     if not taken.is_whole then return nil end
     return event_of(self, answer, copied(function(...) return C.laspidru_client_body(handle, 0, ...) end, tonumber(taken.body_len)))
 end
 
--- What the client does with each message that ends in these bytes, as `deliver` says it: a list of events. Of a faulty frame the
--- error's `events` came before it.
+-- What the client does with each message that ends in these bytes, as `deliver` says it: a list of events, once all are handled. They
+-- change no document: the client's own calls do. Of a faulty frame the error's `events` came before it.
 function Client:receive(bytes)
     local events = {}
     self.rest = self.rest .. text_of(bytes, "what is received")

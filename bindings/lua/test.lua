@@ -110,6 +110,15 @@ equal(bad:deliver("{").reason, "NOT_AN_ANSWER")
 equal(bad:phase(), "failed")
 refuses("BAD_LIMIT", Client.new, { max_docs = 0 })
 
+-- What follows a message with which no session can continue is of no use.
+local failed = Client.new()
+failed:start()
+events = failed:receive(framed("{") .. framed('{"jsonrpc":"2.0","method":"a"}'))
+equal(#events, 1)
+equal(events[1].kind .. events[1].reason .. failed:phase(), "bad-serverNOT_AN_ANSWERfailed")
+equal(#failed:receive(""), 0)
+refuses("WRONG_PHASE", failed.receive, failed, "C")
+
 local free = Client.new({ lenient = true })
 free:start()
 free:receive(framed(ANSWERED:gsub("utf%-8", "utf-16")))
