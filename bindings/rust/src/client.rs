@@ -230,13 +230,14 @@ impl Client {
     pub fn phase(&self) -> Phase {
         let state = self.state();
         match state.phase {
-            0 => Phase::New,
-            1 => Phase::Asked,
-            2 => Phase::Ready,
-            3 => Phase::Closing,
-            4 => Phase::Closed,
-            5 => Phase::Done,
-            _ => Phase::Failed(reason(state.reason)),
+            ffi::PHASE_NEW => Phase::New,
+            ffi::PHASE_ASKED => Phase::Asked,
+            ffi::PHASE_READY => Phase::Ready,
+            ffi::PHASE_CLOSING => Phase::Closing,
+            ffi::PHASE_CLOSED => Phase::Closed,
+            ffi::PHASE_DONE => Phase::Done,
+            ffi::PHASE_FAILED => Phase::Failed(reason(state.reason)),
+            phase => unreachable!("a client in phase {phase}"),
         }
     }
 

@@ -11,6 +11,10 @@ use std::fmt;
 /// framer.receive(b"Content-Length: 2\r\n\r\n{}Content-Le");
 /// assert_eq!(framer.next_body()?, Some(b"{}".to_vec()));
 /// assert_eq!(framer.next_body()?, None);
+/// framer.receive(b"ngth: 3\r\n\r\n[1]");
+/// for body in framer.by_ref() {
+///     assert_eq!(body?, b"[1]");
+/// }
 /// # Ok::<(), laspidru::framer::FrameError>(())
 /// ```
 pub struct Framer {
@@ -83,7 +87,8 @@ impl Framer {
     }
 }
 
-/// The bodies of the messages that are whole, up to a fault.
+/// The bodies of the messages that are whole, up to a fault. `None` says that the rest of a message is to come: receive more, and
+/// iterate again. So iterate over `framer.by_ref()`: `for body in framer` drops the framer, and what it has of the next message.
 impl Iterator for Framer {
     type Item = Result<Vec<u8>, FrameError>;
 

@@ -102,10 +102,14 @@ pub enum Error {
     OutOfMemory,
     /// A text has more than 1,073,741,824 bytes.
     TooLong,
-    /// An end of the range of the change or text edit at this index lies inside a character.
+    /// An end of the range of the change at this index lies inside a character.
     InsideCharacter { change: usize, at_end: bool },
-    /// The range of the change or text edit at this index starts after its end.
+    /// The range of the change at this index starts after its end.
     ReversedRange { change: usize },
+    /// An end of the range of the text edit at this index lies inside a character.
+    EditInsideCharacter { edit: usize, at_end: bool },
+    /// The range of the text edit at this index starts after its end.
+    EditReversedRange { edit: usize },
     /// The text edit at the index `second` starts before the one at `first` ends.
     Overlap { first: usize, second: usize },
     /// A position or an offset lies inside a character, or an offset inside a CRLF or past the end.
@@ -114,15 +118,19 @@ pub enum Error {
 
 impl fmt::Display for Error {
     fn fmt(&self, f: &mut fmt::Formatter<'_>) -> fmt::Result {
-        match self {
+        let side = |at_end| if at_end { "end" } else { "start" };
+        match *self {
             Error::OutOfMemory => write!(f, "out of memory"),
             Error::TooLong => write!(f, "the text is too long"),
             Error::InsideCharacter { change, at_end } => {
-                let side = if *at_end { "end" } else { "start" };
-                write!(f, "change at index {change}: the {side} of its range lies inside a character")
+                write!(f, "change at index {change}: the {} of its range lies inside a character", side(at_end))
             }
             Error::ReversedRange { change } => write!(f, "change at index {change}: the range is reversed"),
-            Error::Overlap { first, second } => write!(f, "text edits at the indexes {first} and {second} overlap"),
+            Error::EditInsideCharacter { edit, at_end } => {
+                write!(f, "edit at index {edit}: the {} of its range lies inside a character", side(at_end))
+            }
+            Error::EditReversedRange { edit } => write!(f, "edit at index {edit}: the range is reversed"),
+            Error::Overlap { first, second } => write!(f, "edits at the indexes {first} and {second} overlap"),
             Error::NoPlace => write!(f, "no position of the text"),
         }
     }
@@ -293,8 +301,10 @@ fn passed_edits(edits: &[TextEdit]) -> (Vec<ffi::Edit>, String) {
 
 fn demand_edits(code: u32, fault: &ffi::EditsFault) -> Result<(), Error> {
     match code {
+        ffi::INSIDE_CHARACTER => Err(Error::EditInsideCharacter { edit: fault.edit, at_end: fault.at_end }),
+        ffi::REVERSED_RANGE => Err(Error::EditReversedRange { edit: fault.edit }),
         ffi::OVERLAP => Err(Error::Overlap { first: fault.edit, second: fault.other }),
-        code => demand(code, &ffi::Fault { change: fault.edit, at_end: fault.at_end }),
+        code => demand(code, &ffi::Fault::default()),
     }
 }
 

@@ -229,10 +229,11 @@ impl Server {
         self.received.add(bytes);
     }
 
-    /// The next message that is whole, and what the server did with it; none where the rest of it is to come.
+    /// Handles the next message that is whole, and returns it with what the server did; none where the rest of it is to come.
     ///
-    /// After [`ServerError::OutOfMemory`] the same call continues. A request that the server doesn't handle is answered by
-    /// the code -32601: it is yours, and your answer goes in place of that frame.
+    /// A request that the server doesn't handle is answered by the code -32601: it is yours, and your answer goes in place of
+    /// that frame. Until the next call the documents are those that the request speaks of. After [`ServerError::OutOfMemory`]
+    /// the same call continues.
     pub fn next_message(&mut self) -> Result<Option<(Vec<u8>, Answer)>, ServerError> {
         match self.received.take_by(&self.handle, ffi::End::Server) {
             Ok(found) => Ok(found.map(|(body, answer)| (body, self.answered(&answer)))),

@@ -76,8 +76,33 @@ fn text_edits() -> Result<(), Error> {
     assert_eq!(document.apply_edits(&over), Err(Error::Overlap { first: 1, second: 0 }));
     assert_eq!(document.batch_of_edits(&over), Err(Error::Overlap { first: 1, second: 0 }));
     let reversed = [edit(at(0, 2), at(0, 0), "")];
-    assert_eq!(document.apply_edits(&reversed), Err(Error::ReversedRange { change: 0 }));
+    assert_eq!(document.apply_edits(&reversed), Err(Error::EditReversedRange { edit: 0 }));
     assert_eq!(document.text(), "1a2c");
+    Ok(())
+}
+
+#[test]
+fn faults_name_their_change_or_edit() -> Result<(), Error> {
+    let mut document = Document::new("\u{1F600}b", Encoding::Utf16)?;
+    let edit = |start, end| TextEdit { range: Range { start: at(0, start), end: at(0, end) }, new_text: String::new() };
+    let text = |result: Result<(), Error>| result.unwrap_err().to_string();
+    let refused = [
+        text(document.change(&[change(at(0, 0), at(0, 0), ""), change(at(0, 0), at(0, 1), "")])),
+        text(document.change(&[change(at(0, 2), at(0, 0), "")])),
+        text(document.apply_edits(&[edit(0, 0), edit(1, 2)])),
+        text(document.batch_of_edits(&[edit(0, 1)]).map(drop)),
+        text(document.apply_edits(&[edit(2, 0)])),
+        text(document.apply_edits(&[edit(2, 3), edit(0, 3)])),
+    ];
+    let wanted = [
+        "change at index 1: the end of its range lies inside a character",
+        "change at index 0: the range is reversed",
+        "edit at index 1: the start of its range lies inside a character",
+        "edit at index 0: the end of its range lies inside a character",
+        "edit at index 0: the range is reversed",
+        "edits at the indexes 1 and 0 overlap",
+    ];
+    assert_eq!(refused, wanted);
     Ok(())
 }
 

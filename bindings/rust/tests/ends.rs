@@ -227,6 +227,23 @@ fn refused_calls_say_why() {
 }
 
 #[test]
+fn phases_in_order() {
+    let mut client = Client::new(&client::Settings::default()).unwrap();
+    let mut phases = vec![client.phase()];
+    client.start().unwrap();
+    phases.push(client.phase());
+    client.deliver(br#"{"jsonrpc":"2.0","id":1,"result":{"capabilities":{"textDocumentSync":2}}}"#).unwrap();
+    phases.push(client.phase());
+    client.shutdown().unwrap();
+    phases.push(client.phase());
+    client.deliver(br#"{"jsonrpc":"2.0","id":2,"result":null}"#).unwrap();
+    phases.push(client.phase());
+    client.exit().unwrap();
+    phases.push(client.phase());
+    assert_eq!(phases, [Phase::New, Phase::Asked, Phase::Ready, Phase::Closing, Phase::Closed, Phase::Done]);
+}
+
+#[test]
 fn errors_have_a_source() {
     let (fault, refusal) = (FrameError::Fault { number: 5, place: 20 }, Refusal::NotOpen);
     let with_source =
@@ -245,10 +262,13 @@ fn errors_have_a_source() {
 fn streams() {
     let mut framer = Framer::new(4096).unwrap();
     framer.receive(b"Content-Length: 1\r\n\r\nxContent-Length: 0\r\n\r\nContent-Le");
-    assert_eq!((&mut framer).collect::<Result<Vec<_>, _>>(), Ok(vec![b"x".to_vec(), vec![]]));
-    assert!(!framer.is_at_rest());
-    framer.receive(b"ngth 2");
-    let fault = FrameError::Fault { number: 1, place: 43 + 14 };
+    assert_eq!(framer.by_ref().collect::<Result<Vec<_>, _>>(), Ok(vec![b"x".to_vec(), vec![]]));
+    assert!(framer.next().is_none() && !framer.is_at_rest());
+    framer.receive(b"ngth: 1\r\n\r\ny");
+    assert_eq!(framer.by_ref().collect::<Result<Vec<_>, _>>(), Ok(vec![b"y".to_vec()]));
+    assert!(framer.is_at_rest());
+    framer.receive(b"Content-Length 2");
+    let fault = FrameError::Fault { number: 1, place: 43 + 22 + 14 };
     assert_eq!((framer.next_body(), framer.next_body()), (Err(fault), Err(FrameError::Failed)));
     assert!(framer.next().is_none());
     assert_eq!(Framer::new(4095).err(), Some(FrameError::BadLimit));

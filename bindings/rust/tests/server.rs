@@ -121,7 +121,7 @@ fn text_edits_on_an_open_document() -> Result<(), Box<dyn std::error::Error>> {
     assert_eq!(server.batch_of_edits(URI, &edits)?, Some(wanted));
     let overlapping = [edit(0, 2, ""), edit(1, 3, "")];
     assert_eq!(server.batch_of_edits(URI, &overlapping), Err(Error::Overlap { first: 0, second: 1 }));
-    assert_eq!(server.batch_of_edits(URI, &[edit(1, 0, "")]), Err(Error::ReversedRange { change: 0 }));
+    assert_eq!(server.batch_of_edits(URI, &[edit(1, 0, "")]), Err(Error::EditReversedRange { edit: 0 }));
     assert_eq!((server.version(URI), server.text(URI).as_deref()), (Some(1), Some("abc")));
     Ok(())
 }
@@ -147,6 +147,23 @@ fn the_canonical_message_of_changes() -> Result<(), Box<dyn std::error::Error>> 
     server.receive(&frame);
     assert_eq!(server.next_message()?, Some((body.as_bytes().to_vec(), Answer::Changed)));
     assert_eq!((server.version(URI), server.text(URI).as_deref()), (Some(2), Some("xybc")));
+    Ok(())
+}
+
+#[test]
+fn a_request_between_two_changes() -> Result<(), ServerError> {
+    let mut server = initialized()?;
+    let asks = request(2, "textDocument/hover", "{}");
+    for body in [&open("one"), &asks, &change(2, "two"), &asks] {
+        server.receive(format!("Content-Length: {}\r\n\r\n{body}", body.len()).as_bytes());
+    }
+    let mut texts = Vec::new();
+    while let Some((_, answer)) = server.next_message()? {
+        if matches!(answer, Answer::Reply { code: Some(-32601), .. }) {
+            texts.extend(server.text(URI));
+        }
+    }
+    assert_eq!(texts, ["one", "two"]);
     Ok(())
 }
 

@@ -36,3 +36,12 @@ pub const REFUSED: u32 = 4;
 pub const EXITED: u32 = 5;
 pub const NOTED: u32 = 6;
 pub const BAD_SERVER: u32 = 7;
+
+// Phases of a client.
+pub const PHASE_NEW: u32 = 0;
+pub const PHASE_ASKED: u32 = 1;
+pub const PHASE_READY: u32 = 2;
+pub const PHASE_CLOSING: u32 = 3;
+pub const PHASE_CLOSED: u32 = 4;
+pub const PHASE_DONE: u32 = 5;
+pub const PHASE_FAILED: u32 = 6;
