@@ -74,6 +74,7 @@ int main(void) {
     test_both_ends();
     test_positions_of_ends();
     test_server_take();
+    test_server_take_in_order();
     test_server_take_faults();
     test_client_take();
     test_take_of_other_kinds();

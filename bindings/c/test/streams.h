@@ -76,6 +76,28 @@ static void test_server_take(void) {
     }
 }
 
+/* Of several messages in one piece each is handled by its own call: a request comes between two changes. */
+static void test_server_take_in_order(void) {
+    static const char asks[] = "{\"jsonrpc\":\"2.0\",\"id\":7,\"method\":\"textDocument/hover\",\"params\":{}}";
+    static const char *const session[] = {initialize, open_a, asks, change_a, asks, 0};
+    static char stream[STREAM_ROOM];
+    laspidru_size len = stream_of(stream, session), at = 0;
+    laspidru_handle server = {0};
+    laspidru_taken taken = {9, 9, 9, 9, 1};
+    laspidru_answer answer = {9, 9, 9, 9, 9};
+    int asked = 0;
+    CHECK(laspidru_server_new(&server, &settings) == LASPIDRU_OK);
+    for (; at < len; at += taken.bytes) {
+        CHECK(laspidru_server_take(&server, bytes(stream) + at, len - at, &taken, &answer) == LASPIDRU_OK && taken.is_whole);
+        if (answer.error != -32601)
+            continue;
+        CHECK(asked == 0 ? holds(&server, 1, "ab\ncd") : holds(&server, 7, "ab\nXYd"));
+        asked++;
+    }
+    CHECK(asked == 2);
+    laspidru_close(&server);
+}
+
 static void test_server_take_faults(void) {
     static const char *const session[] = {initialize, open_a, 0};
     static char stream[STREAM_ROOM];
