@@ -27,7 +27,7 @@ function reply({ body, error, frame: given }) {
 }
 
 process.stdin.on('data', (bytes) => {
-  for (const event of server.receive(bytes)) {
+  for (const event of server.messages(bytes)) {
     if (event.kind === 'replied') process.stdout.write(reply(event));
     if (event.kind === 'refused') console.error('refused:', event.reason, event.body.toString('utf8', 0, 200));
     if (event.kind === 'exited') process.exit(event.status);

@@ -31,19 +31,20 @@ async def serve(server, loop):
     reader = asyncio.StreamReader()
     await loop.connect_read_pipe(lambda: asyncio.StreamReaderProtocol(reader), sys.stdin)
     pipe, protocol = await loop.connect_write_pipe(asyncio.streams.FlowControlMixin, sys.stdout)
+    pipe.set_write_buffer_limits(0)  # so drain waits until all is written
     writer = asyncio.StreamWriter(pipe, protocol, reader, loop)
     while True:
         data = await reader.read(65536)
         if not data:
             return 1
-        for event in server.receive(data):
+        for event in server.messages(data):
             if event.kind == "exited":
                 return event.status
             if event.kind == "refused":
                 print("refused:", event.reason, event.body[:200], file=sys.stderr)
             if event.kind == "replied":
                 writer.write(reply(server, event))
-        await writer.drain()
+                await writer.drain()
 
 
 event_loop = asyncio.new_event_loop()

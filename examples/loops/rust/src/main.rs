@@ -41,7 +41,7 @@ fn main() -> Result<ExitCode, Box<dyn Error>> {
         while let Some((body, answer)) = server.next_message()? {
             match answer {
                 Answer::Reply { frame, code } => output.write_all(&reply(&server, &body, frame, code)?)?,
-                Answer::Refused(reason) => eprintln!("refused: {reason:?}"),
+                Answer::Refused(reason) => eprintln!("refused: {reason}"),
                 Answer::Exit(status) => return Ok(ExitCode::from(status)),
                 _ => {} // changed, dropped or ignored
             }
