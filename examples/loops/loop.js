@@ -26,11 +26,14 @@ function reply({ body, error, frame: given }) {
   return given;
 }
 
+process.exitCode = 1; // where the input ends before `exit`
 process.stdin.on('data', (bytes) => {
   for (const event of server.messages(bytes)) {
     if (event.kind === 'replied') process.stdout.write(reply(event));
     if (event.kind === 'refused') console.error('refused:', event.reason, event.body.toString('utf8', 0, 200));
-    if (event.kind === 'exited') process.exit(event.status);
+    if (event.kind === 'exited') {
+      process.exitCode = event.status;
+      process.stdin.destroy(); // the process ends once all is written
+    }
   }
 });
-process.stdin.on('end', () => process.exit(1));
