@@ -5,6 +5,7 @@ mod failing_runs;
 mod failures;
 mod in_time;
 mod left_out;
+mod long_texts;
 mod mentions;
 mod notes;
 mod pieces;
@@ -121,6 +122,8 @@ enum Command {
     Convert,
     /// `replay` of the last text of `file:///a`, up to a record or to the end.
     Text(Option<u64>),
+    /// `replay` of the documents after a record.
+    At(u64),
     /// `trace` with the texts.
     Trace,
     /// `check` with reasons.
@@ -252,6 +255,13 @@ fn call<R: Source, W: Sink>(
         Command::Text(at) => {
             let uri = Some(String::from_str(alloc, "file:///a")?);
             replay_part(alloc, from, to, settings, Part { at, uri }, turns)
+        }
+        Command::At(at) => {
+            let part = Part {
+                at: Some(at),
+                uri: None,
+            };
+            replay_part(alloc, from, to, settings, part, turns)
         }
         Command::Explain => explain(alloc, from, to, settings, turns),
         Command::Trace => {

@@ -148,13 +148,18 @@ static LIMITS: [Limit; 3] = [
     },
 ];
 
-fn is_written(alloc: Global, input: &[u8], written: &Written) -> Result<bool, Fail> {
+fn is_written(
+    alloc: Global,
+    command: Command,
+    input: &[u8],
+    written: &Written,
+) -> Result<bool, Fail> {
     let (end, kept, more) = written;
     let settings = Settings {
         limits: Limits::new(4_096, 4_096, 1, 1)?,
         ..settings()?
     };
-    let run = run_with(alloc, Command::Normalise, input, settings, SMOOTH)?;
+    let run = run_with(alloc, command, input, settings, SMOOTH)?;
     Ok(
         run.answer == end.answer()
             && run.output.get(..*kept) == input.get(..*kept)
@@ -162,20 +167,29 @@ fn is_written(alloc: Global, input: &[u8], written: &Written) -> Result<bool, Fa
     )
 }
 
-fn is_within(alloc: Global, limit: &Limit) -> Result<bool, Fail> {
+fn is_within(alloc: Global, command: Command, limit: &Limit) -> Result<bool, Fail> {
     let body = letters(alloc, limit.letters, limit.version)?;
     let first = log(alloc, &[INITIALIZE, OPEN, &body])?;
-    if !is_written(alloc, &first, &limit.of_1)? {
+    if !is_written(alloc, command, &first, &limit.of_1)? {
         return Ok(false);
     }
     let records = [(">", INITIALIZE), ("<", REPLY), (">", OPEN), (">", &body)];
-    is_written(alloc, &marked(alloc, &records)?, &limit.of_2)
+    is_written(alloc, command, &marked(alloc, &records)?, &limit.of_2)
 }
 
 #[test]
 fn a_canonical_body_reaches_the_limit(rt: HostRuntime) -> Result<(), Fail> {
     for limit in &LIMITS {
-        assert!(rt; is_within(rt.alloc(), limit)?, "{}", limit.letters);
+        assert!(rt;
+            is_within(rt.alloc(), Command::Normalise, limit)?,
+            "{}",
+            limit.letters
+        );
+        assert!(rt;
+            is_within(rt.alloc(), Command::Documents, limit)?,
+            "{}",
+            limit.letters
+        );
     }
     Ok(())
 }

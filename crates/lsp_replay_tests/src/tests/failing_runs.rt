@@ -115,10 +115,22 @@ impl<'a> Runs<'a> {
     }
 
     /// Returns how many reads of one byte it makes: one for each byte, and one that comes to the
-    /// end. `serve` has no such read, since it ends at the exit.
+    /// end. `serve` has no such read, since it ends at the exit, and `replay` up to a record reads
+    /// no further than that.
     fn reads(&self) -> usize {
-        let more = usize::from(self.case.command != Command::Serve);
-        self.input.len().saturating_add(more)
+        match self.case.command {
+            Command::Serve => self.input.len(),
+            Command::Text(Some(_)) | Command::At(_) => self.read_at_last(),
+            _ => self.input.len().saturating_add(1),
+        }
+    }
+
+    /// Returns how many bytes were read when the last record that has output was handled.
+    fn read_at_last(&self) -> usize {
+        match self.case.records.last() {
+            Some((read, _)) => *read,
+            None => 0,
+        }
     }
 
     /// Returns how many calls of the writer it makes that write one byte or flush.

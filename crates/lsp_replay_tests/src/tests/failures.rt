@@ -26,7 +26,7 @@ static SERVED: [Case; 1] = [Case {
 }];
 
 /// The log commands over a log of version 1.
-static OVER_1: [Case; 8] = [
+static OVER_1: [Case; 12] = [
     Case {
         command: Command::Check,
         input: Bytes::Frames(WORKED),
@@ -67,6 +67,37 @@ static OVER_1: [Case; 8] = [
         reads: &[],
         order: b"RRW",
     },
+    // The text of a document that was closed, and the one that it has after a record.
+    Case {
+        command: Command::Text(None),
+        input: Bytes::Frames(&[INITIALIZE, OPEN, WHOLE, CLOSE]),
+        output: Bytes::Plain(b"aXc"),
+        end: Ended(0, 4, 0),
+        records: &[],
+        flushes: &[],
+        reads: &[],
+        order: b"RRW",
+    },
+    Case {
+        command: Command::Text(Some(2)),
+        input: Bytes::Then(&[INITIALIZE, OPEN], b"no header"),
+        output: Bytes::Plain(b"abc"),
+        end: Ended(0, 2, 0),
+        records: &[(340, 3)],
+        flushes: &[],
+        reads: &[],
+        order: b"RW",
+    },
+    Case {
+        command: Command::At(3),
+        input: Bytes::Then(WORKED, b"no header"),
+        output: Bytes::Plain(WORKED_REPORT),
+        end: Ended(0, 3, 0),
+        records: &[(506, 70)],
+        flushes: &[],
+        reads: &[],
+        order: b"RW",
+    },
     Case {
         command: Command::Normalise,
         input: Bytes::Frames(WORKED),
@@ -100,6 +131,16 @@ static OVER_1: [Case; 8] = [
         order: b"RWWRW",
     },
     Case {
+        command: Command::SquashDocuments,
+        input: Bytes::Frames(&[INITIALIZE, OPEN, WHOLE, HOVER, TYPED]),
+        output: Bytes::Frames(&[INITIALIZE, OPEN, BOTH]),
+        end: Ended(0, 4, 0),
+        records: &[(172, 172), (340, 340)],
+        flushes: &[],
+        reads: &[],
+        order: b"RWWRW",
+    },
+    Case {
         command: Command::Convert,
         input: Bytes::Frames(WORKED),
         output: Bytes::Marked(CONVERTED),
@@ -111,8 +152,16 @@ static OVER_1: [Case; 8] = [
     },
 ];
 
+/// The output of `check` with reasons for [`CONVERTED`].
+const EXPLAINED_2: &[u8] =
+    b"1 reply\n2 server\n3 changed\n4 changed of \"file:///a\": change 1 is the whole text, and the server asked for ranges\nNothing was refused; see the notes. `lspsync replay --at N`: the texts after message N.\n";
+
+/// The output of `trace` with texts for it.
+const TRACED_2: &[u8] =
+    b"{\"number\":1,\"offset\":18,\"from\":\"editor\",\"method\":\"initialize\",\"id\":1,\"word\":\"reply\"}\n{\"number\":2,\"offset\":191,\"from\":\"server\",\"id\":1,\"word\":\"server\"}\n{\"number\":3,\"offset\":344,\"from\":\"editor\",\"method\":\"textDocument/didOpen\",\"uri\":\"file:///a\",\"word\":\"changed\",\"version\":1,\"text\":\"abc\"}\n{\"number\":4,\"offset\":513,\"from\":\"editor\",\"method\":\"textDocument/didChange\",\"uri\":\"file:///a\",\"word\":\"changed\",\"notes\":[\"change 1 is the whole text, and the server asked for ranges\"],\"version\":2,\"canonical\":{\"jsonrpc\":\"2.0\",\"method\":\"textDocument/didChange\",\"params\":{\"contentChanges\":[{\"range\":{\"end\":{\"character\":3,\"line\":0},\"start\":{\"character\":0,\"line\":0}},\"text\":\"aXc\"}],\"textDocument\":{\"uri\":\"file:///a\",\"version\":2}}},\"text\":\"aXc\"}\n";
+
 /// Those that take one, over a log of version 2.
-static OVER_2: [Case; 4] = [
+static OVER_2: [Case; 10] = [
     Case {
         command: Command::Check,
         input: Bytes::Marked(CONVERTED),
@@ -122,6 +171,46 @@ static OVER_2: [Case; 4] = [
         flushes: &[],
         reads: &[],
         order: b"RWWWWR",
+    },
+    Case {
+        command: Command::Explain,
+        input: Bytes::Marked(CONVERTED),
+        output: Bytes::Plain(EXPLAINED_2),
+        end: Ended(0, 3, 0),
+        records: &[(191, 8), (344, 17), (513, 27), (680, 113)],
+        flushes: &[],
+        reads: &[],
+        order: b"RWWWWRW",
+    },
+    Case {
+        command: Command::Trace,
+        input: Bytes::Marked(CONVERTED),
+        output: Bytes::Plain(TRACED_2),
+        end: Ended(0, 3, 0),
+        records: &[(191, 85), (344, 150), (513, 284), (680, 722)],
+        flushes: &[],
+        reads: &[],
+        order: b"RWWWWR",
+    },
+    Case {
+        command: Command::Text(None),
+        input: Bytes::Marked(CONVERTED),
+        output: Bytes::Plain(b"aXc"),
+        end: Ended(0, 3, 0),
+        records: &[],
+        flushes: &[],
+        reads: &[],
+        order: b"RRW",
+    },
+    Case {
+        command: Command::Text(Some(3)),
+        input: Bytes::Marked(CONVERTED),
+        output: Bytes::Plain(b"abc"),
+        end: Ended(0, 2, 0),
+        records: &[(513, 3)],
+        flushes: &[],
+        reads: &[],
+        order: b"RW",
     },
     Case {
         command: Command::Replay,
@@ -144,12 +233,45 @@ static OVER_2: [Case; 4] = [
         order: b"RWWWWR",
     },
     Case {
+        command: Command::Documents,
+        input: Bytes::Marked(&[
+            (">", INITIALIZE),
+            ("<", REPLY),
+            (">", OPEN),
+            (">", HOVER),
+            (">", WHOLE),
+        ]),
+        output: Bytes::Marked(NORMAL_CONVERTED),
+        end: Ended(0, 3, 0),
+        records: &[(191, 191), (344, 344), (513, 513), (840, 754)],
+        flushes: &[],
+        reads: &[],
+        order: b"RWWWWR",
+    },
+    Case {
         command: Command::Squash,
         input: Bytes::Marked(&[
             (">", INITIALIZE),
             ("<", REPLY),
             (">", OPEN),
             (">", WHOLE),
+            (">", TYPED),
+        ]),
+        output: Bytes::Marked(&[(">", INITIALIZE), ("<", REPLY), (">", OPEN), (">", BOTH)]),
+        end: Ended(0, 4, 0),
+        records: &[(191, 191), (344, 344), (513, 513)],
+        flushes: &[],
+        reads: &[],
+        order: b"RWWWRW",
+    },
+    Case {
+        command: Command::SquashDocuments,
+        input: Bytes::Marked(&[
+            (">", INITIALIZE),
+            ("<", REPLY),
+            (">", OPEN),
+            (">", WHOLE),
+            (">", HOVER),
             (">", TYPED),
         ]),
         output: Bytes::Marked(&[(">", INITIALIZE), ("<", REPLY), (">", OPEN), (">", BOTH)]),

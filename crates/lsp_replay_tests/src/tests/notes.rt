@@ -65,10 +65,48 @@ static ROWS: [(&str, &[&str]); 12] = [
     ("", &["it has no changes"]),
 ];
 
-const SEE: &str =
+/// The same in other encodings: the emoji has four units of UTF-8, two of UTF-16 and one of UTF-32.
+/// A `rangeLength` may be in the session's units or in UTF-16.
+static ENCODED: [(Encoding, &str, &[&str]); 6] = [
+    (
+        Encoding::Utf8,
+        r#"{"range":{"start":{"line":1,"character":3},"end":{"line":1,"character":7}},"rangeLength":4,"text":""}"#,
+        &[],
+    ),
+    (
+        Encoding::Utf8,
+        r#"{"range":{"start":{"line":1,"character":3},"end":{"line":1,"character":7}},"rangeLength":2,"text":""}"#,
+        &[],
+    ),
+    (
+        Encoding::Utf8,
+        r#"{"range":{"start":{"line":1,"character":3},"end":{"line":1,"character":7}},"rangeLength":1,"text":""}"#,
+        &["change 1 has the rangeLength 1, and replaces 2 UTF-16 units"],
+    ),
+    (
+        Encoding::Utf8,
+        r#"{"range":{"start":{"line":1,"character":3},"end":{"line":1,"character":9}},"rangeLength":3,"text":""}"#,
+        &[
+            "change 1 ends at line 1, character 9, past the line's end (taken as line 1, character 7)",
+            "change 1 has the rangeLength 3, and replaces 2 UTF-16 units",
+        ],
+    ),
+    (
+        Encoding::Utf32,
+        r#"{"range":{"start":{"line":1,"character":3},"end":{"line":1,"character":4}},"rangeLength":1,"text":""}"#,
+        &[],
+    ),
+    (
+        Encoding::Utf32,
+        r#"{"range":{"start":{"line":1,"character":3},"end":{"line":1,"character":4}},"rangeLength":4,"text":""}"#,
+        &["change 1 has the rangeLength 4, and replaces 2 UTF-16 units"],
+    ),
+];
+
+pub(super) const SEE: &str =
     "Nothing was refused; see the notes. `lspsync replay --at N`: the texts after message N.\n";
 
-const COMPARE: &str =
+pub(super) const COMPARE: &str =
     "Nothing was refused. Compare `lspsync replay --uri URI` with the editor's text.\n";
 
 /// Some notes, with `between` between two of them.
@@ -99,15 +137,29 @@ fn traced(alloc: Global, notes: &[&str]) -> Result<String, AllocError> {
     format!(in alloc; "\"word\":\"changed\",\"notes\":[\"{words}\"],\"version\":2,\"canonical\"")
 }
 
-/// Returns whether the output of a command has these words.
-fn has_words(alloc: Global, command: Command, input: &[u8], words: &str) -> Result<bool, Fail> {
-    let run = run_with(alloc, command, input, settings()?, SMOOTH)?;
+/// Returns whether the output of a command has these words, in a session of this encoding.
+fn has_words(
+    alloc: Global,
+    command: Command,
+    input: &[u8],
+    encoding: Encoding,
+    words: &str,
+) -> Result<bool, Fail> {
+    let settings = Settings {
+        encoding,
+        ..settings()?
+    };
+    let run = run_with(alloc, command, input, settings, SMOOTH)?;
     Ok(String::from_utf8(run.output)?.as_str().contains(words))
 }
 
-/// Returns whether a change has these notes.
-fn is_noted(alloc: Global, row: &(&str, &[&str])) -> Result<bool, Fail> {
-    let (changes, notes) = row;
+/// Returns whether a change has these notes, in a session of this encoding.
+fn is_noted(
+    alloc: Global,
+    encoding: Encoding,
+    changes: &str,
+    notes: &[&str],
+) -> Result<bool, Fail> {
     let changed = change(alloc, 2, changes)?;
     let input = log(alloc, &[INITIALIZE, TWO_LINES, changed.as_str()])?;
     Ok(
@@ -115,11 +167,13 @@ fn is_noted(alloc: Global, row: &(&str, &[&str])) -> Result<bool, Fail> {
             alloc,
             Command::Explain,
             &input,
+            encoding,
             explained(alloc, notes)?.as_str(),
         )? && has_words(
             alloc,
             Command::Trace,
             &input,
+            encoding,
             traced(alloc, notes)?.as_str(),
         )?,
     )
@@ -127,8 +181,17 @@ fn is_noted(alloc: Global, row: &(&str, &[&str])) -> Result<bool, Fail> {
 
 #[test]
 fn what_is_suspicious_is_noted(rt: HostRuntime) -> Result<(), Fail> {
-    for row in &ROWS {
-        assert!(rt; is_noted(rt.alloc(), row)?, "at {}", row.0);
+    for (changes, notes) in &ROWS {
+        assert!(rt;
+            is_noted(rt.alloc(), Encoding::Utf16, changes, notes)?,
+            "at {changes}"
+        );
+    }
+    for (encoding, changes, notes) in &ENCODED {
+        assert!(rt;
+            is_noted(rt.alloc(), *encoding, changes, notes)?,
+            "at {changes} in {encoding:?}"
+        );
     }
     Ok(())
 }

@@ -157,18 +157,28 @@ fn refused_replay(rt: HostRuntime) -> Result<(), Fail> {
     Ok(())
 }
 
-/// The document is closed, and its text is kept until then.
-static CLOSED: Wanted = Wanted {
-    command: Command::Text(None),
-    input: Bytes::Frames(&[SHORT, OPEN, CLOSE]),
-    parts: &["abc"],
-    lengths: &[3],
-    end: Ended(0, 3, 0),
-};
+/// The document is closed, and its text is kept until then; it is still open after the second
+/// record, and its text is written.
+static PARTS: [Wanted; 2] = [
+    Wanted {
+        command: Command::Text(None),
+        input: Bytes::Frames(&[SHORT, OPEN, CLOSE]),
+        parts: &["abc"],
+        lengths: &[3],
+        end: Ended(0, 3, 0),
+    },
+    Wanted {
+        command: Command::Text(Some(2)),
+        input: Bytes::Frames(&[SHORT, OPEN, CLOSE]),
+        parts: &["abc"],
+        lengths: &[3],
+        end: Ended(0, 2, 0),
+    },
+];
 
 #[test]
 fn refused_replay_part(rt: HostRuntime) -> Result<(), Fail> {
-    let refused = CLOSED.runs_again(rt.alloc())?;
+    let refused = run_all_again(rt.alloc(), &PARTS)?;
     assert!(rt; refused.is_some());
     println!(rt; "refused {}", refused.unwrap_or(0))?;
     Ok(())

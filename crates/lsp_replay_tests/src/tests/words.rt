@@ -1,116 +1,170 @@
-//! The words of `check`.
+//! The words of `check`, and the reasons that it gives for them.
 
 use super::*;
 
 const HOVER: &str = r#"{"id":"q","jsonrpc":"2.0","method":"textDocument/hover"}"#;
 
-/// A session of 27 bodies, with the word for each. Texts have at most 8 bytes, with at most two
-/// documents and two changes.
-static WORDS: [(&str, &str); 27] = [
-    (HOVER, "error -32002"),
-    (OPEN, "dropped"),
+/// A body, its word, and what `check` with reasons writes after that.
+type Answered = (&'static str, &'static str, &'static str);
+
+/// A session. Texts have at most 8 bytes, with at most two documents and two changes.
+static WORDS: [Answered; 27] = [
+    (
+        HOVER,
+        "error -32002",
+        ": no request may come before `initialize`",
+    ),
+    (OPEN, "dropped", ""),
     (
         r#"{"id":0,"jsonrpc":"2.0","method":"initialize","params":[]}"#,
         "error -32602",
+        ": the parameters of `initialize` can't be read",
     ),
-    (INITIALIZE, "reply"),
-    (INITIALIZED, "ignored"),
-    ("[", "error -32700"),
-    ("[]", "error -32600"),
-    (r#"{"id":7,"jsonrpc":"2.0","method":"x"}"#, "error -32601"),
-    (r#"{"jsonrpc":"2.0","method":"$/x"}"#, "ignored"),
-    (r#"{"id":1,"jsonrpc":"2.0","result":null}"#, "ignored"),
-    (INITIALIZE, "error -32600"),
+    (INITIALIZE, "reply", ""),
+    (INITIALIZED, "ignored", ""),
+    ("[", "error -32700", ": the body is no JSON"),
+    (
+        "[]",
+        "error -32600",
+        ": this is no message, or a request that may not come now",
+    ),
+    (
+        r#"{"id":7,"jsonrpc":"2.0","method":"x"}"#,
+        "error -32601",
+        "",
+    ),
+    (r#"{"jsonrpc":"2.0","method":"$/x"}"#, "ignored", ""),
+    (r#"{"id":1,"jsonrpc":"2.0","result":null}"#, "ignored", ""),
+    (
+        INITIALIZE,
+        "error -32600",
+        ": this is no message, or a request that may not come now",
+    ),
     // The version is a text.
     (
         r#"{"jsonrpc":"2.0","method":"textDocument/didOpen","params":{"textDocument":{"languageId":"plaintext","text":"abc","uri":"file:///a","version":"1"}}}"#,
         "refused M4",
+        ": the parameters can't be read",
     ),
-    (OPEN, "changed"),
-    (OPEN, "refused S1"),
+    (OPEN, "changed", ""),
+    (
+        OPEN,
+        "refused S1",
+        " of \"file:///a\": the document is open already; see message 13",
+    ),
     (
         r#"{"jsonrpc":"2.0","method":"textDocument/didClose","params":{"textDocument":{"uri":"file:///c"}}}"#,
         "refused S4",
+        " of \"file:///c\": the document is not open",
     ),
     // A second document, and a third.
     (
         r#"{"jsonrpc":"2.0","method":"textDocument/didOpen","params":{"textDocument":{"languageId":"plaintext","text":"","uri":"file:///b","version":1}}}"#,
         "changed",
+        "",
     ),
     (
         r#"{"jsonrpc":"2.0","method":"textDocument/didOpen","params":{"textDocument":{"languageId":"plaintext","text":"","uri":"file:///c","version":1}}}"#,
         "refused S2",
+        " of \"file:///c\": as many documents are open as --max-docs allows, 2; see message 15",
     ),
     // A text of 9 bytes.
     (
         r#"{"jsonrpc":"2.0","method":"textDocument/didChange","params":{"contentChanges":[{"range":{"end":{"character":0,"line":0},"start":{"character":0,"line":0}},"text":"123456"}],"textDocument":{"uri":"file:///a","version":2}}}"#,
         "refused S3",
+        " of \"file:///a\": the text has more bytes than --max-text allows, 8; see message 14",
     ),
     // It ends before it starts.
     (
         r#"{"jsonrpc":"2.0","method":"textDocument/didChange","params":{"contentChanges":[{"range":{"end":{"character":1,"line":0},"start":{"character":2,"line":0}},"text":""}],"textDocument":{"uri":"file:///a","version":2}}}"#,
         "refused E2",
+        " of \"file:///a\": change 1 starts at line 0, character 2, after it ends at line 0, character 1; see message 18",
     ),
     // The version is the current one.
     (
         r#"{"jsonrpc":"2.0","method":"textDocument/didChange","params":{"contentChanges":[{"text":"😀"}],"textDocument":{"uri":"file:///a","version":1}}}"#,
         "refused S5",
+        " of \"file:///a\": version 1 was sent, and the current one is 1; see message 19",
     ),
     (
         r#"{"jsonrpc":"2.0","method":"textDocument/didChange","params":{"contentChanges":[{"text":"😀"}],"textDocument":{"uri":"file:///a","version":2}}}"#,
         "changed",
+        "",
     ),
     // Inside of that character.
     (
         r#"{"jsonrpc":"2.0","method":"textDocument/didChange","params":{"contentChanges":[{"range":{"end":{"character":1,"line":0},"start":{"character":1,"line":0}},"text":"b"}],"textDocument":{"uri":"file:///a","version":3}}}"#,
         "refused E1",
+        " of \"file:///a\": change 1 starts at line 0, character 1, inside a character; see message 20",
     ),
     (
         r#"{"jsonrpc":"2.0","method":"textDocument/didChange","params":{"contentChanges":[{"text":""},{"text":""},{"text":""}],"textDocument":{"uri":"file:///a","version":3}}}"#,
         "refused S6",
+        " of \"file:///a\": there are more changes than --max-changes allows, 2, or their texts have more than 1 GiB; see message 22",
     ),
-    (SHUTDOWN, "reply"),
-    (HOVER, "error -32600"),
-    (WHOLE, "dropped"),
-    (EXIT, "exit 0"),
+    (SHUTDOWN, "reply", ""),
+    (
+        HOVER,
+        "error -32600",
+        ": this is no message, or a request that may not come now",
+    ),
+    (WHOLE, "dropped", ""),
+    (EXIT, "exit 0", ""),
 ];
 
+/// The end of what `check` with reasons writes. S1 and S5 are among the refusals.
+const ADVICE: &[u8] =
+    b"Refused messages change nothing. `lspsync replay --at N`: the texts after message N.\nMany servers don't refuse what is S1 or S5 here. `--lenient` doesn't either.\n";
+
 /// Returns the frames of the bodies.
-fn frames(alloc: Global, rows: &[(&str, &str)]) -> Result<Vec<u8>, AllocError> {
+fn frames(alloc: Global, rows: &[Answered]) -> Result<Vec<u8>, AllocError> {
     let mut bytes = Vec::new(alloc);
-    for (body, _) in rows {
+    for (body, _, _) in rows {
         bytes.extend_from_slice(&frame(alloc, body.as_bytes())?)?;
     }
     Ok(bytes)
 }
 
-/// Their lines.
-fn lines(alloc: Global, rows: &[(&str, &str)]) -> Result<Vec<u8>, AllocError> {
+/// Returns their lines.
+fn lines(alloc: Global, rows: &[Answered], with_reasons: bool) -> Result<Vec<u8>, AllocError> {
     let mut bytes = Vec::new(alloc);
     let mut number = 0usize;
-    for (_, word) in rows {
+    for (_, word, reason) in rows {
         number = number.saturating_add(1);
-        let line = format!(in alloc; "{number} {word}\n")?;
+        let reason = if with_reasons { *reason } else { "" };
+        let line = format!(in alloc; "{number} {word}{reason}\n")?;
         bytes.extend_from_slice(line.as_bytes())?;
     }
     Ok(bytes)
 }
 
-/// Returns whether each body has its word, with this result.
-fn have_words(alloc: Global, rows: &[(&str, &str)], answer: Answer) -> Result<bool, Fail> {
+/// Returns whether each body has its word, with this result, and its reason if the command is to
+/// give one.
+fn have_words(
+    alloc: Global,
+    command: Command,
+    rows: &[Answered],
+    answer: Answer,
+) -> Result<bool, Fail> {
     let settings = Settings {
         limits: Limits::new(4_096, 8, 2, 2)?,
         ..settings()?
     };
     let input = frames(alloc, rows)?;
-    let run = run_with(alloc, Command::Check, &input, settings, SMOOTH)?;
-    Ok(run.answer == answer && run.output == lines(alloc, rows)?)
+    let run = run_with(alloc, command, &input, settings, SMOOTH)?;
+    let mut output = lines(alloc, rows, command == Command::Explain)?;
+    if command == Command::Explain {
+        output.extend_from_slice(ADVICE)?;
+    }
+    Ok(run.answer == answer && run.output == output)
 }
 
 #[test]
-fn every_answer_has_its_word(rt: HostRuntime) -> Result<(), Fail> {
+fn every_answer_has_its_word_and_its_reason(rt: HostRuntime) -> Result<(), Fail> {
     // Five errors and three refusals up to the first document, then six refusals and an error. The
     // unknown method doesn't count.
-    assert!(rt; have_words(rt.alloc(), &WORDS, Ended(1, 27, 15).answer())?);
+    let answer = Ended(1, 27, 15).answer();
+    assert!(rt; have_words(rt.alloc(), Command::Check, &WORDS, answer)?);
+    assert!(rt; have_words(rt.alloc(), Command::Explain, &WORDS, answer)?);
     Ok(())
 }

@@ -8,7 +8,7 @@ use lsp_server::Config;
 use std::str;
 use std::test::Fail;
 
-static WRONG: [&[&str]; 45] = [
+static WRONG: [&[&str]; 47] = [
     &["lspsync"],
     &["lspsync", "rewrite"],
     &["lspsync", "--max-body", "4096", "check"],
@@ -50,6 +50,8 @@ static WRONG: [&[&str]; 45] = [
     &["lspsync", "check", "--at", "1"],
     &["lspsync", "normalise", "--uri", "file:///a"],
     &["lspsync", "replay", "--at", "0"],
+    &["lspsync", "replay", "--at", "x"],
+    &["lspsync", "replay", "--at="],
     &["lspsync", "replay", "--at=18446744073709551616"],
     &["lspsync", "replay", "--at", "1", "--at", "1"],
     &["lspsync", "replay", "--uri"],

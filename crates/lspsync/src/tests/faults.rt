@@ -60,7 +60,7 @@ fn each_fault_has_its_line_and_status(rt: HostRuntime) {
     assert!(rt; is_refused(rt.alloc(), ErrorKind::InvalidData, 2, line));
 }
 
-/// Inputs of `check`, and the line that reports each.
+/// Inputs of each command, and the line that reports each.
 static FAULTY: [(&str, &str); 14] = [
     ("Content-Length 2", "lspsync: frame fault F1 at 14\n"),
     ("Content-Length: 2\n", "lspsync: frame fault F1 at 17\n"),
@@ -87,28 +87,51 @@ static FAULTY: [(&str, &str); 14] = [
         "lspsync: frame fault F7 at 53\n",
     ),
     ("Content-Length: 5\r\n\r\nab", "lspsync: truncated at 23\n"),
-    ("lsp-session-log 2\nx", "lspsync: bad log at 18\n"),
-    ("lsp-session-log 2\n>", "lspsync: truncated at 19\n"),
     ("lsp-session-log 3\n", "lspsync: frame fault F1 at 15\n"),
     ("lsp-session-log 2", "lspsync: frame fault F1 at 15\n"),
+    // `convert` takes no log of version 2.
+    ("lsp-session-log 2\nx", "lspsync: bad log at 18\n"),
+    ("lsp-session-log 2\n>", "lspsync: truncated at 19\n"),
 ];
 
-static COMMANDS: [&str; 3] = ["check", "replay", "normalise"];
+/// The words of each command that reads a log, but for `convert`.
+static COMMANDS: [&[&str]; 9] = [
+    &["lspsync", "check", "--max-body=4096"],
+    &["lspsync", "check", "--explain", "--max-body=4096"],
+    &["lspsync", "trace", "--max-body=4096"],
+    &["lspsync", "replay", "--max-body=4096"],
+    &["lspsync", "replay", "--at=1", "--max-body=4096"],
+    &["lspsync", "replay", "--uri=file:///a", "--max-body=4096"],
+    &["lspsync", "normalise", "--max-body=4096"],
+    &["lspsync", "normalise", "--squash", "--max-body=4096"],
+    &["lspsync", "normalise", "--documents", "--max-body=4096"],
+];
 
-fn is_faulty(alloc: Global, command: &str, input: &str, line: &str) -> Result<bool, AllocError> {
-    let words = ["lspsync", command, "--max-body=4096"];
-    fails(alloc, &words, input.as_bytes(), b"", line)
-}
+static CONVERT: [&str; 3] = ["lspsync", "convert", "--max-body=4096"];
+
+const NOT_CONVERTED: &str = "lspsync: bad log at 0\n";
 
 #[test]
 fn a_faulty_input_is_reported_with_its_place(rt: HostRuntime) -> Result<(), Fail> {
-    for command in &COMMANDS {
+    for words in &COMMANDS {
         for (input, line) in &FAULTY {
             assert!(rt;
-                is_faulty(rt.alloc(), command, input, line)?,
-                "at {input:?}"
+                fails(rt.alloc(), words, input.as_bytes(), b"", line)?,
+                "at {words:?} {input:?}"
             );
         }
+    }
+    for (input, line) in &FAULTY[..12] {
+        assert!(rt;
+            fails(rt.alloc(), &CONVERT, input.as_bytes(), b"", line)?,
+            "at {input:?}"
+        );
+    }
+    for (input, _) in &FAULTY[12..] {
+        assert!(rt;
+            fails(rt.alloc(), &CONVERT, input.as_bytes(), b"", NOT_CONVERTED)?,
+            "at {input:?}"
+        );
     }
     let letters = "x".repeat(rt.alloc(), 8_168)?;
     let long = format!(in rt.alloc(); "Content-Length: 2\r\na:{letters}\r\n\r\n[]")?;
@@ -160,7 +183,7 @@ fn a_cut_log_is_reported_with_its_length(rt: HostRuntime) -> Result<(), Fail> {
 }
 
 /// Returns a log in which the text `abc` is replaced by so many letters.
-fn long_log(alloc: Global, letters: usize) -> Result<Vec<u8>, Fail> {
+pub(super) fn long_log(alloc: Global, letters: usize) -> Result<Vec<u8>, Fail> {
     let text = "x".repeat(alloc, letters)?;
     let change = format!(in alloc;
         r#"{{"jsonrpc":"2.0","method":"textDocument/didChange","params":{{"contentChanges":[{{"text":"{text}"}}],"textDocument":{{"uri":"file:///a","version":2}}}}}}"#

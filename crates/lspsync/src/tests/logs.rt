@@ -108,7 +108,7 @@ fn what_a_lenient_server_takes(rt: HostRuntime) -> Result<(), Fail> {
 }
 
 /// Options of `check`, a third message after `initialize` and the opening of `abc`, and its word.
-pub(super) static THIRD: [(&str, &str, &str); 12] = [
+pub(super) static THIRD: [(&str, &str, &str); 13] = [
     ("--max-docs=2", "[", "error -32700"),
     ("--max-docs=2", "[]", "error -32600"),
     ("--max-docs=2", INITIALIZE, "error -32600"),
@@ -131,6 +131,12 @@ pub(super) static THIRD: [(&str, &str, &str); 12] = [
     (
         "--max-docs=2",
         r#"{"jsonrpc":"2.0","method":"textDocument/didChange","params":{"contentChanges":[{"text":"x"}],"textDocument":{"uri":"file:///a","version":1}}}"#,
+        "refused S5",
+    ),
+    // The least version.
+    (
+        "--max-docs=2",
+        r#"{"jsonrpc":"2.0","method":"textDocument/didChange","params":{"contentChanges":[{"text":"x"}],"textDocument":{"uri":"file:///a","version":-2147483648}}}"#,
         "refused S5",
     ),
     (

@@ -21,7 +21,7 @@ type Failing = (
     &'static str,
 );
 
-static FAILING: [Failing; 12] = [
+static FAILING: [Failing; 15] = [
     ("serve", &[Take(172), Fails], &[], 152, READ_FAULT),
     ("serve", &[], &[Take(100), Fails], 100, WRITE_FAULT),
     ("serve", &[], &[Take(100), Take(0)], 100, WRITE_FAULT),
@@ -52,6 +52,9 @@ static FAILING: [Failing; 12] = [
     ),
     ("check", &[], &[ALL, ALL, Fails], 18, WRITE_FAULT),
     ("check", &[], &[ALL, ALL, ALL, Fails], 28, WRITE_FAULT),
+    ("trace", &[Take(340), Fails], &[], 205, READ_FAULT),
+    ("trace", &[], &[ALL, ALL, Fails], 205, WRITE_FAULT),
+    ("trace", &[], &[ALL, Take(100), Fails], 184, WRITE_FAULT),
     ("replay", &[Fails], &[], 0, READ_FAULT),
     ("normalise", &[], &[Take(0)], 0, WRITE_FAULT),
 ];
@@ -82,7 +85,7 @@ fn a_stream_that_fails_has_its_line_and_status_3(rt: HostRuntime) -> Result<(), 
     Ok(())
 }
 
-static COMMANDS: [&str; 5] = ["serve", "check", "replay", "normalise", "convert"];
+static COMMANDS: [&str; 6] = ["serve", "check", "trace", "replay", "normalise", "convert"];
 
 /// Returns whether the result is the same if reader and writer are slow.
 fn is_the_same(

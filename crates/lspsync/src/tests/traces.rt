@@ -1,9 +1,10 @@
 //! What `trace` writes: each member, and the words of each reason.
 
+use super::faults::long_log;
 use super::logs::THIRD;
 use super::*;
 use lsp_frame::frame;
-use lsp_samples::bodies::{ACCEPTED, CLOSE, INITIALIZE, OPEN, OPEN_EMOJI, WHOLE};
+use lsp_samples::bodies::{ACCEPTED, CLOSE, HOVER, INITIALIZE, OPEN, OPEN_EMOJI, WHOLE};
 use lsp_samples::logs::{LINE, log};
 use std::test::Fail;
 
@@ -11,7 +12,7 @@ const FIRST_TWO: &str =
     "{\"number\":1,\"offset\":0,\"from\":\"editor\",\"method\":\"initialize\",\"id\":1,\"word\":\"reply\"}\n{\"number\":2,\"offset\":172,\"from\":\"editor\",\"method\":\"textDocument/didOpen\",\"uri\":\"file:///a\",\"word\":\"changed\",\"version\":1}\n";
 
 /// What comes between the side and the answer of each row of [`THIRD`], and after its answer.
-static REASONS: [(&str, &str); 12] = [
+static REASONS: [(&str, &str); 13] = [
     ("", "the body is no JSON\""),
     (
         "",
@@ -40,6 +41,10 @@ static REASONS: [(&str, &str); 12] = [
     (
         "\"method\":\"textDocument/didChange\",\"uri\":\"file:///a\",",
         "version 1 was sent, and the current one is 1\",\"last\":2,\"version\":1",
+    ),
+    (
+        "\"method\":\"textDocument/didChange\",\"uri\":\"file:///a\",",
+        "version -2147483648 was sent, and the current one is 1\",\"last\":2,\"version\":1",
     ),
     (
         "\"method\":\"textDocument/didChange\",\"uri\":\"file:///a\",",
@@ -85,18 +90,52 @@ fn what_is_refused_has_a_reason(rt: HostRuntime) -> Result<(), Fail> {
     Ok(())
 }
 
-/// A change before the end of a range inside a character, in UTF-16.
-const INSIDE: &str =
-    r#"{"jsonrpc":"2.0","method":"textDocument/didChange","params":{"contentChanges":[{"text":"x😀"},{"range":{"start":{"line":0,"character":1},"end":{"line":0,"character":2}},"text":""}],"textDocument":{"uri":"file:///a","version":7}}}"#;
+/// Changes of an emoji of which one has an end inside it, in UTF-16, and the reason.
+static INSIDE: [(&str, &str); 2] = [
+    (
+        r#"{"range":{"start":{"line":0,"character":1},"end":{"line":0,"character":2}},"text":""}"#,
+        "change 1 starts at line 0, character 1, inside a character",
+    ),
+    (
+        r#"{"text":"x😀"},{"range":{"start":{"line":0,"character":1},"end":{"line":0,"character":2}},"text":""}"#,
+        "change 2 ends at line 0, character 2, inside a character",
+    ),
+];
 
-const INSIDE_LINE: &[u8] =
-    b"\"word\":\"refused E1\",\"reason\":\"change 2 ends at line 0, character 2, inside a character\",\"last\":2,\"version\":1}\n";
+/// Returns whether a message of these changes has this reason.
+fn is_inside(alloc: Global, changes: &str, reason: &str) -> Result<bool, AllocError> {
+    let change = format!(in alloc;
+        r#"{{"jsonrpc":"2.0","method":"textDocument/didChange","params":{{"contentChanges":[{changes}],"textDocument":{{"uri":"file:///a","version":7}}}}}}"#
+    )?;
+    let input = log(alloc, &[INITIALIZE, OPEN_EMOJI, change.as_str()])?;
+    let end = format!(in alloc;
+        "\"word\":\"refused E1\",\"reason\":\"{reason}\",\"last\":2,\"version\":1}}\n"
+    )?;
+    let answer = ran(alloc, &["lspsync", "trace"], &input)?;
+    Ok(answer.status == 1 && answer.output.ends_with(end.as_bytes()))
+}
 
 #[test]
-fn a_range_that_ends_inside_a_character(rt: HostRuntime) -> Result<(), Fail> {
-    let input = log(rt.alloc(), &[INITIALIZE, OPEN_EMOJI, INSIDE])?;
-    let answer = ran(rt.alloc(), &["lspsync", "trace"], &input)?;
-    assert!(rt; answer.status == 1 && answer.output.ends_with(INSIDE_LINE));
+fn an_end_of_a_range_inside_a_character(rt: HostRuntime) -> Result<(), Fail> {
+    for (changes, reason) in &INSIDE {
+        assert!(rt; is_inside(rt.alloc(), changes, reason)?, "{reason}");
+    }
+    Ok(())
+}
+
+/// A request before `initialize`, and an `initialize` whose parameters can't be read.
+static FIRST: [&str; 2] = [
+    HOVER,
+    r#"{"id":0,"jsonrpc":"2.0","method":"initialize","params":[]}"#,
+];
+
+const FIRST_REASONS: &[u8] =
+    b"{\"number\":1,\"offset\":0,\"from\":\"editor\",\"method\":\"textDocument/hover\",\"id\":\"q\",\"word\":\"error -32002\",\"reason\":\"no request may come before `initialize`\"}\n{\"number\":2,\"offset\":78,\"from\":\"editor\",\"method\":\"initialize\",\"id\":0,\"word\":\"error -32602\",\"reason\":\"the parameters of `initialize` can't be read\"}\n";
+
+#[test]
+fn a_session_that_is_not_initialized(rt: HostRuntime) -> Result<(), Fail> {
+    let input = log(rt.alloc(), &FIRST)?;
+    assert!(rt; answers(rt.alloc(), &["lspsync", "trace"], &input, 1, FIRST_REASONS)?);
     Ok(())
 }
 
@@ -130,23 +169,40 @@ fn texts_are_written_where_they_changed(rt: HostRuntime) -> Result<(), Fail> {
     Ok(())
 }
 
+/// A body of several lines, one that is no JSON, and one that is no UTF-8.
 const BODIES: &[u8] =
-    b"{\"number\":1,\"offset\":0,\"from\":\"editor\",\"method\":\"$/x\",\"word\":\"dropped\",\"body\":{\"jsonrpc\":\"2.0\",  \"method\":\"$/x\"}}\n{\"number\":2,\"offset\":59,\"from\":\"editor\",\"word\":\"error -32700\",\"reason\":\"the body is no JSON\"}\n";
+    b"Content-Length: 37\r\n\r\n{\"jsonrpc\":\"2.0\",\r\n  \"method\":\"$/x\"\n}Content-Length: 1\r\n\r\n[Content-Length: 3\r\n\r\n\"\xc3\"";
 
-/// A body of several lines is written on one, and one that is no JSON not at all.
+const BODY_LINES: &[u8] =
+    b"{\"number\":1,\"offset\":0,\"from\":\"editor\",\"method\":\"$/x\",\"word\":\"dropped\",\"body\":{\"jsonrpc\":\"2.0\",  \"method\":\"$/x\"}}\n{\"number\":2,\"offset\":59,\"from\":\"editor\",\"word\":\"error -32700\",\"reason\":\"the body is no JSON\"}\n{\"number\":3,\"offset\":81,\"from\":\"editor\",\"word\":\"error -32700\",\"reason\":\"the body is no JSON\"}\n";
+
+/// A body is written on one line, and one that is no JSON not at all.
 #[test]
 fn bodies_are_written_on_one_line(rt: HostRuntime) -> Result<(), Fail> {
-    let lines = "{\"jsonrpc\":\"2.0\",\r\n  \"method\":\"$/x\"\n}";
-    let input = log(rt.alloc(), &[lines, "["])?;
-    assert!(rt;
-        answers(
-            rt.alloc(),
-            &["lspsync", "trace", "--bodies"],
-            &input,
-            1,
-            BODIES
-        )?
-    );
+    let words = ["lspsync", "trace", "--bodies"];
+    assert!(rt; answers(rt.alloc(), &words, BODIES, 1, BODY_LINES)?);
+    Ok(())
+}
+
+/// Returns whether the change of a text to so many letters has this canonical message, or none.
+fn has_canonical(alloc: Global, letters: usize, canonical: &str) -> Result<bool, Fail> {
+    let words = ["lspsync", "trace", "--max-body", "4096"];
+    let input = long_log(alloc, letters)?;
+    let lines = format!(in alloc;
+        "{FIRST_TWO}{{\"number\":3,\"offset\":340,\"from\":\"editor\",\"method\":\"textDocument/didChange\",\"uri\":\"file:///a\",\"word\":\"changed\",\"version\":2{canonical}}}\n"
+    )?;
+    Ok(answers(alloc, &words, &input, 0, lines.as_bytes())?)
+}
+
+/// The canonical message of a text of n letters has a body of 214 + n bytes.
+#[test]
+fn a_canonical_message_over_the_limit_is_left_out(rt: HostRuntime) -> Result<(), Fail> {
+    let text = "x".repeat(rt.alloc(), 3_882)?;
+    let canonical = format!(in rt.alloc();
+        r#","canonical":{{"jsonrpc":"2.0","method":"textDocument/didChange","params":{{"contentChanges":[{{"range":{{"end":{{"character":3,"line":0}},"start":{{"character":0,"line":0}}}},"text":"{text}"}}],"textDocument":{{"uri":"file:///a","version":2}}}}}}"#
+    )?;
+    assert!(rt; has_canonical(rt.alloc(), 3_882, &canonical)?);
+    assert!(rt; has_canonical(rt.alloc(), 3_883, "")?);
     Ok(())
 }
 
