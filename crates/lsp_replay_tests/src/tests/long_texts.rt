@@ -186,7 +186,8 @@ fn opening(alloc: Global) -> Result<String, AllocError> {
 
 /// Returns a log of the messages, or of the canonical ones.
 fn long_log(alloc: Global, is_canonical: bool) -> Result<Vec<u8>, AllocError> {
-    let mut bytes = log(alloc, &[INITIALIZE, &opening(alloc)?])?;
+    let opening = opening(alloc)?;
+    let mut bytes = log(alloc, &[INITIALIZE, &opening])?;
     let mut version = 1i32;
     for message in &MESSAGES {
         version = version.saturating_add(1);
@@ -272,19 +273,25 @@ fn first_lines(alloc: Global) -> Result<String, AllocError> {
     )
 }
 
-/// Returns how many bytes the frame of a message has.
-fn frame_len(alloc: Global, message: &Message) -> Result<usize, AllocError> {
-    let body = body(alloc, 2, message.sent, message.more)?;
+/// Returns how many bytes the frame of a body has.
+fn frame_len(alloc: Global, body: &str) -> Result<usize, AllocError> {
     Ok(frame(alloc, body.as_bytes())?.len())
+}
+
+/// Returns where the first message is in the log.
+fn first_offset(alloc: Global) -> Result<usize, AllocError> {
+    let opening = opening(alloc)?;
+    Ok(frame_len(alloc, &opening)?.saturating_add(172))
 }
 
 /// Returns what `trace` with texts writes.
 fn traced(alloc: Global) -> Result<String, AllocError> {
     let mut lines = first_lines(alloc)?;
-    let mut offset = log(alloc, &[INITIALIZE, &opening(alloc)?])?.len();
+    let mut offset = first_offset(alloc)?;
     for (index, message) in MESSAGES.iter().enumerate() {
         lines.push_str(&line(alloc, index, message, offset)?)?;
-        offset = offset.saturating_add(frame_len(alloc, message)?);
+        let sent = body(alloc, 2, message.sent, message.more)?;
+        offset = offset.saturating_add(frame_len(alloc, &sent)?);
     }
     Ok(lines)
 }
@@ -308,8 +315,9 @@ fn a_long_text_is_traced_and_explained(rt: HostRuntime) -> Result<(), Fail> {
 
 /// Returns the squashed log.
 fn squashed(alloc: Global) -> Result<Vec<u8>, AllocError> {
+    let opening = opening(alloc)?;
     let body = body(alloc, 7, &SQUASHED, "")?;
-    log(alloc, &[INITIALIZE, &opening(alloc)?, &body])
+    log(alloc, &[INITIALIZE, &opening, &body])
 }
 
 /// Returns whether the changes of the squashed log leave the text too.
@@ -344,13 +352,17 @@ fn whole(alloc: Global, text: &str) -> Result<String, AllocError> {
     change(alloc, 3, &changes)
 }
 
-/// Returns whether the whole of this text, after the first message, is explained so.
-fn is_compared(alloc: Global, text: &str, lines: &str) -> Result<bool, Fail> {
+/// Returns a log of the first message, and of the whole of a text.
+fn whole_log(alloc: Global, text: &str) -> Result<Vec<u8>, AllocError> {
+    let opening = opening(alloc)?;
     let first = body(alloc, 2, MESSAGES[0].sent, "")?;
-    let input = log(
-        alloc,
-        &[INITIALIZE, &opening(alloc)?, &first, &whole(alloc, text)?],
-    )?;
+    let second = whole(alloc, text)?;
+    log(alloc, &[INITIALIZE, &opening, &first, &second])
+}
+
+/// Returns whether the whole of this text is explained so.
+fn is_compared(alloc: Global, text: &str, lines: &str) -> Result<bool, Fail> {
+    let input = whole_log(alloc, text)?;
     let run = run_with(alloc, Command::Explain, &input, settings()?, SMOOTH)?;
     Ok(run.output.as_slice() == lines.as_bytes())
 }
