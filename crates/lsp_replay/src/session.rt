@@ -35,7 +35,7 @@ use crate::session::counting::{is_refused, one_more};
 use crate::session::results::copied;
 use lsp_log::{Head, Sender, Version};
 use lsp_message::{ChangeParams, Id};
-use lsp_server::{Answer, Config, Incoming, Phase, Server};
+use lsp_server::{Answer, Config, Incoming, Phase, Server, ServerFault};
 use lsp_stream::EngineFault;
 use std::alloc::{AllocError, Global};
 use std::marker::Model;
@@ -237,8 +237,10 @@ impl Session {
             return Ok(Verdict::Bad);
         }
         let expected = self.begun_by(version, &incoming)?;
-        let Ok(answer) = self.server.handle_incoming(incoming) else {
-            return Err(AllocError);
+        let answer = match self.server.handle_incoming(incoming) {
+            Ok(answer) => answer,
+            Err(ServerFault::NoMemory) => return Err(AllocError),
+            Err(ServerFault::AlreadyEnded) => unreachable!(),
         };
         if expected.is_some() {
             self.expected = expected;

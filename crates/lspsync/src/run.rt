@@ -18,8 +18,8 @@ use crate::fault_text::FaultText;
 use clap::error as clap_error;
 use lsp_program::{BAD_INPUT, MAX_TURNS, OUT_OF_MEMORY, STREAM_FAULT, USAGE, flush, print_help};
 use lsp_replay::{
-    EngineFault, Missing, Outcome, Sink, Source, check, convert, normalise, normalise_documents,
-    replay, replay_part, serve, trace,
+    EngineFault, Missing, Outcome, Sink, Source, check, convert, explain, normalise,
+    normalise_documents, replay, replay_part, serve, trace,
 };
 use std::alloc::Global;
 use std::io::{self, ErrorKind, Write};
@@ -59,7 +59,7 @@ pub fn run<R: Source, W: Sink, E: Write>(
             status: USAGE,
             printed: Ok(()),
         },
-        Err(error) => explain(alloc, &error, output, errors),
+        Err(error) => print_error(alloc, &error, output, errors),
     }
 }
 
@@ -147,9 +147,7 @@ fn obey<R: Source, W: Sink>(
     match call {
         Call::Serve(config) => serve(alloc, input, output, config, MAX_TURNS),
         Call::Check(settings) => check(alloc, input, output, settings, MAX_TURNS),
-        Call::Explain(settings) => {
-            lsp_replay::explain(alloc, input, output, settings, MAX_TURNS)
-        }
+        Call::Explain(settings) => explain(alloc, input, output, settings, MAX_TURNS),
         Call::Trace(settings, details) => {
             trace(alloc, input, output, settings, details, MAX_TURNS)
         }
@@ -166,7 +164,7 @@ fn obey<R: Source, W: Sink>(
 }
 
 /// Prints the text of `clap`'s error: help to the output, and a usage fault to the errors.
-fn explain<W: Sink, E: Write>(
+fn print_error<W: Sink, E: Write>(
     alloc: Global,
     error: &clap::Error,
     output: &mut W,

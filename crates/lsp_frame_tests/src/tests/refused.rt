@@ -1,5 +1,5 @@
 //! Each call that can run out of memory, with one request for memory refused. The object reads as
-//! before, and the same call succeeds the second time. `.ci/refused` runs these.
+//! before, and the same call succeeds the second time. `tools/refused` runs these.
 
 use super::narrow;
 use lsp_frame::{EncodeFault, FrameFault, Framer, encode, frame, read_frames};

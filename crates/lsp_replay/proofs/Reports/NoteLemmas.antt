@@ -1,8 +1,9 @@
 -- What is noted of a message.
-use Rattle.std.proofs.Common.{◌≡◌, ℕ, suc, ◌+◌, ◌<◌, ◌≤◌, Bool, true, false, List, [], ◌∷◌, ◌++◌, length, map, Option, Some, None, refl, sym, ap, ap₂, ◌∙◌, arith, append_assoc, append-nil, option_map, encode_utf8_all, get_or, le-leb, nat_lt, string_bytes, string_len}
+use Rattle.std.proofs.Common.{◌≡◌, ℕ, suc, ◌+◌, ◌-◌, ◌<◌, ◌≤◌, ⊥, ⊎_elim, Bool, true, false, List, [], ◌∷◌, ◌++◌, length, map, Option, Some, None, refl, sym, ap, ap₂, ◌∙◌, arith, append_assoc, append-nil, option_map, encode_utf8_all, get_or, le-leb, nat_lt, string_bytes, string_len}
 use Rattle.std.specs.Prelude.{Result, Ok, Err, flat_map, slice_range}
 use Rattle.std.specs.Result.{result_ok}
-use Rattle.std.specs.Str.{IsUtf8, bytes_eq, chars}
+use Rattle.std.specs.List.{replace_range}
+use Rattle.std.specs.Str.{IsCharBoundary, IsUtf8, bytes_eq, chars}
 use Rattle.std.proofs.lemmas.Bool.{le-ltb, lt-ltb}
 use Rattle.std.proofs.lemmas.Slice.Eq.{bytes_eq-Decides}
 use Rattle.std.proofs.lemmas.Str.{IsUtf8-string_bytes, encodes-chars}
@@ -13,13 +14,17 @@ use Rattle.lsp_text.specs.declared.position.Range.{Range}
 use Rattle.lsp_text.proofs.Positions.PositionLemmas.{denoted_whole}
 use Rattle.lsp_text.proofs.Positions.ResolveLemmas.{chars_part}
 use Rattle.lsp_edit.specs.declared.change.Change.{Change}
-use Rattle.lsp_edit.specs.Batch.{Edit, Fault, meaning}
+use Rattle.lsp_edit.specs.Items.{New, text_of}
+use Rattle.lsp_edit.specs.Batch.{Edit, Fault, InsideStart, InsideStop, Reversed, meaning}
 use Rattle.lsp_edit.specs.Edited.{edit_of}
-use Rattle.lsp_edit.specs.Faults.{ends_of, places_at}
-use Rattle.lsp_edit.specs.Indexed.{text_within}
+use Rattle.lsp_edit.specs.Faults.{ends_of, fault_at, places_at}
+use Rattle.lsp_edit.specs.Indexed.{alone, text_fault_of, text_within}
 use Rattle.lsp_edit.specs.declared.fault.EditFault.{EditFault}
 use Rattle.lsp_edit.specs.declared.indexed.TextFault.{TextFault}
+use Rattle.lsp_edit.specs.declared.indexed.TextFault.TheVariants.{NoMemory}
 use Rattle.lsp_edit.proofs.Composing.AppliedLemmas.{ends_told}
+use Rattle.lsp_edit.proofs.Deltas.InPlaceLemmas.{range_fault, range_too_long, range_within, replaced_len}
+use Rattle.lsp_edit.proofs.Parts.CutLemmas.{text_of-new}
 use Rattle.lsp_message.specs.Seen.{edit_view}
 use Rattle.lsp_server.specs.Step.{edit_from_data}
 use Rattle.lsp_replay.specs.declared.notes.Note.{Note}
@@ -108,14 +113,78 @@ module _ (units : ℕ → ℕ) (text : List ℕ) (change : Change) where
       (omega (arith, long, long_text change)) in
       rw e refl
 
-  pub text_left : (left : List ℕ) → string_len change.text ≤ 1073741824
-      → text_within 1073741824 text (meaning units (chars text) (edit_of change ∷ [])) ≡ Ok left
-      → left_by units text (edit_of change) ≡ Some left
-  text_left left fits is =
+  left_of : string_len change.text ≤ 1073741824 → left_by units text (edit_of change)
+      ≡ result_ok (text_within 1073741824 text (meaning units (chars text) (edit_of change ∷ [])))
+  left_of fits =
       let e : nat_lt 1073741824 (length (encode_utf8_all (chars (string_bytes change.text)))) ≡ false =
       le-ltb 1073741824 (length (encode_utf8_all (chars (string_bytes change.text))))
       (omega (arith, fits, long_text change)) in
-      rw e (ap (λ (r : Result (List ℕ) TextFault). result_ok r) is)
+      rw e refl
+
+  -- a whole text is what is left
+  pub all_left : (new : List ℕ) → string_len change.text ≤ 1073741824 → change.range ≡ None
+      → new ≡ string_bytes change.text → left_by units text (edit_of change) ≡ Some new
+  all_left new fits whole is =
+      let same : encode_utf8_all (text_of (chars text) (map New (chars (string_bytes change.text))))
+      ≡ string_bytes change.text =
+      ap encode_utf8_all (text_of-new (chars text) (chars (string_bytes change.text)))
+      ∙ encodes-chars (string_bytes change.text) (IsUtf8-string_bytes change.text) in
+      let short : nat_lt 1073741824 (length (string_bytes change.text)) ≡ false =
+      le-ltb 1073741824 (length (string_bytes change.text)) (omega (arith, fits, change.text.bytes.ok.0)) in
+      left_of fits ∙ rw (whole, same, short) (ap (λ (t : List ℕ). Some t) (sym is))
+
+  -- what a range leaves
+  pub range_left : (range : Range) (left : Option (List ℕ)) → string_len change.text ≤ 1073741824
+      → change.range ≡ Some range
+      → result_ok (text_within 1073741824 text (meaning units (chars text) (alone range (string_bytes change.text))))
+      ≡ left → left_by units text (edit_of change) ≡ left
+  range_left range left fits ranged is = left_of fits ∙ rw ranged is
+
+-- ---- a range and its text
+
+module _ (units : ℕ → ℕ) (text : List ℕ) (utf8 : IsUtf8 text) (range : Range) (new : List ℕ) (new_utf8 : IsUtf8 new) where
+  no_memory : (number : ℕ) (why : Fault) → text_fault_of (fault_at number why) ≡ NoMemory → ⊥
+  no_memory number InsideStart is = absurd (cc)
+  no_memory number InsideStop is = absurd (cc)
+  no_memory number Reversed is = absurd (cc)
+
+  pub no_range_left : replaced_by units (chars text) (Some range) ≡ None
+      → result_ok (text_within 1073741824 text (meaning units (chars text) (alone range new))) ≡ None
+  no_range_left none = by (ends_of units (chars text) range) refl
+    where
+      by : (ends : Result (ℕ × ℕ) Fault) → ends_of units (chars text) range ≡ ends
+          → result_ok (text_within 1073741824 text (meaning units (chars text) (alone range new))) ≡ None
+      by (Ok ends) e = absurd (let wrong : Some (slice_range (chars text) ends.0 ends.1) ≡ None = rw e at none in cc)
+      by (Err why) e =
+          ⊎_elim
+          (λ (m : text_fault_of (fault_at 0 why) ≡ NoMemory). absurd (no_memory 0 why m))
+          (λ (is : text_within 1073741824 text (meaning units (chars text) (alone range new))
+          ≡ Err (text_fault_of (fault_at 0 why))). ap (λ (r : Result (List ℕ) TextFault). result_ok r) is)
+          (range_fault units text utf8 range new new_utf8 1073741824 (fault_at 0 why)
+          (rw e refl))
+
+  module _ (start stop : ℕ) (places : Ok (start, stop)
+      ≡ places_at 0 (chars text) (ends_of units (chars text) range)) (order : start ≤ stop)
+      (at_start : IsCharBoundary text start) (at_stop : IsCharBoundary text stop) where
+    abbrev longer : ℕ
+    longer = length text - (stop - start) + length new
+
+    len : length (replace_range text start stop new) ≡ longer
+    len = omega (arith, replaced_len text utf8 start stop new new_utf8 order at_start at_stop, order, at_stop.0)
+
+    pub range_put : longer ≤ 1073741824
+        → result_ok (text_within 1073741824 text (meaning units (chars text) (alone range new)))
+        ≡ Some (replace_range text start stop new)
+    range_put fits = ap (λ (r : Result (List ℕ) TextFault). result_ok r)
+        (range_within units text utf8 range new new_utf8 start stop places 1073741824 (omega (arith, len, fits)))
+
+    pub range_long : 1073741824 < longer
+        → result_ok (text_within 1073741824 text (meaning units (chars text) (alone range new))) ≡ None
+    range_long above = ap (λ (r : Result (List ℕ) TextFault). result_ok r)
+        (range_too_long units text utf8 range new new_utf8 start stop places 1073741824 (omega (arith, len, above)))
+
+    pub range_len : longer ≤ 1073741824 → length (replace_range text start stop new) ≤ 1073741824
+    range_len fits = omega (arith, len, fits)
 
 -- A change, by what the reader returns of it.
 pub edits_read : (changes : List Change) → map edit_from_data (map edit_view changes) ≡ map edit_of changes

@@ -19,7 +19,7 @@ use std::alloc::Global;
 ///
 /// Errors and memory are those of [`check`](crate::check), with the URIs of 64 documents more. A
 /// body that is refused or a change is read once more. The notes of a change of a range cost what
-/// the change costs, those of several changes a copy of the text.
+/// the change costs, those of several changes also a step for each block of the text.
 pub fn explain<R: Source, W: Sink>(
     alloc: Global,
     reader: &mut R,

@@ -1,10 +1,13 @@
 //! What is suspicious of the changes of a message, each on the text that the one before it leaves.
 
 ghost use Rattle.std.specs.Prelude.{◌≡◌, ◌≤◌, ◌++◌, IfNone, IfOk, IfSome, OnOk, None, Ok, Some, if◌then◌else◌, length, map, option_map, string_bytes};
+ghost use Rattle.std.specs.Result.{result_ok};
 ghost use Rattle.std.specs.Str.{IsCharBoundary, bytes_eq, chars};
 ghost use Rattle.lsp_text.specs.Units.{units_in};
+ghost use Rattle.lsp_edit.specs.Batch.{meaning};
 ghost use Rattle.lsp_edit.specs.Edited.{edit_of};
 ghost use Rattle.lsp_edit.specs.Faults.{ends_of, places_at};
+ghost use Rattle.lsp_edit.specs.Indexed.{alone, text_within};
 ghost use Rattle.lsp_replay.specs.Notes.{batch_notes, change_notes, end_notes, is_same, left_by, length_at, length_notes};
 ghost use Rattle.lsp_replay.specs.Notes.{notes_from, range_notes, replaced_by, same_notes, taken_as, whole_notes};
 ghost use Rattle.lsp_replay.specs.inside.Noting.{terms_view};
@@ -12,10 +15,9 @@ ghost use Rattle.lsp_replay.specs.inside.Noting.{terms_view};
 use crate::notes::Note;
 use crate::notes::units::units_of;
 use lsp_buffer::TextBuffer;
-use lsp_edit::{Change, IndexedText, MAX_NEW_TEXT, MAX_OLD_TEXT, Side, TextFault};
+use lsp_edit::{Change, MAX_NEW_TEXT, MAX_OLD_TEXT, Side};
 use lsp_text::{Encoding, Position, Range};
 use std::alloc::{AllocError, Global};
-use std::slice;
 
 /// What the notes of changes go by beside the text.
 #[derive(Clone, Copy)]
@@ -32,14 +34,12 @@ impl Terms<'_> {
     fn length(&self, index: usize) -> Option<u64>
         ensures { result ≡ length_at (terms_view self.now).lengths index }
     {
-        match self.lengths.get(index) {
-            Some(length) => *length,
-            None => None,
-        }
+        self.lengths.get(index).copied().flatten()
     }
 }
 
-/// Notes what is suspicious of a batch on a text. Several changes cost a copy of the text.
+/// Notes what is suspicious of a batch on a text. Several changes are applied to a copy, which
+/// shares its blocks with the text.
 pub fn push_batch_notes(
     alloc: Global,
     notes: &mut Vec<Note>,
@@ -73,10 +73,10 @@ fn push_several(
     ensures { OnOk result (notes.new.items ≡ notes.old.items
         ++ notes_from (terms_view terms.now) 0 text.now (map edit_of changes.now)) }
 {
-    let mut left = IndexedText::new(alloc, text.to_string(alloc)?)?;
+    let mut left = text.clone_in(alloc)?;
     for (index, change) in changes.iter().enumerate() {
-        push_change_notes(alloc, notes, left.text(), terms, index, change)?;
-        if !leave(&mut left, terms.encoding, change)? {
+        push_change_notes(alloc, notes, &left, terms, index, change)?;
+        if !leave(alloc, &mut left, terms.encoding, change)? {
             return Ok(());
         }
     }
@@ -84,7 +84,12 @@ fn push_several(
 }
 
 /// Applies a change to a text. Returns false, and changes nothing, where nothing is left by it.
-fn leave(text: &mut IndexedText, encoding: Encoding, change: &Change) -> Result<bool, AllocError>
+fn leave(
+    alloc: Global,
+    text: &mut TextBuffer,
+    encoding: Encoding,
+    change: &Change,
+) -> Result<bool, AllocError>
     requires { length text.old ≤ 1073741824 }
     ensures left { IfOk result (λ is_left. left_by (units_in encoding) text.old (edit_of change.now)
         ≡ (if is_left then Some text.new else None)) }
@@ -93,11 +98,38 @@ fn leave(text: &mut IndexedText, encoding: Encoding, change: &Change) -> Result<
     if change.text.len() > MAX_NEW_TEXT {
         return Ok(false);
     }
-    match text.change(encoding, slice::from_ref(change), MAX_OLD_TEXT) {
-        Ok(()) => Ok(true),
-        Err(TextFault::NoMemory) => Err(AllocError),
-        Err(_) => Ok(false),
+    match change.range {
+        None => {
+            *text = TextBuffer::new(alloc, String::from_str(alloc, &change.text)?)?;
+            Ok(true)
+        }
+        Some(range) => leave_range(text, encoding, range, &change.text),
     }
+}
+
+/// Replaces a range of a text. Returns false, and changes nothing, where nothing is left by that.
+fn leave_range(
+    text: &mut TextBuffer,
+    encoding: Encoding,
+    range: Range,
+    new: &str,
+) -> Result<bool, AllocError>
+    requires size { length text.old ≤ 1073741824 }
+    requires fits { length new.now ≤ 1073741824 }
+    ensures left { IfOk result (λ is_left. result_ok (text_within 1073741824 text.old
+        (meaning (units_in encoding) (chars text.old) (alone range new.now)))
+        ≡ (if is_left then Some text.new else None)) }
+    ensures size { OnOk result (length text.new ≤ 1073741824) }
+{
+    let len = text.len();
+    let Some((start, stop)) = ends(text, encoding, range) else {
+        return Ok(false);
+    };
+    if len - (stop - start) + new.len() > MAX_OLD_TEXT {
+        return Ok(false);
+    }
+    text.replace_range(start, stop, new)?;
+    Ok(true)
 }
 
 /// Notes what is suspicious of a change on a text.

@@ -88,7 +88,7 @@ static OVER_1: [Case; 8] = [
         reads: &[],
         order: b"RWWWR",
     },
-    // The run is written once the input has ended.
+    // The series is written once the input has ended.
     Case {
         command: Command::Squash,
         input: Bytes::Frames(&[INITIALIZE, OPEN, WHOLE, TYPED]),

@@ -3,12 +3,12 @@
 use super::*;
 use lsp_replay::{Duplex, serve_on};
 
-/// What was written before the run and not passed on, how the calls end, and whether a read came
-/// too early.
-static ROWS: [(&[u8], Calls<'static>, bool); 5] = [
-    (b"", SMOOTH, false),
-    (b"", SINGLE, false),
-    (b"a", SMOOTH, true),
+/// What was written before the run and not passed on, how the calls end, how the run ends, and
+/// whether a read came too early.
+static ROWS: [(&[u8], Calls<'static>, End, bool); 5] = [
+    (b"", SMOOTH, Ended(0, 7, 0), false),
+    (b"", SINGLE, Ended(0, 7, 0), false),
+    (b"a", SMOOTH, Ended(0, 7, 0), true),
     (
         b"",
         Calls {
@@ -16,6 +16,7 @@ static ROWS: [(&[u8], Calls<'static>, bool); 5] = [
             writes: &[Call::Take(5), Call::Interrupt],
             ..SMOOTH
         },
+        Ended(0, 7, 0),
         false,
     ),
     // The first reply is written, and its flush fails.
@@ -26,20 +27,21 @@ static ROWS: [(&[u8], Calls<'static>, bool); 5] = [
             writes: &[Call::Take(152), Call::Fail],
             ..SMOOTH
         },
+        Fault(EngineFault::Write),
         false,
     ),
 ];
 
-/// Returns whether both ends report this after `serve_on`.
-fn leaves(alloc: Global, row: &(&[u8], Calls, bool)) -> Result<bool, Fail> {
-    let (before, calls, read_early) = row;
+/// Returns whether `serve_on` returns this, and both ends report this after it.
+fn leaves(alloc: Global, row: &(&[u8], Calls, End, bool)) -> Result<bool, Fail> {
+    let (before, calls, end, read_early) = row;
     let input = log(alloc, SESSION)?;
     let mut reader = Told::new(StopReader::new(&input, calls.reads, calls.other_reads));
     let mut writer = Told::new(StopWriter::new(alloc, calls.writes, calls.other_writes));
     let _taken = writer.write(before);
     let mut ends = Duplex::new(&mut reader, &mut writer);
-    let _answer = serve_on(alloc, &mut ends, config(settings()?), calls.turns);
-    Ok(ends.read_early() == *read_early)
+    let answer = serve_on(alloc, &mut ends, config(settings()?), calls.turns);
+    Ok(answer == end.answer() && ends.read_early() == *read_early)
 }
 
 #[test]

@@ -222,7 +222,7 @@ error says what, and for 5 where: `lspsync: truncated at 505` is byte 505 of the
 `lspsync COMMAND --help` has the options of a command and an example to paste. The logs to try are in
 examples/, or in /usr/share/doc/laspidru/examples.
 
-lspsync 0.1.0, proved with rattle-kit-13b";
+lspsync 0.1.0, proved with rattle-kit-13f";
 
 const MAX_BODY: &str = "Greatest length of a message, in bytes, from 4096 to 1073741824";
 
