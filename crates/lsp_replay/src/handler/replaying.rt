@@ -77,20 +77,38 @@ impl Handler for Replay {
     }
 }
 
-/// Appends a document's line. Its text is joined first.
+/// Appends a document's line. A text that has been changed is joined first.
 pub(super) fn push_document_line(
     buffer: &mut Vec<u8>,
     document: &Document<'_>,
 ) -> Result<(), AllocError>
     ensures { OnOk result (buffer.new.items ≡ buffer.old.items ++ document_line document.now) }
 {
-    let text = document.text().to_string(*buffer.allocator())?;
+    let text = document.text();
+    match text.as_str() {
+        Some(text) => push_line(buffer, document, text),
+        None => {
+            let joined = text.to_string(*buffer.allocator())?;
+            push_line(buffer, document, &joined)
+        }
+    }
+}
+
+/// Appends the line of a document that has this text.
+fn push_line(
+    buffer: &mut Vec<u8>,
+    document: &Document<'_>,
+    text: &str,
+) -> Result<(), AllocError>
+    requires { text.now ≡ document.now.text }
+    ensures { OnOk result (buffer.new.items ≡ buffer.old.items ++ document_line document.now) }
+{
     push_document(
         buffer,
         document.uri(),
         document.language(),
         document.version(),
-        &text,
+        text,
     )?;
     buffer.extend_from_slice(b"\n")?;
     Ok(())

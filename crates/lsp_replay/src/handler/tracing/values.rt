@@ -88,9 +88,12 @@ pub(crate) fn push_text(
     let Some(document) = document else {
         return Ok(());
     };
-    let text = document.text().to_string(alloc)?;
     buffer.extend_from_slice(b",\"text\":")?;
-    push_json_string(alloc, buffer, &text)
+    let text = document.text();
+    match text.as_str() {
+        Some(text) => push_json_string(alloc, buffer, text),
+        None => push_json_string(alloc, buffer, &text.to_string(alloc)?),
+    }
 }
 
 /// Writes a body, if it is asked for.

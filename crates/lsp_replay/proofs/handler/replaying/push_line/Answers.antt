@@ -3,7 +3,7 @@ use Rattle.std.proofs.lemmas.Int.{to_z-of_z}
 use Rattle.std.specs.Prelude.{codes}
 use Rattle.lsp_message.specs.Outgoing.{document_text}
 use Rattle.lsp_replay.specs.Commands.{document_line}
-use Rattle.lsp_replay.proofs.handler.replaying.push_document_line.Goals as goal
+use Rattle.lsp_replay.proofs.handler.replaying.push_line.Goals as goal
 
 pub returns : goal.returns
 unfolding document_line
@@ -17,9 +17,7 @@ returns c =
     rw (
       sym c.version.ensures,
       sym c.language.ensures,
-      sym c.text.ensures.text,
-      sym c.in_ok-text.ensures,
-      sym c.deref.ensures,
+      sym c.requires,
       sym c.uri.ensures,
     ) pushed in
     c.in_ok-extend_from_slice.ensures.items ∙ ap (λ bytes. bytes ++ codes "\n") written
