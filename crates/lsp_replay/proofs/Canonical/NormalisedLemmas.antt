@@ -17,7 +17,8 @@ use Rattle.lsp_replay.specs.RunOutput.{RunOutput, written_first}
 use Rattle.lsp_replay.specs.Session.{Session, Verdict, answered, recorded, bad, Judged, judge, opened}
 use Rattle.lsp_replay.specs.Commands.{View, RecordOutput, writes, ends, continue_with, unless_bad, normalising, replaying, canonical_output, canonical_of_record, written, front_of, line_if, log_config, canonical_log}
 use Rattle.lsp_replay.specs.inside.Commands.{run_output_in}
-use Rattle.lsp_replay.specs.laws.Written.{CanonicalLogLaw, all_of}
+use Rattle.lsp_replay.specs.Engine.{all_of}
+use Rattle.lsp_replay.specs.laws.Written.{CanonicalLogLaw}
 use Rattle.lsp_replay.proofs.Records.StateLemmas.{IsHeldState}
 use Rattle.lsp_replay.proofs.Converted.LineLemmas.{is_version_one}
 use Rattle.lsp_replay.proofs.Records.JudgeLemmas.{judged_held, judged_again}

@@ -12,11 +12,11 @@ use Rattle.lsp_stream.specs.Ports.{Ports}
 use Rattle.lsp_log.specs.Log.{Record}
 use Rattle.lsp_replay.specs.RunOutput.{RunOutput}
 use Rattle.lsp_replay.specs.Session.{Session, Verdict, answered, recorded, bad, judge, opened}
-use Rattle.lsp_replay.specs.Engine.{PortState}
+use Rattle.lsp_replay.specs.Engine.{PortState, all_of}
 use Rattle.lsp_replay.specs.inside.Engine.{Ran, AtEnd, Stopped}
 use Rattle.lsp_replay.specs.Commands.{RecordOutput, writes, ends, continue_with, unless_bad, normalising, written, canonical_of_record, front_of, canonical_output, converting, line_before, reply_record, as_log, as_converted, log_config, canonical_log, converted}
 use Rattle.lsp_replay.specs.inside.Commands.{run_output_in}
-use Rattle.lsp_replay.specs.laws.Written.{IsCanonicalLog, IsConverted, IsSquashed, Wrote, all_of}
+use Rattle.lsp_replay.specs.laws.Written.{IsCanonicalLog, IsConverted, IsSquashed, Wrote}
 use Rattle.lsp_replay.specs.Squashed.{squashed}
 use Rattle.lsp_replay.specs.Run.{IsEngineRun}
 use Rattle.lsp_replay.specs.inside.Run.{squash_engine}

@@ -19,7 +19,8 @@ use Rattle.lsp_stream.specs.declared.fault.EngineFault.{EngineFault}
 use Rattle.lsp_replay.specs.RunOutput.{RunOutput}
 use Rattle.lsp_replay.specs.Commands.{change_in, front_of, continue_with, line_if, as_log, canonical_if, log_config, replaying, report}
 use Rattle.lsp_replay.specs.inside.Commands.{run_output_in}
-use Rattle.lsp_replay.specs.laws.Written.{SquashedLaw, LeavesAlike, all_of}
+use Rattle.lsp_replay.specs.Engine.{all_of}
+use Rattle.lsp_replay.specs.laws.Written.{SquashedLaw, LeavesAlike}
 use Rattle.lsp_replay.specs.Session.{Session, answered, bad, judge, opened}
 use Rattle.lsp_replay.specs.Squashed.{squashed}
 use Rattle.lsp_replay.specs.inside.Squashed.{OpenSeries, Step, end_bytes, other_step, squash_step, squashed_in, squashed_steps}

@@ -11,10 +11,10 @@ use Rattle.lsp_replay.specs.declared.commands.Settings.{Settings}
 use Rattle.lsp_replay.specs.declared.outcome.Outcome.{Outcome}
 use Rattle.lsp_replay.specs.Documents.{Kept, KeepsDocuments, WroteDocuments, documents, documents_engine, kept, nothing_selected, output_of_kept}
 use Rattle.lsp_replay.specs.laws.Documents.{DocumentsLaw, DocumentsStopAlike}
-use Rattle.lsp_replay.specs.Engine.{PortState}
+use Rattle.lsp_replay.specs.Engine.{PortState, all_of}
 use Rattle.lsp_replay.specs.inside.Engine.{AtEnd, Ran, Stopped}
 use Rattle.lsp_replay.specs.Commands.{as_log, canonical_log, log_config, report}
-use Rattle.lsp_replay.specs.laws.Written.{IsCanonicalLog, IsSquashed, LeavesAlike, all_of}
+use Rattle.lsp_replay.specs.laws.Written.{IsCanonicalLog, IsSquashed, LeavesAlike}
 use Rattle.lsp_stream.specs.Ports.{Ports}
 use Rattle.lsp_replay.specs.Run.{IsEngineRun}
 use Rattle.lsp_replay.specs.RunOutput.{RunOutput}
