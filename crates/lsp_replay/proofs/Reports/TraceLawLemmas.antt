@@ -80,12 +80,18 @@ module _ (details : Details) (known : Known) (s : Session) (r : Record) (m : Inc
 
   line_of_trace : trace_line details known s r j m ≡ traced_line line_of
   line_of_trace =
-      ap (λ (t : Option (List ℕ)). first_members j.session.records r.head m ++ last_members (verdict_word j.verdict)
-      (reason_json j.session.server.config.limits m j.verdict)
-      (option_map decimal (last_for known.mentions uri j.verdict))
-      (notes_json (notes_of s known.ranged r.body j.verdict))
-      (version_json document) (within s.server.config.limits.max_body (canonical_of_record s r.body j.verdict)) t
-      (body_json (details.bodies && is_json m) r.body)) (text_member (details.texts && is_changed j.verdict) document)
+      ap (λ (t : Option (List ℕ)). first_members j.session.records r.head m ++ (codes ",\"word\":\""
+      ++ verdict_word j.verdict ++ codes "\"" ++ last_members (
+      (codes ",\"reason\":", reason_json j.session.server.config.limits m j.verdict)
+      ∷ (codes ",\"last\":", option_map decimal (last_for known.mentions uri j.verdict))
+      ∷ (codes ",\"notes\":", notes_json (notes_of s known.ranged r.body j.verdict))
+      ∷ (codes ",\"version\":", version_json document)
+      ∷ (
+        codes ",\"canonical\":",
+        within s.server.config.limits.max_body (canonical_of_record s r.body j.verdict),
+      )
+      ∷ (codes ",\"text\":", t) ∷ (codes ",\"body\":", body_json (details.bodies && is_json m) r.body) ∷ [])))
+      (text_member (details.texts && is_changed j.verdict) document)
       ∙ line_parts (codes "{\"number\":") (decimal j.session.records) (codes ",\"offset\":") (decimal r.head.place)
       (codes ",\"from\":\"") (side_word r.head.side) (codes "\"")
       (member (codes ",\"method\":") (option_map json_string (method_of m)))
