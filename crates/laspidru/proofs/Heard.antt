@@ -18,7 +18,7 @@ use Rattle.laspidru.specs.Framers.{HasNoBody, IsBodyOf, IsFedTo}
 use Rattle.laspidru.specs.Servers.{answer_out, ended, live_asked, reply_out, server_of, step_at}
 use Rattle.laspidru.specs.Sessions.{SessionData}
 use Rattle.laspidru.specs.Streams.{StreamData}
-use Rattle.laspidru.specs.Taking.{IsHeard, IsServed, handled, listening_asked}
+use Rattle.laspidru.specs.Taking.{IsHeard, IsServed, listening_asked, stream_handled}
 
 -- The same with the code `OK`.
 fed_well : (old new : StreamData) (piece : List ℕ) (code : ℕ) (taken : Taken) → code ≡ OK
@@ -67,7 +67,7 @@ pub one_served : (old new : SessionData) (stream : StreamData) (piece body reply
     (before after : Answer) (after_it : server.ServerData) (given : AnswerData Sent)
     → IsFedTo old.stream piece code stream taken → code ≡ OK → IsBodyOf stream.framing body
     → given ≡ as_sent (step_at old body).answer → after_it ≡ (step_at old body).state → reply ≡ reply_out given
-    → new ≡ record { server = after_it; reply = reply; stream = handled stream } → after ≡ answer_out given
+    → new ≡ record { server = after_it; reply = reply; stream = stream_handled stream } → after ≡ answer_out given
     → IsServed old piece OK new taken before after
 one_served old new stream piece body reply code taken before after after_it given fed is whole answered moved replied
     held written =
@@ -80,7 +80,7 @@ one_served old new stream piece body reply code taken before after after_it give
         server = ap (λ (s : SessionData). Some (Server s)) held ∙ (λ i. Some (Server (record {
           server = moved i;
           reply = (replied ∙ ap reply_out answered) i;
-          stream = handled stream;
+          stream = stream_handled stream;
         })));
         answer = written ∙ ap answer_out answered;
       };
@@ -155,7 +155,7 @@ unheard old new piece body code taken before after fed is whole rest same =
 pub one_heard : (old new : EditorData) (stream : StreamData) (piece body : List ℕ) (code : ℕ) (taken : Taken)
     (before after : Answer)
     → IsFedTo old.stream piece code stream taken → code ≡ OK → IsBodyOf stream.framing body
-    → IsTakenIn (handled stream) (delivery_of old.client (reading body)) OK (Some (Client new)) after
+    → IsTakenIn (stream_handled stream) (delivery_of old.client (reading body)) OK (Some (Client new)) after
     → IsHeard old piece OK new taken before after
 one_heard old new stream piece body code taken before after fed is whole delivered =
     inr (record {

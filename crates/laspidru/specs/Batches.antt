@@ -74,8 +74,8 @@ batch_asked number edits texts document = and_then (encoding_at number) (λ enco
     unless (refused_edit edits texts) (fitting encoding edits texts document))
 
 -- The text after a batch, if that isn't too long.
-abbrev pub left_by : Asked → Result (List ℕ) TextFault
-left_by asked =
+abbrev pub text_left_by : Asked → Result (List ℕ) TextFault
+text_left_by asked =
     let means = meaning (units_in asked.encoding) (chars asked.text) asked.edits in
     text_within MAX_OLD_TEXT asked.text means
 

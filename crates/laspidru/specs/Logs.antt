@@ -146,13 +146,13 @@ output_of (Output bytes) = Ok bytes.items
 output_of other = Err OTHER_KIND
 
 -- The output in a handle.
-abbrev pub output_in : Option Object → Result (List ℕ) ℕ
-output_in (Some object) = output_of object
-output_in None = Err EMPTY
+abbrev pub output_held : Option Object → Result (List ℕ) ℕ
+output_held (Some object) = output_of object
+output_held None = Err EMPTY
 
 -- The handle has the output, and C gets the code and the ending; or only the code.
 abbrev pub IsKept : Result (ℕ × Ending) ℕ → List ℕ → ℕ → Option Object → Ending → Type 0
-IsKept (Ok ended) output code stored out = (code ≡ ended.0) × (output_in stored ≡ Ok output)
+IsKept (Ok ended) output code stored out = (code ≡ ended.0) × (output_held stored ≡ Ok output)
     × (out ≡ ended.1)
 IsKept (Err fault) output code stored out = code ≡ fault
 

@@ -14,7 +14,7 @@ use Rattle.laspidru.specs.Batches.{edits_of, refused_edit}
 use Rattle.laspidru.specs.Clients.{IsStoreReport}
 use Rattle.laspidru.specs.Codes.{and_then, unless}
 use Rattle.laspidru.specs.Edits.{EditsAsked, edits_asked}
-use Rattle.laspidru.specs.Logs.{output_in}
+use Rattle.laspidru.specs.Logs.{output_held}
 use Rattle.laspidru.specs.Objects.{encoding_at}
 use Rattle.laspidru.specs.Servers.{entry_in, store_code, text_of, uri_asked}
 use Rattle.laspidru.specs.Sessions.{SessionData}
@@ -63,7 +63,7 @@ message_of asked =
 -- The handle has the frame, or its refusal is reported.
 abbrev pub IsMessageLeft : Result (List ℕ) Refusal → ℕ → Option Object → ℕ → Fault → Type 0
 IsMessageLeft (Ok frame) code stored len out =
-    (code ≡ OK) × (output_in stored ≡ Ok frame) × (len ≡ length frame)
+    (code ≡ OK) × (output_held stored ≡ Ok frame) × (len ≡ length frame)
 IsMessageLeft (Err refusal) code stored len out =
     (code ≡ store_code (documents.fault_of refusal))
     × IsStoreReport (documents.fault_of refusal) out

@@ -2,7 +2,7 @@
 
 ghost use Rattle.std.specs.Prelude.{◌≡◌, ◌≢◌, None, length};
 ghost use Rattle.laspidru.specs.Batches.{IsBatchOf, IsCanonicalIf, IsEdit, IsEditOf};
-ghost use Rattle.laspidru.specs.Batches.{IsReport, batch_asked, change_asked, fitting, left_by};
+ghost use Rattle.laspidru.specs.Batches.{IsReport, batch_asked, change_asked, fitting, text_left_by};
 ghost use Rattle.laspidru.specs.Batches.{refused_edit};
 ghost use Rattle.laspidru.specs.Codes.{IsAnswer, IsAnswerOrNoMemory, unless};
 ghost use Rattle.laspidru.specs.Objects.{batch_in, batch_of, document_in, document_of, in_use};
@@ -36,7 +36,7 @@ fn object_canonical(
     requires empty { batch.old.value ≡ None }
     ensures answer { IsAnswerOrNoMemory
         (fitting encoding edits.now texts.now (document_of object.now)) result
-        (λ asked. IsCanonicalIf (left_by asked) asked result batch.new.value fault.new) }
+        (λ asked. IsCanonicalIf (text_left_by asked) asked result batch.new.value fault.new) }
     ensures unchanged { result ≢ OK → batch.new.value ≡ None }
     ensures fault { result ≢ INSIDE_CHARACTER → result ≢ REVERSED_RANGE → fault.new ≡ fault.old }
 {
@@ -75,7 +75,7 @@ pub extern "C" fn laspidru_document_canonical(
 ) -> u32
     ensures answer { let text = unless (in_use batch.old.value) (document_in handle.old.value) in
         IsAnswerOrNoMemory (batch_asked encoding edits.now texts.now text) result
-        (λ asked. IsCanonicalIf (left_by asked) asked result batch.new.value fault.new) }
+        (λ asked. IsCanonicalIf (text_left_by asked) asked result batch.new.value fault.new) }
     ensures handle { handle.new.value ≡ handle.old.value }
     ensures unchanged { result ≢ OK → batch.new.value ≡ batch.old.value }
     ensures fault { result ≢ INSIDE_CHARACTER → result ≢ REVERSED_RANGE → fault.new ≡ fault.old }

@@ -2,7 +2,7 @@
 
 ghost use Rattle.std.specs.Prelude.{◌≡◌, ◌≢◌, ◌≤◌, None, Ok, Some, IfErr, IfOk, length};
 ghost use Rattle.laspidru.specs.declared.object.Object.TheVariants.{Document};
-ghost use Rattle.laspidru.specs.Batches.{IsLeft, batch_asked, fitting, left_by, refused_edit};
+ghost use Rattle.laspidru.specs.Batches.{IsLeft, batch_asked, fitting, text_left_by, refused_edit};
 ghost use Rattle.laspidru.specs.Codes.{IsAnswer, IsAnswerOrNoMemory, IsRefusedOr, both, unless};
 ghost use Rattle.laspidru.specs.Objects.{IsCopy, IsLine, IsPositionAt, IsSize, document_in};
 ghost use Rattle.laspidru.specs.Objects.{document_of, encoding_at, in_use, line_asked};
@@ -89,7 +89,7 @@ fn change_object(
     requires { refused_edit edits.now texts.now ≡ None }
     ensures answer { IsAnswerOrNoMemory
         (fitting encoding edits.now texts.now (document_of object.old)) result
-        (λ asked. IsLeft (left_by asked) result (Some object.new) fault.new) }
+        (λ asked. IsLeft (text_left_by asked) result (Some object.new) fault.new) }
     ensures unchanged { result ≢ OK → object.new ≡ object.old }
     ensures fault { result ≢ INSIDE_CHARACTER → result ≢ REVERSED_RANGE → fault.new ≡ fault.old }
 {
@@ -128,7 +128,7 @@ pub extern "C" fn laspidru_document_change(
 ) -> u32
     ensures answer { IsAnswerOrNoMemory
         (batch_asked encoding edits.now texts.now (document_in handle.old.value)) result
-        (λ asked. IsLeft (left_by asked) result handle.new.value fault.new) }
+        (λ asked. IsLeft (text_left_by asked) result handle.new.value fault.new) }
     ensures unchanged { result ≢ OK → handle.new.value ≡ handle.old.value }
     ensures fault { result ≢ INSIDE_CHARACTER → result ≢ REVERSED_RANGE → fault.new ≡ fault.old }
 {

@@ -4,7 +4,7 @@ ghost use Rattle.std.specs.Prelude.{◌≡◌, ◌≢◌, ◌⊎◌, None};
 ghost use Rattle.laspidru.specs.declared.command.Command.TheVariants.{Check, Convert, Normalise};
 ghost use Rattle.laspidru.specs.declared.command.Command.TheVariants.{Replay};
 ghost use Rattle.laspidru.specs.Codes.{IsAnswer, IsAnswerOrNoMemory, unless};
-ghost use Rattle.laspidru.specs.Logs.{IsEnded, IsRun, IsUnlessEnded, log_asked, output_in};
+ghost use Rattle.laspidru.specs.Logs.{IsEnded, IsRun, IsUnlessEnded, log_asked, output_held};
 ghost use Rattle.laspidru.specs.Logs.{output_of};
 ghost use Rattle.laspidru.specs.Objects.{IsCopy, in_use, rest_asked};
 
@@ -172,7 +172,7 @@ pub extern "C" fn laspidru_output_copy(
     out: &mut [u8],
     copied: &mut usize,
 ) -> u32
-    ensures answer { IsAnswer (rest_asked start (output_in handle.old.value)) result
+    ensures answer { IsAnswer (rest_asked start (output_held handle.old.value)) result
         (IsCopy out.old out.new copied.new) }
     ensures handle { handle.new.value ≡ handle.old.value }
     ensures unchanged { result ≢ OK → (out.new ≡ out.old) × (copied.new ≡ copied.old) }

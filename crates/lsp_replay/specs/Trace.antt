@@ -106,9 +106,9 @@ abbrev pub version_json : Option DocumentItem → Option (List ℕ)
 version_json document = option_map (λ entry. signed_decimal entry.version) document
 
 -- Were the documents changed?
-abbrev pub is_changed : Verdict → Bool
-is_changed (answered changed) = true
-is_changed verdict = false
+abbrev pub has_changed : Verdict → Bool
+has_changed (answered changed) = true
+has_changed verdict = false
 
 -- The text of an open document, if it is to be written.
 abbrev pub text_json : Bool → Option DocumentItem → Option (List ℕ)
@@ -160,7 +160,7 @@ trace_line details known s r j m =
     )
     ∷ (
       codes ",\"text\":",
-      text_json (details.texts && is_changed j.verdict)
+      text_json (details.texts && has_changed j.verdict)
           (document_after j.session.server.table (uri_of r.head.side m)),
     )
     ∷ (codes ",\"body\":", body_json (details.bodies && is_json m) r.body)

@@ -17,7 +17,7 @@ use Rattle.lsp_replay.specs.RunOutput.{RunOutput}
 use Rattle.lsp_replay.specs.Session.{Session, judge}
 use Rattle.lsp_replay.specs.Engine.{PortState, WroteRecords}
 use Rattle.lsp_replay.specs.inside.Engine.{IsLoopRun, Ran, Reached, Stopped, Broken, RanOut, RanOutAtEnd, AtEnd, BreaksAtEnd, IsRunFault, RefusesInput}
-use Rattle.lsp_replay.specs.Commands.{View, continue_with, output_in}
+use Rattle.lsp_replay.specs.Commands.{View, followed_by, output_in}
 use Rattle.lsp_replay.specs.Run.{IsEngineRun}
 use Rattle.lsp_replay.specs.AllRecords.{RanOver}
 use Rattle.lsp_replay.specs.inside.AllRecords.{EndedBy, Passed, PassedEnd, CutAtEnd, ShortAtEnd, IsFaultReported, IsRunReport}
@@ -30,9 +30,9 @@ use Rattle.lsp_replay.proofs.Runs.ReportedLemmas.{by_cause}
 -- ---- outputs: a record that ended a run ends it whatever follows, and more records give more output
 
 pub settled_on : (out : List ℕ) (end : Option (Result Outcome EngineFault)) (c longer : RunOutput)
-    (answer : Result Outcome EngineFault) → (continue_with out end c).stop ≡ Some answer
-    → (c.stop ≡ Some answer → longer ≡ c) → continue_with out end longer ≡ continue_with out end c
-settled_on out None c longer answer e same = ap (continue_with out None) (same e)
+    (answer : Result Outcome EngineFault) → (followed_by out end c).stop ≡ Some answer
+    → (c.stop ≡ Some answer → longer ≡ c) → followed_by out end longer ≡ followed_by out end c
+settled_on out None c longer answer e same = ap (followed_by out None) (same e)
 settled_on out (Some other) c longer answer e same = refl
 
 -- the same of any course
@@ -55,7 +55,7 @@ unfoldable pub Grows : RunOutput → RunOutput → Type 0
 Grows c longer = (rest : List ℕ) × (longer.out ≡ c.out ++ rest)
 
 pub grows_on : (out : List ℕ) (end : Option (Result Outcome EngineFault)) (c longer : RunOutput) → Grows c longer
-    → Grows (continue_with out end c) (continue_with out end longer)
+    → Grows (followed_by out end c) (followed_by out end longer)
 unfolding Grows
 grows_on out None c longer more = (more.0, ap (λ z. out ++ z) more.1 ∙ sym (append_assoc out c.out more.0))
 grows_on out (Some answer) c longer more = ([], sym (append-nil out))

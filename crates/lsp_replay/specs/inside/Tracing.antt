@@ -11,7 +11,7 @@ use Rattle.lsp_replay.specs.declared.session.writing.Appended.TheVariants.{Body}
 use Rattle.lsp_replay.specs.Commands.{canonical_of_record, verdict_word}
 use Rattle.lsp_replay.specs.Lines.{Known}
 use Rattle.lsp_replay.specs.Session.{Session}
-use Rattle.lsp_replay.specs.Trace.{body_json, document_after, is_changed, is_json, last_members, notes_json, reason_json, text_json, version_json}
+use Rattle.lsp_replay.specs.Trace.{body_json, document_after, has_changed, is_json, last_members, notes_json, reason_json, text_json, version_json}
 use Rattle.lsp_replay.specs.inside.Known.{IsNoted}
 use Rattle.lsp_replay.specs.inside.Session.{judge_at}
 use Rattle.lsp_replay.specs.inside.Verdicts.{IsAppended, verdict_view}
@@ -47,7 +47,7 @@ members_by details t m traced canonical body =
     ∷ (codes ",\"canonical\":", canonical_json traced.canonical canonical)
     ∷ (
       codes ",\"text\":",
-      text_json (details.texts && is_changed (verdict_view traced.noted.verdict))
+      text_json (details.texts && has_changed (verdict_view traced.noted.verdict))
           (document_after t.server.table (option_map string_bytes traced.noted.uri)),
     )
     ∷ (codes ",\"body\":", body_json (details.bodies && traced.is_json) body)
