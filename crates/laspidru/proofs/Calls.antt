@@ -1,10 +1,11 @@
 -- What a call of a client sends, and the code of its refusal, by the tables of its steps.
 use Rattle.std.proofs.Common.{◌≡◌, ℕ, List, length, true, Option, Some, Result, Ok, Err, inl, inr, ap, subst, ◌∙◌}
+use Rattle.std.specs.Prelude.{if◌then◌else◌}
 use Rattle.lsp_message.specs.Message.{Reading}
 use Rattle.lsp_client.specs.declared.fault.ClientFault.{ClientFault}
 use Rattle.lsp_client.specs.declared.fault.ClientFault.TheVariants as client
 use Rattle.lsp_client.specs.Seen.{IsSent, IsFaultOf, IsDelivered}
-use Rattle.lsp_client.specs.Step.{ClientData, Sending, Delivery, DeliveredData, delivery_of, delivery_result, if_listening, is_listening}
+use Rattle.lsp_client.specs.Step.{ClientData, Sending, Delivery, DeliveredData, delivery_of, delivery_result, is_listening}
 use Rattle.laspidru.specs.declared.answers.Answer.{Answer}
 use Rattle.laspidru.specs.declared.codes.TheConstants.{OK}
 use Rattle.laspidru.specs.declared.object.Object.{Object}
@@ -96,7 +97,8 @@ pub heard : (stream : StreamData) (s : ClientData) (body : Reading) (given : Del
     → IsTakenIn stream (delivery_of s body) code stored out
 heard stream s body given new code stored out listens is done held answered =
     let d : IsDelivered (Ok (delivery_of s body)) given new =
-    subst (λ b. IsDelivered (if_listening b s body) given new) listens is in
+    subst (λ b. IsDelivered (if b then Ok (delivery_of s body) else Err (client.WrongPhase s.phase)) given new) listens
+    is in
     record {
       done = done;
       client = held ∙ (λ i. Some (Client (record { client = d.1 i; frame = frame_out (d.0 i); stream = stream })));

@@ -19,9 +19,9 @@ use Rattle.lsp_store.specs.Table.{Command, entry_at, command_refusal, table_afte
 use Rattle.lsp_client.specs.declared.agreed.Agreed.{Agreed}
 use Rattle.lsp_client.specs.declared.phase.Phase.{Phase}
 use Rattle.lsp_client.specs.declared.phase.Phase.TheVariants.{Ready}
-use Rattle.lsp_client.specs.Step.{ClientData, Order, edits, orders, agreement, sent_body, order_refusal, command_result, call_result}
+use Rattle.lsp_client.specs.Step.{ClientData, Order, edits, orders, agreement, sent_body, command_result, call_result}
 use Rattle.lsp_client.specs.Seen.{IsSent, IsFaultOf, client_fault}
-use Rattle.lsp_client.specs.inside.Orders.{IsOrderFault}
+use Rattle.lsp_client.specs.inside.Orders.{IsOrderFault, order_refusal}
 use Rattle.lsp_client.proofs.OrderLemmas.{refused, refused_later, sent_if, canonical_sent}
 
 -- a client with these documents

@@ -13,7 +13,7 @@ use Rattle.lsp_message.specs.declared.agreement.SyncKind.{SyncKind}
 use Rattle.lsp_message.specs.declared.agreement.SyncKind.TheVariants.{Off, Full, Incremental}
 use Rattle.lsp_message.specs.declared.outgoing.ErrorCode.TheVariants.{MethodNotFound}
 use Rattle.lsp_message.specs.Agreement.{is_offered, announced_of}
-use Rattle.lsp_message.specs.Message.{IdData, whole, OutcomeData, given, failed, Reading, message, request, notification, response}
+use Rattle.lsp_message.specs.Message.{whole, given, failed, Reading, message, request, notification, response}
 use Rattle.lsp_message.specs.Outgoing.{OutgoingData, initialize, initialized, did_open, did_close, shutdown, exit, error_reply, body_of}
 use Rattle.lsp_store.specs.Table as documents
 use Rattle.lsp_message.specs.Params.{DocumentItem}
@@ -87,33 +87,23 @@ message_of kind table (documents.closes uri) = did_close (record { uri = uri })
 unfoldable pub sent_body : SyncKind → List DocumentItem → Command → List ℕ
 sent_body kind table command = body_of (message_of kind table command)
 
--- Why a command is refused: as the store refuses it, then because the body to send is too long.
-abbrev pub order_refusal : LimitsData → SyncKind → List DocumentItem → Command →
-    Option documents.Refusal
-order_refusal limits kind table command =
-    else_refused
-    (command_refusal limits table command)
-    (body_refusal limits (sent_body kind table command))
-
 -- What a call sends, unless there is a refusal.
 abbrev pub sending_unless : Option documents.Refusal → Sending → Result Sending ClientFault
 sending_unless (Some refusal) sending = Err (Store (fault_of refusal))
 sending_unless None sending = Ok sending
 
--- What a command sends and the client's new state, or why it is refused.
+-- What a command sends and the client's new state, or why it is refused: as the store refuses it,
+-- then because the body to send is too long.
 abbrev pub command_result : ClientData → SyncKind → Command → Result Sending ClientFault
 command_result s kind command =
     sending_unless
-    (order_refusal s.limits kind s.table command)
+    (else_refused
+    (command_refusal s.limits s.table command)
+    (body_refusal s.limits (sent_body kind s.table command)))
     (record {
       message = message_of kind s.table command;
       state = record s { table = table_after s.table command };
     })
-
--- What an order sends and the client's new state, or why it is refused.
-abbrev pub order_result : ClientData → Order → Result Sending ClientFault
-order_result s order =
-    command_result s (agreement s).kind (command_of (agreement s).encoding order)
 
 -- A message of the session's lifecycle is sent, and the client enters this phase.
 abbrev pub lifecycle_result : ClientData → Phase → OutgoingData → Result Sending ClientFault
@@ -124,7 +114,8 @@ lifecycle_result s phase m = Ok (record { message = m; state = record s { phase 
 -- The result of a call, by phase.
 abbrev pub call_result_in : Phase → ClientData → Call → Result Sending ClientFault
 call_result_in New s starts = lifecycle_result s Asked (initialize s.offers)
-call_result_in Ready s (orders order) = order_result s order
+call_result_in Ready s (orders order) =
+    command_result s (agreement s).kind (command_of (agreement s).encoding order)
 call_result_in Ready s shuts_down = lifecycle_result s Closing shutdown
 call_result_in Closed s exits = lifecycle_result s Done exit
 call_result_in phase s call = Err (WrongPhase phase)
@@ -152,75 +143,64 @@ pub record Delivery : Type 0 where
 abbrev pub same_state : ClientData → DeliveredData OutgoingData → Delivery
 same_state s delivered = record { delivered = delivered; state = s }
 
+-- A delivery that leads to another phase.
+abbrev pub to_phase : ClientData → Phase → DeliveredData OutgoingData → Delivery
+to_phase s phase delivered = record { delivered = delivered; state = record s { phase = phase } }
+
 -- The session can't continue; the documents stay.
 abbrev pub failure : ClientData → Reason → Delivery
-failure s reason =
-    record { delivered = bad_server reason; state = record s { phase = Failed reason } }
+failure s reason = to_phase s (Failed reason) (bad_server reason)
 
 -- The session begins (Initialized Notification).
 abbrev pub begin_in : ClientData → Encoding → SyncKind → Delivery
 begin_in s encoding kind =
-    record {
-      delivered = sends initialized;
-      state = record s {
-        phase = Ready;
-        agreed = Some (record { encoding = encoding; kind = kind });
-      };
-    }
-
--- The session begins, if the announced encoding is one that was offered (PositionEncodingKind).
-abbrev pub begin_if_offered : ClientData → SyncKind → Option Encoding → Delivery
-begin_if_offered s kind None = failure s BadEncoding
-begin_if_offered s kind (Some encoding) =
-    if is_offered s.offers encoding then begin_in s encoding kind else failure s BadEncoding
+    let begun = record s { agreed = Some (record { encoding = encoding; kind = kind }) } in
+    to_phase begun Ready (sends initialized)
 
 -- The session begins, if the server wants to be notified of open documents and of changes
--- (TextDocumentSyncOptions).
-abbrev pub begin_if_synced : ClientData → Bool → SyncKind → Option Encoding → Delivery
-begin_if_synced s false kind encoding = failure s NoSync
-begin_if_synced s true Off encoding = failure s NoSync
-begin_if_synced s true kind encoding = begin_if_offered s kind encoding
+-- (TextDocumentSyncOptions), and announces an encoding that was offered (PositionEncodingKind).
+abbrev pub begin_if_agreed : ClientData → Bool → SyncKind → Option Encoding → Delivery
+begin_if_agreed s false kind encoding = failure s NoSync
+begin_if_agreed s true Off encoding = failure s NoSync
+begin_if_agreed s true kind None = failure s BadEncoding
+begin_if_agreed s true kind (Some encoding) =
+    if is_offered s.offers encoding then begin_in s encoding kind else failure s BadEncoding
 
--- The session begins, if the result of `initialize` can be read.
+-- The session begins, if the result of `initialize` can be read, and both ends agree.
 abbrev pub begin_as_announced : ClientData → Option Announced → Delivery
 begin_as_announced s None = failure s NotAnAnswer
 begin_as_announced s (Some announced) =
-    begin_if_synced s announced.open_close announced.kind announced.encoding
+    begin_if_agreed s announced.open_close announced.kind announced.encoding
 
--- The response to `initialize`.
-abbrev pub initialize_delivery : ClientData → OutcomeData → Delivery
-initialize_delivery s failed = failure s ErrorAnswer
-initialize_delivery s (given result) = begin_as_announced s (announced_of result)
-
--- The response to `shutdown`.
-abbrev pub shutdown_delivery : ClientData → OutcomeData → Delivery
-shutdown_delivery s failed = failure s ErrorAnswer
-shutdown_delivery s (given result) =
-    record { delivered = noted; state = record s { phase = Closed } }
-
--- Whether an id is this number.
-abbrev pub is_id : ℕ → Option IdData → Bool
-is_id n (Some (whole (pos k))) = k == n
-is_id n id = false
-
--- A response, by phase. `initialize` has the id 1 and `shutdown` the id 2; the client sends no
--- other request.
-abbrev pub response_delivery : Phase → ClientData → Option IdData → OutcomeData → Delivery
-response_delivery Asked s id outcome =
-    if is_id 1 id then initialize_delivery s outcome else failure s NotAnAnswer
-response_delivery Closing s id outcome =
-    if is_id 2 id then shutdown_delivery s outcome else failure s NotAnAnswer
-response_delivery phase s id outcome = failure s NotAnAnswer
+-- Whether a body is the response that is awaited. `initialize` has the id 1 and `shutdown` the
+-- id 2; the client sends no other request.
+abbrev pub is_awaited : Phase → Reading → Bool
+is_awaited Asked (message (response (Some (whole (pos id))) outcome)) = id == 1
+is_awaited Closing (message (response (Some (whole (pos id))) outcome)) = id == 2
+is_awaited phase body = false
 
 -- ---- the table of deliveries: the first row that fits decides
 
+-- What a client that listens does with a body, by its phase and by whether the body is the response
+-- that is awaited.
+abbrev pub delivery_in : Phase → Bool → ClientData → Reading → Delivery
+-- Notifications are ignored, and no request is known.
+delivery_in phase awaited s (message (notification method params)) = same_state s ignored
+delivery_in phase awaited s (message (request id method params)) =
+    same_state s (sends (error_reply (Some id) MethodNotFound))
+-- The response to `initialize` (Initialize Request).
+delivery_in Asked true s (message (response id failed)) = failure s ErrorAnswer
+delivery_in Asked true s (message (response id (given result))) =
+    begin_as_announced s (announced_of result)
+-- The response to `shutdown` (Shutdown Request).
+delivery_in Closing true s (message (response id failed)) = failure s ErrorAnswer
+delivery_in Closing true s (message (response id (given result))) = to_phase s Closed noted
+-- Nobody waits for another response; and no other body is a message.
+delivery_in phase awaited s body = failure s NotAnAnswer
+
 -- What a client that listens does with a body.
 abbrev pub delivery_of : ClientData → Reading → Delivery
-delivery_of s (message (notification method params)) = same_state s ignored
-delivery_of s (message (request id method params)) =
-    same_state s (sends (error_reply (Some id) MethodNotFound))
-delivery_of s (message (response id outcome)) = response_delivery s.phase s id outcome
-delivery_of s body = failure s NotAnAnswer
+delivery_of s body = delivery_in s.phase (is_awaited s.phase body) s body
 
 -- A client listens from `initialize` to `exit`.
 abbrev pub is_listening : Phase → Bool
@@ -229,11 +209,8 @@ is_listening Done = false
 is_listening (Failed reason) = false
 is_listening phase = true
 
--- What a client does with a body, if it listens.
-abbrev pub if_listening : Bool → ClientData → Reading → Result Delivery ClientFault
-if_listening true s body = Ok (delivery_of s body)
-if_listening false s body = Err (WrongPhase s.phase)
-
--- The result of a body that the server sent and the client's new state, or why the body is refused.
+-- What a client does with a body that the server sent, and its new state, or why the body is
+-- refused.
 abbrev pub delivery_result : ClientData → Reading → Result Delivery ClientFault
-delivery_result s body = if_listening (is_listening s.phase) s body
+delivery_result s body =
+    if is_listening s.phase then Ok (delivery_of s body) else Err (WrongPhase s.phase)

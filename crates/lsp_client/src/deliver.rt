@@ -1,10 +1,11 @@
 //! What the client does with a body that the server sent.
 
-ghost use Rattle.std.specs.Prelude.{◌≡◌, IfErr, IfOk, Ok, OnErr, Some, option_map};
-ghost use Rattle.lsp_message.specs.Message.{reading, message as read_as};
+ghost use Rattle.std.specs.Prelude.{◌≡◌, true, IfErr, IfOk, None, Ok, OnErr, Some, option_map};
+ghost use Rattle.lsp_message.specs.Message.{OutcomeData, reading, message as read_as, response};
 ghost use Rattle.lsp_message.specs.Seen.{message_view, id_view, outcome_view};
+ghost use Rattle.lsp_client.specs.declared.phase.Phase.TheVariants.{Asked, Closing};
 ghost use Rattle.lsp_client.specs.Step as spec;
-ghost use Rattle.lsp_client.specs.Step.{delivery_result, delivery_of, response_delivery, initialize_delivery, shutdown_delivery, begin_as_announced, failure};
+ghost use Rattle.lsp_client.specs.Step.{delivery_result, delivery_of, delivery_in, begin_as_announced, failure};
 ghost use Rattle.lsp_client.specs.Seen.{IsDelivered, IsFaultOf, delivered_view};
 
 use crate::agreed::Agreed;
@@ -24,7 +25,6 @@ impl Client {
     ///
     /// | Phase | Body | Delivered |
     /// |---|---|---|
-    /// | any of the four | no JSON, or no message | `BadServer(NotAnAnswer)` |
     /// | any of the four | a notification | `Ignored` |
     /// | any of the four | a request | `Send` of the error -32601 with its id |
     /// | Asked | the response 1 with an error | `BadServer(ErrorAnswer)` |
@@ -34,7 +34,7 @@ impl Client {
     /// | Asked | the same, else | `Send` of `initialized`; now Ready |
     /// | Closing | the response 2 with an error | `BadServer(ErrorAnswer)` |
     /// | Closing | the response 2 with a result | `Noted`; now Closed |
-    /// | any of the four | another response | `BadServer(NotAnAnswer)` |
+    /// | any of the four | any other response, no message, no JSON | `BadServer(NotAnAnswer)` |
     ///
     /// After `BadServer` the phase is Failed, and the documents are as before. Nothing else
     /// changes. After [`ClientFault::NoMemory`] the client is unchanged, and a caller can deliver
@@ -92,26 +92,15 @@ impl Client {
         outcome: Outcome,
     ) -> Result<Delivered, AllocError>
         ensures ok { IfOk result (λ delivered.
-            IsDelivered (Ok (response_delivery self.old.phase self.old
-            (option_map id_view id) (outcome_view outcome)))
+            IsDelivered (Ok (delivery_of self.old
+            (read_as (response (option_map id_view id) (outcome_view outcome)))))
             (delivered_view delivered) self.new) }
         ensures unchanged { OnErr result (self.new ≡ self.old) }
     {
+        let awaited = is_awaited(self.phase, id.as_ref());
         match self.phase {
-            Phase::Asked => {
-                if is_id(1, id.as_ref()) {
-                    self.begin(outcome)
-                } else {
-                    Ok(self.fail(Reason::NotAnAnswer))
-                }
-            }
-            Phase::Closing => {
-                if is_id(2, id.as_ref()) {
-                    Ok(self.close_down(outcome))
-                } else {
-                    Ok(self.fail(Reason::NotAnAnswer))
-                }
-            }
+            Phase::Asked if awaited => self.begin(outcome),
+            Phase::Closing if awaited => Ok(self.close_down(outcome)),
             _ => Ok(self.fail(Reason::NotAnAnswer)),
         }
     }
@@ -119,7 +108,8 @@ impl Client {
     /// Handles the response to `initialize`.
     fn begin(&mut self, outcome: Outcome) -> Result<Delivered, AllocError>
         ensures ok { IfOk result (λ delivered.
-            IsDelivered (Ok (initialize_delivery self.old (outcome_view outcome)))
+            IsDelivered (Ok (delivery_in Asked true self.old
+            (read_as (response None (outcome_view outcome)))))
             (delivered_view delivered) self.new) }
         ensures unchanged { OnErr result (self.new ≡ self.old) }
     {
@@ -158,7 +148,8 @@ impl Client {
 
     /// Handles the response to `shutdown`.
     fn close_down(&mut self, outcome: Outcome) -> Delivered
-        ensures { IsDelivered (Ok (shutdown_delivery self.old (outcome_view outcome)))
+        ensures { IsDelivered (Ok (delivery_in Closing true self.old
+            (read_as (response None (outcome_view outcome)))))
             (delivered_view result) self.new }
     {
         match outcome {
@@ -179,12 +170,14 @@ impl Client {
     }
 }
 
-/// Returns whether an id is this number.
-fn is_id(number: u32, id: Option<&Id>) -> bool
-    ensures { result ≡ spec.is_id number (option_map (λ id. id_view id.now) id.entry) }
+/// Returns whether the client awaits the response with this id.
+fn is_awaited(phase: Phase, id: Option<&Id>) -> bool
+    ensures { (outcome : OutcomeData) → result ≡ spec.is_awaited phase
+        (read_as (response (option_map (λ id. id_view id.now) id.entry) outcome)) }
 {
-    match id {
-        Some(Id::Whole(other)) => *other == i64::from(number),
+    match (phase, id) {
+        (Phase::Asked, Some(Id::Whole(id))) => *id == 1,
+        (Phase::Closing, Some(Id::Whole(id))) => *id == 2,
         _ => false,
     }
 }

@@ -6,9 +6,9 @@ ghost use Rattle.lsp_message.specs.declared.outgoing.Outgoing.TheVariants.{DidOp
 ghost use Rattle.lsp_message.specs.declared.params.OpenParams.{OpenParams};
 ghost use Rattle.lsp_store.specs.declared.fault.StoreFault.TheVariants as store_faults;
 ghost use Rattle.lsp_client.specs.declared.fault.ClientFault.TheVariants.{NoMemory};
-ghost use Rattle.lsp_client.specs.Step.{agreement, call_result, order_result, orders, closes};
+ghost use Rattle.lsp_client.specs.Step.{agreement, call_result, orders, closes};
 ghost use Rattle.lsp_client.specs.Seen.{IsAdmitted, IsSent, IsFaultOf, MayAllocate, open_order, edit_order};
-ghost use Rattle.lsp_client.specs.inside.Orders.{IsOrderFault};
+ghost use Rattle.lsp_client.specs.inside.Orders.{IsOrderFault, order_result};
 
 use crate::agreed::Agreed;
 use crate::client::Client;

@@ -1,10 +1,28 @@
--- Why an order is refused, as the store reports it.
-use Rattle.std.specs.Prelude.{ℕ, List, None}
+-- What an order sends, and why it is refused, as the store reports it.
+use Rattle.std.specs.Prelude.{ℕ, List, Option, None, Result}
 use Rattle.std.specs.Str.{chars}
+use Rattle.lsp_frame.specs.Limits.{LimitsData}
 use Rattle.lsp_edit.specs.Batch.{Edit}
+use Rattle.lsp_message.specs.declared.agreement.SyncKind.{SyncKind}
+use Rattle.lsp_message.specs.Params.{DocumentItem}
 use Rattle.lsp_store.specs.declared.fault.StoreFault.{StoreFault}
 use Rattle.lsp_store.specs.Faults.{IsRefusal}
-use Rattle.lsp_client.specs.Step.{ClientData, Order, agreement, command_of, order_refusal}
+use Rattle.lsp_store.specs.Message.{body_refusal, else_refused}
+use Rattle.lsp_store.specs.Table.{Command, Refusal, command_refusal}
+use Rattle.lsp_client.specs.declared.fault.ClientFault.{ClientFault}
+use Rattle.lsp_client.specs.Step.{ClientData, Order, Sending, agreement, command_of, command_result, sent_body}
+
+-- Why a command is refused.
+abbrev pub order_refusal : LimitsData → SyncKind → List DocumentItem → Command → Option Refusal
+order_refusal limits kind table command =
+    else_refused
+    (command_refusal limits table command)
+    (body_refusal limits (sent_body kind table command))
+
+-- What an order sends and the client's new state, or why it is refused.
+abbrev pub order_result : ClientData → Order → Result Sending ClientFault
+order_result s order =
+    command_result s (agreement s).kind (command_of (agreement s).encoding order)
 
 -- This is the fault of a refused order, or the client is out of memory.
 abbrev pub IsOrderFault : ClientData → Order → StoreFault → Type 0

@@ -1,5 +1,6 @@
 -- A delivery to the server, over plain values.
-use Rattle.std.proofs.Common.{ℕ, ◌≡◌, ◌≢◌, ◌<◌, Bool, true, false, List, [], ◌∷◌, ◌++◌, length, map, get_or, Vec, refl, sym, ap, ◌∙◌, subst, arith}
+use Rattle.std.proofs.Common.{ℕ, ◌≡◌, ◌≢◌, ◌<◌, Bool, true, false, List, [], ◌∷◌, ◌++◌, length, map, get_or, Vec, Ok, Err, refl, sym, ap, ◌∙◌, subst, arith}
+use Rattle.std.specs.Prelude.{if◌then◌else◌}
 use Rattle.std.specs.declared.alloc.Global.{Global}
 use Rattle.lsp_frame.specs.Limits.{LimitsData}
 use Rattle.lsp_frame.specs.Frame.{IsFrameOf}
@@ -9,6 +10,7 @@ use Rattle.lsp_server.specs.declared.phase.Phase.TheVariants.{Ended}
 use Rattle.lsp_server.specs.Answer as answer
 use Rattle.lsp_server.specs.Answer.{AnswerData, Sent, as_sent}
 use Rattle.lsp_server.specs.Step as server
+use Rattle.lsp_client.specs.declared.fault.ClientFault.TheVariants.{WrongPhase}
 use Rattle.lsp_client.specs.Step as client
 use Rattle.lsp_client.specs.Seen as seen
 use Rattle.lsp_pair.specs.declared.event.Did.{Did}
@@ -88,7 +90,8 @@ bytes_same client.ignored = refl
 bytes_same (client.bad_server reason) = refl
 
 listening : (b : Bool) → b ≡ true → (s : client.ClientData) (body : List ℕ) (given : client.DeliveredData (List ℕ))
-    (new : client.ClientData) → seen.IsDelivered (client.if_listening b s (reading body)) given new
+    (new : client.ClientData) → seen.IsDelivered
+    (if b then Ok (client.delivery_of s (reading body)) else Err (WrongPhase s.phase)) given new
     → (given ≡ seen.as_sent (client.delivery_of s (reading body)).delivered)
     × (new ≡ (client.delivery_of s (reading body)).state)
 listening true e s body given new h = h

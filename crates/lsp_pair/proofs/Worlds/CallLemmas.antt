@@ -14,7 +14,8 @@ use Rattle.lsp_client.specs.declared.agreed.Agreed.{Agreed}
 use Rattle.lsp_client.specs.declared.phase.Phase.{Phase}
 use Rattle.lsp_client.specs.declared.phase.Phase.TheVariants.{Asked, Closing, Done}
 use Rattle.lsp_client.specs.Step as client
-use Rattle.lsp_client.specs.Step.{Sending, Order, Call, opens, edits, closes, starts, shuts_down, exits, orders, call_result, call_result_in, command_result, command_of, message_of, order_refusal, sending_unless, agreement}
+use Rattle.lsp_client.specs.Step.{Sending, Order, Call, opens, edits, closes, starts, shuts_down, exits, orders, call_result, call_result_in, command_result, command_of, message_of, sending_unless, agreement}
+use Rattle.lsp_client.specs.inside.Orders.{order_refusal, order_result}
 use Rattle.lsp_pair.specs.Events.{Setting, calls}
 use Rattle.lsp_pair.specs.Pair.{message_frame}
 use Rattle.lsp_pair.specs.laws.World.{ClientMessage, commands, lifecycle, World, commands_in, client_of, turn_of_call, message_of_call, IsProperOrder, IsProperEvent}
@@ -101,7 +102,7 @@ module _ (setting : Setting) (w : World) where
 
   orders_sound : (busy : List ClientMessage) → AtShape setting w (working busy) → (order : Order) → IsProperOrder order
       → CallResult setting w (message_of_call (client_of setting w) (orders order))
-      (client.order_result (client_of setting w) order)
+      (order_result (client_of setting w) order)
   orders_sound busy at order proper =
       let agreed : agreed_of setting ≡ agreement (client_of setting w) =
       sym (ap (λ (a : Option Agreed). unwrap_or a (record { encoding = Utf16; kind = Incremental })) at.agreed_is) in

@@ -1,13 +1,12 @@
 -- What the client makes of each message that waits for it.
-use Rattle.std.proofs.Common.{ℕ, ◌≡◌, ◌≤◌, true, false, List, [], ◌∷◌, ◌++◌, length, map, Some, refl, ap, ◌∙◌, arith, pos}
+use Rattle.std.proofs.Common.{ℕ, ◌≡◌, ◌≤◌, true, false, List, [], ◌∷◌, ◌++◌, length, map, Some, refl, ap, ◌∙◌, arith}
 use Rattle.std.specs.Prelude.{⊤}
 use Rattle.std.proofs.lemmas.List.{drop-append-le}
 use Rattle.lsp_text.specs.declared.encoding.Encoding.{Encoding}
 use Rattle.lsp_text.specs.declared.encoding.Encoding.TheVariants.{Utf8, Utf16, Utf32}
 use Rattle.lsp_message.specs.declared.agreement.Offers.{Offers}
 use Rattle.lsp_message.specs.Agreement.{is_offered, announced_of}
-use Rattle.serde_json.specs.Data.{null}
-use Rattle.lsp_message.specs.Message.{whole, reading, message, OutcomeData, given, failed}
+use Rattle.lsp_message.specs.Message.{reading, message}
 use Rattle.lsp_message.specs.Outgoing as outgoing
 use Rattle.lsp_message.specs.Outgoing.{OutgoingData, body_of}
 use Rattle.lsp_message.specs.Written.{initialize_value}
@@ -22,7 +21,7 @@ use Rattle.lsp_server.proofs.LawLemmas.{offered_if}
 use Rattle.lsp_client.specs.declared.phase.Phase.{Phase}
 use Rattle.lsp_client.specs.declared.phase.Phase.TheVariants.{Closed}
 use Rattle.lsp_client.specs.Step as client
-use Rattle.lsp_client.specs.Step.{ClientData, Delivery, delivery_of, begin_if_synced, begin_as_announced, begin_in, response_delivery, is_listening}
+use Rattle.lsp_client.specs.Step.{ClientData, Delivery, delivery_of, delivery_in, is_awaited, begin_if_agreed, begin_as_announced, begin_in, is_listening}
 use Rattle.lsp_pair.specs.declared.event.Happened.TheVariants.{Client}
 use Rattle.lsp_pair.specs.Events.{Setting, heard_of, messages_in}
 use Rattle.lsp_pair.specs.Pair.{IsFitting, is_utf16}
@@ -79,12 +78,6 @@ return setting w shape next m rest delivery at e busy server encoding phase agre
       };
     }
 
--- how a result went
-abbrev outcome : OutgoingData → OutcomeData
-outcome (outgoing.initialize_result id encoding kind) = given (initialize_value encoding kind)
-outcome (outgoing.shutdown_result id) = given null
-outcome m = failed
-
 -- ---- what is announced
 
 pub offered_is : (choice : EncodingChoice) (offers : Offers) → is_utf16 choice ≡ true
@@ -95,7 +88,7 @@ offered_is (Fixed Utf32) offers e = absurd (let bad : false ≡ true = e in cc)
 offered_is (Negotiated prefer) offers e = offered_if prefer offers (is_offered offers prefer) refl
 
 agrees_on : (s : ClientData) (encoding : Encoding) (sync : ChangeForm) → is_offered s.offers encoding ≡ true
-    → begin_if_synced s true (announced_kind sync) (Some encoding) ≡ begin_in s encoding (announced_kind sync)
+    → begin_if_agreed s true (announced_kind sync) (Some encoding) ≡ begin_in s encoding (announced_kind sync)
 agrees_on s encoding Incremental e = rw e refl
 agrees_on s encoding Full e = rw e refl
 
@@ -119,7 +112,7 @@ module _ (setting : Setting) (sound : IsFitting setting) (w : World) where
       let m : OutgoingData = first_result (the_encoding setting) (the_kind setting) in
       let delivery_is : Delivery = begin_in s (the_encoding setting) (the_kind setting) in
       let answer : delivery_of s (message (sent m)) ≡ delivery_is =
-      ap (λ (p : Phase). response_delivery p s (Some (whole (pos 1))) (outcome m)) at.client_is
+      ap (λ (p : Phase). delivery_in p (is_awaited p (message (sent m))) s (message (sent m))) at.client_is
       ∙ begins_given s (the_encoding setting) setting.config.sync (offered_is setting.config.choice setting.offers
       sound.choice) in
       record {
@@ -142,7 +135,8 @@ module _ (setting : Setting) (sound : IsFitting setting) (w : World) where
       let s : ClientData = client_of setting w in
       let delivery_is : Delivery = record { delivered = client.noted; state = record s { phase = Closed } } in
       let answer : delivery_of s (message (sent last_result)) ≡ delivery_is =
-      ap (λ (p : Phase). response_delivery p s (Some (whole (pos 2))) (outcome last_result)) at.client_is in
+      ap (λ (p : Phase). delivery_in p (is_awaited p (message (sent last_result))) s (message (sent last_result)))
+      at.client_is in
       record {
         delivery_is = delivery_is;
         listening = ap is_listening at.client_is;

@@ -33,7 +33,8 @@ use Rattle.lsp_server.specs.Answer as answer
 use Rattle.lsp_server.specs.Incoming as incoming
 use Rattle.lsp_server.specs.Step.{ServerData, Step, edit_from_data, obeyed, obeys, step_on, step, step_in, session_encoding}
 use Rattle.lsp_server.proofs.EditLemmas.{edits_back}
-use Rattle.lsp_client.specs.Step.{sent_batch, sent_body, order_refusal}
+use Rattle.lsp_client.specs.Step.{sent_batch, sent_body}
+use Rattle.lsp_client.specs.inside.Orders.{order_refusal}
 use Rattle.lsp_pair.specs.laws.World.{commands, incoming_of_message, IsProperEdits}
 
 -- ---- commands as the types hold them

@@ -1,10 +1,11 @@
 -- What holds of the world of every list of events.
 use Rattle.std.proofs.Common.{◌≡◌, Bool, true, false, List, [], ◌∷◌, ◌++◌, Option, Some, Result, Ok, Err, refl, sym, ap, ◌∙◌, subst, arith}
-use Rattle.std.specs.Prelude.{MatchOption}
+use Rattle.std.specs.Prelude.{if◌then◌else◌, MatchOption}
 use Rattle.lsp_message.specs.Message.{message}
 use Rattle.lsp_message.specs.Outgoing.{OutgoingData}
 use Rattle.lsp_message.specs.laws.Sent.{sent}
 use Rattle.lsp_client.specs.declared.fault.ClientFault.{ClientFault}
+use Rattle.lsp_client.specs.declared.fault.ClientFault.TheVariants.{WrongPhase}
 use Rattle.lsp_client.specs.Step as client
 use Rattle.lsp_client.specs.Step.{Call, call_result}
 use Rattle.lsp_pair.specs.declared.event.Happened.TheVariants.{Server, Client, Nothing}
@@ -62,7 +63,8 @@ module _ (setting : Setting) (sound : IsFitting setting) (w : World) (ok : World
       (r : Returns setting w m rest) → turn setting w to_client ≡ turn_of_delivery w r.delivery_is
   heard_turn m rest e r =
       ap (to_client_event setting w) (next_is w.back w.back_delivered m rest e).there
-      ∙ (ap (λ (b : Bool). turn_of_result w (client.if_listening b (client_of setting w) (message (sent m))))
+      ∙ (ap (λ (b : Bool). turn_of_result w
+      (if b then Ok (client.delivery_of (client_of setting w) (message (sent m))) else Err (WrongPhase w.client_phase)))
       r.listening
       ∙ ap (turn_of_delivery w) r.given)
 
