@@ -1,11 +1,11 @@
 //! What the programs `lspsync` and `lsp_simulate` have in common.
 //!
 //! - `output`: the text of help, the output's last flush, and how many calls may be made.
-//! - `status`: the exit statuses.
+//! - `status`: the exit statuses, and the exit code of one.
 #![tactic(auto)]
 
 mod output;
 mod status;
 
 pub use output::{MAX_TURNS, flush, print_help};
-pub use status::{BAD_INPUT, OUT_OF_MEMORY, STREAM_FAULT, USAGE};
+pub use status::{BAD_INPUT, OUT_OF_MEMORY, STREAM_FAULT, USAGE, exit_code};

@@ -18,7 +18,7 @@ use Rattle.lsp_simulate.specs.declared.run.RunFault.{RunFault}
 use Rattle.lsp_simulate.specs.declared.run.RunFault.TheVariants.{Read, Write, NoMemory, BadEvent}
 use Rattle.lsp_simulate.specs.Run.{run_fault}
 use Rattle.lsp_simulate.specs.Words.{happened_words}
-use Rattle.lsp_simulate.specs.Session.{AppendsLines, AreLines, AreSteps, HasFailed, IsRefused, RanSteps, Step, WroteSession, WroteSteps, document_line, document_lines, end_lines, next_number, pair_setting, step_line, step_lines, waiting_line}
+use Rattle.lsp_simulate.specs.Session.{AppendsLines, AreSteps, AreWholeLines, HasFailed, IsSettingRefused, PairStep, RanSteps, WroteSession, WroteSteps, document_line, document_lines, end_lines, next_line_number, pair_setting, step_line, step_lines, waiting_line}
 use Rattle.lsp_simulate.specs.inside.Session.{AreUnderWay, IsStepLine, IsUnderWay, WroteLines, last_number}
 
 -- ---- whole lines
@@ -30,30 +30,30 @@ ends_line : (xs ys : List ℕ) → EndsLine ys → EndsLine (xs ++ ys)
 ends_line xs ys end =
     (xs ++ end.0, ap (λ z. xs ++ z) end.1 ∙ sym (append_assoc xs end.0 (codes "\n")))
 
-lines-append : (xs ys : List ℕ) → AreLines xs → AreLines ys → AreLines (xs ++ ys)
+lines-append : (xs ys : List ℕ) → AreWholeLines xs → AreWholeLines ys → AreWholeLines (xs ++ ys)
 lines-append xs ys whole (inl none) =
-    subst AreLines (sym (append-nil xs) ∙ ap (λ z. xs ++ z) (sym none)) whole
+    subst AreWholeLines (sym (append-nil xs) ∙ ap (λ z. xs ++ z) (sym none)) whole
 lines-append xs ys whole (inr end) = inr (ends_line xs ys end)
 
-whole_step : (number : ℕ) (happened : Happened) → AreLines (step_line number happened)
+whole_step : (number : ℕ) (happened : Happened) → AreWholeLines (step_line number happened)
 whole_step number happened = inr ((decimal number ++ codes " ") ++ happened_words happened, refl)
 
-whole_steps : (number : ℕ) (steps : List Step) → AreLines (step_lines number steps)
+whole_steps : (number : ℕ) (steps : List PairStep) → AreWholeLines (step_lines number steps)
 whole_steps number [] = inl refl
 whole_steps number (s ∷ steps) =
-    lines-append (step_line (next_number number) s.happened) (step_lines (next_number number) steps)
-    (whole_step (next_number number) s.happened) (whole_steps (next_number number) steps)
+    lines-append (step_line (next_line_number number) s.happened) (step_lines (next_line_number number) steps)
+    (whole_step (next_line_number number) s.happened) (whole_steps (next_line_number number) steps)
 
-whole_document : (end : List ℕ) (item : DocumentItem) → AreLines (document_line end item)
+whole_document : (end : List ℕ) (item : DocumentItem) → AreWholeLines (document_line end item)
 whole_document end item = inr ((end ++ 32 ∷ []) ++ document_text item, refl)
 
-whole_documents : (end : List ℕ) (items : List DocumentItem) → AreLines (document_lines end items)
+whole_documents : (end : List ℕ) (items : List DocumentItem) → AreWholeLines (document_lines end items)
 whole_documents end [] = inl refl
 whole_documents end (item ∷ items) =
     lines-append (document_line end item) (document_lines end items) (whole_document end item)
     (whole_documents end items)
 
-whole_waiting : (to_server to_client : ℕ) → AreLines (waiting_line to_server to_client)
+whole_waiting : (to_server to_client : ℕ) → AreWholeLines (waiting_line to_server to_client)
 whole_waiting m n =
     inr (ends_line (codes "waiting ") (decimal m ++ (codes " " ++ (decimal n ++ codes "\n")))
     (ends_line (decimal m) (codes " " ++ (decimal n ++ codes "\n"))
@@ -82,7 +82,7 @@ front_before old new bytes rest some = (
 pub no_lines : (old : Option (List ℕ)) (lines : List ℕ) → AppendsLines old old lines
 no_lines old lines = ([], lines, refl, inl refl, Appends-nil old)
 
-lines_after : (old mid new : Option (List ℕ)) (before lines : List ℕ) → Appends old mid before → AreLines before
+lines_after : (old mid new : Option (List ℕ)) (before lines : List ℕ) → Appends old mid before → AreWholeLines before
     → AppendsLines mid new lines → AppendsLines old new (before ++ lines)
 lines_after old mid new before lines wrote whole some = (
   before ++ some.0,
@@ -105,7 +105,7 @@ lines_before old new lines rest some = (
 -- ---- lines between others
 
 wrote_after : (result : Result (Unit {0}) EngineFault) (old mid new : Option (List ℕ)) (before lines : List ℕ)
-    → Appends old mid before → AreLines before → WroteLines result lines mid new
+    → Appends old mid before → AreWholeLines before → WroteLines result lines mid new
     → WroteLines result (before ++ lines) old new
 wrote_after (Ok done) old mid new before lines wrote whole more = Appends-trans old mid new before lines wrote more
 wrote_after (Err fault) old mid new before lines wrote whole (inl more) =
@@ -170,34 +170,35 @@ write_fault fault given is (inr at) = is ∙ ap run_fault at
 
 -- ---- one step more
 
-steps_more : (old : PairData) (steps : List Step) (mid : PairData) (s : Step) (new : PairData) → AreSteps old steps mid
+steps_more : (old : PairData) (steps : List PairStep) (mid : PairData) (s : PairStep) (new : PairData)
+    → AreSteps old steps mid
     → IsStep mid s.event s.happened new → AreSteps old (steps ++ s ∷ []) new
 steps_more old [] mid s new are is =
     (new, subst (λ (p : PairData). IsStep p s.event s.happened new) are is, refl)
 steps_more old (t ∷ steps) mid s new are is = (are.0, are.1, steps_more are.0 steps mid s new are.2 is)
 
-last_more : (number : ℕ) (steps : List Step) (s : Step)
-    → last_number number (steps ++ s ∷ []) ≡ next_number (last_number number steps)
+last_more : (number : ℕ) (steps : List PairStep) (s : PairStep)
+    → last_number number (steps ++ s ∷ []) ≡ next_line_number (last_number number steps)
 last_more number [] s = refl
-last_more number (t ∷ steps) s = last_more (next_number number) steps s
+last_more number (t ∷ steps) s = last_more (next_line_number number) steps s
 
-lines_more : (number : ℕ) (steps : List Step) (s : Step) → step_lines number (steps ++ s ∷ [])
-    ≡ step_lines number steps ++ step_line (next_number (last_number number steps)) s.happened
-lines_more number [] s = append-nil (step_line (next_number number) s.happened)
+lines_more : (number : ℕ) (steps : List PairStep) (s : PairStep) → step_lines number (steps ++ s ∷ [])
+    ≡ step_lines number steps ++ step_line (next_line_number (last_number number steps)) s.happened
+lines_more number [] s = append-nil (step_line (next_line_number number) s.happened)
 lines_more number (t ∷ steps) s =
-    let next = next_number number in
+    let next = next_line_number number in
     ap (λ z. step_line next t.happened ++ z) (lines_more next steps s)
     ∙ sym (append_assoc (step_line next t.happened) (step_lines next steps)
-    (step_line (next_number (last_number next steps)) s.happened))
+    (step_line (next_line_number (last_number next steps)) s.happened))
 
-next_add : (n m : ℕ) → next_number (next_number n + m) ≡ next_number (n + suc m)
+next_add : (n m : ℕ) → next_line_number (next_line_number n + m) ≡ next_line_number (n + suc m)
 next_add n m = omega arith
 
 -- The number after the last one of some steps.
-next_last : (number : ℕ) (steps : List Step)
-    → next_number (last_number number steps) ≡ next_number (number + length steps)
-next_last number [] = let none : number ≡ number + 0 = omega arith in ap next_number none
-next_last number (s ∷ steps) = next_last (next_number number) steps ∙ next_add number (length steps)
+next_last : (number : ℕ) (steps : List PairStep)
+    → next_line_number (last_number number steps) ≡ next_line_number (number + length steps)
+next_last number [] = let none : number ≡ number + 0 = omega arith in ap next_line_number none
+next_last number (s ∷ steps) = next_last (next_line_number number) steps ∙ next_add number (length steps)
 
 -- ---- a session on its way
 
@@ -217,16 +218,16 @@ begun setting before left pair fits is all = record {
   };
 }
 
-abbrev made : (pair after : PairData) (number : ℕ) (line : List ℕ) → IsStepLine pair after number line → Step
+abbrev made : (pair after : PairData) (number : ℕ) (line : List ℕ) → IsStepLine pair after number line → PairStep
 made pair after number line step = record { event = step.event; happened = step.happened }
 
 module _ (setting : Setting) (before mid : WriterState) (left number next : ℕ) (pair : PairData)
-    (way : IsUnderWay setting before mid left number pair) (counted : next ≡ next_number number) where
+    (way : IsUnderWay setting before mid left number pair) (counted : next ≡ next_line_number number) where
   line_more : (after : PairData) (line : List ℕ) (step : IsStepLine pair after next line)
       → step_lines 0 way.steps ++ line ≡ step_lines 0 (way.steps ++ made pair after next line step ∷ [])
   line_more after line step =
-      let last : next ≡ next_number (last_number 0 way.steps) = counted ∙ ap next_number way.last in
-      let is : line ≡ step_line (next_number (last_number 0 way.steps)) step.happened =
+      let last : next ≡ next_line_number (last_number 0 way.steps) = counted ∙ ap next_line_number way.last in
+      let is : line ≡ step_line (next_line_number (last_number 0 way.steps)) step.happened =
       step.is ∙ ap (λ n. step_line n step.happened) last in
       ap (λ z. step_lines 0 way.steps ++ z) is ∙ sym (lines_more 0 way.steps (made pair after next line step))
 
@@ -243,7 +244,7 @@ module _ (setting : Setting) (before mid : WriterState) (left number next : ℕ)
     fits = way.fits;
     steps = way.steps ++ made pair after next line step ∷ [];
     are_steps = are_more after line step;
-    last = counted ∙ ap next_number way.last ∙ sym (last_more 0 way.steps (made pair after next line step));
+    last = counted ∙ ap next_line_number way.last ∙ sym (last_more 0 way.steps (made pair after next line step));
     written = subst (λ (z : List ℕ). Appends before.written new.written z) (line_more after line step)
         (Appends-trans before.written mid.written new.written (step_lines 0 way.steps) line way.written wrote);
     spent = spends_more before.calls mid.calls new.calls allowed_turns left right way.spent spent;
@@ -280,7 +281,7 @@ pub refused : {T : Type 0} (setting : Setting) (result : Result T PairFault) (fa
     → ((result ≡ Err NotUtf16) ↔ (is_utf16 setting.config.choice ≡ false))
     → ((result ≡ Err LimitsTooSmall)
     ↔ ((is_utf16 setting.config.choice ≡ true) × (are_within setting.limits setting.config.limits ≡ false)))
-    → IsRefused (pair_setting setting) fault
+    → IsSettingRefused (pair_setting setting) fault
 refused setting result NotUtf16 is encoding limits = encoding.0 is
 refused setting result LimitsTooSmall is encoding limits = limits.0 is
 
@@ -296,13 +297,13 @@ module _ (setting : Setting) (before now : WriterState) (left number : ℕ) (pai
       ran (Err NoMemory) now
       (step_lines 0 way.steps, end_lines pair, refl, whole_steps 0 way.steps, way.written)
 
-  bad_event : (next : ℕ) → next ≡ next_number number → RanSteps setting (Err (BadEvent next)) before now
+  bad_event : (next : ℕ) → next ≡ next_line_number number → RanSteps setting (Err (BadEvent next)) before now
   bad_event next counted =
       let all : 0 + length way.steps ≡ length way.steps = omega arith in
       ran (Err (BadEvent next)) now
-      (counted ∙ ap next_number way.last ∙ next_last 0 way.steps ∙ ap next_number all, way.written)
+      (counted ∙ ap next_line_number way.last ∙ next_last 0 way.steps ∙ ap next_line_number all, way.written)
 
-  pub stopped : (next : ℕ) (fault : RunFault) → next ≡ next_number number
+  pub stopped : (next : ℕ) (fault : RunFault) → next ≡ next_line_number number
       → (fault ≡ NoMemory) ⊎ (fault ≡ BadEvent next) → WroteSession setting (Err fault) before now
   stopped next fault counted (inl is) =
       subst (λ (f : RunFault). WroteSession setting (Err f) before now) (sym is) out_of_memory
@@ -356,7 +357,7 @@ pub one_document : (end : List ℕ) (all : List DocumentItem) (old mid new : Opt
     → left ≡ item ∷ after → line ≡ document_line end item → Appends mid new line → AreUnderWay end all old new after
 one_document end all old mid new left after item line way first is wrote = record {
   lines = way.lines ++ line;
-  whole = lines-append way.lines line way.whole (subst AreLines (sym is) (whole_document end item));
+  whole = lines-append way.lines line way.whole (subst AreWholeLines (sym is) (whole_document end item));
   written = Appends-trans old mid new way.lines line way.written wrote;
   rest = append_assoc way.lines line (document_lines end after)
       ∙ document_rest end all old mid left after item line way first is;

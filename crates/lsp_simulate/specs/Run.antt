@@ -15,12 +15,12 @@ use Rattle.lsp_simulate.specs.declared.run.RunFault.TheVariants.{Pair, Read, Wri
 use Rattle.lsp_simulate.specs.Session.{WroteSession}
 
 -- The exit status after a fault.
-abbrev pub status_of : RunFault → ℕ
-status_of (Pair fault) = 2
-status_of Read = 3
-status_of Write = 3
-status_of NoMemory = 4
-status_of (BadEvent line) = 5
+abbrev pub run_fault_status : RunFault → ℕ
+run_fault_status (Pair fault) = 2
+run_fault_status Read = 3
+run_fault_status Write = 3
+run_fault_status NoMemory = 4
+run_fault_status (BadEvent line) = 5
 
 -- The fault of a run whose output has this fault: out of memory, or a fault of writing.
 abbrev pub run_fault : EngineFault → RunFault
@@ -28,7 +28,7 @@ run_fault engine.NoMemory = NoMemory
 run_fault fault = Write
 
 -- What is known of the program's streams before and after a run.
-pub record Streams : Type 0 where
+pub record InputAndOutput : Type 0 where
   -- the bytes of the input that are left, where they are known
   pub left_before : Option (List ℕ)
   pub left : Option (List ℕ)
@@ -39,8 +39,8 @@ pub record Streams : Type 0 where
 -- The status after a session and the last flush: that of the first fault, or 0.
 abbrev pub session_status : Result (Unit {0}) RunFault → Result (Unit {0}) EngineFault → ℕ
 session_status (Ok _) (Ok _) = 0
-session_status (Ok _) (Err fault) = status_of (run_fault fault)
-session_status (Err fault) flushed = status_of fault
+session_status (Ok _) (Err fault) = run_fault_status (run_fault fault)
+session_status (Err fault) flushed = run_fault_status fault
 
 -- A session ran, and then its output was flushed, whatever came of it. So with status 0 all its
 -- lines were written and flushed.
@@ -57,11 +57,11 @@ pub record IsSession (setting : Setting) (before after : WriterState) (status : 
 -- The status of help, or of the fault that kept it from being written.
 abbrev pub help_status : Result ℕ EngineFault → ℕ
 help_status (Ok status) = status
-help_status (Err fault) = status_of (run_fault fault)
+help_status (Err fault) = run_fault_status (run_fault fault)
 
 -- What the program does with words that are no call. Out of memory has status 4, a mistake has
 -- status 2, and help is written.
-pub record IsExplained (k : ErrorKind) (s : Streams) (status : ℕ) : Type 0 where
+pub record IsWithoutSession (k : ErrorKind) (s : InputAndOutput) (status : ℕ) : Type 0 where
   -- nothing is read
   pub reader : s.left ≡ s.left_before
   pub memory : k ≡ kind.OutOfMemory → (s.after ≡ s.before) × (status ≡ 4)
@@ -74,12 +74,12 @@ pub record IsExplained (k : ErrorKind) (s : Streams) (status : ℕ) : Type 0 whe
 
 -- What the program does with what its words are read as. Where that is neither a setting nor a
 -- fault, it ends with status 2 alone.
-abbrev pub IsDone : Result (Option Setting) Error → Streams → ℕ → Type 0
-IsDone (Ok (Some setting)) s status = IsSession setting s.before s.after status
-IsDone (Ok None) s status = (status ≡ 2) × (s.left ≡ s.left_before) × (s.after ≡ s.before)
-IsDone (Err error) s status = IsExplained (kind_of error) s status
+abbrev pub IsSimulationOf : Result (Option Setting) Error → InputAndOutput → ℕ → Type 0
+IsSimulationOf (Ok (Some setting)) s status = IsSession setting s.before s.after status
+IsSimulationOf (Ok None) s status = (status ≡ 2) × (s.left ≡ s.left_before) × (s.after ≡ s.before)
+IsSimulationOf (Err error) s status = IsWithoutSession (kind_of error) s status
 
 -- A run of the program. What the words are read as, no clause says.
-pub record IsRun (s : Streams) (status : ℕ) : Type 0 where
+pub record IsSimulation (s : InputAndOutput) (status : ℕ) : Type 0 where
   pub read : Result (Option Setting) Error
-  pub done : IsDone read s status
+  pub done : IsSimulationOf read s status

@@ -17,19 +17,19 @@ use Rattle.lsp_simulate.specs.declared.run.RunFault.TheVariants.{Pair, Write, No
 use Rattle.lsp_simulate.specs.Words.{happened_words}
 
 -- A step: an event, and what happened.
-pub record Step : Type 0 where
+pub record PairStep : Type 0 where
   pub event : EventData
   pub happened : Happened
 
 -- The steps of a pair, in order.
-abbrev pub AreSteps : PairData → List Step → PairData → Type 0
+abbrev pub AreSteps : PairData → List PairStep → PairData → Type 0
 AreSteps old [] new = new ≡ old
 AreSteps old (s ∷ steps) new =
     (mid : PairData) × IsStep old s.event s.happened mid × AreSteps mid steps new
 
 -- The number after this one. It stays at the greatest value of a `u64`.
-abbrev pub next_number : ℕ → ℕ
-next_number n = min (n + 1) (2 ^ 64 - 1)
+abbrev pub next_line_number : ℕ → ℕ
+next_line_number n = min (n + 1) (2 ^ 64 - 1)
 
 -- The line of a step: its number, and the words for what happened.
 abbrev pub step_line : ℕ → Happened → List ℕ
@@ -37,10 +37,10 @@ step_line number happened =
     ((decimal number ++ codes " ") ++ happened_words happened) ++ codes "\n"
 
 -- The lines of steps, after so many others.
-abbrev pub step_lines : ℕ → List Step → List ℕ
+abbrev pub step_lines : ℕ → List PairStep → List ℕ
 step_lines number [] = []
 step_lines number (s ∷ steps) =
-    step_line (next_number number) s.happened ++ step_lines (next_number number) steps
+    step_line (next_line_number number) s.happened ++ step_lines (next_line_number number) steps
 
 -- The line that says how many messages wait for the server, and for the client.
 abbrev pub waiting_line : ℕ → ℕ → List ℕ
@@ -70,20 +70,20 @@ pair_setting setting = record {
 }
 
 -- A pair refuses this setting, with this fault.
-abbrev pub IsRefused : PairSetting → PairFault → Type 0
-IsRefused setting NotUtf16 = is_utf16 setting.config.choice ≡ false
-IsRefused setting LimitsTooSmall =
+abbrev pub IsSettingRefused : PairSetting → PairFault → Type 0
+IsSettingRefused setting NotUtf16 = is_utf16 setting.config.choice ≡ false
+IsSettingRefused setting LimitsTooSmall =
     (is_utf16 setting.config.choice ≡ true)
     × (are_within setting.limits setting.config.limits ≡ false)
 
 -- Whole lines: nothing, or bytes of which the last is a line end.
-abbrev pub AreLines : List ℕ → Type 0
-AreLines bytes = (bytes ≡ []) ⊎ ((front : List ℕ) × (bytes ≡ front ++ codes "\n"))
+abbrev pub AreWholeLines : List ℕ → Type 0
+AreWholeLines bytes = (bytes ≡ []) ⊎ ((front : List ℕ) × (bytes ≡ front ++ codes "\n"))
 
 -- Some first lines were written, each whole.
 abbrev pub AppendsLines : Option (List ℕ) → Option (List ℕ) → List ℕ → Type 0
 AppendsLines old new lines =
-    (front rest : List ℕ) × (lines ≡ front ++ rest) × AreLines front × Appends old new front
+    (front rest : List ℕ) × (lines ≡ front ++ rest) × AreWholeLines front × Appends old new front
 
 -- The writer failed: its last call did, or each call that was allowed was made.
 abbrev pub HasFailed : WriterState → WriterState → Type 0
@@ -95,7 +95,7 @@ HasFailed before after =
 -- where memory ran out some first lines, and where the writer failed some first bytes. After a
 -- failed read the lines of the steps are, and so after a line of the input that is no event: it is
 -- the next one after those of the steps.
-abbrev pub WroteSteps : Result (Unit {0}) RunFault → List Step → PairData → WriterState →
+abbrev pub WroteSteps : Result (Unit {0}) RunFault → List PairStep → PairData → WriterState →
     WriterState → Type 0
 WroteSteps (Ok _) steps pair before after =
     Appends before.written after.written (step_lines 0 steps ++ end_lines pair)
@@ -105,7 +105,7 @@ WroteSteps (Err Write) steps pair before after =
     AppendsFront before.written after.written (step_lines 0 steps ++ end_lines pair)
     × HasFailed before after
 WroteSteps (Err (BadEvent line)) steps pair before after =
-    (line ≡ next_number (length steps))
+    (line ≡ next_line_number (length steps))
     × Appends before.written after.written (step_lines 0 steps)
 WroteSteps (Err fault) steps pair before after =
     Appends before.written after.written (step_lines 0 steps)
@@ -115,7 +115,7 @@ WroteSteps (Err fault) steps pair before after =
 pub record RanSteps (setting : Setting) (result : Result (Unit {0}) RunFault)
     (before after : WriterState) : Type 0 where
   pub fits : IsFitting (pair_setting setting)
-  pub steps : List Step
+  pub steps : List PairStep
   -- the pair after them
   pub pair : PairData
   pub are_steps : AreSteps (new_pair (pair_setting setting)) steps pair
@@ -124,5 +124,5 @@ pub record RanSteps (setting : Setting) (result : Result (Unit {0}) RunFault)
 -- What a session wrote, by how it ended. A refused setting writes nothing.
 abbrev pub WroteSession : Setting → Result (Unit {0}) RunFault → WriterState → WriterState → Type 0
 WroteSession setting (Err (Pair fault)) before after =
-    IsRefused (pair_setting setting) fault × (after ≡ before)
+    IsSettingRefused (pair_setting setting) fault × (after ≡ before)
 WroteSession setting result before after = RanSteps setting result before after

@@ -16,6 +16,7 @@ mod tests;
 mod word;
 
 use crate::run::{refuse, run};
+use lsp_program::exit_code;
 use lsp_stream::Told;
 use std::io::{BufReader, BufWriter};
 use std::process::ExitCode;
@@ -26,7 +27,7 @@ fn main(rt: HostRuntime) -> ExitCode {
         Ok(status) => status,
         Err(error) => refuse(error.kind(), &mut rt.stderr()),
     };
-    ExitCode::from(status)
+    exit_code(status)
 }
 
 /// Runs the program over the process's own streams. Fails if the words of the command line can't be

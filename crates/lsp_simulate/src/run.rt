@@ -5,7 +5,8 @@ ghost use Rattle.clap.specs.Values.{kind_of};
 ghost use Rattle.clap.specs.declared.error.kind.ErrorKind.TheVariants.{OutOfMemory};
 ghost use Rattle.clap.specs.declared.error.kind.ErrorKind.TheVariants.{DisplayHelp, DisplayVersion};
 ghost use Rattle.lsp_program.specs.Output.{IsHelp};
-ghost use Rattle.lsp_simulate.specs.Run.{IsDone, IsRun, IsSession, help_status, run_fault, session_status, status_of};
+ghost use Rattle.lsp_simulate.specs.Run.{IsSession, IsSimulation, IsSimulationOf, help_status};
+ghost use Rattle.lsp_simulate.specs.Run.{run_fault, run_fault_status, session_status};
 ghost use Rattle.lsp_simulate.specs.declared.run.RunFault.TheVariants.{NoMemory, Pair};
 
 use crate::command_line::{Setting, parse};
@@ -70,7 +71,7 @@ pub fn run<R: BufRead, W: Sink, E: Write>(
     output: &mut W,
     errors: &mut E,
 ) -> u8
-    ensures { IsRun (record {
+    ensures { IsSimulation (record {
       left_before = R.remaining input.old;
       left = R.remaining input.new;
       before = W.seen output.old;
@@ -90,7 +91,7 @@ fn perform<R: BufRead, W: Sink, E: Write>(
     output: &mut W,
     errors: &mut E,
 ) -> u8
-    ensures { IsDone read (record {
+    ensures { IsSimulationOf read (record {
       left_before = R.remaining input.old;
       left = R.remaining input.new;
       before = W.seen output.old;
@@ -187,7 +188,7 @@ pub fn refuse<E: Write>(kind: ErrorKind, errors: &mut E) -> u8
 
 /// Prints the line of a fault, and returns its status.
 pub fn report<E: Write>(fault: RunFault, errors: &mut E) -> u8
-    ensures { result ≡ status_of fault }
+    ensures { result ≡ run_fault_status fault }
 {
     let _ = writeln!(errors, "lsp_simulate: {fault}");
     match fault {

@@ -11,7 +11,7 @@ use Rattle.lsp_pair.specs.declared.event.Happened.{Happened}
 use Rattle.lsp_pair.specs.Events.{EventData}
 use Rattle.lsp_pair.specs.Pair.{PairData, IsFitting, IsStep, new_pair}
 use Rattle.lsp_simulate.specs.declared.command_line.Setting.{Setting}
-use Rattle.lsp_simulate.specs.Session.{AppendsLines, AreLines, AreSteps, Step, document_lines, next_number, pair_setting, step_line, step_lines}
+use Rattle.lsp_simulate.specs.Session.{AppendsLines, AreSteps, AreWholeLines, PairStep, document_lines, next_line_number, pair_setting, step_line, step_lines}
 
 -- A step was made, and this is its line.
 pub record IsStepLine (old new : PairData) (number : ℕ) (line : List ℕ) : Type 0 where
@@ -21,15 +21,15 @@ pub record IsStepLine (old new : PairData) (number : ℕ) (line : List ℕ) : Ty
   pub is : line ≡ step_line number happened
 
 -- The number of the last line of these steps.
-abbrev pub last_number : ℕ → List Step → ℕ
+abbrev pub last_number : ℕ → List PairStep → ℕ
 last_number number [] = number
-last_number number (s ∷ steps) = last_number (next_number number) steps
+last_number number (s ∷ steps) = last_number (next_line_number number) steps
 
 -- The lines of some steps were written, the last with this number, and so many turns are left.
 pub record IsUnderWay (setting : Setting) (before now : WriterState) (left number : ℕ)
     (pair : PairData) : Type 0 where
   pub fits : IsFitting (pair_setting setting)
-  pub steps : List Step
+  pub steps : List PairStep
   pub are_steps : AreSteps (new_pair (pair_setting setting)) steps pair
   pub last : number ≡ last_number 0 steps
   pub written : Appends before.written now.written (step_lines 0 steps)
@@ -48,6 +48,6 @@ WroteLines (Err fault) lines old new =
 pub record AreUnderWay (end : List ℕ) (all : List DocumentItem) (old new : Option (List ℕ))
     (left : List DocumentItem) : Type 0 where
   pub lines : List ℕ
-  pub whole : AreLines lines
+  pub whole : AreWholeLines lines
   pub written : Appends old new lines
   pub rest : lines ++ document_lines end left ≡ document_lines end all
