@@ -12,7 +12,8 @@ use Rattle.laspidru.specs.declared.object.Object.{Object}
 use Rattle.laspidru.specs.declared.object.Object.TheVariants.{Client}
 use Rattle.laspidru.specs.declared.place.Fault.{Fault}
 use Rattle.laspidru.specs.Streams.{StreamData}
-use Rattle.laspidru.specs.Clients.{IsCalled, IsDeliveredTo, IsTakenIn, IsRefusedCall, IsWritten, IsCallReport, call_code, delivered_out, frame_out}
+use Rattle.laspidru.specs.inside.Clients.{IsCallReport, call_code}
+use Rattle.laspidru.specs.Clients.{IsCalled, IsDeliveredTo, IsRefusedCall, IsTakenIn, IsWritten, delivered_out, sent_frame}
 
 -- A call that sends a frame is accepted.
 pub accepted : (stream : StreamData) (r : Result Sending ClientFault) (bytes : List ℕ) (new : ClientData) (code len : ℕ)
@@ -70,13 +71,13 @@ none_written (Err refusal) bytes new code out sent = absurd sent
 pub delivered : (stream : StreamData) (r : Result Delivery ClientFault) (given : DeliveredData (List ℕ))
     (new : ClientData) (code : ℕ) (stored : Option Object) (out : Answer)
     → IsDelivered r given new → code ≡ OK
-    → stored ≡ Some (Client (record { client = new; frame = frame_out given; stream = stream }))
+    → stored ≡ Some (Client (record { client = new; frame = sent_frame given; stream = stream }))
     → out ≡ delivered_out given
     → IsDeliveredTo stream r code stored out
 delivered stream (Ok delivery) given new code stored out is done held answered =
     inr (record {
       done = done;
-      client = held ∙ (λ i. Some (Client (record { client = is.1 i; frame = frame_out (is.0 i); stream = stream })));
+      client = held ∙ (λ i. Some (Client (record { client = is.1 i; frame = sent_frame (is.0 i); stream = stream })));
       answer = answered ∙ ap delivered_out is.0;
     })
 delivered stream (Err refusal) given new code stored out is done held answered = absurd is
@@ -92,7 +93,7 @@ delivery_refused stream (Err refusal) fault code stored out why is = delivery_co
 pub heard : (stream : StreamData) (s : ClientData) (body : Reading) (given : DeliveredData (List ℕ)) (new : ClientData)
     (code : ℕ) (stored : Option Object) (out : Answer)
     → is_listening s.phase ≡ true → IsDelivered (delivery_result s body) given new → code ≡ OK
-    → stored ≡ Some (Client (record { client = new; frame = frame_out given; stream = stream }))
+    → stored ≡ Some (Client (record { client = new; frame = sent_frame given; stream = stream }))
     → out ≡ delivered_out given
     → IsTakenIn stream (delivery_of s body) code stored out
 heard stream s body given new code stored out listens is done held answered =
@@ -101,6 +102,6 @@ heard stream s body given new code stored out listens is done held answered =
     is in
     record {
       done = done;
-      client = held ∙ (λ i. Some (Client (record { client = d.1 i; frame = frame_out (d.0 i); stream = stream })));
+      client = held ∙ (λ i. Some (Client (record { client = d.1 i; frame = sent_frame (d.0 i); stream = stream })));
       answer = answered ∙ ap delivered_out d.0;
     }

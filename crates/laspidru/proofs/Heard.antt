@@ -11,14 +11,14 @@ use Rattle.laspidru.specs.declared.codes.TheConstants.{OK, OUT_OF_MEMORY, WRONG_
 use Rattle.laspidru.specs.declared.object.Object.{Object}
 use Rattle.laspidru.specs.declared.object.Object.TheVariants.{Server, Client}
 use Rattle.laspidru.specs.declared.taken.Taken.{Taken}
-use Rattle.laspidru.specs.Clients.{IsTakenIn, client_of}
+use Rattle.laspidru.specs.Clients.{IsTakenIn, as_client}
 use Rattle.laspidru.specs.Codes.{IsRefusedOr, OnRefused, unless}
 use Rattle.laspidru.specs.Editors.{EditorData}
 use Rattle.laspidru.specs.Framers.{HasNoBody, IsBodyOf, IsFedTo}
-use Rattle.laspidru.specs.Servers.{answer_out, ended, live_asked, reply_out, server_of, step_at}
+use Rattle.laspidru.specs.Servers.{answer_out, as_server, ended, live_asked, reply_out, step_at}
 use Rattle.laspidru.specs.Sessions.{SessionData}
 use Rattle.laspidru.specs.Streams.{StreamData}
-use Rattle.laspidru.specs.Taking.{IsHeard, IsServed, handled, listening_asked}
+use Rattle.laspidru.specs.Taking.{IsHeard, IsServed, as_handled, listening_asked}
 
 -- The same with the code `OK`.
 fed_well : (old new : StreamData) (piece : List ℕ) (code : ℕ) (taken : Taken) → code ≡ OK
@@ -67,7 +67,7 @@ pub one_served : (old new : SessionData) (stream : StreamData) (piece body reply
     (before after : Answer) (after_it : server.ServerData) (given : AnswerData Sent)
     → IsFedTo old.stream piece code stream taken → code ≡ OK → IsBodyOf stream.framing body
     → given ≡ as_sent (step_at old body).answer → after_it ≡ (step_at old body).state → reply ≡ reply_out given
-    → new ≡ record { server = after_it; reply = reply; stream = handled stream } → after ≡ answer_out given
+    → new ≡ record { server = after_it; reply = reply; stream = as_handled stream } → after ≡ answer_out given
     → IsServed old piece OK new taken before after
 one_served old new stream piece body reply code taken before after after_it given fed is whole answered moved replied
     held written =
@@ -80,7 +80,7 @@ one_served old new stream piece body reply code taken before after after_it give
         server = ap (λ (s : SessionData). Some (Server s)) held ∙ (λ i. Some (Server (record {
           server = moved i;
           reply = (replied ∙ ap reply_out answered) i;
-          stream = handled stream;
+          stream = as_handled stream;
         })));
         answer = written ∙ ap answer_out answered;
       };
@@ -98,22 +98,22 @@ pub served_in : (object stored : Object) (session new : SessionData) (piece : Li
     (before after : Answer)
     → object ≡ Server session → session.server.phase ≢ Ended → stored ≡ Server new
     → IsServed session piece code new taken before after
-    → IsRefusedOr (live_asked (server_of object)) code
-    (λ s. IsOkAnd (server_of stored) (λ t. IsServed s piece code t taken before after))
+    → IsRefusedOr (live_asked (as_server object)) code
+    (λ s. IsOkAnd (as_server stored) (λ t. IsServed s piece code t taken before after))
 served_in object stored session new piece code taken before after is other left served =
-    subst (λ (o : Object). IsRefusedOr (live_asked (server_of o)) code
-    (λ s. IsOkAnd (server_of stored) (λ t. IsServed s piece code t taken before after))) (sym is)
+    subst (λ (o : Object). IsRefusedOr (live_asked (as_server o)) code
+    (λ s. IsOkAnd (as_server stored) (λ t. IsServed s piece code t taken before after))) (sym is)
     (subst (λ (o : Option ℕ). IsRefusedOr (unless o (Ok session)) code
-    (λ s. IsOkAnd (server_of stored) (λ t. IsServed s piece code t taken before after)))
+    (λ s. IsOkAnd (as_server stored) (λ t. IsServed s piece code t taken before after)))
     (sym (live session.server.phase other))
-    (subst (λ (o : Object). IsOkAnd (server_of o) (λ t. IsServed session piece code t taken before after)) (sym left)
+    (subst (λ (o : Object). IsOkAnd (as_server o) (λ t. IsServed session piece code t taken before after)) (sym left)
     served))
 
 -- It isn't refused.
 pub served_unrefused : (object : Object) (session : SessionData) (Fact : Type 0) → object ≡ Server session
-    → session.server.phase ≢ Ended → OnRefused (live_asked (server_of object)) Fact
+    → session.server.phase ≢ Ended → OnRefused (live_asked (as_server object)) Fact
 served_unrefused object session Fact is other =
-    subst (λ (o : Object). OnRefused (live_asked (server_of o)) Fact) (sym is)
+    subst (λ (o : Object). OnRefused (live_asked (as_server o)) Fact) (sym is)
     (subst (λ (o : Option ℕ). OnRefused (unless o (Ok session)) Fact) (sym (live session.server.phase other)) tt)
 
 -- ---- a client
@@ -155,7 +155,7 @@ unheard old new piece body code taken before after fed is whole rest same =
 pub one_heard : (old new : EditorData) (stream : StreamData) (piece body : List ℕ) (code : ℕ) (taken : Taken)
     (before after : Answer)
     → IsFedTo old.stream piece code stream taken → code ≡ OK → IsBodyOf stream.framing body
-    → IsTakenIn (handled stream) (delivery_of old.client (reading body)) OK (Some (Client new)) after
+    → IsTakenIn (as_handled stream) (delivery_of old.client (reading body)) OK (Some (Client new)) after
     → IsHeard old piece OK new taken before after
 one_heard old new stream piece body code taken before after fed is whole delivered =
     inr (record {
@@ -170,20 +170,20 @@ pub heard_in : (object stored : Object) (editor new : EditorData) (piece : List 
     (before after : Answer)
     → object ≡ Client editor → is_listening editor.client.phase ≡ true → stored ≡ Client new
     → IsHeard editor piece code new taken before after
-    → IsRefusedOr (listening_asked (client_of object)) code
-    (λ e. IsOkAnd (client_of stored) (λ t. IsHeard e piece code t taken before after))
+    → IsRefusedOr (listening_asked (as_client object)) code
+    (λ e. IsOkAnd (as_client stored) (λ t. IsHeard e piece code t taken before after))
 heard_in object stored editor new piece code taken before after is listens left heard =
-    subst (λ (o : Object). IsRefusedOr (listening_asked (client_of o)) code
-    (λ e. IsOkAnd (client_of stored) (λ t. IsHeard e piece code t taken before after))) (sym is)
+    subst (λ (o : Object). IsRefusedOr (listening_asked (as_client o)) code
+    (λ e. IsOkAnd (as_client stored) (λ t. IsHeard e piece code t taken before after))) (sym is)
     (subst (λ b. IsRefusedOr (if b then Ok editor else Err WRONG_PHASE) code
-    (λ e. IsOkAnd (client_of stored) (λ t. IsHeard e piece code t taken before after)))
+    (λ e. IsOkAnd (as_client stored) (λ t. IsHeard e piece code t taken before after)))
     (sym listens)
-    (subst (λ (o : Object). IsOkAnd (client_of o) (λ t. IsHeard editor piece code t taken before after)) (sym left)
+    (subst (λ (o : Object). IsOkAnd (as_client o) (λ t. IsHeard editor piece code t taken before after)) (sym left)
     heard))
 
 -- It isn't refused.
 pub heard_unrefused : (object : Object) (editor : EditorData) (Fact : Type 0) → object ≡ Client editor
-    → is_listening editor.client.phase ≡ true → OnRefused (listening_asked (client_of object)) Fact
+    → is_listening editor.client.phase ≡ true → OnRefused (listening_asked (as_client object)) Fact
 heard_unrefused object editor Fact is listens =
-    subst (λ (o : Object). OnRefused (listening_asked (client_of o)) Fact) (sym is)
+    subst (λ (o : Object). OnRefused (listening_asked (as_client o)) Fact) (sym is)
     (subst (λ b. OnRefused (if b then Ok editor else Err WRONG_PHASE) Fact) (sym listens) tt)

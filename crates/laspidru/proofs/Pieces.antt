@@ -5,7 +5,7 @@ use Rattle.lsp_frame.specs.declared.fault.FrameFault.{FrameFault}
 use Rattle.lsp_frame.specs.declared.fault.FrameFault.TheVariants.{BadHeader, HeaderTooLong, MissingLength, RepeatedHeader, BadLength, BodyTooLong, BadCharset, Failed, NoMemory}
 use Rattle.laspidru.specs.declared.codes.TheConstants.{BAD_FRAME, OK}
 use Rattle.laspidru.specs.declared.taken.Taken.{Taken}
-use Rattle.laspidru.specs.Framers.{IsFed, IsFedTo, IsFrameReport, IsNext, IsReleased, frame_code, nothing_taken, taken_fault}
+use Rattle.laspidru.specs.Framers.{IsFedTo, IsFrameReport, IsNext, IsPieceFed, IsReleased, frame_code, nothing_taken, taken_fault}
 use Rattle.laspidru.specs.Streams.{StreamData}
 
 -- No byte was taken.
@@ -31,7 +31,8 @@ none NoMemory code out is report kept =
     let e : out ≡ nothing_taken = kept (λ (z : code ≡ OK). omega arith) (λ (z : code ≡ BAD_FRAME). omega arith) in
     (ap (λ (it : Taken). it.bytes) e, ap (λ (it : Taken). it.is_whole) e)
 
-none_of : (old new : FramerData) (piece : List ℕ) (code : ℕ) (out : Taken) → IsFed old piece code new out → code ≢ OK
+none_of : (old new : FramerData) (piece : List ℕ) (code : ℕ) (out : Taken)
+    → IsPieceFed old piece code new out → code ≢ OK
     → (code ≢ OK → code ≢ BAD_FRAME → (new ≡ old) × (out ≡ nothing_taken)) → IsNothing out
 none_of old new piece code out (inl done) bad kept = absurd (bad done.0)
 none_of old new piece code out (inr fault) bad kept =
@@ -48,7 +49,7 @@ kept_next is_handled old new is same = subst (λ b. IsNext b old new) (sym is) s
 
 -- A piece was fed after the message that was handled.
 pub fed_to : (old new : StreamData) (at : FramerData) (piece : List ℕ) (code : ℕ) (out : Taken)
-    → IsNext old.is_handled old.framing at → IsFed at piece code new.framing out → new.is_handled ≡ false
+    → IsNext old.is_handled old.framing at → IsPieceFed at piece code new.framing out → new.is_handled ≡ false
     → (code ≢ OK → code ≢ BAD_FRAME → (new.framing ≡ at) × (out ≡ nothing_taken)) → IsFedTo old piece code new out
 fed_to old new at piece code out next fed unhandled kept = record {
   at = at;

@@ -31,7 +31,7 @@ use Rattle.std.specs.contracts.alloc.Global as global
 use Rattle.std.proofs.alloc.Global.TheLaws as global-laws
 use Rattle.std.specs.contracts.impls.GlobalAllocator.TheImpl.{ghosts}
 use Rattle.laspidru.specs.contracts.object.Object as object
-use Rattle.laspidru.specs.Stored.{object_at, object_if}
+use Rattle.laspidru.specs.inside.Stored.{object_at, object_if}
 use Rattle.laspidru.specs.contracts.handle.Handle as handle
 
 abbrev pub A : RattleType

@@ -26,7 +26,7 @@ use Rattle.laspidru.specs.declared.place.Place.{Place}
 use Rattle.laspidru.specs.declared.place.Edit.{Edit}
 use Rattle.laspidru.specs.declared.place.Fault.{Fault}
 use Rattle.laspidru.specs.Codes.{and_then, unless}
-use Rattle.laspidru.specs.Objects.{batch_in, encoding_at, position_at, IsCopy}
+use Rattle.laspidru.specs.Objects.{IsCopy, encoding_at, position_at, stored_batch}
 
 -- The range of an edit, if it isn't one of the whole text.
 abbrev pub range_if : Bool → Place → Place → Option Range
@@ -74,8 +74,8 @@ batch_asked number edits texts document = and_then (encoding_at number) (λ enco
     unless (refused_edit edits texts) (fitting encoding edits texts document))
 
 -- The text after a batch, if that isn't too long.
-abbrev pub left_by : Asked → Result (List ℕ) TextFault
-left_by asked =
+abbrev pub text_left_by : Asked → Result (List ℕ) TextFault
+text_left_by asked =
     let means = meaning (units_in asked.encoding) (chars asked.text) asked.edits in
     text_within MAX_OLD_TEXT asked.text means
 
@@ -96,9 +96,9 @@ IsReport TooLong code out = code ≡ TOO_LONG
 IsReport NoMemory code out = code ≡ OUT_OF_MEMORY
 
 -- The handle has the text after the batch, or the fault is reported.
-abbrev pub IsLeft : Result (List ℕ) TextFault → ℕ → Option Object → Fault → Type 0
-IsLeft (Ok text) code stored out = (code ≡ OK) × (stored ≡ Some (Document text))
-IsLeft (Err fault) code stored out = IsReport fault code out
+abbrev pub IsTextLeft : Result (List ℕ) TextFault → ℕ → Option Object → Fault → Type 0
+IsTextLeft (Ok text) code stored out = (code ≡ OK) × (stored ≡ Some (Document text))
+IsTextLeft (Err fault) code stored out = IsReport fault code out
 
 -- These changes are the canonical batch of this batch. What holds of every canonical batch is a law
 -- of `batch_laws` of `lsp_edit`.
@@ -110,7 +110,7 @@ pub record IsBatchOf (asked : Asked) (changes : List Change) : Type 0 where
 -- The handle has the canonical batch if there is a text after the batch, or the fault is reported.
 abbrev pub IsCanonicalIf : Result (List ℕ) TextFault → Asked → ℕ → Option Object → Fault → Type 0
 IsCanonicalIf (Ok text) asked code stored out =
-    (code ≡ OK) × IsOkAnd (batch_in stored) (IsBatchOf asked)
+    (code ≡ OK) × IsOkAnd (stored_batch stored) (IsBatchOf asked)
 IsCanonicalIf (Err fault) asked code stored out = IsReport fault code out
 
 -- A change of a batch, by its number.

@@ -56,14 +56,14 @@ client_asked settings = and_then (limits_asked (client_bounds settings)) (λ lim
 }))
 
 -- The client of an object, with its last frame.
-abbrev pub client_of : Object → Result EditorData ℕ
-client_of (Client editor) = Ok editor
-client_of other = Err OTHER_KIND
+abbrev pub as_client : Object → Result EditorData ℕ
+as_client (Client editor) = Ok editor
+as_client other = Err OTHER_KIND
 
 -- The client in a handle.
-abbrev pub client_in : Option Object → Result EditorData ℕ
-client_in (Some object) = client_of object
-client_in None = Err EMPTY
+abbrev pub stored_client : Option Object → Result EditorData ℕ
+stored_client (Some object) = as_client object
+stored_client None = Err EMPTY
 
 -- ---- calls
 
@@ -82,12 +82,6 @@ open_asked uri language version text =
 abbrev pub edit_asked : List ℕ → ℤ → List Edit → List ℕ → Order
 edit_asked uri version batch texts = edits uri version (edits_of batch texts)
 
--- The code of a refused call.
-abbrev pub call_code : ClientFault → ℕ
-call_code (client.WrongPhase phase) = WRONG_PHASE
-call_code (client.Store fault) = store_code fault
-call_code client.NoMemory = OUT_OF_MEMORY
-
 -- A faulty change is written, with the end of its range.
 abbrev pub IsStoreReport : StoreFault → Fault → Type 0
 IsStoreReport (faults.Edit (edit.InsideCharacter change side)) out =
@@ -95,11 +89,6 @@ IsStoreReport (faults.Edit (edit.InsideCharacter change side)) out =
 IsStoreReport (faults.Edit (edit.ReversedRange change)) out =
     (out.change ≡ change) × (out.at_end ≡ false)
 IsStoreReport other out = Unit {0}
-
--- The same of a refused call.
-abbrev pub IsCallReport : ClientFault → Fault → Type 0
-IsCallReport (client.Store fault) out = IsStoreReport fault out
-IsCallReport other out = Unit {0}
 
 -- A call is refused with this code. One in a wrong phase takes no memory.
 abbrev pub IsRefusedCall : ClientFault → ℕ → Type 0
@@ -161,9 +150,9 @@ delivered_out (bad_server reason)
     = record (plain_out BAD_SERVER) { reason = reason_number reason }
 
 -- The frame that a delivery sends; no bytes if it sends none.
-abbrev pub frame_out : DeliveredData (List ℕ) → List ℕ
-frame_out (sends frame) = frame
-frame_out other = []
+abbrev pub sent_frame : DeliveredData (List ℕ) → List ℕ
+sent_frame (sends frame) = frame
+sent_frame other = []
 
 -- The handle has the client after a delivery, and C gets its result.
 pub record IsTakenIn (stream : StreamData) (delivery : Delivery) (code : ℕ)
@@ -171,7 +160,7 @@ pub record IsTakenIn (stream : StreamData) (delivery : Delivery) (code : ℕ)
   pub done : code ≡ OK
   pub client : stored ≡ Some (Client (record {
     client = delivery.state;
-    frame = frame_out (as_sent delivery.delivered);
+    frame = sent_frame (as_sent delivery.delivered);
     stream = stream;
   }))
   pub answer : out ≡ delivered_out (as_sent delivery.delivered)

@@ -24,7 +24,7 @@ use Rattle.laspidru.specs.declared.place.Edit.{Edit}
 use Rattle.laspidru.specs.declared.place.EditsFault.{EditsFault}
 use Rattle.laspidru.specs.Batches.{len_of, refused_edit, side_at}
 use Rattle.laspidru.specs.Codes.{and_then, unless}
-use Rattle.laspidru.specs.Objects.{batch_in, encoding_at, position_at}
+use Rattle.laspidru.specs.Objects.{encoding_at, position_at, stored_batch}
 
 -- The bytes that take a range's place.
 pub record Replacement : Type 0 where
@@ -104,7 +104,7 @@ pub record IsBatchOfAsked (asked : EditsAsked) (changes : List Change) : Type 0 
 -- The handle holds the batch, or the edits are faulty.
 abbrev pub AreBatched : EditsAsked → ℕ → Option Object → EditsFault → Type 0
 AreBatched asked code stored out =
-    ((code ≡ OK) × IsOkAnd (batch_in stored) (IsBatchOfAsked asked)) ⊎ AreFaulty asked code out
+    ((code ≡ OK) × IsOkAnd (stored_batch stored) (IsBatchOfAsked asked)) ⊎ AreFaulty asked code out
 
 -- what changes leave of a text, if that isn't too long
 abbrev pub text_left : Encoding → List ℕ → List Change → Result (List ℕ) TextFault

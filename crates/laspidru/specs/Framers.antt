@@ -21,14 +21,14 @@ abbrev pub framer_limits : ℕ → Result LimitsData ℕ
 framer_limits max_body = limits_asked (record default_limits { max_body = max_body })
 
 -- The framer of an object.
-abbrev pub framer_of : Object → Result FramerData ℕ
-framer_of (Framer framing) = Ok framing
-framer_of other = Err OTHER_KIND
+abbrev pub as_framer : Object → Result FramerData ℕ
+as_framer (Framer framing) = Ok framing
+as_framer other = Err OTHER_KIND
 
 -- The framer in a handle.
-abbrev pub framer_in : Option Object → Result FramerData ℕ
-framer_in (Some object) = framer_of object
-framer_in None = Err EMPTY
+abbrev pub stored_framer : Option Object → Result FramerData ℕ
+stored_framer (Some object) = as_framer object
+stored_framer None = Err EMPTY
 
 -- ---- what it takes
 
@@ -83,8 +83,8 @@ pub record IsNotTaken (old new : FramerData) (piece : List ℕ) (code : ℕ) (ou
   pub report : IsFrameReport fault out
 
 -- A piece was fed to a framer: bytes were taken, or there is a fault.
-abbrev pub IsFed : FramerData → List ℕ → ℕ → FramerData → Taken → Type 0
-IsFed old piece code new out =
+abbrev pub IsPieceFed : FramerData → List ℕ → ℕ → FramerData → Taken → Type 0
+IsPieceFed old piece code new out =
     ((code ≡ OK) × HasTaken old new piece out) ⊎ IsNotTaken old new piece code out
 
 -- ---- the message that is buffered
@@ -124,7 +124,7 @@ pub record IsFedTo (old : StreamData) (piece : List ℕ) (code : ℕ) (new : Str
     (out : Taken) : Type 0 where
   pub at : FramerData
   pub next : IsNext old.is_handled old.framing at
-  pub fed : IsFed at piece code new.framing out
+  pub fed : IsPieceFed at piece code new.framing out
   pub unhandled : new.is_handled ≡ false
   pub none : code ≢ OK → (out.bytes ≡ 0) × (out.is_whole ≡ false)
 

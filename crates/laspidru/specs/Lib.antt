@@ -1,7 +1,6 @@
 pub mod Streams
 pub mod Sessions
 pub mod Editors
-pub mod Stored
 pub mod Codes
 pub mod Objects
 pub mod Batches
@@ -13,3 +12,4 @@ pub mod Taking
 pub mod Logs
 pub mod Messages
 pub mod laws
+pub mod inside

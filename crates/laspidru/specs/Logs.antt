@@ -46,10 +46,6 @@ log_asked settings = and_then (encoding_at settings.encoding) (λ encoding.
       squash = settings.squash;
     })))
 
--- How many reads and writes a command may make: more aren't counted.
-abbrev pub allowed_turns : ℕ
-allowed_turns = 18446744073709551615
-
 -- ---- the output of a command
 
 -- How a command reads a log: `convert` refuses version 2.
@@ -114,21 +110,21 @@ fault_out len place =
 
 -- The ending of a command at a faulty frame. F1 to F7 have a byte offset; F8 and F9 aren't faults
 -- of a log.
-abbrev pub frame_out : ℕ → FrameFault → Ending
-frame_out len (frame.BadHeader place) = record (fault_out len place) { frame = 1 }
-frame_out len (frame.HeaderTooLong place) = record (fault_out len place) { frame = 2 }
-frame_out len (frame.MissingLength place) = record (fault_out len place) { frame = 3 }
-frame_out len (frame.RepeatedHeader place) = record (fault_out len place) { frame = 4 }
-frame_out len (frame.BadLength place) = record (fault_out len place) { frame = 5 }
-frame_out len (frame.BodyTooLong place) = record (fault_out len place) { frame = 6 }
-frame_out len (frame.BadCharset place) = record (fault_out len place) { frame = 7 }
-frame_out len frame.Failed = record (fault_out len 0) { frame = 8 }
-frame_out len frame.NoMemory = record (fault_out len 0) { frame = 9 }
+abbrev pub frame_fault_out : ℕ → FrameFault → Ending
+frame_fault_out len (frame.BadHeader place) = record (fault_out len place) { frame = 1 }
+frame_fault_out len (frame.HeaderTooLong place) = record (fault_out len place) { frame = 2 }
+frame_fault_out len (frame.MissingLength place) = record (fault_out len place) { frame = 3 }
+frame_fault_out len (frame.RepeatedHeader place) = record (fault_out len place) { frame = 4 }
+frame_fault_out len (frame.BadLength place) = record (fault_out len place) { frame = 5 }
+frame_fault_out len (frame.BodyTooLong place) = record (fault_out len place) { frame = 6 }
+frame_fault_out len (frame.BadCharset place) = record (fault_out len place) { frame = 7 }
+frame_fault_out len frame.Failed = record (fault_out len 0) { frame = 8 }
+frame_fault_out len frame.NoMemory = record (fault_out len 0) { frame = 9 }
 
 -- The code of a result, and the ending. After a fault that isn't the log's there is only a code.
 abbrev pub ending_out : ℕ → Result Outcome EngineFault → Result (ℕ × Ending) ℕ
 ending_out len (Ok outcome) = Ok (OK, outcome_out len outcome)
-ending_out len (Err (Frame fault)) = Ok (BAD_FRAME, frame_out len fault)
+ending_out len (Err (Frame fault)) = Ok (BAD_FRAME, frame_fault_out len fault)
 ending_out len (Err (Truncated place)) = Ok (CUT, fault_out len place)
 ending_out len (Err (BodyTooLong place)) = Ok (BODY_TOO_LONG, fault_out len place)
 ending_out len (Err (BadLog place)) = Ok (BAD_LOG, fault_out len place)
@@ -141,18 +137,18 @@ IsUnlessEnded code Fact = code ≢ OK → code ≢ CUT → code ≢ BAD_FRAME �
     code ≢ BAD_LOG → Fact
 
 -- The output of a command.
-abbrev pub output_of : Object → Result (List ℕ) ℕ
-output_of (Output bytes) = Ok bytes.items
-output_of other = Err OTHER_KIND
+abbrev pub as_output : Object → Result (List ℕ) ℕ
+as_output (Output bytes) = Ok bytes.items
+as_output other = Err OTHER_KIND
 
 -- The output in a handle.
-abbrev pub output_in : Option Object → Result (List ℕ) ℕ
-output_in (Some object) = output_of object
-output_in None = Err EMPTY
+abbrev pub stored_output : Option Object → Result (List ℕ) ℕ
+stored_output (Some object) = as_output object
+stored_output None = Err EMPTY
 
 -- The handle has the output, and C gets the code and the ending; or only the code.
 abbrev pub IsKept : Result (ℕ × Ending) ℕ → List ℕ → ℕ → Option Object → Ending → Type 0
-IsKept (Ok ended) output code stored out = (code ≡ ended.0) × (output_in stored ≡ Ok output)
+IsKept (Ok ended) output code stored out = (code ≡ ended.0) × (stored_output stored ≡ Ok output)
     × (out ≡ ended.1)
 IsKept (Err fault) output code stored out = code ≡ fault
 
@@ -162,7 +158,7 @@ IsEnded output answer code stored out
     = IsKept (ending_out (length output) answer) output code stored out
 
 -- A command ran over a log: C gets its result, and the handle has its output.
-pub record IsRun (command : Command) (settings : Settings) (log : List ℕ) (code : ℕ)
+pub record IsCommandRun (command : Command) (settings : Settings) (log : List ℕ) (code : ℕ)
     (stored : Option Object) (out : Ending) : Type 0 where
   pub output : List ℕ
   pub answer : Result Outcome EngineFault

@@ -14,16 +14,16 @@ use Rattle.laspidru.specs.Batches.{edits_of, refused_edit}
 use Rattle.laspidru.specs.Clients.{IsStoreReport}
 use Rattle.laspidru.specs.Codes.{and_then, unless}
 use Rattle.laspidru.specs.Edits.{EditsAsked, edits_asked}
-use Rattle.laspidru.specs.Logs.{output_in}
+use Rattle.laspidru.specs.Logs.{stored_output}
 use Rattle.laspidru.specs.Objects.{encoding_at}
-use Rattle.laspidru.specs.Servers.{entry_in, store_code, text_of, uri_asked}
+use Rattle.laspidru.specs.Servers.{entry_in, entry_text, store_code, uri_asked}
 use Rattle.laspidru.specs.Sessions.{SessionData}
 
 -- Text edits as C passes them, on the open document of a URI.
 abbrev pub edits_named : List ℕ → ℕ → List Edit → List ℕ → Result SessionData ℕ →
     Result EditsAsked ℕ
 edits_named uri number edits texts server = and_then (uri_asked uri) (λ named.
-    edits_asked number edits texts (text_of (and_then server (entry_in named))))
+    edits_asked number edits texts (entry_text (and_then server (entry_in named))))
 
 -- A batch on the open document of a URI, under a version.
 pub record MessageAsked : Type 0 where
@@ -52,8 +52,8 @@ frame_unless (Some refusal) frame = Err refusal
 frame_unless None frame = Ok frame
 
 -- The frame of the canonical message that is asked for, or why it is refused.
-abbrev pub message_of : MessageAsked → Result (List ℕ) Refusal
-message_of asked =
+abbrev pub canonical_message_of : MessageAsked → Result (List ℕ) Refusal
+canonical_message_of asked =
     let units = units_in asked.encoding in
     let server = asked.session.server in
     frame_unless
@@ -63,7 +63,7 @@ message_of asked =
 -- The handle has the frame, or its refusal is reported.
 abbrev pub IsMessageLeft : Result (List ℕ) Refusal → ℕ → Option Object → ℕ → Fault → Type 0
 IsMessageLeft (Ok frame) code stored len out =
-    (code ≡ OK) × (output_in stored ≡ Ok frame) × (len ≡ length frame)
+    (code ≡ OK) × (stored_output stored ≡ Ok frame) × (len ≡ length frame)
 IsMessageLeft (Err refusal) code stored len out =
     (code ≡ store_code (documents.fault_of refusal))
     × IsStoreReport (documents.fault_of refusal) out

@@ -1,4 +1,6 @@
--- The objects in handles, and what C asks of a text in one of the three encodings.
+-- The objects in handles, and what C asks of a text in one of the three encodings. `as_document` and
+-- the like are what an object is, `stored_document` and the like what a handle has in it. Both are
+-- the code of a refusal if it is another kind of object.
 use Rattle.std.specs.Prelude.{ℕ, ◌≡◌, ◌≤◌, ◌+◌, ◌++◌, ◌⊎◌, List, length, min, take, drop, Option, Some, None, Result, Ok, Err, if◌then◌else◌, nat_eq, nat_lt, option_map}
 use Rattle.std.specs.Option.{ok_or}
 use Rattle.std.specs.Str.{chars, is_utf8}
@@ -33,24 +35,24 @@ text_asked text =
     else Err NOT_UTF8
 
 -- The text of a document.
-abbrev pub document_of : Object → Result (List ℕ) ℕ
-document_of (Document text) = Ok text
-document_of other = Err OTHER_KIND
+abbrev pub as_document : Object → Result (List ℕ) ℕ
+as_document (Document text) = Ok text
+as_document other = Err OTHER_KIND
 
 -- The text of the document in a handle.
-abbrev pub document_in : Option Object → Result (List ℕ) ℕ
-document_in (Some object) = document_of object
-document_in None = Err EMPTY
+abbrev pub stored_document : Option Object → Result (List ℕ) ℕ
+stored_document (Some object) = as_document object
+stored_document None = Err EMPTY
 
 -- The changes of a batch.
-abbrev pub batch_of : Object → Result (List Change) ℕ
-batch_of (Batch changes) = Ok changes.items
-batch_of other = Err OTHER_KIND
+abbrev pub as_batch : Object → Result (List Change) ℕ
+as_batch (Batch changes) = Ok changes.items
+as_batch other = Err OTHER_KIND
 
 -- The changes of the batch in a handle.
-abbrev pub batch_in : Option Object → Result (List Change) ℕ
-batch_in (Some object) = batch_of object
-batch_in None = Err EMPTY
+abbrev pub stored_batch : Option Object → Result (List Change) ℕ
+stored_batch (Some object) = as_batch object
+stored_batch None = Err EMPTY
 
 -- The encoding of a number of C.
 abbrev pub encoding_numbered : ℕ → Option Encoding
@@ -74,7 +76,7 @@ line_asked line document = and_then document (λ text.
     if nat_lt (line_ends (chars text)) line then Err OUT_OF_RANGE else Ok text)
 
 -- The byte offsets at which a line starts, and at which it ends before its line end.
-pub record IsLine (number : ℕ) (line : Line) (text : List ℕ) : Type 0 where
+pub record IsLineExtent (number : ℕ) (line : Line) (text : List ℕ) : Type 0 where
   pub start : line.start ≡ place_of (chars text) (line_start (chars text) number)
   pub end : line.end ≡ place_of (chars text) (line_stop (chars text) number)
 

@@ -52,9 +52,9 @@ choice_of true encoding = Fixed encoding
 choice_of false encoding = Negotiated encoding
 
 -- The kind of synchronisation (LSP 3.17, TextDocumentSyncKind).
-abbrev pub sync_of : Bool → ChangeForm
-sync_of true = Full
-sync_of false = Incremental
+abbrev pub sync_kind : Bool → ChangeForm
+sync_kind true = Full
+sync_kind false = Incremental
 
 -- Limits, if each is in its range.
 abbrev pub limits_asked : LimitsData → Result LimitsData ℕ
@@ -67,7 +67,7 @@ config_asked settings = and_then (encoding_at settings.encoding) (λ encoding.
     and_then (limits_asked (bounds_of settings)) (λ limits. Ok (record {
       limits = limits;
       choice = choice_of settings.is_fixed encoding;
-      sync = sync_of settings.is_full;
+      sync = sync_kind settings.is_full;
     })))
 
 -- ---- the answer that C gets
@@ -119,14 +119,14 @@ reply_out other = []
 -- ---- what is asked of a server
 
 -- The server of an object, with its last reply.
-abbrev pub server_of : Object → Result SessionData ℕ
-server_of (Server session) = Ok session
-server_of other = Err OTHER_KIND
+abbrev pub as_server : Object → Result SessionData ℕ
+as_server (Server session) = Ok session
+as_server other = Err OTHER_KIND
 
 -- The server in a handle.
-abbrev pub server_in : Option Object → Result SessionData ℕ
-server_in (Some object) = server_of object
-server_in None = Err EMPTY
+abbrev pub stored_server : Option Object → Result SessionData ℕ
+stored_server (Some object) = as_server object
+stored_server None = Err EMPTY
 
 -- A session that has ended handles no message.
 abbrev pub ended : Phase → Option ℕ
@@ -168,8 +168,8 @@ entry_asked uri server =
     and_then (uri_asked uri) (λ named. and_then server (λ session. entry_in named session))
 
 -- The text of a document.
-abbrev pub text_of : Result DocumentItem ℕ → Result (List ℕ) ℕ
-text_of document = and_then document (λ entry. Ok entry.text)
+abbrev pub entry_text : Result DocumentItem ℕ → Result (List ℕ) ℕ
+entry_text document = and_then document (λ entry. Ok entry.text)
 
 -- The last reply of a server.
 abbrev pub reply_asked : Result SessionData ℕ → Result (List ℕ) ℕ

@@ -38,8 +38,8 @@ pub record IsUnanswered (old : StreamData) (piece : List ℕ) (code : ℕ) (new 
   pub answer : after ≡ before
 
 -- The stream of a message that was handled.
-abbrev pub handled : StreamData → StreamData
-handled stream = record stream { is_handled = true }
+abbrev pub as_handled : StreamData → StreamData
+as_handled stream = record stream { is_handled = true }
 
 -- ---- a server
 
@@ -49,7 +49,7 @@ pub record IsOneServed (old : SessionData) (piece : List ℕ) (code : ℕ) (new 
   pub stream : StreamData
   pub body : List ℕ
   pub message : HasMessage old.stream piece stream taken body
-  pub handled : IsHandled (record old { stream = handled stream }) body code (Some (Server new))
+  pub handled : IsHandled (record old { stream = as_handled stream }) body code (Some (Server new))
       after
 
 -- A server took a piece. Of the session only the stream changed, or a message was handled.
@@ -72,7 +72,7 @@ pub record IsOneHeard (old : EditorData) (piece : List ℕ) (code : ℕ) (new : 
   pub stream : StreamData
   pub body : List ℕ
   pub message : HasMessage old.stream piece stream taken body
-  pub delivered : IsTakenIn (handled stream) (delivery_of old.client (reading body)) code
+  pub delivered : IsTakenIn (as_handled stream) (delivery_of old.client (reading body)) code
       (Some (Client new)) after
 
 -- A client took a piece. Of the client only the stream changed, or a message was handled.

@@ -1,12 +1,12 @@
 //! The functions on canonical batches.
 
 ghost use Rattle.std.specs.Prelude.{◌≡◌, ◌≢◌, None, length};
-ghost use Rattle.laspidru.specs.Batches.{IsBatchOf, IsCanonicalIf, IsEdit, IsEditOf};
-ghost use Rattle.laspidru.specs.Batches.{IsReport, batch_asked, change_asked, fitting, left_by};
-ghost use Rattle.laspidru.specs.Batches.{refused_edit};
+ghost use Rattle.laspidru.specs.Batches.{IsBatchOf, IsCanonicalIf, IsEdit, IsEditOf, IsReport};
+ghost use Rattle.laspidru.specs.Batches.{batch_asked, change_asked, fitting, refused_edit};
+ghost use Rattle.laspidru.specs.Batches.{text_left_by};
 ghost use Rattle.laspidru.specs.Codes.{IsAnswer, IsAnswerOrNoMemory, unless};
-ghost use Rattle.laspidru.specs.Objects.{batch_in, batch_of, document_in, document_of, in_use};
-ghost use Rattle.laspidru.specs.Objects.{position_at};
+ghost use Rattle.laspidru.specs.Objects.{as_batch, as_document, in_use, position_at, stored_batch};
+ghost use Rattle.laspidru.specs.Objects.{stored_document};
 
 use crate::bytes::copy_bytes;
 use crate::changes::{changes_of, encoding_of, fits, refusal_of, report};
@@ -35,8 +35,8 @@ fn object_canonical(
     requires checked { refused_edit edits.now texts.now ≡ None }
     requires empty { batch.old.value ≡ None }
     ensures answer { IsAnswerOrNoMemory
-        (fitting encoding edits.now texts.now (document_of object.now)) result
-        (λ asked. IsCanonicalIf (left_by asked) asked result batch.new.value fault.new) }
+        (fitting encoding edits.now texts.now (as_document object.now)) result
+        (λ asked. IsCanonicalIf (text_left_by asked) asked result batch.new.value fault.new) }
     ensures unchanged { result ≢ OK → batch.new.value ≡ None }
     ensures fault { result ≢ INSIDE_CHARACTER → result ≢ REVERSED_RANGE → fault.new ≡ fault.old }
 {
@@ -73,9 +73,10 @@ pub extern "C" fn laspidru_document_canonical(
     batch: &mut Handle,
     fault: &mut Fault,
 ) -> u32
-    ensures answer { let text = unless (in_use batch.old.value) (document_in handle.old.value) in
+    ensures answer { let text =
+        unless (in_use batch.old.value) (stored_document handle.old.value) in
         IsAnswerOrNoMemory (batch_asked encoding edits.now texts.now text) result
-        (λ asked. IsCanonicalIf (left_by asked) asked result batch.new.value fault.new) }
+        (λ asked. IsCanonicalIf (text_left_by asked) asked result batch.new.value fault.new) }
     ensures handle { handle.new.value ≡ handle.old.value }
     ensures unchanged { result ≢ OK → batch.new.value ≡ batch.old.value }
     ensures fault { result ≢ INSIDE_CHARACTER → result ≢ REVERSED_RANGE → fault.new ≡ fault.old }
@@ -100,7 +101,7 @@ pub extern "C" fn laspidru_document_canonical(
 
 /// Returns how many changes a batch has.
 fn object_len(object: &Object, out: &mut usize) -> u32
-    ensures answer { IsAnswer (batch_of object.now) result (λ changes. out.new ≡ length changes) }
+    ensures answer { IsAnswer (as_batch object.now) result (λ changes. out.new ≡ length changes) }
     ensures unchanged { result ≢ OK → out.new ≡ out.old }
 {
     let Object::Batch(changes) = object else {
@@ -113,7 +114,7 @@ fn object_len(object: &Object, out: &mut usize) -> u32
 /// Returns how many changes a batch has, in constant time. Codes: EMPTY, OTHER_KIND.
 #[unsafe(no_mangle)]
 pub extern "C" fn laspidru_batch_len(alloc: Global, batch: &mut Handle, out: &mut usize) -> u32
-    ensures answer { IsAnswer (batch_in batch.old.value) result
+    ensures answer { IsAnswer (stored_batch batch.old.value) result
         (λ changes. out.new ≡ length changes) }
     ensures handle { batch.new.value ≡ batch.old.value }
     ensures unchanged { result ≢ OK → out.new ≡ out.old }
@@ -164,7 +165,7 @@ fn object_edit(
     out: &mut [u8],
     copied: &mut usize,
 ) -> u32
-    ensures answer { IsAnswer (change_asked index (batch_of object.now)) result
+    ensures answer { IsAnswer (change_asked index (as_batch object.now)) result
         (IsEditOf edit.new out.old out.new copied.new) }
     ensures unchanged { result ≢ OK
         → (edit.new ≡ edit.old) × (out.new ≡ out.old) × (copied.new ≡ copied.old) }
@@ -192,7 +193,7 @@ pub extern "C" fn laspidru_batch_edit(
     out: &mut [u8],
     copied: &mut usize,
 ) -> u32
-    ensures answer { IsAnswer (change_asked index (batch_in batch.old.value)) result
+    ensures answer { IsAnswer (change_asked index (stored_batch batch.old.value)) result
         (IsEditOf out_edit.new out.old out.new copied.new) }
     ensures handle { batch.new.value ≡ batch.old.value }
     ensures unchanged { result ≢ OK

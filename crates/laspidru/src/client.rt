@@ -2,7 +2,8 @@
 
 ghost use Rattle.std.specs.Prelude.{◌≡◌, ◌≢◌, IfErr, IfOk, Some, Err, Ok};
 ghost use Rattle.laspidru.specs.declared.object.Object.TheVariants.{Client as ClientOf};
-ghost use Rattle.laspidru.specs.Clients.{IsState, client_asked, client_in, client_of, frame_asked};
+ghost use Rattle.laspidru.specs.Clients.{IsState, as_client, client_asked, frame_asked};
+ghost use Rattle.laspidru.specs.Clients.{stored_client};
 ghost use Rattle.laspidru.specs.Codes.{IsAnswer, IsAnswerOrNoMemory, unless};
 ghost use Rattle.laspidru.specs.Objects.{IsCopy, in_use, rest_asked};
 
@@ -75,7 +76,7 @@ pub extern "C" fn laspidru_client_new(
 
 /// Returns the state of an object's client.
 fn object_state(object: &Object, out: &mut ClientState) -> u32
-    ensures answer { IsAnswer (client_of object.now) result (IsState out.new) }
+    ensures answer { IsAnswer (as_client object.now) result (IsState out.new) }
     ensures unchanged { result ≢ OK → out.new ≡ out.old }
 {
     let Object::Client(editor) = object else {
@@ -99,7 +100,7 @@ pub extern "C" fn laspidru_client_state(
     handle: &mut Handle,
     out: &mut ClientState,
 ) -> u32
-    ensures answer { IsAnswer (client_in handle.old.value) result (IsState out.new) }
+    ensures answer { IsAnswer (stored_client handle.old.value) result (IsState out.new) }
     ensures handle { handle.new.value ≡ handle.old.value }
     ensures unchanged { result ≢ OK → out.new ≡ out.old }
 {
@@ -113,7 +114,7 @@ pub extern "C" fn laspidru_client_state(
 
 /// Copies the frame of an object's client.
 fn object_frame(object: &Object, start: usize, out: &mut [u8], copied: &mut usize) -> u32
-    ensures answer { IsAnswer (rest_asked start (frame_asked (client_of object.now))) result
+    ensures answer { IsAnswer (rest_asked start (frame_asked (as_client object.now))) result
         (IsCopy out.old out.new copied.new) }
     ensures unchanged { result ≢ OK → (out.new ≡ out.old) × (copied.new ≡ copied.old) }
 {
@@ -134,7 +135,8 @@ pub extern "C" fn laspidru_client_frame(
     out: &mut [u8],
     copied: &mut usize,
 ) -> u32
-    ensures answer { IsAnswer (rest_asked start (frame_asked (client_in handle.old.value))) result
+    ensures answer { IsAnswer
+        (rest_asked start (frame_asked (stored_client handle.old.value))) result
         (IsCopy out.old out.new copied.new) }
     ensures handle { handle.new.value ≡ handle.old.value }
     ensures unchanged { result ≢ OK → (out.new ≡ out.old) × (copied.new ≡ copied.old) }

@@ -4,7 +4,8 @@ ghost use Rattle.std.specs.Prelude.{◌≡◌, ◌≢◌, Err, Some, [], false, 
 ghost use Rattle.lsp_replay.specs.Engine.{Called, state_of};
 ghost use Rattle.lsp_replay.specs.AllRecords.{RanOver};
 ghost use Rattle.lsp_stream.specs.declared.fault.EngineFault.TheVariants.{Read, TooManyTurns};
-ghost use Rattle.laspidru.specs.Logs.{IsLawful, RanOn, allowed_turns, command_output, reading_of};
+ghost use Rattle.laspidru.specs.Logs.{IsLawful, RanOn, command_output, reading_of};
+ghost use Rattle.laspidru.specs.inside.Logs.{command_turns};
 
 use crate::log_reader::LogReader;
 use lsp_replay::{EngineFault, Outcome, Settings, Told, check, convert, normalise, replay};
@@ -25,7 +26,7 @@ pub enum Command {
 
 /// The result of a command, and its output.
 #[derive(Drop)]
-pub struct Run {
+pub struct CommandRun {
     pub(crate) answer: Result<Outcome, EngineFault>,
     pub(crate) output: Vec<u8>,
 }
@@ -49,7 +50,7 @@ fn run_between(
         → reader.new.rest.now ≡ [] }
     ensures no_read_fault { result ≢ Err Read }
     ensures called { Called reader.old.calls reader.new.calls writer.old.calls writer.new.calls
-        allowed_turns false writer.new.failed reader.new.ended (Some reader.new.rest.now) result }
+        command_turns false writer.new.failed reader.new.ended (Some reader.new.rest.now) result }
 {
     match command {
         Command::Check => check(alloc, reader, writer, settings, u64::MAX),
@@ -60,13 +61,18 @@ fn run_between(
 }
 
 /// Runs a command over the bytes of a log.
-pub(crate) fn run_command(alloc: Global, command: Command, settings: Settings, log: &[u8]) -> Run
+pub(crate) fn run_command(
+    alloc: Global,
+    command: Command,
+    settings: Settings,
+    log: &[u8],
+) -> CommandRun
     ensures { RanOn command settings log.now result.output.items result.answer }
 {
     let mut reader = LogReader::new(log);
     let mut writer = Told::new(Vec::new(alloc));
     let answer = run_between(alloc, command, settings, &mut reader, &mut writer);
-    Run {
+    CommandRun {
         answer,
         output: writer.into_inner(),
     }

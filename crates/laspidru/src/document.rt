@@ -1,12 +1,14 @@
-//! The functions on documents.
+//! The functions on documents. `positions` has those on positions and lines.
 
 ghost use Rattle.std.specs.Prelude.{◌≡◌, ◌≢◌, ◌≤◌, None, Ok, Some, IfErr, IfOk, length};
 ghost use Rattle.laspidru.specs.declared.object.Object.TheVariants.{Document};
-ghost use Rattle.laspidru.specs.Batches.{IsLeft, batch_asked, fitting, left_by, refused_edit};
-ghost use Rattle.laspidru.specs.Codes.{IsAnswer, IsAnswerOrNoMemory, IsRefusedOr, both, unless};
-ghost use Rattle.laspidru.specs.Objects.{IsCopy, IsLine, IsPositionAt, IsSize, document_in};
-ghost use Rattle.laspidru.specs.Objects.{document_of, encoding_at, in_use, line_asked};
-ghost use Rattle.laspidru.specs.Objects.{offset_asked, position_at, rest_asked, text_asked};
+ghost use Rattle.laspidru.specs.Batches.{IsTextLeft, batch_asked, fitting, refused_edit};
+ghost use Rattle.laspidru.specs.Batches.{text_left_by};
+ghost use Rattle.laspidru.specs.Codes.{IsAnswer, IsAnswerOrNoMemory, unless};
+ghost use Rattle.laspidru.specs.Objects.{IsCopy, IsSize, as_document, in_use, rest_asked};
+ghost use Rattle.laspidru.specs.Objects.{stored_document, text_asked};
+
+mod positions;
 
 use crate::bytes::{copy_text, utf8_text};
 use crate::changes::{changes_of, encoding_of, fits, refusal_of, report};
@@ -16,8 +18,7 @@ use crate::codes::{
 };
 use crate::handle::Handle;
 use crate::object::Object;
-use crate::place::{Edit, Fault, Line, Place, Size};
-use crate::positions::{text_line, text_offset, text_position};
+use crate::place::{Edit, Fault, Size};
 use lsp_edit::{IndexedText, MAX_OLD_TEXT};
 use lsp_text::Encoding;
 use std::alloc::{AllocError, Global};
@@ -88,8 +89,8 @@ fn change_object(
 ) -> u32
     requires { refused_edit edits.now texts.now ≡ None }
     ensures answer { IsAnswerOrNoMemory
-        (fitting encoding edits.now texts.now (document_of object.old)) result
-        (λ asked. IsLeft (left_by asked) result (Some object.new) fault.new) }
+        (fitting encoding edits.now texts.now (as_document object.old)) result
+        (λ asked. IsTextLeft (text_left_by asked) result (Some object.new) fault.new) }
     ensures unchanged { result ≢ OK → object.new ≡ object.old }
     ensures fault { result ≢ INSIDE_CHARACTER → result ≢ REVERSED_RANGE → fault.new ≡ fault.old }
 {
@@ -127,8 +128,8 @@ pub extern "C" fn laspidru_document_change(
     fault: &mut Fault,
 ) -> u32
     ensures answer { IsAnswerOrNoMemory
-        (batch_asked encoding edits.now texts.now (document_in handle.old.value)) result
-        (λ asked. IsLeft (left_by asked) result handle.new.value fault.new) }
+        (batch_asked encoding edits.now texts.now (stored_document handle.old.value)) result
+        (λ asked. IsTextLeft (text_left_by asked) result handle.new.value fault.new) }
     ensures unchanged { result ≢ OK → handle.new.value ≡ handle.old.value }
     ensures fault { result ≢ INSIDE_CHARACTER → result ≢ REVERSED_RANGE → fault.new ≡ fault.old }
 {
@@ -149,7 +150,7 @@ pub extern "C" fn laspidru_document_change(
 /// Returns how many bytes and how many lines an object's text has.
 #[tactic(auto, using(lsp_text::proofs::TextLines::IndexesLemmas::indexes_count))]
 fn object_size(object: &Object, out: &mut Size) -> u32
-    ensures answer { IsAnswer (document_of object.now) result (IsSize out.new) }
+    ensures answer { IsAnswer (as_document object.now) result (IsSize out.new) }
     ensures unchanged { result ≢ OK → out.new ≡ out.old }
 {
     let Object::Document(document) = object else {
@@ -166,7 +167,7 @@ fn object_size(object: &Object, out: &mut Size) -> u32
 /// OTHER_KIND.
 #[unsafe(no_mangle)]
 pub extern "C" fn laspidru_document_size(alloc: Global, handle: &mut Handle, out: &mut Size) -> u32
-    ensures answer { IsAnswer (document_in handle.old.value) result (IsSize out.new) }
+    ensures answer { IsAnswer (stored_document handle.old.value) result (IsSize out.new) }
     ensures handle { handle.new.value ≡ handle.old.value }
     ensures unchanged { result ≢ OK → out.new ≡ out.old }
 {
@@ -178,43 +179,9 @@ pub extern "C" fn laspidru_document_size(alloc: Global, handle: &mut Handle, out
     code
 }
 
-/// Returns where a line of an object's text starts and ends.
-fn object_line(object: &Object, line: u32, out: &mut Line) -> u32
-    ensures answer { IsAnswer (line_asked line (document_of object.now)) result
-        (IsLine line out.new) }
-    ensures unchanged { result ≢ OK → out.new ≡ out.old }
-{
-    let Object::Document(document) = object else {
-        return OTHER_KIND;
-    };
-    text_line(document.text(), line, out)
-}
-
-/// Returns the byte offsets at which a line starts, and at which it ends without its line end.
-/// Codes, in this order: EMPTY, OTHER_KIND, OUT_OF_RANGE. Costs two binary searches.
-#[unsafe(no_mangle)]
-pub extern "C" fn laspidru_document_line(
-    alloc: Global,
-    handle: &mut Handle,
-    line: u32,
-    out: &mut Line,
-) -> u32
-    ensures answer { IsAnswer (line_asked line (document_in handle.old.value)) result
-        (IsLine line out.new) }
-    ensures handle { handle.new.value ≡ handle.old.value }
-    ensures unchanged { result ≢ OK → out.new ≡ out.old }
-{
-    let Some(object) = handle.take(alloc) else {
-        return EMPTY;
-    };
-    let code = object_line(&object, line, out);
-    handle.put(object);
-    code
-}
-
 /// Copies the bytes of an object's text from `start` on, as many as `out` has room for.
 fn object_copy(object: &Object, start: usize, out: &mut [u8], copied: &mut usize) -> u32
-    ensures answer { IsAnswer (rest_asked start (document_of object.now)) result
+    ensures answer { IsAnswer (rest_asked start (as_document object.now)) result
         (IsCopy out.old out.new copied.new) }
     ensures unchanged { result ≢ OK → (out.new ≡ out.old) × (copied.new ≡ copied.old) }
 {
@@ -234,7 +201,7 @@ pub extern "C" fn laspidru_document_copy(
     out: &mut [u8],
     copied: &mut usize,
 ) -> u32
-    ensures answer { IsAnswer (rest_asked start (document_in handle.old.value)) result
+    ensures answer { IsAnswer (rest_asked start (stored_document handle.old.value)) result
         (IsCopy out.old out.new copied.new) }
     ensures handle { handle.new.value ≡ handle.old.value }
     ensures unchanged { result ≢ OK → (out.new ≡ out.old) × (copied.new ≡ copied.old) }
@@ -243,88 +210,6 @@ pub extern "C" fn laspidru_document_copy(
         return EMPTY;
     };
     let code = object_copy(&object, start, out, copied);
-    handle.put(object);
-    code
-}
-
-/// Returns the byte offset that a position denotes in an object's text.
-fn object_offset(object: &Object, encoding: Encoding, position: Place, out: &mut usize) -> u32
-    ensures answer { IsAnswer
-        (offset_asked (position_at position) (Ok encoding) (document_of object.now)) result
-        (λ offset. out.new ≡ offset) }
-    ensures unchanged { result ≢ OK → out.new ≡ out.old }
-{
-    let Object::Document(document) = object else {
-        return OTHER_KIND;
-    };
-    text_offset(document.text(), encoding, position, out)
-}
-
-/// Returns the byte offset that a position denotes (LSP 3.17, Position). After the last line that
-/// is the end of the text, after a line's last character the end of the line. Codes, in this order:
-/// BAD_ENCODING, EMPTY, OTHER_KIND, INSIDE_CHARACTER. Costs a search among the text's blocks, and
-/// the line's text in its block up to the character; in UTF-8 the search alone.
-#[unsafe(no_mangle)]
-pub extern "C" fn laspidru_document_offset(
-    alloc: Global,
-    handle: &mut Handle,
-    encoding: u32,
-    position: Place,
-    out: &mut usize,
-) -> u32
-    ensures answer { let document = document_in handle.old.value in IsAnswer
-        (offset_asked (position_at position) (encoding_at encoding) document) result
-        (λ offset. out.new ≡ offset) }
-    ensures handle { handle.new.value ≡ handle.old.value }
-    ensures unchanged { result ≢ OK → out.new ≡ out.old }
-{
-    let Some(encoding) = encoding_of(encoding) else {
-        return BAD_ENCODING;
-    };
-    let Some(object) = handle.take(alloc) else {
-        return EMPTY;
-    };
-    let code = object_offset(&object, encoding, position, out);
-    handle.put(object);
-    code
-}
-
-/// Returns the exact position of a byte offset in an object's text.
-fn object_position(object: &Object, encoding: Encoding, offset: usize, out: &mut Place) -> u32
-    ensures answer { IsRefusedOr (document_of object.now) result
-        (λ text. IsPositionAt offset encoding text result out.new) }
-    ensures unchanged { result ≢ OK → out.new ≡ out.old }
-{
-    let Object::Document(document) = object else {
-        return OTHER_KIND;
-    };
-    text_position(document.text(), encoding, offset, out)
-}
-
-/// Returns the exact position of a byte offset. Codes, in this order: BAD_ENCODING, EMPTY,
-/// OTHER_KIND; INSIDE_CHARACTER, also for an offset between CR and LF or past the end. Costs a
-/// search among the text's blocks and one among a block's lines, and the line's text in the block
-/// up to the offset.
-#[unsafe(no_mangle)]
-pub extern "C" fn laspidru_document_position(
-    alloc: Global,
-    handle: &mut Handle,
-    encoding: u32,
-    offset: usize,
-    out: &mut Place,
-) -> u32
-    ensures answer { IsRefusedOr (both (encoding_at encoding) (document_in handle.old.value)) result
-        (λ asked. IsPositionAt offset asked.0 asked.1 result out.new) }
-    ensures handle { handle.new.value ≡ handle.old.value }
-    ensures unchanged { result ≢ OK → out.new ≡ out.old }
-{
-    let Some(encoding) = encoding_of(encoding) else {
-        return BAD_ENCODING;
-    };
-    let Some(object) = handle.take(alloc) else {
-        return EMPTY;
-    };
-    let code = object_position(&object, encoding, offset, out);
     handle.put(object);
     code
 }

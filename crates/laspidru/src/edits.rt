@@ -6,10 +6,10 @@ ghost use Rattle.std.specs.Str.{is_utf8};
 ghost use Rattle.laspidru.specs.Batches.{refused_edit};
 ghost use Rattle.laspidru.specs.Codes.{IsAnswerOrNoMemory, unless};
 ghost use Rattle.laspidru.specs.Edits.{AreApplied, AreBatched, AreFaulty, IsBatchOfAsked};
-ghost use Rattle.laspidru.specs.Edits.{IsEditsReport, IsUnlessFaulty, IsTooMuch, edits_asked};
+ghost use Rattle.laspidru.specs.Edits.{IsEditsReport, IsTooMuch, IsUnlessFaulty, edits_asked};
 ghost use Rattle.laspidru.specs.Edits.{edits_on, fitting_edits, range_or, replacement_of};
 ghost use Rattle.laspidru.specs.Edits.{replacement_with, replacements_of, text_left};
-ghost use Rattle.laspidru.specs.Objects.{document_in, document_of, in_use};
+ghost use Rattle.laspidru.specs.Objects.{as_document, in_use, stored_document};
 
 use crate::changes::{encoding_of, fits, position_of, refusal_of};
 use crate::codes::{
@@ -137,7 +137,7 @@ fn object_batch_of_edits(
     requires checked { refused_edit edits.now texts.now ≡ None }
     requires empty { batch.old.value ≡ None }
     ensures answer { IsAnswerOrNoMemory
-        (fitting_edits encoding edits.now texts.now (document_of object.now)) result
+        (fitting_edits encoding edits.now texts.now (as_document object.now)) result
         (λ asked. AreBatched asked result batch.new.value fault.new) }
     ensures unchanged { result ≢ OK → batch.new.value ≡ None }
     ensures fault { IsUnlessFaulty result (fault.new ≡ fault.old) }
@@ -176,7 +176,8 @@ pub extern "C" fn laspidru_document_batch_of_edits(
     batch: &mut Handle,
     fault: &mut EditsFault,
 ) -> u32
-    ensures answer { let text = unless (in_use batch.old.value) (document_in handle.old.value) in
+    ensures answer { let text =
+        unless (in_use batch.old.value) (stored_document handle.old.value) in
         IsAnswerOrNoMemory (edits_asked encoding edits.now texts.now text) result
         (λ asked. AreBatched asked result batch.new.value fault.new) }
     ensures handle { handle.new.value ≡ handle.old.value }
@@ -230,7 +231,7 @@ fn object_apply_edits(
 ) -> u32
     requires { refused_edit edits.now texts.now ≡ None }
     ensures answer { IsAnswerOrNoMemory
-        (fitting_edits encoding edits.now texts.now (document_of object.old)) result
+        (fitting_edits encoding edits.now texts.now (as_document object.old)) result
         (λ asked. AreApplied asked result (Some object.new) fault.new) }
     ensures unchanged { result ≢ OK → object.new ≡ object.old }
     ensures fault { IsUnlessFaulty result (fault.new ≡ fault.old) }
@@ -264,7 +265,7 @@ pub extern "C" fn laspidru_document_apply_edits(
     fault: &mut EditsFault,
 ) -> u32
     ensures answer { IsAnswerOrNoMemory
-        (edits_asked encoding edits.now texts.now (document_in handle.old.value)) result
+        (edits_asked encoding edits.now texts.now (stored_document handle.old.value)) result
         (λ asked. AreApplied asked result handle.new.value fault.new) }
     ensures unchanged { result ≢ OK → handle.new.value ≡ handle.old.value }
     ensures fault { IsUnlessFaulty result (fault.new ≡ fault.old) }

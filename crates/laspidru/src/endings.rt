@@ -1,8 +1,8 @@
 //! The settings that C passes to a command on a log, and the ending that it gets.
 
 ghost use Rattle.std.specs.Prelude.{◌≡◌, Err, IfErr, IfOk, Ok};
-ghost use Rattle.laspidru.specs.Logs.{IsUnlessEnded, ending_out, fault_out, frame_out, log_asked};
-ghost use Rattle.laspidru.specs.Logs.{outcome_out};
+ghost use Rattle.laspidru.specs.Logs.{IsUnlessEnded, ending_out, fault_out, frame_fault_out};
+ghost use Rattle.laspidru.specs.Logs.{log_asked, outcome_out};
 
 use crate::answers::limits_of;
 use crate::changes::encoding_of;
@@ -97,7 +97,7 @@ fn fault_ending(output_len: usize, place: u64) -> Ending
 
 /// Returns the ending of a command at a faulty frame.
 fn frame_ending(output_len: usize, fault: FrameFault) -> Ending
-    ensures { result ≡ frame_out output_len fault }
+    ensures { result ≡ frame_fault_out output_len fault }
 {
     let (frame, place) = match fault {
         FrameFault::BadHeader { place } => (1, place),

@@ -3,7 +3,8 @@
 ghost use Rattle.std.specs.Prelude.{◌≡◌, ◌≢◌, ◌↔◌, IsTrue, IsOkAnd, Some, false, []};
 ghost use Rattle.laspidru.specs.declared.object.Object.TheVariants.{Framer as FramerOf};
 ghost use Rattle.laspidru.specs.Codes.{IsAnswer, IsAnswerOrNoMemory, IsRefusedOr, unless};
-ghost use Rattle.laspidru.specs.Framers.{IsBodyAnswer, IsFed, IsReleased, framer_in, framer_limits, framer_of};
+ghost use Rattle.laspidru.specs.Framers.{IsBodyAnswer, IsPieceFed, IsReleased, as_framer};
+ghost use Rattle.laspidru.specs.Framers.{framer_limits, stored_framer};
 ghost use Rattle.laspidru.specs.Objects.{in_use};
 ghost use Rattle.laspidru.specs.Streams.{framing_of};
 
@@ -48,9 +49,9 @@ pub extern "C" fn laspidru_framer_new(alloc: Global, handle: &mut Handle, max_bo
 
 /// Feeds a piece of a stream to an object's framer.
 fn object_feed(object: &mut Object, piece: &[u8], out: &mut Taken) -> u32
-    ensures answer { IsRefusedOr (framer_of object.old) result
-        (λ framing. IsOkAnd (framer_of object.new)
-        (λ new. IsFed framing piece.now result new out.new)) }
+    ensures answer { IsRefusedOr (as_framer object.old) result
+        (λ framing. IsOkAnd (as_framer object.new)
+        (λ new. IsPieceFed framing piece.now result new out.new)) }
     ensures unchanged { result ≢ OK → result ≢ BAD_FRAME
         → (object.new ≡ object.old) × (out.new ≡ out.old) }
 {
@@ -72,9 +73,9 @@ pub extern "C" fn laspidru_framer_feed(
     piece: &[u8],
     out: &mut Taken,
 ) -> u32
-    ensures answer { IsRefusedOr (framer_in handle.old.value) result
-        (λ framing. IsOkAnd (framer_in handle.new.value)
-        (λ new. IsFed framing piece.now result new out.new)) }
+    ensures answer { IsRefusedOr (stored_framer handle.old.value) result
+        (λ framing. IsOkAnd (stored_framer handle.new.value)
+        (λ new. IsPieceFed framing piece.now result new out.new)) }
     ensures unchanged { result ≢ OK → result ≢ BAD_FRAME
         → (handle.new.value ≡ handle.old.value) × (out.new ≡ out.old) }
 {
@@ -99,7 +100,7 @@ pub(crate) fn copy_body(framer: &Framer, start: usize, out: &mut [u8], copied: &
 
 /// Copies the body that an object's framer has buffered.
 fn object_body(object: &Object, start: usize, out: &mut [u8], copied: &mut usize) -> u32
-    ensures answer { IsRefusedOr (framer_of object.now) result
+    ensures answer { IsRefusedOr (as_framer object.now) result
         (λ framing. IsBodyAnswer framing start result out.old out.new copied.new) }
     ensures unchanged { result ≢ OK → (out.new ≡ out.old) × (copied.new ≡ copied.old) }
 {
@@ -120,7 +121,7 @@ pub extern "C" fn laspidru_framer_body(
     out: &mut [u8],
     copied: &mut usize,
 ) -> u32
-    ensures answer { IsRefusedOr (framer_in handle.old.value) result
+    ensures answer { IsRefusedOr (stored_framer handle.old.value) result
         (λ framing. IsBodyAnswer framing start result out.old out.new copied.new) }
     ensures handle { handle.new.value ≡ handle.old.value }
     ensures unchanged { result ≢ OK → (out.new ≡ out.old) × (copied.new ≡ copied.old) }
@@ -135,8 +136,8 @@ pub extern "C" fn laspidru_framer_body(
 
 /// Releases the message that an object's framer has buffered.
 fn object_next(object: &mut Object) -> u32
-    ensures answer { IsAnswer (framer_of object.old) result
-        (λ framing. IsOkAnd (framer_of object.new) (λ new. IsReleased framing new)) }
+    ensures answer { IsAnswer (as_framer object.old) result
+        (λ framing. IsOkAnd (as_framer object.new) (λ new. IsReleased framing new)) }
     ensures unchanged { result ≢ OK → object.new ≡ object.old }
 {
     let Object::Framer(framer) = object else {
@@ -150,8 +151,8 @@ fn object_next(object: &mut Object) -> u32
 /// is buffered. Codes, in this order: EMPTY, OTHER_KIND. Takes no memory.
 #[unsafe(no_mangle)]
 pub extern "C" fn laspidru_framer_next(alloc: Global, handle: &mut Handle) -> u32
-    ensures answer { IsAnswer (framer_in handle.old.value) result
-        (λ framing. IsOkAnd (framer_in handle.new.value) (λ new. IsReleased framing new)) }
+    ensures answer { IsAnswer (stored_framer handle.old.value) result
+        (λ framing. IsOkAnd (stored_framer handle.new.value) (λ new. IsReleased framing new)) }
     ensures unchanged { result ≢ OK → handle.new.value ≡ handle.old.value }
 {
     let Some(mut object) = handle.take(alloc) else {
@@ -164,7 +165,7 @@ pub extern "C" fn laspidru_framer_next(alloc: Global, handle: &mut Handle) -> u3
 
 /// Returns whether an object's framer has no byte buffered and found no fault.
 fn object_at_rest(object: &Object, out: &mut bool) -> u32
-    ensures answer { IsAnswer (framer_of object.now) result
+    ensures answer { IsAnswer (as_framer object.now) result
         (λ framing. IsTrue out.new ↔ ((framing.buffered ≡ []) × (framing.failed ≡ false))) }
     ensures unchanged { result ≢ OK → out.new ≡ out.old }
 {
@@ -179,7 +180,7 @@ fn object_at_rest(object: &Object, out: &mut bool) -> u32
 /// end here. Codes, in this order: EMPTY, OTHER_KIND.
 #[unsafe(no_mangle)]
 pub extern "C" fn laspidru_framer_at_rest(alloc: Global, handle: &mut Handle, out: &mut bool) -> u32
-    ensures answer { IsAnswer (framer_in handle.old.value) result
+    ensures answer { IsAnswer (stored_framer handle.old.value) result
         (λ framing. IsTrue out.new ↔ ((framing.buffered ≡ []) × (framing.failed ≡ false))) }
     ensures handle { handle.new.value ≡ handle.old.value }
     ensures unchanged { result ≢ OK → out.new ≡ out.old }

@@ -3,7 +3,7 @@
 ghost use Rattle.std.specs.Prelude.{◌≡◌, Option, Some, None, IsSome, option_map};
 ghost use Rattle.std.specs.Option.{is_some};
 ghost use Rattle.laspidru.specs.declared.object.Object.{Object as StoredObject};
-ghost use Rattle.laspidru.specs.Stored.{object_if};
+ghost use Rattle.laspidru.specs.inside.Stored.{object_if};
 
 use crate::object::Object;
 use raw_box::RawBox;

@@ -1,4 +1,5 @@
-//! Laws that no call states.
+//! Laws that no call states. Clauses name constants, and C sees numbers: so the codes' numbers are
+//! a law.
 
 ghost use Rattle.laspidru.specs.laws.Numbers.{HaveKinds, HaveNumbers, Rise, codes, kinds};
 

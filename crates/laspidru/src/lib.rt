@@ -5,10 +5,12 @@
 //! changed. Only after the four faults of a log, [`CUT`] to [`BAD_LOG`], the output up to the fault
 //! is kept; and after [`BAD_FRAME`] a framer takes no more of its stream.
 //!
-//! - `document`: the functions on documents; `batch`: those on canonical batches; `edits`: those
-//!   on text edits; `framer`: those on framers; `log`: those on logs.
-//! - `server`: the functions on servers, with those on its stream (`stream`), on positions and
-//!   lines (`positions`), on text edits (`edits`) and on canonical messages (`message`).
+//! - `document`: the functions on documents, with those on positions and lines (`positions`);
+//!   `batch`: those on canonical batches; `edits`: those on text edits; `framer`: those on framers;
+//!   `log`: those on logs.
+//! - `server`: the functions on servers, with those on its stream (`stream`), on its documents
+//!   (`documents`), on positions and lines (`positions`), on text edits (`edits`) and on canonical
+//!   messages (`message`).
 //! - `client`: the functions on clients, with those of its lifecycle (`lifecycle`), on documents
 //!   (`editing`, `documents`, `positions`), on bodies (`delivery`) and on its stream (`stream`).
 //! - `handle`: a handle that C holds; `object`: the object in it; `session`: a server with its last
@@ -56,7 +58,7 @@ pub use codes::{
     REVERSED_RANGE, STALE_VERSION, TOO_LONG, TOO_MANY_CHANGES, TOO_MANY_DOCUMENTS, TOO_MANY_TURNS,
     WRONG_PHASE,
 };
-pub use command::{Command, Run};
+pub use command::{Command, CommandRun};
 pub use editor::Editor;
 pub use endings::{Ending, LogSettings};
 pub use handle::Handle;

@@ -4,13 +4,13 @@ ghost use Rattle.std.specs.Prelude.{◌≡◌, ◌≢◌, ◌⊎◌, None};
 ghost use Rattle.laspidru.specs.declared.command.Command.TheVariants.{Check, Convert, Normalise};
 ghost use Rattle.laspidru.specs.declared.command.Command.TheVariants.{Replay};
 ghost use Rattle.laspidru.specs.Codes.{IsAnswer, IsAnswerOrNoMemory, unless};
-ghost use Rattle.laspidru.specs.Logs.{IsEnded, IsRun, IsUnlessEnded, log_asked, output_in};
-ghost use Rattle.laspidru.specs.Logs.{output_of};
+ghost use Rattle.laspidru.specs.Logs.{IsCommandRun, IsEnded, IsUnlessEnded, as_output, log_asked};
+ghost use Rattle.laspidru.specs.Logs.{stored_output};
 ghost use Rattle.laspidru.specs.Objects.{IsCopy, in_use, rest_asked};
 
 use crate::bytes::copy_from;
 use crate::codes::{EMPTY, IN_USE, OK, OTHER_KIND, OUT_OF_MEMORY};
-use crate::command::{Command, Run, run_command};
+use crate::command::{Command, CommandRun, run_command};
 use crate::endings::{Ending, LogSettings, ending_of, log_settings_of};
 use crate::handle::Handle;
 use crate::object::Object;
@@ -18,14 +18,14 @@ use std::alloc::Global;
 
 /// Puts the output of a run into an empty handle. After a fault that isn't the log's the output
 /// isn't kept.
-fn keep(alloc: Global, handle: &mut Handle, run: Run, out: &mut Ending) -> u32
+fn keep(alloc: Global, handle: &mut Handle, run: CommandRun, out: &mut Ending) -> u32
     requires { handle.old.value ≡ None }
     ensures answer { (result ≡ OUT_OF_MEMORY)
         ⊎ IsEnded run.output.items run.answer result handle.new.value out.new }
     ensures unchanged { IsUnlessEnded result
         ((handle.new.value ≡ handle.old.value) × (out.new ≡ out.old)) }
 {
-    let Run { answer, output } = run;
+    let CommandRun { answer, output } = run;
     let (code, ending) = match ending_of(output.len(), answer) {
         Ok(ended) => ended,
         Err(code) => return code,
@@ -49,7 +49,7 @@ fn run_log(
 ) -> u32
     ensures answer { let asked = unless (in_use handle.old.value) (log_asked settings.now) in
         IsAnswerOrNoMemory asked result
-        (λ settings. IsRun command settings log.now result handle.new.value out.new) }
+        (λ settings. IsCommandRun command settings log.now result handle.new.value out.new) }
     ensures unchanged { IsUnlessEnded result
         ((handle.new.value ≡ handle.old.value) × (out.new ≡ out.old)) }
 {
@@ -82,7 +82,7 @@ pub extern "C" fn laspidru_log_check(
 ) -> u32
     ensures answer { let asked = unless (in_use handle.old.value) (log_asked settings.now) in
         IsAnswerOrNoMemory asked result
-        (λ settings. IsRun Check settings log.now result handle.new.value out.new) }
+        (λ settings. IsCommandRun Check settings log.now result handle.new.value out.new) }
     ensures unchanged { IsUnlessEnded result
         ((handle.new.value ≡ handle.old.value) × (out.new ≡ out.old)) }
 {
@@ -102,7 +102,7 @@ pub extern "C" fn laspidru_log_replay(
 ) -> u32
     ensures answer { let asked = unless (in_use handle.old.value) (log_asked settings.now) in
         IsAnswerOrNoMemory asked result
-        (λ settings. IsRun Replay settings log.now result handle.new.value out.new) }
+        (λ settings. IsCommandRun Replay settings log.now result handle.new.value out.new) }
     ensures unchanged { IsUnlessEnded result
         ((handle.new.value ≡ handle.old.value) × (out.new ≡ out.old)) }
 {
@@ -123,7 +123,7 @@ pub extern "C" fn laspidru_log_normalise(
 ) -> u32
     ensures answer { let asked = unless (in_use handle.old.value) (log_asked settings.now) in
         IsAnswerOrNoMemory asked result
-        (λ settings. IsRun Normalise settings log.now result handle.new.value out.new) }
+        (λ settings. IsCommandRun Normalise settings log.now result handle.new.value out.new) }
     ensures unchanged { IsUnlessEnded result
         ((handle.new.value ≡ handle.old.value) × (out.new ≡ out.old)) }
 {
@@ -143,7 +143,7 @@ pub extern "C" fn laspidru_log_convert(
 ) -> u32
     ensures answer { let asked = unless (in_use handle.old.value) (log_asked settings.now) in
         IsAnswerOrNoMemory asked result
-        (λ settings. IsRun Convert settings log.now result handle.new.value out.new) }
+        (λ settings. IsCommandRun Convert settings log.now result handle.new.value out.new) }
     ensures unchanged { IsUnlessEnded result
         ((handle.new.value ≡ handle.old.value) × (out.new ≡ out.old)) }
 {
@@ -152,7 +152,7 @@ pub extern "C" fn laspidru_log_convert(
 
 /// Copies an object's output.
 fn object_output(object: &Object, start: usize, out: &mut [u8], copied: &mut usize) -> u32
-    ensures answer { IsAnswer (rest_asked start (output_of object.now)) result
+    ensures answer { IsAnswer (rest_asked start (as_output object.now)) result
         (IsCopy out.old out.new copied.new) }
     ensures unchanged { result ≢ OK → (out.new ≡ out.old) × (copied.new ≡ copied.old) }
 {
@@ -172,7 +172,7 @@ pub extern "C" fn laspidru_output_copy(
     out: &mut [u8],
     copied: &mut usize,
 ) -> u32
-    ensures answer { IsAnswer (rest_asked start (output_in handle.old.value)) result
+    ensures answer { IsAnswer (rest_asked start (stored_output handle.old.value)) result
         (IsCopy out.old out.new copied.new) }
     ensures handle { handle.new.value ≡ handle.old.value }
     ensures unchanged { result ≢ OK → (out.new ≡ out.old) × (copied.new ≡ copied.old) }

@@ -4,7 +4,7 @@ ghost use Rattle.std.specs.Prelude.{◌≡◌, ◌≢◌, ◌<◌, ◌≤◌, If
 ghost use Rattle.std.specs.Str.{chars};
 ghost use Rattle.lsp_text.specs.TextLines.{line_ends};
 ghost use Rattle.laspidru.specs.Codes.{IsAnswer};
-ghost use Rattle.laspidru.specs.Objects.{IsLine, IsPositionAt, line_asked, offset_asked};
+ghost use Rattle.laspidru.specs.Objects.{IsLineExtent, IsPositionAt, line_asked, offset_asked};
 ghost use Rattle.laspidru.specs.Objects.{position_at};
 
 use crate::changes::position_of;
@@ -56,7 +56,7 @@ pub(crate) fn text_position(
 
 /// Returns the byte offsets at which a line starts and ends, if the text has the line.
 fn line_of(text: &TextBuffer, line: u32) -> Option<Line>
-    ensures some { IfSome result (λ found. IsLine line found text.now) }
+    ensures some { IfSome result (λ found. IsLineExtent line found text.now) }
     ensures there { OnSome result (line ≤ line_ends (chars text.now)) }
     ensures none { IfNone result (line_ends (chars text.now) < line) }
 {
@@ -69,7 +69,7 @@ fn line_of(text: &TextBuffer, line: u32) -> Option<Line>
 
 /// Writes the byte offsets at which a line of a text starts and ends to `out`.
 pub(crate) fn text_line(text: &TextBuffer, line: u32, out: &mut Line) -> u32
-    ensures answer { IsAnswer (line_asked line (Ok text.now)) result (IsLine line out.new) }
+    ensures answer { IsAnswer (line_asked line (Ok text.now)) result (IsLineExtent line out.new) }
     ensures unchanged { result ≢ OK → out.new ≡ out.old }
 {
     let Some(found) = line_of(text, line) else {

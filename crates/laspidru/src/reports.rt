@@ -3,9 +3,9 @@
 ghost use Rattle.std.specs.Prelude.{◌≡◌, ◌≢◌, Err, IfErr, IfOk, Ok, OnErr, length};
 ghost use Rattle.lsp_client.specs.Seen.{delivered_view};
 ghost use Rattle.laspidru.specs.Servers.{store_code};
-ghost use Rattle.laspidru.specs.Clients.{IsCallReport, IsStoreReport, call_code, delivered_out};
-ghost use Rattle.laspidru.specs.Clients.{encoding_number, frame_out, phase_number, phase_reason};
-ghost use Rattle.laspidru.specs.Clients.{reason_number};
+ghost use Rattle.laspidru.specs.Clients.{IsStoreReport, delivered_out, encoding_number};
+ghost use Rattle.laspidru.specs.Clients.{phase_number, phase_reason, reason_number, sent_frame};
+ghost use Rattle.laspidru.specs.inside.Clients.{IsCallReport, call_code};
 
 use crate::answers::{Answer, plain, store_code_of};
 use crate::codes::{
@@ -158,7 +158,7 @@ pub(crate) fn delivered_answer(delivered: &Delivered) -> Answer
 
 /// Returns the frame that a delivery sends; no bytes if it sends none.
 pub(crate) fn frame_of(alloc: Global, delivered: Delivered) -> Vec<u8>
-    ensures { result.items ≡ frame_out (delivered_view delivered) }
+    ensures { result.items ≡ sent_frame (delivered_view delivered) }
 {
     match delivered {
         Delivered::Send(frame) => frame,

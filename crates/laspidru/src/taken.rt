@@ -1,8 +1,8 @@
 //! What is taken of a piece of a stream.
 
 ghost use Rattle.std.specs.Prelude.{◌≡◌, ◌≢◌};
-ghost use Rattle.laspidru.specs.Framers.{HasBody, IsFed, IsFrameReport, IsReleased, frame_code};
-ghost use Rattle.laspidru.specs.Framers.{nothing_taken};
+ghost use Rattle.laspidru.specs.Framers.{HasBody, IsFrameReport, IsPieceFed, IsReleased};
+ghost use Rattle.laspidru.specs.Framers.{frame_code, nothing_taken};
 
 use crate::codes::{BAD_FRAME, FAILED, OK, OUT_OF_MEMORY};
 use lsp_frame::{FrameFault, Framer};
@@ -82,7 +82,7 @@ pub(crate) fn release(framer: &mut Framer)
 
 /// Feeds a piece of a stream to a framer.
 pub(crate) fn feed(framer: &mut Framer, piece: &[u8], out: &mut Taken) -> u32
-    ensures answer { IsFed framer.old piece.now result framer.new out.new }
+    ensures answer { IsPieceFed framer.old piece.now result framer.new out.new }
     ensures unchanged { result ≢ OK → result ≢ BAD_FRAME
         → (framer.new ≡ framer.old) × (out.new ≡ out.old) }
 {

@@ -1,4 +1,8 @@
 //! Times work in rounds, and prints a row for it.
+//!
+//! There is a row for each aim, and few others, since the gate proves this program too. What is timed
+//! is a `Work`, whose result is an `Option`. A keystroke is taken out again, so nothing is copied
+//! between rounds.
 
 use std::io;
 use std::rt::Runtime;

@@ -10,7 +10,7 @@ use Rattle.lsp_edit.specs.Edited.{edit_of}
 use Rattle.lsp_edit.specs.Once.{IsDeltaOf, bytes_after, encoding_of, meant_by}
 use Rattle.lsp_edit.proofs.Deltas.OnceLemmas.{within_told}
 use Rattle.lsp_vectors.specs.declared.answer.Left.{Left}
-use Rattle.lsp_vectors.specs.Answer.{IsLeft}
+use Rattle.lsp_vectors.specs.inside.Answer.{IsLeft}
 
 pub left_told : (units : ℕ → ℕ) (max_len : ℕ) (before : List ℕ) (batch : List Edit) (delta : Delta) (left : Left)
     → IsDeltaOf units max_len before batch delta

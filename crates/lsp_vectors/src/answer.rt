@@ -7,7 +7,7 @@ ghost use Rattle.lsp_edit.specs.Batch.{meaning};
 ghost use Rattle.lsp_edit.specs.Edited.{edit_of};
 ghost use Rattle.lsp_edit.specs.Faults.{IsFaultOfChanges};
 ghost use Rattle.lsp_edit.specs.TextEdits.{IsBatchOfEdits, IsEditsFault};
-ghost use Rattle.lsp_vectors.specs.Answer.{IsLeft};
+ghost use Rattle.lsp_vectors.specs.inside.Answer.{IsLeft};
 
 use lsp_edit::plain::compose;
 use lsp_edit::{

@@ -9,7 +9,7 @@ ghost use Rattle.std.specs.Prelude.{encode_utf8_all};
 ghost use Rattle.lsp_text.specs.LineStarts.{Indexes};
 ghost use Rattle.lsp_text.specs.Units.{units_in};
 ghost use Rattle.lsp_edit.specs.Edited.{edit_of};
-ghost use Rattle.lsp_vectors.specs.Answer.{IsLeft, alike};
+ghost use Rattle.lsp_vectors.specs.inside.Answer.{IsLeft, alike};
 
 use crate::answer::Left;
 use lsp_edit::{

@@ -9,7 +9,7 @@ use Rattle.clap.specs.declared.builder.arg.Arg.{Arg}
 use Rattle.clap.specs.declared.builder.command.Command.{Command}
 use Rattle.clap.specs.declared.builder.command.Command.TheViews.{out-Command as fields_of}
 use Rattle.lspsync.specs.CommandLine.{Choices, IsProgram, detail_rules, encoding_rule, explain_rule, limit_rules, part_rules, sync_rule, writing_rules}
-use Rattle.lspsync.specs.Help.{IsPage, own_rules, rules_of_limits}
+use Rattle.lspsync.specs.inside.Help.{IsPage, own_rules, rules_of_limits}
 use Rattle.lspsync.specs.inside.Options.{AddsRules, IsCommand, page_shape, shape_by, top_app}
 use Rattle.lspsync.specs.declared.command_line.help.Page.{Page}
 use Rattle.lspsync.specs.declared.command_line.options.Values.{Values}

@@ -5,7 +5,7 @@ use Rattle.clap.specs.Words.{App, is_simple, subcommand_of, subcommand_rows_of, 
 use Rattle.clap.specs.declared.error.Error.{Error}
 use Rattle.clap.specs.declared.parser.matches.ArgMatches.{ArgMatches}
 use Rattle.clap.proofs.OnLiterals.{clap_on_literals}
-use Rattle.lspsync.specs.Call.{IsFound, IsRead}
+use Rattle.lspsync.specs.Call.{AreWordsReadAs, IsFound}
 use Rattle.lspsync.specs.CommandLine.{Choices, IsProgram, program_app}
 use Rattle.lspsync.specs.declared.command_line.Call.{Call}
 
@@ -25,7 +25,7 @@ is_free_program app p = ap is_simple_and_free p.same ∙ free p.encodings p.kind
 
 pub read_ok : (words : List (List ℕ)) (app : App) (found : ArgMatches) (call : Option Call) → IsProgram app
     → fault_of app words ≡ []
-    → subcommand_rows_of found ≡ subcommand_of app words → IsFound found call → IsRead words (Ok call)
+    → subcommand_rows_of found ≡ subcommand_of app words → IsFound found call → AreWordsReadAs words (Ok call)
 read_ok words app found call p taken rows is = record {
   app = app;
   program = p;
@@ -36,6 +36,6 @@ read_ok words app found call p taken rows is = record {
 }
 
 pub read_err : (words : List (List ℕ)) (app : App) (error : Error) → IsProgram app → HasKind (fault_of app words) error
-    → IsRead words (Err error)
+    → AreWordsReadAs words (Err error)
 read_err words app error p (inl memory) = inl memory
 read_err words app error p (inr among) = inr (app, p, among)

@@ -150,7 +150,7 @@ pub record AreTaken (words : List (List ℕ)) (asked : Option Call) : Type 0 whe
 
 -- What the words are read as. An error has a kind that the program finds in them, or memory ran
 -- out.
-abbrev pub IsRead : List (List ℕ) → Result (Option Call) Error → Type 0
-IsRead words (Ok asked) = AreTaken words asked
-IsRead words (Err error) = (kind_of error ≡ OutOfMemory)
+abbrev pub AreWordsReadAs : List (List ℕ) → Result (Option Call) Error → Type 0
+AreWordsReadAs words (Ok asked) = AreTaken words asked
+AreWordsReadAs words (Err error) = (kind_of error ≡ OutOfMemory)
     ⊎ ((app : App) × IsProgram app × IsAmong (kind_of error) (fault_of app words))

@@ -20,7 +20,7 @@ use Rattle.lsp_replay.specs.Run.{Engine, IsEngineRun, check_engine, convert_engi
 use Rattle.lspsync.specs.declared.command_line.Call.{Call}
 use Rattle.lspsync.specs.declared.command_line.Call.TheVariants as call
 use Rattle.lspsync.specs.declared.run.Ending.{Ending}
-use Rattle.lspsync.specs.Call.{IsRead}
+use Rattle.lspsync.specs.Call.{AreWordsReadAs}
 use Rattle.lspsync.specs.FaultText.{fault_text}
 
 -- The status of a fault: 3 if a stream failed, 4 if out of memory, 5 if the input is no log.
@@ -44,11 +44,11 @@ engine_of (call.NormaliseDocuments settings) = documents_engine settings
 engine_of (call.Convert settings) = convert_engine settings
 
 -- A fault of the engine comes before one of the flush.
-abbrev pub answer_of : Result Outcome EngineFault → Result (Unit {0}) EngineFault →
+abbrev pub answer_after_flush : Result Outcome EngineFault → Result (Unit {0}) EngineFault →
     Result Outcome EngineFault
-answer_of (Ok outcome) (Ok _) = Ok outcome
-answer_of (Ok outcome) (Err fault) = Err fault
-answer_of (Err fault) flushed = Err fault
+answer_after_flush (Ok outcome) (Ok _) = Ok outcome
+answer_after_flush (Ok outcome) (Err fault) = Err fault
+answer_after_flush (Err fault) flushed = Err fault
 
 -- The engine of a call ran, and then its output was flushed, whatever the engine answered. The
 -- answer is the outcome, or the first fault. With an outcome all output was flushed.
@@ -61,7 +61,7 @@ pub record IsPerformed (asked : Call) (before after : Ports)
   pub ran : IsEngineRun (engine_of asked) allowed_turns before (ports after.reader writer) result
   pub kept : Keeps writer.written after.writer.written
   pub flush : IsFlushed writer after.writer flushed
-  pub answered : answer ≡ answer_of result flushed
+  pub answered : answer ≡ answer_after_flush result flushed
 
 -- The line that reports a fault.
 abbrev pub fault_line : EngineFault → List ℕ
@@ -107,7 +107,7 @@ pub record Streams : Type 0 where
   pub errors : Option (List ℕ)
 
 -- The engine of a call ran, and the program ends with its status or reports its fault.
-pub record IsCalled (asked : Call) (s : Streams) (ending : Ending) : Type 0 where
+pub record IsCallDone (asked : Call) (s : Streams) (ending : Ending) : Type 0 where
   pub answer : Result Outcome EngineFault
   pub performed : IsPerformed asked s.before s.after answer
   pub ends : IsEnding answer s.errors_before s.errors ending
@@ -130,13 +130,13 @@ pub record IsExplained (k : ErrorKind) (s : Streams) (ending : Ending) : Type 0 
 -- What the program does with words: the call that they are, or an explanation. Where there is none
 -- of both, it ends with status 2 alone.
 abbrev pub IsDone : Result (Option Call) Error → Streams → Ending → Type 0
-IsDone (Ok (Some asked)) s ending = IsCalled asked s ending
+IsDone (Ok (Some asked)) s ending = IsCallDone asked s ending
 IsDone (Ok None) s ending = (ending.status ≡ 2) × (s.after ≡ s.before)
     × (s.errors ≡ s.errors_before)
 IsDone (Err error) s ending = IsExplained (kind_of error) s ending
 
 -- A run of the program with these words: what they are read as, and that this is done.
-pub record IsRun (words : List (List ℕ)) (s : Streams) (ending : Ending) : Type 0 where
+pub record IsProgramRun (words : List (List ℕ)) (s : Streams) (ending : Ending) : Type 0 where
   pub read : Result (Option Call) Error
-  pub words_are : IsRead words read
+  pub words_are : AreWordsReadAs words read
   pub done : IsDone read s ending

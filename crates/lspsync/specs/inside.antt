@@ -1,2 +1,3 @@
 -- Definitions that only private contracts speak of.
+pub mod Help
 pub mod Options

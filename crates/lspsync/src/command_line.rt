@@ -2,11 +2,16 @@
 //!
 //! `options` is the program as `clap` sees it, `help` has the pages of help, and `texts` what the
 //! commands' pages say.
+//!
+//! What words mean is said by `clap`'s definitions, of a program with the options of `program_app`.
+//! Each function of `options` adds one option, so each is proved alone. The parse returns
+//! `Option<Call>`, since `clap` has no law that values which it checked are there.
 
 ghost use Rattle.std.specs.Prelude.{◌≡◌, ◌≢◌, codes, true, false};
 ghost use Rattle.std.specs.Prelude.{IfOk, IfSome, IsSome, ℕ, map};
-ghost use Rattle.lspsync.specs.Call.{AreDetails, AreLimits, AreSettings, HasNumber, IsCallNamed, IsConfig, IsLogPart, is_whole};
-ghost use Rattle.lspsync.specs.Call.{IsFound, IsRead, encoding_given, sync_given};
+ghost use Rattle.lspsync.specs.Call.{AreDetails, AreLimits, AreSettings, AreWordsReadAs, HasNumber};
+ghost use Rattle.lspsync.specs.Call.{IsCallNamed, IsConfig, IsFound, IsLogPart, encoding_given};
+ghost use Rattle.lspsync.specs.Call.{is_whole, sync_given};
 ghost use Rattle.lsp_frame.specs.Limits.{LimitsData};
 
 mod help;
@@ -49,7 +54,7 @@ pub enum Call {
 /// memory. There is no call only where a subcommand or an option with its value is missing. Tests
 /// show that `clap` refuses such words before.
 pub fn parse<'a>(alloc: Global, words: &'a [&'a str]) -> Result<Option<Call>, Error>
-    ensures { IsRead (map (λ word. word.now) words.entry.now) result }
+    ensures { AreWordsReadAs (map (λ word. word.now) words.entry.now) result }
 {
     let matches = program(alloc, help::limits())?.try_get_matches_from(words)?;
     let call = call_of(alloc, &matches)?;

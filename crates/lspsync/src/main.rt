@@ -12,7 +12,8 @@ mod run;
 #[cfg(test)]
 mod tests;
 
-use crate::run::{Ending, exit_code, refuse, run};
+use crate::run::{Ending, refuse, run};
+use lsp_program::exit_code;
 use lsp_replay::Told;
 use std::env;
 use std::io::{self, BufWriter};
@@ -26,7 +27,7 @@ fn main(rt: HostRuntime) -> ExitCode {
         Ok(ending) => ending,
         Err(error) => refuse(error.kind(), &mut rt.stderr()),
     };
-    exit_code(&ending)
+    exit_code(ending.status)
 }
 
 /// Runs the program over the process's own streams. Fails if the words of the command line can't be

@@ -2,16 +2,15 @@
 
 ghost use Rattle.std.specs.Prelude.{◌≡◌, ◌≢◌, ◌⊎◌, ◌++◌, OnOk, codes, List, ℕ, Result, Err, map, option_map};
 ghost use Rattle.std.specs.Io.KnownBytes.{Appends};
-ghost use Rattle.std.specs.Process.{exit_status};
 ghost use Rattle.clap.specs.Values.{kind_of};
 ghost use Rattle.clap.specs.declared.error.kind.ErrorKind.TheVariants.{OutOfMemory};
 ghost use Rattle.clap.specs.declared.error.kind.ErrorKind.TheVariants.{DisplayHelp, DisplayVersion};
 ghost use Rattle.lsp_stream.specs.Ports.{ports};
 ghost use Rattle.lsp_program.specs.Output.{IsHelp, allowed_turns};
 ghost use Rattle.lsp_replay.specs.Run.{IsEngineRun};
-ghost use Rattle.lspsync.specs.Run.{IsStatus, missing_line};
-ghost use Rattle.lspsync.specs.Run.{IsEnding, IsHelpEnd, IsPerformed, IsReported};
-ghost use Rattle.lspsync.specs.Run.{IsRun, Streams, answer_of, engine_of, status_of};
+ghost use Rattle.lspsync.specs.Run.{IsEnding, IsHelpEnd, IsPerformed, IsProgramRun, IsReported};
+ghost use Rattle.lspsync.specs.Run.{IsStatus, Streams, answer_after_flush, engine_of, missing_line};
+ghost use Rattle.lspsync.specs.Run.{status_of};
 
 use crate::command_line::{Call, parse};
 use crate::fault_text::FaultText;
@@ -23,7 +22,6 @@ use lsp_replay::{
 };
 use std::alloc::Global;
 use std::io::{self, ErrorKind, Write};
-use std::process::ExitCode;
 
 /// The end of the program.
 #[derive(Drop)]
@@ -43,7 +41,7 @@ pub fn run<R: Source, W: Sink, E: Write>(
     output: &mut W,
     errors: &mut E,
 ) -> Ending
-    ensures { IsRun (map (λ word. word.now) words.entry.now) (record {
+    ensures { IsProgramRun (map (λ word. word.now) words.entry.now) (record {
       before = ports (R.seen input.old) (W.seen output.old);
       after = ports (R.seen input.new) (W.seen output.new);
       errors_before = E.contents errors.old;
@@ -124,7 +122,7 @@ fn answer_with(
     ran: Result<Outcome, EngineFault>,
     flushed: Result<(), EngineFault>,
 ) -> Result<Outcome, EngineFault>
-    ensures { result ≡ answer_of ran flushed }
+    ensures { result ≡ answer_after_flush ran flushed }
 {
     match (ran, flushed) {
         (Ok(outcome), Ok(())) => Ok(outcome),
@@ -226,13 +224,6 @@ pub fn refuse<E: Write>(kind: ErrorKind, errors: &mut E) -> Ending
         status: USAGE,
         printed,
     }
-}
-
-/// Returns the code with which the process ends.
-pub fn exit_code(ending: &Ending) -> ExitCode
-    ensures { exit_status result ≡ ending.now.status }
-{
-    ExitCode::from(ending.status)
 }
 
 /// Prints the line of a fault, and ends with its status.

@@ -3,7 +3,7 @@
 ghost use Rattle.std.specs.Prelude.{◌≡◌, ◌≢◌, Some, Err, Ok};
 ghost use Rattle.lsp_client.specs.Step.{delivery_result};
 ghost use Rattle.lsp_message.specs.Message.{reading};
-ghost use Rattle.laspidru.specs.Clients.{IsDeliveredTo, client_in, client_of};
+ghost use Rattle.laspidru.specs.Clients.{IsDeliveredTo, as_client, stored_client};
 ghost use Rattle.laspidru.specs.Codes.{IsRefusedOr};
 
 use crate::answers::Answer;
@@ -17,7 +17,7 @@ use std::alloc::Global;
 /// Passes a body to an object's client.
 #[tactic(auto, using(crate::proofs::Calls::delivered, crate::proofs::Calls::delivery_refused))]
 fn object_deliver(alloc: Global, object: &mut Object, body: &[u8], out: &mut Answer) -> u32
-    ensures answer { IsRefusedOr (client_of object.old) result (λ editor.
+    ensures answer { IsRefusedOr (as_client object.old) result (λ editor.
         IsDeliveredTo editor.stream (delivery_result editor.client (reading body.now)) result
         (Some object.new) out.new) }
     ensures unchanged { result ≢ OK → (object.new ≡ object.old) × (out.new ≡ out.old) }
@@ -45,7 +45,7 @@ pub extern "C" fn laspidru_client_deliver(
     body: &[u8],
     out: &mut Answer,
 ) -> u32
-    ensures answer { IsRefusedOr (client_in handle.old.value) result (λ editor.
+    ensures answer { IsRefusedOr (stored_client handle.old.value) result (λ editor.
         IsDeliveredTo editor.stream (delivery_result editor.client (reading body.now)) result
         handle.new.value out.new) }
     ensures unchanged { result ≢ OK

@@ -1,10 +1,10 @@
 //! What is asked of a client's documents.
 
 ghost use Rattle.std.specs.Prelude.{◌≡◌, ◌≢◌, Some};
-ghost use Rattle.laspidru.specs.Clients.{client_in, client_of, document_asked, document_at};
+ghost use Rattle.laspidru.specs.Clients.{as_client, document_asked, document_at, stored_client};
 ghost use Rattle.laspidru.specs.Codes.{IsAnswer, and_then};
 ghost use Rattle.laspidru.specs.Objects.{IsCopy, rest_asked};
-ghost use Rattle.laspidru.specs.Servers.{IsOpened, text_of};
+ghost use Rattle.laspidru.specs.Servers.{IsOpened, entry_text};
 
 use crate::answers::Opened;
 use crate::bytes::{copy_text, utf8_text};
@@ -16,7 +16,7 @@ use std::alloc::Global;
 
 /// Returns the version and the length of a document of an object's client.
 fn object_client_document(object: &Object, uri: &str, out: &mut Opened) -> u32
-    ensures answer { IsAnswer (and_then (client_of object.now) (document_at uri.now)) result
+    ensures answer { IsAnswer (and_then (as_client object.now) (document_at uri.now)) result
         (IsOpened out.new) }
     ensures unchanged { result ≢ OK → out.new ≡ out.old }
 {
@@ -43,7 +43,7 @@ pub extern "C" fn laspidru_client_document(
     uri: &[u8],
     out: &mut Opened,
 ) -> u32
-    ensures answer { IsAnswer (document_asked uri.now (client_in handle.old.value)) result
+    ensures answer { IsAnswer (document_asked uri.now (stored_client handle.old.value)) result
         (IsOpened out.new) }
     ensures handle { handle.new.value ≡ handle.old.value }
     ensures unchanged { result ≢ OK → out.new ≡ out.old }
@@ -67,8 +67,8 @@ fn object_client_text(
     out: &mut [u8],
     copied: &mut usize,
 ) -> u32
-    ensures answer { let document = and_then (client_of object.now) (document_at uri.now) in
-        IsAnswer (rest_asked start (text_of document)) result
+    ensures answer { let document = and_then (as_client object.now) (document_at uri.now) in
+        IsAnswer (rest_asked start (entry_text document)) result
         (IsCopy out.old out.new copied.new) }
     ensures unchanged { result ≢ OK → (out.new ≡ out.old) × (copied.new ≡ copied.old) }
 {
@@ -93,8 +93,8 @@ pub extern "C" fn laspidru_client_text(
     out: &mut [u8],
     copied: &mut usize,
 ) -> u32
-    ensures answer { let document = document_asked uri.now (client_in handle.old.value) in
-        IsAnswer (rest_asked start (text_of document)) result
+    ensures answer { let document = document_asked uri.now (stored_client handle.old.value) in
+        IsAnswer (rest_asked start (entry_text document)) result
         (IsCopy out.old out.new copied.new) }
     ensures handle { handle.new.value ≡ handle.old.value }
     ensures unchanged { result ≢ OK → (out.new ≡ out.old) × (copied.new ≡ copied.old) }

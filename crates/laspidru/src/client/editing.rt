@@ -5,8 +5,8 @@ ghost use Rattle.std.specs.Prelude.{string_bytes};
 ghost use Rattle.lsp_client.specs.Seen.{IsFaultOf, IsSent};
 ghost use Rattle.lsp_client.specs.Step.{call_result, closes, orders};
 ghost use Rattle.laspidru.specs.Batches.{refused_edit};
-ghost use Rattle.laspidru.specs.Clients.{IsCalled, IsWritten, client_in, client_of, edit_asked};
-ghost use Rattle.laspidru.specs.Clients.{open_asked, opening_asked};
+ghost use Rattle.laspidru.specs.Clients.{IsCalled, IsWritten, as_client, edit_asked, open_asked};
+ghost use Rattle.laspidru.specs.Clients.{opening_asked, stored_client};
 ghost use Rattle.laspidru.specs.Codes.{IsRefusedOr, both, unless};
 ghost use Rattle.laspidru.specs.Servers.{uri_asked};
 
@@ -76,7 +76,7 @@ fn object_open(
     text: &str,
     len: &mut usize,
 ) -> u32
-    ensures answer { IsRefusedOr (client_of object.old) result (λ editor.
+    ensures answer { IsRefusedOr (as_client object.old) result (λ editor.
         IsCalled editor.stream (call_result editor.client
         (orders (open_asked uri.now language.now version text.now))) result (Some object.new)
         len.new) }
@@ -104,7 +104,7 @@ pub extern "C" fn laspidru_client_open(
     len: &mut usize,
 ) -> u32
     ensures answer { IsRefusedOr
-        (both (opening_asked uri.now language.now text.now) (client_in handle.old.value)) result
+        (both (opening_asked uri.now language.now text.now) (stored_client handle.old.value)) result
         (λ asked. IsCalled asked.1.stream (call_result asked.1.client
         (orders (open_asked asked.0.uri asked.0.language version asked.0.text))) result
         handle.new.value len.new) }
@@ -165,11 +165,11 @@ fn object_client_edit(
     len: &mut usize,
 ) -> u32
     requires { refused_edit edits.now texts.now ≡ None }
-    ensures answer { IsRefusedOr (client_of object.old) result (λ editor.
+    ensures answer { IsRefusedOr (as_client object.old) result (λ editor.
         IsCalled editor.stream (call_result editor.client
         (orders (edit_asked uri.now version edits.now texts.now))) result (Some object.new)
         len.new) }
-    ensures report { IsRefusedOr (client_of object.old) result (λ editor.
+    ensures report { IsRefusedOr (as_client object.old) result (λ editor.
         IsWritten (call_result editor.client
         (orders (edit_asked uri.now version edits.now texts.now))) result fault.new) }
     ensures unchanged { result ≢ OK → (object.new ≡ object.old) × (len.new ≡ len.old) }
@@ -210,13 +210,13 @@ pub extern "C" fn laspidru_client_edit(
     len: &mut usize,
 ) -> u32
     ensures answer { let client = unless (refused_edit edits.now texts.now)
-        (client_in handle.old.value) in
+        (stored_client handle.old.value) in
         IsRefusedOr (both (uri_asked uri.now) client) result
         (λ asked. IsCalled asked.1.stream (call_result asked.1.client
         (orders (edit_asked asked.0 version edits.now texts.now))) result handle.new.value
         len.new) }
     ensures report { let client = unless (refused_edit edits.now texts.now)
-        (client_in handle.old.value) in
+        (stored_client handle.old.value) in
         IsRefusedOr (both (uri_asked uri.now) client) result
         (λ asked. IsWritten (call_result asked.1.client
         (orders (edit_asked asked.0 version edits.now texts.now))) result fault.new) }
@@ -241,7 +241,7 @@ pub extern "C" fn laspidru_client_edit(
 /// Closes a document by an object's client.
 #[tactic(auto, using(crate::proofs::Calls::accepted, crate::proofs::Calls::call_refused))]
 fn object_client_close(object: &mut Object, uri: &str, len: &mut usize) -> u32
-    ensures answer { IsRefusedOr (client_of object.old) result (λ editor.
+    ensures answer { IsRefusedOr (as_client object.old) result (λ editor.
         IsCalled editor.stream (call_result editor.client (orders (closes uri.now))) result
         (Some object.new) len.new) }
     ensures unchanged { result ≢ OK → (object.new ≡ object.old) × (len.new ≡ len.old) }
@@ -264,7 +264,7 @@ pub extern "C" fn laspidru_client_close(
     uri: &[u8],
     len: &mut usize,
 ) -> u32
-    ensures answer { IsRefusedOr (both (uri_asked uri.now) (client_in handle.old.value)) result
+    ensures answer { IsRefusedOr (both (uri_asked uri.now) (stored_client handle.old.value)) result
         (λ asked. IsCalled asked.1.stream (call_result asked.1.client (orders (closes asked.0)))
         result handle.new.value len.new) }
     ensures unchanged { result ≢ OK

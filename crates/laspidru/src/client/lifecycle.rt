@@ -3,7 +3,7 @@
 ghost use Rattle.std.specs.Prelude.{◌≡◌, ◌≢◌, IfErr, IfOk, OnErr, Some};
 ghost use Rattle.lsp_client.specs.Seen.{IsFaultOf, IsSent};
 ghost use Rattle.lsp_client.specs.Step.{call_result};
-ghost use Rattle.laspidru.specs.Clients.{IsCalled, client_in, client_of, lifecycle_call};
+ghost use Rattle.laspidru.specs.Clients.{IsCalled, as_client, lifecycle_call, stored_client};
 ghost use Rattle.laspidru.specs.Codes.{IsRefusedOr};
 
 use crate::codes::{EMPTY, OK, OTHER_KIND};
@@ -30,7 +30,7 @@ fn called(client: &mut Client, call: Call) -> Result<Vec<u8>, ClientFault>
 /// Makes a call of the lifecycle by an object's client.
 #[tactic(auto, using(crate::proofs::Calls::accepted, crate::proofs::Calls::call_refused))]
 fn object_call(object: &mut Object, call: Call, len: &mut usize) -> u32
-    ensures answer { IsRefusedOr (client_of object.old) result (λ editor.
+    ensures answer { IsRefusedOr (as_client object.old) result (λ editor.
         IsCalled editor.stream (call_result editor.client (lifecycle_call call)) result
         (Some object.new) len.new) }
     ensures unchanged { result ≢ OK → (object.new ≡ object.old) × (len.new ≡ len.old) }
@@ -44,7 +44,7 @@ fn object_call(object: &mut Object, call: Call, len: &mut usize) -> u32
 
 /// Makes a call of the lifecycle by the client of a handle.
 fn call(alloc: Global, handle: &mut Handle, call: Call, len: &mut usize) -> u32
-    ensures answer { IsRefusedOr (client_in handle.old.value) result (λ editor.
+    ensures answer { IsRefusedOr (stored_client handle.old.value) result (λ editor.
         IsCalled editor.stream (call_result editor.client (lifecycle_call call)) result
         handle.new.value len.new) }
     ensures unchanged { result ≢ OK
@@ -64,7 +64,7 @@ fn call(alloc: Global, handle: &mut Handle, call: Call, len: &mut usize) -> u32
 /// [`Client::start`].
 #[unsafe(no_mangle)]
 pub extern "C" fn laspidru_client_start(alloc: Global, handle: &mut Handle, len: &mut usize) -> u32
-    ensures answer { IsRefusedOr (client_in handle.old.value) result (λ editor.
+    ensures answer { IsRefusedOr (stored_client handle.old.value) result (λ editor.
         IsCalled editor.stream (call_result editor.client (lifecycle_call Call.Start)) result
         handle.new.value len.new) }
     ensures unchanged { result ≢ OK
@@ -82,7 +82,7 @@ pub extern "C" fn laspidru_client_shutdown(
     handle: &mut Handle,
     len: &mut usize,
 ) -> u32
-    ensures answer { IsRefusedOr (client_in handle.old.value) result (λ editor.
+    ensures answer { IsRefusedOr (stored_client handle.old.value) result (λ editor.
         IsCalled editor.stream (call_result editor.client (lifecycle_call Call.Shutdown)) result
         handle.new.value len.new) }
     ensures unchanged { result ≢ OK
@@ -95,7 +95,7 @@ pub extern "C" fn laspidru_client_shutdown(
 /// this order: EMPTY, OTHER_KIND, WRONG_PHASE; OUT_OF_MEMORY. Costs [`Client::exit`].
 #[unsafe(no_mangle)]
 pub extern "C" fn laspidru_client_exit(alloc: Global, handle: &mut Handle, len: &mut usize) -> u32
-    ensures answer { IsRefusedOr (client_in handle.old.value) result (λ editor.
+    ensures answer { IsRefusedOr (stored_client handle.old.value) result (λ editor.
         IsCalled editor.stream (call_result editor.client (lifecycle_call Call.Exit)) result
         handle.new.value len.new) }
     ensures unchanged { result ≢ OK

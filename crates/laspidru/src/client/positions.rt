@@ -1,11 +1,11 @@
 //! The functions on positions and lines of a client's documents.
 
 ghost use Rattle.std.specs.Prelude.{◌≡◌, ◌≢◌, Ok};
-ghost use Rattle.laspidru.specs.Clients.{client_in, client_of, document_asked, document_at};
+ghost use Rattle.laspidru.specs.Clients.{as_client, document_asked, document_at, stored_client};
 ghost use Rattle.laspidru.specs.Codes.{IsAnswer, IsRefusedOr, and_then, both};
-ghost use Rattle.laspidru.specs.Objects.{IsLine, IsPositionAt, encoding_at, line_asked};
+ghost use Rattle.laspidru.specs.Objects.{IsLineExtent, IsPositionAt, encoding_at, line_asked};
 ghost use Rattle.laspidru.specs.Objects.{offset_asked, position_at};
-ghost use Rattle.laspidru.specs.Servers.{text_of, uri_asked};
+ghost use Rattle.laspidru.specs.Servers.{entry_text, uri_asked};
 
 use crate::bytes::utf8_text;
 use crate::changes::encoding_of;
@@ -25,8 +25,8 @@ fn object_client_offset(
     position: Place,
     out: &mut usize,
 ) -> u32
-    ensures answer { let document = and_then (client_of object.now) (document_at uri.now) in
-        IsAnswer (offset_asked (position_at position) (Ok encoding) (text_of document)) result
+    ensures answer { let document = and_then (as_client object.now) (document_at uri.now) in
+        IsAnswer (offset_asked (position_at position) (Ok encoding) (entry_text document)) result
         (λ offset. out.new ≡ offset) }
     ensures unchanged { result ≢ OK → out.new ≡ out.old }
 {
@@ -52,10 +52,10 @@ pub extern "C" fn laspidru_client_offset(
     position: Place,
     out: &mut usize,
 ) -> u32
-    ensures answer { let client = client_in handle.old.value in
+    ensures answer { let client = stored_client handle.old.value in
         IsAnswer (and_then (uri_asked uri.now) (λ named.
         offset_asked (position_at position) (encoding_at encoding)
-        (text_of (and_then client (document_at named))))) result
+        (entry_text (and_then client (document_at named))))) result
         (λ offset. out.new ≡ offset) }
     ensures handle { handle.new.value ≡ handle.old.value }
     ensures unchanged { result ≢ OK → out.new ≡ out.old }
@@ -82,8 +82,8 @@ fn object_client_position(
     offset: usize,
     out: &mut Place,
 ) -> u32
-    ensures answer { let document = and_then (client_of object.now) (document_at uri.now) in
-        IsRefusedOr (text_of document) result
+    ensures answer { let document = and_then (as_client object.now) (document_at uri.now) in
+        IsRefusedOr (entry_text document) result
         (λ text. IsPositionAt offset encoding text result out.new) }
     ensures unchanged { result ≢ OK → out.new ≡ out.old }
 {
@@ -109,9 +109,9 @@ pub extern "C" fn laspidru_client_position(
     offset: usize,
     out: &mut Place,
 ) -> u32
-    ensures answer { let client = client_in handle.old.value in
+    ensures answer { let client = stored_client handle.old.value in
         IsRefusedOr (and_then (uri_asked uri.now) (λ named.
-        both (encoding_at encoding) (text_of (and_then client (document_at named))))) result
+        both (encoding_at encoding) (entry_text (and_then client (document_at named))))) result
         (λ asked. IsPositionAt offset asked.0 asked.1 result out.new) }
     ensures handle { handle.new.value ≡ handle.old.value }
     ensures unchanged { result ≢ OK → out.new ≡ out.old }
@@ -132,8 +132,8 @@ pub extern "C" fn laspidru_client_position(
 
 /// Returns where a line of a document of an object's client starts and ends.
 fn object_client_line(object: &Object, uri: &str, line: u32, out: &mut Line) -> u32
-    ensures answer { let document = and_then (client_of object.now) (document_at uri.now) in
-        IsAnswer (line_asked line (text_of document)) result (IsLine line out.new) }
+    ensures answer { let document = and_then (as_client object.now) (document_at uri.now) in
+        IsAnswer (line_asked line (entry_text document)) result (IsLineExtent line out.new) }
     ensures unchanged { result ≢ OK → out.new ≡ out.old }
 {
     let Object::Client(editor) = object else {
@@ -156,8 +156,8 @@ pub extern "C" fn laspidru_client_line(
     line: u32,
     out: &mut Line,
 ) -> u32
-    ensures answer { let document = document_asked uri.now (client_in handle.old.value) in
-        IsAnswer (line_asked line (text_of document)) result (IsLine line out.new) }
+    ensures answer { let document = document_asked uri.now (stored_client handle.old.value) in
+        IsAnswer (line_asked line (entry_text document)) result (IsLineExtent line out.new) }
     ensures handle { handle.new.value ≡ handle.old.value }
     ensures unchanged { result ≢ OK → out.new ≡ out.old }
 {

@@ -2,7 +2,7 @@
 
 ghost use Rattle.std.specs.Prelude.{◌≡◌, ◌≢◌, true, IsOkAnd};
 ghost use Rattle.lsp_client.specs.Step.{is_listening};
-ghost use Rattle.laspidru.specs.Clients.{client_in, client_of};
+ghost use Rattle.laspidru.specs.Clients.{as_client, stored_client};
 ghost use Rattle.laspidru.specs.Codes.{IsRefusedOr, OnRefused};
 ghost use Rattle.laspidru.specs.Framers.{IsBodyAnswer};
 ghost use Rattle.laspidru.specs.Taking.{IsHeard, listening_asked};
@@ -64,10 +64,10 @@ fn object_hear(
     taken: &mut Taken,
     out: &mut Answer,
 ) -> u32
-    ensures answer { IsRefusedOr (listening_asked (client_of object.old)) result (λ editor.
-        IsOkAnd (client_of object.new) (λ new.
+    ensures answer { IsRefusedOr (listening_asked (as_client object.old)) result (λ editor.
+        IsOkAnd (as_client object.new) (λ new.
         IsHeard editor piece.now result new taken.new out.old out.new)) }
-    ensures unchanged { OnRefused (listening_asked (client_of object.old))
+    ensures unchanged { OnRefused (listening_asked (as_client object.old))
         ((object.new ≡ object.old) × (taken.new ≡ taken.old) × (out.new ≡ out.old)) }
 {
     let Object::Client(editor) = object else {
@@ -96,10 +96,10 @@ pub extern "C" fn laspidru_client_take(
     taken: &mut Taken,
     out: &mut Answer,
 ) -> u32
-    ensures answer { IsRefusedOr (listening_asked (client_in handle.old.value)) result (λ editor.
-        IsOkAnd (client_in handle.new.value) (λ new.
+    ensures answer { IsRefusedOr (listening_asked (stored_client handle.old.value)) result
+        (λ editor. IsOkAnd (stored_client handle.new.value) (λ new.
         IsHeard editor piece.now result new taken.new out.old out.new)) }
-    ensures unchanged { OnRefused (listening_asked (client_in handle.old.value))
+    ensures unchanged { OnRefused (listening_asked (stored_client handle.old.value))
         ((handle.new.value ≡ handle.old.value) × (taken.new ≡ taken.old) × (out.new ≡ out.old)) }
 {
     let Some(mut object) = handle.take(alloc) else {
@@ -112,7 +112,7 @@ pub extern "C" fn laspidru_client_take(
 
 /// Copies the body of the message that an object's client took.
 fn object_heard(object: &Object, start: usize, out: &mut [u8], copied: &mut usize) -> u32
-    ensures answer { IsRefusedOr (client_of object.now) result (λ editor.
+    ensures answer { IsRefusedOr (as_client object.now) result (λ editor.
         IsBodyAnswer editor.stream.framing start result out.old out.new copied.new) }
     ensures unchanged { result ≢ OK → (out.new ≡ out.old) × (copied.new ≡ copied.old) }
 {
@@ -133,7 +133,7 @@ pub extern "C" fn laspidru_client_body(
     out: &mut [u8],
     copied: &mut usize,
 ) -> u32
-    ensures answer { IsRefusedOr (client_in handle.old.value) result (λ editor.
+    ensures answer { IsRefusedOr (stored_client handle.old.value) result (λ editor.
         IsBodyAnswer editor.stream.framing start result out.old out.new copied.new) }
     ensures handle { handle.new.value ≡ handle.old.value }
     ensures unchanged { result ≢ OK → (out.new ≡ out.old) × (copied.new ≡ copied.old) }

@@ -7,7 +7,7 @@ ghost use Rattle.laspidru.specs.Edits.{AreBatched, AreFaulty, IsBatchOfAsked, Is
 ghost use Rattle.laspidru.specs.Edits.{edits_on, fitting_edits};
 ghost use Rattle.laspidru.specs.Messages.{edits_named};
 ghost use Rattle.laspidru.specs.Objects.{in_use};
-ghost use Rattle.laspidru.specs.Servers.{entry_in, server_in, server_of, text_of};
+ghost use Rattle.laspidru.specs.Servers.{as_server, entry_in, entry_text, stored_server};
 
 use crate::bytes::utf8_text;
 use crate::changes::{encoding_of, fits, refusal_of};
@@ -62,7 +62,7 @@ fn object_served_edits(
 ) -> u32
     requires checked { refused_edit edits.now texts.now ≡ None }
     requires empty { batch.old.value ≡ None }
-    ensures answer { let text = text_of (and_then (server_of object.now) (entry_in uri.now)) in
+    ensures answer { let text = entry_text (and_then (as_server object.now) (entry_in uri.now)) in
         IsAnswerOrNoMemory (fitting_edits encoding edits.now texts.now text) result
         (λ asked. AreBatched asked result batch.new.value fault.new) }
     ensures unchanged { result ≢ OK → batch.new.value ≡ None }
@@ -106,7 +106,8 @@ pub extern "C" fn laspidru_server_batch_of_edits(
     batch: &mut Handle,
     fault: &mut EditsFault,
 ) -> u32
-    ensures answer { let server = unless (in_use batch.old.value) (server_in handle.old.value) in
+    ensures answer { let server =
+        unless (in_use batch.old.value) (stored_server handle.old.value) in
         IsAnswerOrNoMemory (edits_named uri.now encoding edits.now texts.now server) result
         (λ asked. AreBatched asked result batch.new.value fault.new) }
     ensures handle { handle.new.value ≡ handle.old.value }

@@ -3,9 +3,9 @@
 ghost use Rattle.std.specs.Prelude.{◌≡◌, ◌≢◌, None};
 ghost use Rattle.laspidru.specs.Batches.{edits_of, refused_edit};
 ghost use Rattle.laspidru.specs.Codes.{IsAnswerOrNoMemory, unless};
-ghost use Rattle.laspidru.specs.Messages.{IsMessageLeft, message_asked, message_of};
+ghost use Rattle.laspidru.specs.Messages.{IsMessageLeft, canonical_message_of, message_asked};
 ghost use Rattle.laspidru.specs.Objects.{in_use};
-ghost use Rattle.laspidru.specs.Servers.{server_in, server_of};
+ghost use Rattle.laspidru.specs.Servers.{as_server, stored_server};
 
 use crate::bytes::utf8_text;
 use crate::changes::{changes_of, encoding_of, refusal_of};
@@ -36,8 +36,8 @@ fn object_message(
 ) -> u32
     requires checked { refused_edit edits.now texts.now ≡ None }
     requires empty { output.old.value ≡ None }
-    ensures answer { IsAnswerOrNoMemory (server_of object.now) result (λ session.
-        IsMessageLeft (message_of (record {
+    ensures answer { IsAnswerOrNoMemory (as_server object.now) result (λ session.
+        IsMessageLeft (canonical_message_of (record {
           session = session;
           uri = uri.now;
           version = version;
@@ -89,10 +89,12 @@ pub extern "C" fn laspidru_server_canonical_message(
     fault: &mut Fault,
     len: &mut usize,
 ) -> u32
-    ensures answer { let server = unless (in_use output.old.value) (server_in handle.old.value) in
+    ensures answer { let server =
+        unless (in_use output.old.value) (stored_server handle.old.value) in
         IsAnswerOrNoMemory (message_asked uri.now version encoding edits.now texts.now server)
         result
-        (λ asked. IsMessageLeft (message_of asked) result output.new.value len.new fault.new) }
+        (λ asked. IsMessageLeft (canonical_message_of asked) result
+        output.new.value len.new fault.new) }
     ensures handle { handle.new.value ≡ handle.old.value }
     ensures unchanged { result ≢ OK
         → (output.new.value ≡ output.old.value) × (len.new ≡ len.old) }

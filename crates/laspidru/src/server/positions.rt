@@ -2,10 +2,10 @@
 
 ghost use Rattle.std.specs.Prelude.{◌≡◌, ◌≢◌, Ok};
 ghost use Rattle.laspidru.specs.Codes.{IsAnswer, IsRefusedOr, and_then, both};
-ghost use Rattle.laspidru.specs.Objects.{IsLine, IsPositionAt, encoding_at, line_asked};
+ghost use Rattle.laspidru.specs.Objects.{IsLineExtent, IsPositionAt, encoding_at, line_asked};
 ghost use Rattle.laspidru.specs.Objects.{offset_asked, position_at};
-ghost use Rattle.laspidru.specs.Servers.{entry_asked, entry_in, server_in, server_of, text_of};
-ghost use Rattle.laspidru.specs.Servers.{uri_asked};
+ghost use Rattle.laspidru.specs.Servers.{as_server, entry_asked, entry_in, entry_text};
+ghost use Rattle.laspidru.specs.Servers.{stored_server, uri_asked};
 
 use crate::bytes::utf8_text;
 use crate::changes::encoding_of;
@@ -25,8 +25,8 @@ fn object_server_offset(
     position: Place,
     out: &mut usize,
 ) -> u32
-    ensures answer { let document = and_then (server_of object.now) (entry_in uri.now) in
-        IsAnswer (offset_asked (position_at position) (Ok encoding) (text_of document)) result
+    ensures answer { let document = and_then (as_server object.now) (entry_in uri.now) in
+        IsAnswer (offset_asked (position_at position) (Ok encoding) (entry_text document)) result
         (λ offset. out.new ≡ offset) }
     ensures unchanged { result ≢ OK → out.new ≡ out.old }
 {
@@ -52,10 +52,10 @@ pub extern "C" fn laspidru_server_offset(
     position: Place,
     out: &mut usize,
 ) -> u32
-    ensures answer { let server = server_in handle.old.value in
+    ensures answer { let server = stored_server handle.old.value in
         IsAnswer (and_then (uri_asked uri.now) (λ named.
         offset_asked (position_at position) (encoding_at encoding)
-        (text_of (and_then server (entry_in named))))) result
+        (entry_text (and_then server (entry_in named))))) result
         (λ offset. out.new ≡ offset) }
     ensures handle { handle.new.value ≡ handle.old.value }
     ensures unchanged { result ≢ OK → out.new ≡ out.old }
@@ -82,8 +82,8 @@ fn object_server_position(
     offset: usize,
     out: &mut Place,
 ) -> u32
-    ensures answer { let document = and_then (server_of object.now) (entry_in uri.now) in
-        IsRefusedOr (text_of document) result
+    ensures answer { let document = and_then (as_server object.now) (entry_in uri.now) in
+        IsRefusedOr (entry_text document) result
         (λ text. IsPositionAt offset encoding text result out.new) }
     ensures unchanged { result ≢ OK → out.new ≡ out.old }
 {
@@ -109,9 +109,9 @@ pub extern "C" fn laspidru_server_position(
     offset: usize,
     out: &mut Place,
 ) -> u32
-    ensures answer { let server = server_in handle.old.value in
+    ensures answer { let server = stored_server handle.old.value in
         IsRefusedOr (and_then (uri_asked uri.now) (λ named.
-        both (encoding_at encoding) (text_of (and_then server (entry_in named))))) result
+        both (encoding_at encoding) (entry_text (and_then server (entry_in named))))) result
         (λ asked. IsPositionAt offset asked.0 asked.1 result out.new) }
     ensures handle { handle.new.value ≡ handle.old.value }
     ensures unchanged { result ≢ OK → out.new ≡ out.old }
@@ -132,8 +132,8 @@ pub extern "C" fn laspidru_server_position(
 
 /// Returns where a line of a document of an object's server starts and ends.
 fn object_server_line(object: &Object, uri: &str, line: u32, out: &mut Line) -> u32
-    ensures answer { let document = and_then (server_of object.now) (entry_in uri.now) in
-        IsAnswer (line_asked line (text_of document)) result (IsLine line out.new) }
+    ensures answer { let document = and_then (as_server object.now) (entry_in uri.now) in
+        IsAnswer (line_asked line (entry_text document)) result (IsLineExtent line out.new) }
     ensures unchanged { result ≢ OK → out.new ≡ out.old }
 {
     let Object::Server(session) = object else {
@@ -156,8 +156,8 @@ pub extern "C" fn laspidru_server_line(
     line: u32,
     out: &mut Line,
 ) -> u32
-    ensures answer { let document = entry_asked uri.now (server_in handle.old.value) in
-        IsAnswer (line_asked line (text_of document)) result (IsLine line out.new) }
+    ensures answer { let document = entry_asked uri.now (stored_server handle.old.value) in
+        IsAnswer (line_asked line (entry_text document)) result (IsLineExtent line out.new) }
     ensures handle { handle.new.value ≡ handle.old.value }
     ensures unchanged { result ≢ OK → out.new ≡ out.old }
 {

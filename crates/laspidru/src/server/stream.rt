@@ -4,7 +4,7 @@ ghost use Rattle.std.specs.Prelude.{◌≡◌, ◌≢◌, IsOkAnd};
 ghost use Rattle.lsp_server.specs.declared.phase.Phase.TheVariants.{Ended};
 ghost use Rattle.laspidru.specs.Codes.{IsRefusedOr, OnRefused};
 ghost use Rattle.laspidru.specs.Framers.{IsBodyAnswer};
-ghost use Rattle.laspidru.specs.Servers.{live_asked, server_in, server_of};
+ghost use Rattle.laspidru.specs.Servers.{as_server, live_asked, stored_server};
 ghost use Rattle.laspidru.specs.Taking.{IsServed};
 
 use crate::answers::{Answer, answer_of};
@@ -54,10 +54,10 @@ fn object_serve(
     taken: &mut Taken,
     out: &mut Answer,
 ) -> u32
-    ensures answer { IsRefusedOr (live_asked (server_of object.old)) result (λ session.
-        IsOkAnd (server_of object.new) (λ new.
+    ensures answer { IsRefusedOr (live_asked (as_server object.old)) result (λ session.
+        IsOkAnd (as_server object.new) (λ new.
         IsServed session piece.now result new taken.new out.old out.new)) }
-    ensures unchanged { OnRefused (live_asked (server_of object.old))
+    ensures unchanged { OnRefused (live_asked (as_server object.old))
         ((object.new ≡ object.old) × (taken.new ≡ taken.old) × (out.new ≡ out.old)) }
 {
     let Object::Server(session) = object else {
@@ -86,10 +86,10 @@ pub extern "C" fn laspidru_server_take(
     taken: &mut Taken,
     out: &mut Answer,
 ) -> u32
-    ensures answer { IsRefusedOr (live_asked (server_in handle.old.value)) result (λ session.
-        IsOkAnd (server_in handle.new.value) (λ new.
+    ensures answer { IsRefusedOr (live_asked (stored_server handle.old.value)) result (λ session.
+        IsOkAnd (stored_server handle.new.value) (λ new.
         IsServed session piece.now result new taken.new out.old out.new)) }
-    ensures unchanged { OnRefused (live_asked (server_in handle.old.value))
+    ensures unchanged { OnRefused (live_asked (stored_server handle.old.value))
         ((handle.new.value ≡ handle.old.value) × (taken.new ≡ taken.old) × (out.new ≡ out.old)) }
 {
     let Some(mut object) = handle.take(alloc) else {
@@ -102,7 +102,7 @@ pub extern "C" fn laspidru_server_take(
 
 /// Copies the body of the message that an object's server took.
 fn object_served(object: &Object, start: usize, out: &mut [u8], copied: &mut usize) -> u32
-    ensures answer { IsRefusedOr (server_of object.now) result (λ session.
+    ensures answer { IsRefusedOr (as_server object.now) result (λ session.
         IsBodyAnswer session.stream.framing start result out.old out.new copied.new) }
     ensures unchanged { result ≢ OK → (out.new ≡ out.old) × (copied.new ≡ copied.old) }
 {
@@ -123,7 +123,7 @@ pub extern "C" fn laspidru_server_body(
     out: &mut [u8],
     copied: &mut usize,
 ) -> u32
-    ensures answer { IsRefusedOr (server_in handle.old.value) result (λ session.
+    ensures answer { IsRefusedOr (stored_server handle.old.value) result (λ session.
         IsBodyAnswer session.stream.framing start result out.old out.new copied.new) }
     ensures handle { handle.new.value ≡ handle.old.value }
     ensures unchanged { result ≢ OK → (out.new ≡ out.old) × (copied.new ≡ copied.old) }

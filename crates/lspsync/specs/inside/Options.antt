@@ -5,7 +5,7 @@ use Rattle.clap.specs.Simple.{new_shape, on_top}
 use Rattle.clap.specs.declared.builder.command.Command.{Command}
 use Rattle.clap.specs.declared.builder.command.Command.TheViews.{out-Command as fields_of}
 use Rattle.lspsync.specs.CommandLine.{Choices, encoding_rule}
-use Rattle.lspsync.specs.Help.{own_rules, rules_of_limits}
+use Rattle.lspsync.specs.inside.Help.{own_rules, rules_of_limits}
 use Rattle.lspsync.specs.declared.command_line.help.Page.{Page}
 use Rattle.lspsync.specs.declared.command_line.options.Values.{Values}
 

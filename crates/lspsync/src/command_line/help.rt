@@ -1,8 +1,9 @@
 //! The pages of help. They are in functions, so that proofs don't unfold them.
 
 ghost use Rattle.std.specs.Prelude.{◌≡◌, ◌∷◌, [], codes};
-ghost use Rattle.lspsync.specs.CommandLine.{detail_rules, explain_rule, limit_rules, part_rules, sync_rule, writing_rules};
-ghost use Rattle.lspsync.specs.Help.{IsPage, rules_of_limits};
+ghost use Rattle.lspsync.specs.CommandLine.{detail_rules, explain_rule, limit_rules, part_rules};
+ghost use Rattle.lspsync.specs.CommandLine.{sync_rule, writing_rules};
+ghost use Rattle.lspsync.specs.inside.Help.{IsPage, rules_of_limits};
 
 use crate::command_line::texts::{
     AT, BODIES, CHECK, CHECK_EXAMPLE, CONVERT, CONVERT_EXAMPLE, DOCUMENTS, ENCODING, EXPLAIN,

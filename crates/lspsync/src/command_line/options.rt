@@ -5,10 +5,10 @@ ghost use Rattle.std.specs.Prelude.{◌≡◌, ◌∷◌, [], codes, true, false
 ghost use Rattle.std.specs.Prelude.{IfOk, map};
 ghost use Rattle.clap.specs.Words.{app_of, rule_of, with_subcommand};
 ghost use Rattle.clap.specs.declared.builder.value_parser.ValueParser.TheVariants.{Names};
-ghost use Rattle.lspsync.specs.CommandLine.{IsProgram, encoding_rule, flag_rule, limit_rules};
-ghost use Rattle.lspsync.specs.CommandLine.{option_rule, part_rules, sync_rule, writing_rules};
-ghost use Rattle.lspsync.specs.CommandLine.{at_rule, detail_rules, explain_rule, uri_rule};
-ghost use Rattle.lspsync.specs.Help.{own_rules, rule_of_limit, rules_of_limits};
+ghost use Rattle.lspsync.specs.CommandLine.{IsProgram, at_rule, detail_rules, encoding_rule};
+ghost use Rattle.lspsync.specs.CommandLine.{explain_rule, flag_rule, limit_rules, option_rule};
+ghost use Rattle.lspsync.specs.CommandLine.{part_rules, sync_rule, uri_rule, writing_rules};
+ghost use Rattle.lspsync.specs.inside.Help.{own_rules, rule_of_limit, rules_of_limits};
 ghost use Rattle.lspsync.specs.inside.Options.{AddsRules, IsCommand, shape_by, top_app};
 
 use crate::command_line::help::{

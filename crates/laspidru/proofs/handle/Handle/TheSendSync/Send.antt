@@ -14,7 +14,7 @@ use Rattle.std.proofs.alloc.Global.TheSendSync as global
 use Rattle.std_alloc.proofs.SendSync.{lies, quiet, crosses}
 use Rattle.laspidru.specs.contracts.object.Object as object
 use Rattle.laspidru.proofs.object.Object.TheSendSync as inner
-use Rattle.laspidru.specs.Stored.{object_if}
+use Rattle.laspidru.specs.inside.Stored.{object_if}
 use Rattle.laspidru.specs.contracts.handle.Handle as handle
 
 what_it_owns : (full : Bool) (a : Global) (p : Ptr) (value : Option ((object.the_row).Denot))

@@ -1,0 +1,4 @@
+-- Definitions that only private contracts speak of.
+pub mod Clients
+pub mod Logs
+pub mod Stored

@@ -1,0 +1,2 @@
+-- Definitions that only private contracts speak of.
+pub mod Answer
