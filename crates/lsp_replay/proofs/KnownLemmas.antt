@@ -13,7 +13,7 @@ use Rattle.lsp_replay.specs.declared.session.Verdict as declared
 use Rattle.lsp_replay.specs.declared.session.known.About.{About}
 use Rattle.lsp_replay.specs.declared.session.known.Noted.{Noted}
 use Rattle.lsp_replay.specs.RunOutput.{written_first}
-use Rattle.lsp_replay.specs.Commands.{RecordOutput, continue_with, writes}
+use Rattle.lsp_replay.specs.Commands.{RecordOutput, followed_by, writes}
 use Rattle.lsp_replay.specs.Lines.{Known, LineView, known_after, uri_of}
 use Rattle.lsp_replay.specs.inside.Lines.{lines_in}
 use Rattle.lsp_replay.specs.Mentions.{is_mention, last_for}
@@ -125,7 +125,7 @@ module _ (view : LineView) (known : Known) (s : Session) (r : Record) where
       → (kept : Known) → kept ≡ next → (more : List Record)
       → lines_in view known s (r ∷ more) ≡ written_first bytes (lines_in view kept t more)
   line_first not_bad bytes is t session kept kept_is more =
-      ap (λ (given : RecordOutput). continue_with given.out given.end (lines_in view next (judge s r).session more))
+      ap (λ (given : RecordOutput). followed_by given.out given.end (lines_in view next (judge s r).session more))
       (unless_not r (judge s r).verdict (writes line) not_bad)
       ∙ ap (λ (u : Session). written_first line (lines_in view next u more)) (sym session)
       ∙ ap (λ (k : Known). written_first line (lines_in view k t more)) (sym kept_is)

@@ -1,6 +1,7 @@
 -- A run from a reader to a writer, and what its contract says of all records.
 pub mod EngineLemmas
 pub mod RunLemmas
+pub mod ReportedLemmas
 pub mod RunReportLemmas
 pub mod SomeRecordsLemmas
 pub mod WroteLemmas

@@ -1,103 +1,79 @@
 -- The output and the result of an engine, by all the records that are complete in the bytes that
 -- were read.
-use Rattle.std.specs.Prelude.{ℕ, ◌≡◌, ◌⊎◌, Bool, true, false, List, [], length, Option, Some, None, Result, Ok, Err}
+use Rattle.std.specs.Prelude.{ℕ, ◌≡◌, ◌⊎◌, ◌<◌, Bool, true, false, List, [], ◌++◌, length, Option, Some, None, Result, Ok, Err}
 use Rattle.std.specs.Io.KnownBytes.{Consumes, Appends}
 use Rattle.lsp_frame.specs.Faults.{place_after}
 use Rattle.lsp_replay.specs.declared.outcome.Outcome.{Outcome}
 use Rattle.lsp_stream.specs.declared.fault.EngineFault.{EngineFault}
 use Rattle.lsp_stream.specs.declared.fault.EngineFault.TheVariants.{Read, Write, Frame, Truncated, BodyTooLong, NoMemory, TooManyTurns, BadLog}
 use Rattle.lsp_log.specs.declared.record.Version.TheVariants.{Two}
-use Rattle.lsp_stream.specs.Turns.{AppendsFront, AppendsShort}
-use Rattle.lsp_log.specs.Log.{LogRules, Record, Log, IsVersion, IsReadAs, HasNoRecord, IsCut, IsMalformed, IsBadMark}
+use Rattle.lsp_log.specs.Log.{LogRules, Record, Log, IsVersion, IsReadAs, HasNoRecord, IsCut, IsMalformed, IsBadMark, is_line_due}
 use Rattle.lsp_log.specs.Opening.{IsUnfinished}
 use Rattle.lsp_replay.specs.RunOutput.{RunOutput}
 use Rattle.lsp_replay.specs.Engine.{PortState}
-use Rattle.lsp_replay.specs.laws.Written.{all_of}
 
--- A record ended the run: the output up to it was written.
-pub record EndedBy (run_output : List Record → RunOutput)
-    (received_old received_new : Option (List ℕ)) (answer : Result Outcome EngineFault)
-    (all : Log) : Type 0 where
-  pub stops : (run_output all.records).stop ≡ Some answer
-  pub wrote : Appends received_old received_new (run_output all.records).out
+-- The output at the end of the input, if it is due: the reader reported the end, nothing follows
+-- the records, and none of them ended the run.
+abbrev pub last_if : Bool → List ℕ → Option (Result Outcome EngineFault) → List ℕ → List ℕ
+last_if true [] None last = last
+last_if ended rest stop last = []
 
--- No record ended the run: the output of all was written.
-pub record Passed (run_output : List Record → RunOutput)
-    (received_old received_new : Option (List ℕ)) (all : Log) : Type 0 where
-  pub continues : (run_output all.records).stop ≡ None
-  pub wrote : Appends received_old received_new (run_output all.records).out
+-- All that an engine is to write for these records: their output, and that of the end if it is due.
+abbrev pub all_output : Bool → Log → RunOutput → List ℕ
+all_output ended all output = output.out
+    ++ last_if ended all.rest output.stop (output.last (is_line_due all.version all.records))
 
--- The input was records and nothing else: the output at the end was written too.
-pub record PassedEnd (run_output : List Record → RunOutput)
-    (received_old received_new : Option (List ℕ)) (outcome : Outcome) (all : Log) : Type 0 where
-  pub whole : all.rest ≡ []
-  pub continues : (run_output all.records).stop ≡ None
-  pub reports : outcome ≡ (run_output all.records).outcome
-  pub wrote : Appends received_old received_new (all_of run_output all)
+-- With these results a part of it may be unwritten.
+abbrev pub is_cut_off : Result Outcome EngineFault → Bool
+is_cut_off (Err Write) = true
+is_cut_off (Err NoMemory) = true
+is_cut_off (Err TooManyTurns) = true
+is_cut_off result = false
 
--- The same, with only a first part of all that written.
-pub record CutAtEnd (run_output : List Record → RunOutput)
-    (received_old received_new : Option (List ℕ)) (all : Log) : Type 0 where
-  pub whole : all.rest ≡ []
-  pub continues : (run_output all.records).stop ≡ None
-  pub wrote : AppendsFront received_old received_new (all_of run_output all)
+-- An engine that reads by `log_rules` has read `input`. `all` are its records, and `output` is the
+-- engine's for them. The reader and the writer report `state`.
+module _ (log_rules : LogRules) (state : PortState) (input : List ℕ) (all : Log)
+    (output : RunOutput) where
+  -- One more call was needed: to write what is left, to pass on what was written, or to read. Then
+  -- the output of the records is written, and the input has no fault so far.
+  abbrev pub NeedsTurn : (written left : List ℕ) → Type 0
+  NeedsTurn written left =
+      (0 < length left)
+      ⊎ ((state.unflushed ≡ true)
+      ⊎ ((state.ended_before ≡ false → state.ended ≡ false) × (written ≡ output.out)
+      × (output.stop ≡ None) × IsUnfinished log_rules input all))
 
--- A first part of the records' output was written. Or the reader reported the end, and a first part
--- of all output was.
-abbrev pub IsFirstPart : (List Record → RunOutput) → Bool → Option (List ℕ) → Option (List ℕ) →
-    Log → Type 0
-IsFirstPart run_output ended received_old received_new all =
-    AppendsFront received_old received_new (run_output all.records).out
-    ⊎ ((ended ≡ true) × CutAtEnd run_output received_old received_new all)
+  -- What each result says of the input. After `Write` and `NoMemory` nothing more is known.
+  abbrev pub IsCause : (written left : List ℕ) → Result Outcome EngineFault → Type 0
+  IsCause written left (Ok outcome) =
+      (output.stop ≡ Some (Ok outcome))
+      ⊎ ((state.ended ≡ true) × (all.rest ≡ []) × (output.stop ≡ None) × (outcome ≡ output.outcome))
+  IsCause written left (Err Read) =
+      (state.ended ≡ false) × (output.stop ≡ None) × IsUnfinished log_rules input all
+  IsCause written left (Err (Frame fault)) =
+      (output.stop ≡ None) × IsMalformed log_rules.max_body input fault all
+  IsCause written left (Err (Truncated place)) =
+      (state.ended ≡ true) × (place ≡ place_after 0 (length input)) × (output.stop ≡ None)
+      × IsCut log_rules.max_body all
+  IsCause written left (Err (BodyTooLong place)) = output.stop ≡ Some (Err (BodyTooLong place))
+  IsCause written left (Err (BadLog place)) =
+      (output.stop ≡ Some (Err (BadLog place)))
+      ⊎ ((output.stop ≡ None) × IsBadMark input place all)
+  IsCause written left (Err TooManyTurns) = NeedsTurn written left
+  IsCause written left (Err fault) = Unit {0}
 
--- All records were read, and no turn was left. More of all output was to be written, or what was
--- written was to be passed on.
-pub record ShortAtEnd (run_output : List Record → RunOutput) (unflushed : Bool)
-    (received_old received_new : Option (List ℕ)) (all : Log) : Type 0 where
-  pub whole : all.rest ≡ []
-  pub continues : (run_output all.records).stop ≡ None
-  pub wrote : AppendsShort unflushed received_old received_new (all_of run_output all)
-
--- An engine that reads by `log_rules` has read `input`, whose records are `all`. The reader and the
--- writer report `state`, and the writer has had `received_old` before and has `received_new` now.
-module _ (log_rules : LogRules) (run_output : List Record → RunOutput) (state : PortState)
-    (input : List ℕ) (received_old received_new : Option (List ℕ)) (all : Log) where
-  -- No turn was left and one more call was needed. Either more was to be written, or what was
-  -- written was to be passed on. Or all of it was, the input has no fault so far, and more was to
-  -- be read.
-  abbrev pub IsShort : Type 0
-  IsShort =
-      AppendsShort state.unflushed received_old received_new (run_output all.records).out
-      ⊎ (((state.ended ≡ true)
-      × ShortAtEnd run_output state.unflushed received_old received_new all)
-      ⊎ ((state.ended_before ≡ false → state.ended ≡ false) × IsUnfinished log_rules input all
-      × Passed run_output received_old received_new all))
-
-  -- What each fault says of the input and of the output.
-  abbrev pub IsFaultReported : EngineFault → Type 0
-  IsFaultReported Read =
-      IsUnfinished log_rules input all × Passed run_output received_old received_new all
-  IsFaultReported Write = IsFirstPart run_output state.ended received_old received_new all
-  IsFaultReported (Frame fault) =
-      IsMalformed log_rules.max_body input fault all
-      × Passed run_output received_old received_new all
-  IsFaultReported (Truncated place) =
-      (state.ended ≡ true) × (place ≡ place_after 0 (length input))
-      × IsCut log_rules.max_body all × Passed run_output received_old received_new all
-  IsFaultReported (BodyTooLong place) =
-      EndedBy run_output received_old received_new (Err (BodyTooLong place)) all
-  IsFaultReported NoMemory = IsFirstPart run_output state.ended received_old received_new all
-  IsFaultReported TooManyTurns = IsShort
-  IsFaultReported (BadLog place) =
-      EndedBy run_output received_old received_new (Err (BadLog place)) all
-      ⊎ (IsBadMark input place all × Passed run_output received_old received_new all)
-
-  -- What each result says of the input and of the output.
-  abbrev pub IsRunReport : Result Outcome EngineFault → Type 0
-  IsRunReport (Ok outcome) =
-      EndedBy run_output received_old received_new (Ok outcome) all
-      ⊎ ((state.ended ≡ true) × PassedEnd run_output received_old received_new outcome all)
-  IsRunReport (Err fault) = IsFaultReported fault
+-- What such an engine wrote and answered. The writer has had `received_old` before and has
+-- `received_new` now.
+pub record IsObserved (log_rules : LogRules) (state : PortState) (input : List ℕ)
+    (received_old received_new : Option (List ℕ)) (all : Log) (output : RunOutput)
+    (result : Result Outcome EngineFault) : Type 0 where
+  -- the output is what was written, and what is left
+  pub written : List ℕ
+  pub left : List ℕ
+  pub is : all_output state.ended all output ≡ written ++ left
+  pub wrote : Appends received_old received_new written
+  pub whole : is_cut_off result ≡ false → left ≡ []
+  pub cause : IsCause log_rules state input all output written left result
 
 -- An engine ran. Whatever records are all that are complete in the bytes that it read, they decide
 -- its output and its result. An input of version 2, where that is refused, has no such records.
@@ -107,7 +83,7 @@ pub record RanOver (log_rules : LogRules) (run_output : List Record → RunOutpu
   pub input : List ℕ
   pub read : Consumes left_old left_new input
   pub reported : (all : Log) → IsReadAs log_rules input all → HasNoRecord log_rules.max_body all →
-      IsRunReport log_rules run_output state input received_old received_new all result
+      IsObserved log_rules state input received_old received_new all (run_output all.records) result
   -- it is a bad log from its first byte on, and nothing is written
   pub refused : log_rules.only_one ≡ true → IsVersion log_rules.versions Two input →
       (result ≡ Err (BadLog 0)) × Appends received_old received_new []

@@ -44,9 +44,9 @@ abbrev pub ends : List ℕ → Result Outcome EngineFault → RecordOutput
 ends out answer = record { out = out; end = Some answer }
 
 -- A record's output, and then that of the records after it, unless the run has ended.
-abbrev pub continue_with : List ℕ → Option (Result Outcome EngineFault) → RunOutput → RunOutput
-continue_with out None c = written_first out c
-continue_with out (Some answer) c = stopped out answer
+abbrev pub followed_by : List ℕ → Option (Result Outcome EngineFault) → RunOutput → RunOutput
+followed_by out None c = written_first out c
+followed_by out (Some answer) c = stopped out answer
 
 -- What a command writes of a log, with a state of its own. `record_output` is a record's output,
 -- from the state and the session before it and the judgement of it, `next` the state after it.
@@ -68,7 +68,7 @@ output_in view state s []
       outcome = view.outcome state s;
     }
 output_in view state s (r ∷ rs) =
-    continue_with (view.record_output state s r (judge s r)).out
+    followed_by (view.record_output state s r (judge s r)).out
     (view.record_output state s r (judge s r)).end
     (output_in view (view.next state s r (judge s r)) (judge s r).session rs)
 

@@ -126,12 +126,12 @@ abbrev pub output_of_kept : (List Record → RunOutput) → Kept → RunOutput
 output_of_kept run_output k = with_due k.due (run_output k.records)
 
 -- The records of a log that stay.
-abbrev pub kept : Settings → List Record → Kept
-kept settings records = kept_in (opened (log_config settings)) nothing_selected records
+abbrev pub kept_records : Settings → List Record → Kept
+kept_records settings records = kept_in (opened (log_config settings)) nothing_selected records
 
 -- `normalise` of them, with squash or without. Its counts are of them, too.
 abbrev pub documents : Settings → List Record → RunOutput
-documents settings records = output_of_kept (normalised settings) (kept settings records)
+documents settings records = output_of_kept (normalised settings) (kept_records settings records)
 
 -- `normalise --documents` reads logs of both versions.
 abbrev pub documents_engine : Settings → Engine

@@ -1,5 +1,5 @@
 -- What an engine wrote of a log, and which calls it made.
-use Rattle.std.specs.Prelude.{ℕ, ◌≡◌, ◌≢◌, ◌+◌, ◌≤◌, ◌<◌, ◌^◌, Bool, true, List, Option, None, Result, Err}
+use Rattle.std.specs.Prelude.{ℕ, ◌≡◌, ◌≢◌, ◌+◌, ◌≤◌, ◌<◌, ◌^◌, ◌++◌, Bool, true, List, Option, None, Result, Err}
 use Rattle.std.specs.Io.KnownBytes.{Consumes, Appends, IsAtEnd}
 use Rattle.lsp_replay.specs.declared.outcome.Outcome.{Outcome}
 use Rattle.lsp_stream.specs.declared.fault.EngineFault.{EngineFault}
@@ -9,19 +9,13 @@ use Rattle.lsp_stream.specs.Turns.{StaysWell}
 use Rattle.lsp_log.specs.Log.{LogRules, Record, Log, IsReadAs, is_line_due}
 use Rattle.lsp_replay.specs.RunOutput.{RunOutput}
 
--- No record ended the run: the output of these records was written, and `IsRest` holds of what is
--- left.
-pub record Reached (log_rules : LogRules) (run_output : List Record → RunOutput) (input : List ℕ)
-    (old new : Option (List ℕ)) (IsRest : Log → Type 0) : Type 0 where
-  pub log : Log
-  pub reads : IsReadAs log_rules input log
-  pub rest : IsRest log
-  pub continues : (run_output log.records).stop ≡ None
-  pub wrote : Appends old new (run_output log.records).out
-
 -- The output at the end of the input, after the records of a log.
 abbrev pub last_of : (List Record → RunOutput) → Log → List ℕ
 last_of run_output log = (run_output log.records).last (is_line_due log.version log.records)
+
+-- All that an engine writes for a log that is records and nothing else.
+abbrev pub all_of : (List Record → RunOutput) → Log → List ℕ
+all_of run_output log = (run_output log.records).out ++ last_of run_output log
 
 -- What the reader and the writer report of themselves.
 pub record PortState : Type 0 where
@@ -43,7 +37,10 @@ pub record WroteRecords (log_rules : LogRules) (run_output : List Record → Run
     (left_old left_new received_old received_new : Option (List ℕ)) : Type 0 where
   pub input : List ℕ
   pub read : Consumes left_old left_new input
-  pub reached : Reached log_rules run_output input received_old received_new (λ _. Unit {0})
+  pub log : Log
+  pub reads : IsReadAs log_rules input log
+  pub continues : (run_output log.records).stop ≡ None
+  pub wrote : Appends received_old received_new (run_output log.records).out
 
 -- Which calls the reader and the writer had.
 pub record Called (reads_old reads_new writes_old writes_new allowed : ℕ)

@@ -22,8 +22,8 @@ pub record PartData : Type 0 where
   pub uri : Option (List ℕ)
 
 -- A part, with its URI as bytes.
-abbrev pub part_of : Part → PartData
-part_of part = record { at = part.at; uri = option_map string_bytes part.uri }
+abbrev pub part_data : Part → PartData
+part_data part = record { at = part.at; uri = option_map string_bytes part.uri }
 
 -- ---- the last text of a document
 
@@ -68,8 +68,8 @@ part_step part last s =
     (Ok (part_outcome part.uri last (outcome_of s))) else writes []
 
 -- At the end of the input, if the part has no last record. Else that record isn't in the log.
-abbrev pub end_bytes : PartData → Option (List ℕ) → Session → List ℕ
-end_bytes part last s =
+abbrev pub part_at_end : PartData → Option (List ℕ) → Session → List ℕ
+part_at_end part last s =
     if is_some part.at then [] else part_bytes part.uri last s.server.table
 
 -- The outcome then.
@@ -90,7 +90,7 @@ replaying_part part = record {
   record_output = λ last s r j.
       unless_bad r j.verdict (part_step part (next_text part last j) j.session);
   next = λ last s r j. next_text part last j;
-  end_output = λ last s line_due. end_bytes part last s;
+  end_output = λ last s line_due. part_at_end part last s;
   outcome = end_outcome part;
 }
 
@@ -103,7 +103,7 @@ abbrev pub part_engine : Settings → Part → Engine
 part_engine settings part
     = record {
       log_rules = as_log settings;
-      run_output = part_report settings (part_of part);
+      run_output = part_report settings (part_data part);
       flushes = false;
       in_parts = false;
     }

@@ -106,9 +106,9 @@ abbrev pub version_json : Option DocumentItem → Option (List ℕ)
 version_json document = option_map (λ entry. signed_decimal entry.version) document
 
 -- Were the documents changed?
-abbrev pub is_changed : Verdict → Bool
-is_changed (answered changed) = true
-is_changed verdict = false
+abbrev pub has_changed : Verdict → Bool
+has_changed (answered changed) = true
+has_changed verdict = false
 
 -- The text of an open document, if it is to be written.
 abbrev pub text_json : Bool → Option DocumentItem → Option (List ℕ)
@@ -130,19 +130,10 @@ one_line (byte ∷ bytes) = if byte == 10 || byte == 13 then one_line bytes else
 abbrev pub body_json : Bool → List ℕ → Option (List ℕ)
 body_json is_asked body = if is_asked then Some (one_line body) else None
 
--- The other members of a line: what is answered, and the document afterwards.
-abbrev pub last_members : List ℕ → Option (List ℕ) → Option (List ℕ) → Option (List ℕ)
-    → Option (List ℕ) → Option (List ℕ) → Option (List ℕ) → Option (List ℕ) → List ℕ
-last_members word reason last notes version canonical shown body =
-    codes ",\"word\":\"" ++ word ++ codes "\""
-    ++ member (codes ",\"reason\":") reason
-    ++ member (codes ",\"last\":") last
-    ++ member (codes ",\"notes\":") notes
-    ++ member (codes ",\"version\":") version
-    ++ member (codes ",\"canonical\":") canonical
-    ++ member (codes ",\"text\":") shown
-    ++ member (codes ",\"body\":") body
-    ++ codes "}\n"
+-- The members of a line from here on, each with its value if it has one, and the line's end.
+abbrev pub last_members : List (List ℕ × Option (List ℕ)) → List ℕ
+last_members [] = codes "}\n"
+last_members (m ∷ more) = member m.0 m.1 ++ last_members more
 
 -- ---- the engine
 
@@ -152,15 +143,28 @@ last_members word reason last notes version canonical shown body =
 abbrev pub trace_line : Details → Known → Session → Record → Judged → IncomingData → List ℕ
 trace_line details known s r j m =
     first_members j.session.records r.head m
-    ++ last_members (verdict_word j.verdict)
-    (reason_json j.session.server.config.limits m j.verdict)
-    (option_map decimal (last_for known.mentions (uri_of r.head.side m) j.verdict))
-    (notes_json (notes_of s known.ranged r.body j.verdict))
-    (version_json (document_after j.session.server.table (uri_of r.head.side m)))
-    (within s.server.config.limits.max_body (canonical_of_record s r.body j.verdict))
-    (text_json (details.texts && is_changed j.verdict)
-    (document_after j.session.server.table (uri_of r.head.side m)))
-    (body_json (details.bodies && is_json m) r.body)
+    ++ (codes ",\"word\":\"" ++ verdict_word j.verdict ++ codes "\"" ++ last_members (
+    (codes ",\"reason\":", reason_json j.session.server.config.limits m j.verdict)
+    ∷ (
+      codes ",\"last\":",
+      option_map decimal (last_for known.mentions (uri_of r.head.side m) j.verdict),
+    )
+    ∷ (codes ",\"notes\":", notes_json (notes_of s known.ranged r.body j.verdict))
+    ∷ (
+      codes ",\"version\":",
+      version_json (document_after j.session.server.table (uri_of r.head.side m)),
+    )
+    ∷ (
+      codes ",\"canonical\":",
+      within s.server.config.limits.max_body (canonical_of_record s r.body j.verdict),
+    )
+    ∷ (
+      codes ",\"text\":",
+      text_json (details.texts && has_changed j.verdict)
+          (document_after j.session.server.table (uri_of r.head.side m)),
+    )
+    ∷ (codes ",\"body\":", body_json (details.bodies && is_json m) r.body)
+    ∷ []))
 
 -- `trace` writes such a line for each record, and nothing at the end.
 abbrev pub tracing : Details → LineView

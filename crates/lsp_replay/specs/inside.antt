@@ -12,6 +12,7 @@ pub mod Progress
 pub mod Verdicts
 pub mod Documents
 pub mod Engine
+pub mod AllRecords
 pub mod Run
 pub mod Reads
 pub mod RunOutput

@@ -9,8 +9,8 @@ ghost use Rattle.lsp_log.specs.Log.{LogRules, Record};
 ghost use Rattle.lsp_log.specs.Splitting.{IsReady};
 ghost use Rattle.lsp_log.specs.laws.Logs.{VersionLaw, FirstLaw};
 ghost use Rattle.lsp_replay.specs.RunOutput.{RunOutput};
-ghost use Rattle.lsp_replay.specs.Engine.{Reached, WroteRecords};
-ghost use Rattle.lsp_replay.specs.inside.Engine.{IsLoopRun, reading_by, AtEnd};
+ghost use Rattle.lsp_replay.specs.Engine.{WroteRecords};
+ghost use Rattle.lsp_replay.specs.inside.Engine.{IsLoopRun, reading_by, AtEnd, Reached};
 ghost use Rattle.lsp_replay.specs.inside.Progress.{IsLastFault, IsEndFault, IsProgress};
 
 mod records;

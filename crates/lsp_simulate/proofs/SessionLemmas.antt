@@ -18,7 +18,7 @@ use Rattle.lsp_simulate.specs.declared.run.RunFault.{RunFault}
 use Rattle.lsp_simulate.specs.declared.run.RunFault.TheVariants.{Read, Write, NoMemory, BadEvent}
 use Rattle.lsp_simulate.specs.Run.{run_fault}
 use Rattle.lsp_simulate.specs.Words.{happened_words}
-use Rattle.lsp_simulate.specs.Session.{AppendsLines, AreSteps, AreWholeLines, HasFailed, IsSettingRefused, PairStep, RanSteps, WroteSession, WroteSteps, document_line, document_lines, end_lines, next_line_number, pair_setting, step_line, step_lines, waiting_line}
+use Rattle.lsp_simulate.specs.Session.{AppendsLines, AreSteps, AreWholeLines, HasFailed, IsSettingRefused, PairStep, RanSteps, WroteSession, WroteSteps, document_lines, end_document, end_lines, next_line_number, pair_setting, step_line, step_lines, waiting_line}
 use Rattle.lsp_simulate.specs.inside.Session.{AreUnderWay, IsStepLine, IsUnderWay, WroteLines, last_number}
 
 -- ---- whole lines
@@ -44,13 +44,13 @@ whole_steps number (s ∷ steps) =
     lines-append (step_line (next_line_number number) s.happened) (step_lines (next_line_number number) steps)
     (whole_step (next_line_number number) s.happened) (whole_steps (next_line_number number) steps)
 
-whole_document : (end : List ℕ) (item : DocumentItem) → AreWholeLines (document_line end item)
+whole_document : (end : List ℕ) (item : DocumentItem) → AreWholeLines (end_document end item)
 whole_document end item = inr ((end ++ 32 ∷ []) ++ document_text item, refl)
 
 whole_documents : (end : List ℕ) (items : List DocumentItem) → AreWholeLines (document_lines end items)
 whole_documents end [] = inl refl
 whole_documents end (item ∷ items) =
-    lines-append (document_line end item) (document_lines end items) (whole_document end item)
+    lines-append (end_document end item) (document_lines end items) (whole_document end item)
     (whole_documents end items)
 
 whole_waiting : (to_server to_client : ℕ) → AreWholeLines (waiting_line to_server to_client)
@@ -347,14 +347,14 @@ no_documents end all old = record { lines = []; whole = inl refl; written = Appe
 -- The lines before a document, its own, and those after it are all of them.
 document_rest : (end : List ℕ) (all : List DocumentItem) (old mid : Option (List ℕ)) (left after : List DocumentItem)
     (item : DocumentItem) (line : List ℕ) (way : AreUnderWay end all old mid left) → left ≡ item ∷ after
-    → line ≡ document_line end item → way.lines ++ (line ++ document_lines end after) ≡ document_lines end all
+    → line ≡ end_document end item → way.lines ++ (line ++ document_lines end after) ≡ document_lines end all
 document_rest end all old mid left after item line way first is =
     ap (λ z. way.lines ++ (z ++ document_lines end after)) is
     ∙ ap (λ z. way.lines ++ document_lines end z) (sym first) ∙ way.rest
 
 pub one_document : (end : List ℕ) (all : List DocumentItem) (old mid new : Option (List ℕ))
     (left after : List DocumentItem) (item : DocumentItem) (line : List ℕ) → AreUnderWay end all old mid left
-    → left ≡ item ∷ after → line ≡ document_line end item → Appends mid new line → AreUnderWay end all old new after
+    → left ≡ item ∷ after → line ≡ end_document end item → Appends mid new line → AreUnderWay end all old new after
 one_document end all old mid new left after item line way first is wrote = record {
   lines = way.lines ++ line;
   whole = lines-append way.lines line way.whole (subst AreWholeLines (sym is) (whole_document end item));
@@ -375,7 +375,7 @@ some_documents end all old new left way = (way.lines, document_lines end left, s
 
 pub cut_document : (end : List ℕ) (all : List DocumentItem) (old mid new : Option (List ℕ))
     (left after : List DocumentItem) (item : DocumentItem) (line : List ℕ) → AreUnderWay end all old mid left
-    → left ≡ item ∷ after → line ≡ document_line end item → AppendsFront mid new line
+    → left ≡ item ∷ after → line ≡ end_document end item → AppendsFront mid new line
     → AppendsFront old new (document_lines end all)
 cut_document end all old mid new left after item line way first is some =
     subst (λ (z : List ℕ). AppendsFront old new z)

@@ -48,12 +48,12 @@ waiting_line to_server to_client =
     codes "waiting " ++ (decimal to_server ++ (codes " " ++ (decimal to_client ++ codes "\n")))
 
 -- The line of a document: the name of its end, and its object.
-abbrev pub document_line : List ℕ → DocumentItem → List ℕ
-document_line end item = ((end ++ 32 ∷ []) ++ document_text item) ++ 10 ∷ []
+abbrev pub end_document : List ℕ → DocumentItem → List ℕ
+end_document end item = ((end ++ 32 ∷ []) ++ document_text item) ++ 10 ∷ []
 
 abbrev pub document_lines : List ℕ → List DocumentItem → List ℕ
 document_lines end [] = []
-document_lines end (item ∷ items) = document_line end item ++ document_lines end items
+document_lines end (item ∷ items) = end_document end item ++ document_lines end items
 
 -- How a pair ends: how many messages wait, and the documents of both ends.
 abbrev pub end_lines : PairData → List ℕ

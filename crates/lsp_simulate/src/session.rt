@@ -2,7 +2,7 @@
 
 ghost use Rattle.std.specs.Prelude.{◌≡◌, ◌≢◌, ◌↔◌, ◌⊎◌, IfErr, IfOk, string_bytes};
 ghost use Rattle.lsp_stream.specs.Turns.{WritesWithin};
-ghost use Rattle.lsp_simulate.specs.Session.{WroteSession, document_line, document_lines};
+ghost use Rattle.lsp_simulate.specs.Session.{WroteSession, document_lines, end_document};
 ghost use Rattle.lsp_simulate.specs.Session.{end_lines, step_line, waiting_line};
 ghost use Rattle.lsp_simulate.specs.inside.Session.{IsStepLine, WroteLines};
 
@@ -123,7 +123,7 @@ fn write_documents<W: Sink>(
 
 /// Returns a line with the name of an end, and then a document of it in JSON.
 fn document_line(alloc: Global, end: &str, document: &Document<'_>) -> Result<Vec<u8>, AllocError>
-    ensures { IfOk result (λ line. line.items ≡ document_line end.now document.now) }
+    ensures { IfOk result (λ line. line.items ≡ end_document end.now document.now) }
 {
     let mut line = Vec::new(alloc);
     line.extend_from_slice(end.as_bytes())?;

@@ -15,9 +15,10 @@ use Rattle.lsp_log.specs.declared.record.Head.{Head}
 use Rattle.lsp_log.specs.Log.{Record, Log, IsRecord, AreRecords, IsVersion, together, record_bytes, mark_of, line_of, version_line, is_line_due}
 use Rattle.lsp_replay.specs.RunOutput.{RunOutput, written_first}
 use Rattle.lsp_replay.specs.Session.{Session, Verdict, answered, recorded, bad, Judged, judge, opened}
-use Rattle.lsp_replay.specs.Commands.{View, RecordOutput, writes, ends, continue_with, unless_bad, normalising, replaying, canonical_output, canonical_of_record, written, front_of, line_if, log_config, canonical_log}
+use Rattle.lsp_replay.specs.Commands.{View, RecordOutput, writes, ends, followed_by, unless_bad, normalising, replaying, canonical_output, canonical_of_record, written, front_of, line_if, log_config, canonical_log}
 use Rattle.lsp_replay.specs.inside.Commands.{run_output_in}
-use Rattle.lsp_replay.specs.laws.Written.{CanonicalLogLaw, all_of}
+use Rattle.lsp_replay.specs.Engine.{all_of}
+use Rattle.lsp_replay.specs.laws.Written.{CanonicalLogLaw}
 use Rattle.lsp_replay.proofs.Records.StateLemmas.{IsHeldState}
 use Rattle.lsp_replay.proofs.Converted.LineLemmas.{is_version_one}
 use Rattle.lsp_replay.proofs.Records.JudgeLemmas.{judged_held, judged_again}
@@ -25,7 +26,7 @@ use Rattle.lsp_replay.proofs.Records.JudgeLemmas.{judged_held, judged_again}
 -- ---- a course, a record at a time
 
 abbrev pub course_by : View (Unit {0}) → Session → Record → List Record → Judged → RecordOutput → RunOutput
-course_by view s r rs j g = continue_with g.out g.end (run_output_in view j.session rs)
+course_by view s r rs j g = followed_by g.out g.end (run_output_in view j.session rs)
 
 -- what is known of a record's judgement and of what it gives tells the course
 pub command_output : (view : View (Unit {0})) (s : Session) (r : Record) (rs : List Record) (j : Judged)
@@ -36,7 +37,7 @@ command_output view s r rs j out is gives_it =
     ∙ ap (course_by view s r rs j) gives_it
 
 pub went_on : (out : List ℕ) (end : Option (Result Outcome EngineFault)) (c : RunOutput)
-    → (continue_with out end c).stop ≡ None → (end ≡ None) × (c.stop ≡ None)
+    → (followed_by out end c).stop ≡ None → (end ≡ None) × (c.stop ≡ None)
 went_on out None c e = (refl, e)
 went_on out (Some answer) c e = absurd (let bad_one : Some answer ≡ None = e in cc)
 

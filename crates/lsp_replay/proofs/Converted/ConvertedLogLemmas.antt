@@ -21,7 +21,8 @@ use Rattle.lsp_replay.specs.RunOutput.{RunOutput, written_first}
 use Rattle.lsp_replay.specs.Session.{Session, Verdict, answered, recorded, bad, Judged, judged, judge, judge_from, judge_client, counted, opened}
 use Rattle.lsp_replay.specs.Commands.{RecordOutput, writes, unless_bad, replaying, converting, line_if, line_before, reply_record, log_config, converted}
 use Rattle.lsp_replay.specs.inside.Commands.{run_output_in}
-use Rattle.lsp_replay.specs.laws.Written.{IsReplyWithin, AreRepliesWithin, ConvertedLaw, all_of}
+use Rattle.lsp_replay.specs.Engine.{all_of}
+use Rattle.lsp_replay.specs.laws.Written.{IsReplyWithin, AreRepliesWithin, ConvertedLaw}
 use Rattle.lsp_replay.proofs.Records.AskedLemmas.{asked_proper}
 use Rattle.lsp_replay.proofs.Canonical.NormalisedLemmas.{command_output, went_on, Passes, passes}
 use Rattle.lsp_replay.proofs.Converted.ConvertedLemmas.{twin, IsGood, Follows, next_of, rest_after, waits, follows_step, judged_one, judged_two}

@@ -18,7 +18,7 @@ use Rattle.lsp_log.specs.declared.record.Version.{Version}
 use Rattle.lsp_log.specs.Log.{Record}
 use Rattle.lsp_replay.specs.Session.{Session, Judged, answered, bad, judged, handled, is_ended, is_early, judge, judge_from, judge_client, encoding_for}
 use Rattle.lsp_replay.specs.Lines.{uri_of}
-use Rattle.lsp_replay.specs.Trace.{is_changed}
+use Rattle.lsp_replay.specs.Trace.{has_changed}
 use Rattle.lsp_replay.specs.laws.Traced.{is_document}
 use Rattle.lsp_replay.proofs.Reports.KeptLemmas.{heard_table}
 
@@ -68,7 +68,7 @@ same_open table entry uri other = same_last (after_close table entry.uri) entry 
 
 -- Is a step of an accepted message about this document?
 abbrev Touches : List ℕ → Sender → IncomingData → Step → Bool
-Touches uri side m step = is_changed (answered (as_sent step.answer)) && is_document uri (uri_of side m)
+Touches uri side m step = has_changed (answered (as_sent step.answer)) && is_document uri (uri_of side m)
 
 abbrev Keeps : List ℕ → ServerData → IncomingData → Step → Type 0
 Keeps uri s m step = Touches uri Client m step ≡ false → entry_at step.state.table uri ≡ entry_at s.table uri
@@ -131,7 +131,7 @@ step_keeps Down uri s (other_notification method) other = refl
 -- ---- a record
 
 abbrev IsKept : List ℕ → Session → Sender → IncomingData → Judged → Type 0
-IsKept uri s side m j = (is_changed j.verdict && is_document uri (uri_of side m)) ≡ false
+IsKept uri s side m j = (has_changed j.verdict && is_document uri (uri_of side m)) ≡ false
     → entry_at j.session.server.table uri ≡ entry_at s.server.table uri
 
 client_keeps : (uri : List ℕ) (s : Session) (version : Version) (m : IncomingData)

@@ -1,5 +1,5 @@
 -- The members of a line, as they are written one after another.
-use Rattle.std.proofs.Common.{◌≡◌, ◌++◌, ℕ, List, Option, ap, ◌∙◌, append_assoc}
+use Rattle.std.proofs.Common.{◌≡◌, ◌∷◌, ◌++◌, ℕ, List, [], Option, ap, ◌∙◌, append_assoc}
 use Rattle.std.specs.Prelude.{Result, Ok, Err, OnOk, codes, decimal, option_map}
 use Rattle.lsp_server.specs.Incoming.{IncomingData}
 use Rattle.lsp_log.specs.declared.record.Head.{Head}
@@ -41,7 +41,7 @@ first_is number head m old one two three four a b c d =
 -- ---- the others
 
 last_parts : (old a w q r l n v c t b e : List ℕ) → old ++ a ++ w ++ q ++ r ++ l ++ n ++ v ++ c ++ t ++ b ++ e
-    ≡ old ++ (a ++ w ++ q ++ r ++ l ++ n ++ v ++ c ++ t ++ b ++ e)
+    ≡ old ++ (a ++ w ++ q ++ (r ++ (l ++ (n ++ (v ++ (c ++ (t ++ (b ++ e))))))))
 last_parts old a w q r l n v c t b e = simp append_assoc
 
 pub last_is : (word : List ℕ) (reason last notes version canonical shown body : Option (List ℕ))
@@ -55,7 +55,10 @@ pub last_is : (word : List ℕ) (reason last notes version canonical shown body 
     → seven ≡ six ++ member (codes ",\"text\":") shown
     → eight ≡ seven ++ member (codes ",\"body\":") body
     → nine ≡ eight ++ codes "}\n"
-    → nine ≡ old ++ last_members word reason last notes version canonical shown body
+    → nine ≡ old ++ (codes ",\"word\":\"" ++ word ++ codes "\"" ++ last_members (
+    (codes ",\"reason\":", reason) ∷ (codes ",\"last\":", last) ∷ (codes ",\"notes\":", notes)
+    ∷ (codes ",\"version\":", version) ∷ (codes ",\"canonical\":", canonical) ∷ (codes ",\"text\":", shown)
+    ∷ (codes ",\"body\":", body) ∷ []))
 last_is word reason last notes version canonical shown body old one two three four five six seven eight nine a b c d e f
     g h i =
     let r = member (codes ",\"reason\":") reason in
@@ -76,6 +79,7 @@ last_is word reason last notes version canonical shown body old one two three fo
 -- ---- a whole line: the members between those that other commands have too
 
 pub line_parts : (a d o p f s q m i u w k z r l n v c t b e : List ℕ)
-    → (a ++ d ++ o ++ p ++ f ++ s ++ q ++ m ++ i ++ u) ++ (w ++ k ++ z ++ r ++ l ++ n ++ v ++ c ++ t ++ b ++ e)
+    → (a ++ d ++ o ++ p ++ f ++ s ++ q ++ m ++ i ++ u)
+    ++ (w ++ k ++ z ++ (r ++ (l ++ (n ++ (v ++ (c ++ (t ++ (b ++ e))))))))
     ≡ a ++ d ++ (o ++ p ++ f ++ s ++ q ++ m ++ i) ++ u ++ w ++ k ++ z ++ (r ++ l ++ n ++ v ++ c) ++ t ++ (b ++ e)
 line_parts a d o p f s q m i u w k z r l n v c t b e = simp append_assoc

@@ -5,7 +5,7 @@ use Rattle.lsp_replay.specs.declared.outcome.Outcome.{Outcome}
 use Rattle.lsp_log.specs.Log.{Record}
 use Rattle.lsp_replay.specs.RunOutput.{RunOutput, written_first, stopped}
 use Rattle.lsp_replay.specs.Session.{Session, Verdict, answered, recorded, bad, judge, outcome_of}
-use Rattle.lsp_replay.specs.Commands.{RecordOutput, writes, ends, continue_with, unless_bad}
+use Rattle.lsp_replay.specs.Commands.{RecordOutput, writes, ends, followed_by, unless_bad}
 use Rattle.lsp_replay.specs.Parts.{PartData, last_text_in, part_bytes, part_outcome, part_step, next_text, is_last}
 use Rattle.lsp_replay.specs.inside.Parts.{replayed_in}
 
@@ -25,7 +25,7 @@ module _ (part : PartData) (old : Option (List ℕ)) (s : Session) (r : Record) 
   last = last_text_in part.uri new t.server.table
 
   abbrev step_with : RecordOutput → Option (List ℕ) → Session → List Record → RunOutput
-  step_with given l u more = continue_with given.out given.end (replayed_in part l u more)
+  step_with given l u more = followed_by given.out given.end (replayed_in part l u more)
 
   goes : (more : List Record) → replayed_in part old s (r ∷ more) ≡ step_with (part_step part last t) last t more
   goes more =

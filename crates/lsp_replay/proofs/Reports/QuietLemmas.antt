@@ -6,7 +6,7 @@ use Rattle.lsp_stream.specs.declared.fault.EngineFault.{EngineFault}
 use Rattle.lsp_log.specs.Log.{Record}
 use Rattle.lsp_replay.specs.RunOutput.{RunOutput}
 use Rattle.lsp_replay.specs.Session.{Session, Verdict, answered, recorded, bad, judge, opened}
-use Rattle.lsp_replay.specs.Commands.{writes, continue_with, unless_bad, replaying, log_config}
+use Rattle.lsp_replay.specs.Commands.{writes, followed_by, unless_bad, replaying, log_config}
 use Rattle.lsp_replay.specs.inside.Commands.{run_output_in}
 use Rattle.lsp_replay.specs.laws.Written.{ReportLaw}
 
@@ -16,7 +16,7 @@ quiet_gives r recorded = refl
 quiet_gives r bad = refl
 
 quiet_on : (out : List ℕ) (end : Option (Result Outcome EngineFault)) (c : RunOutput) → out ≡ [] → c.out ≡ []
-    → (continue_with out end c).out ≡ []
+    → (followed_by out end c).out ≡ []
 quiet_on out None c here later = ap (λ z. z ++ c.out) here ∙ later
 quiet_on out (Some answer) c here later = here
 

@@ -14,14 +14,14 @@ use Rattle.lsp_stream.specs.declared.fault.EngineFault.TheVariants.{BadLog}
 use Rattle.lsp_log.specs.Log.{Record}
 use Rattle.lsp_replay.specs.declared.commands.traced.Details.{Details}
 use Rattle.lsp_replay.specs.RunOutput.{RunOutput, written_first}
-use Rattle.lsp_replay.specs.Commands.{canonical_of_record, check_line, checking, code_word, continue_with, log_config, replaying, report_from, unless_bad, verdict_word, writes}
+use Rattle.lsp_replay.specs.Commands.{canonical_of_record, check_line, checking, code_word, followed_by, log_config, replaying, report_from, unless_bad, verdict_word, writes}
 use Rattle.lsp_replay.specs.inside.Commands.{run_output_in}
 use Rattle.lsp_replay.specs.Session.{Session, Verdict, answered, recorded, bad, opened, Judged, judge}
 use Rattle.lsp_replay.specs.Lines.{Known, known_after, nothing_known, uri_of}
 use Rattle.lsp_replay.specs.inside.Lines.{lines_in}
 use Rattle.lsp_replay.specs.Mentions.{last_for}
 use Rattle.lsp_replay.specs.Notes.{notes_of}
-use Rattle.lsp_replay.specs.Trace.{body_json, document_after, first_members, id_json, id_of, is_changed, is_json, json_string, last_members, member, method_of, notes_json, reason_json, side_word, text_json, trace_line, tracing, version_json, within}
+use Rattle.lsp_replay.specs.Trace.{body_json, document_after, first_members, id_json, id_of, has_changed, is_json, json_string, last_members, member, method_of, notes_json, reason_json, side_word, text_json, trace_line, tracing, version_json, within}
 use Rattle.lsp_replay.specs.laws.Traced.{Line, TraceLaw, checked_line, is_document, traced_line, written_text}
 use Rattle.lsp_replay.proofs.Reports.MemberLemmas.{line_parts}
 use Rattle.lsp_replay.proofs.Records.TableLemmas.{record_keeps}
@@ -48,7 +48,7 @@ module _ (details : Details) (known : Known) (s : Session) (r : Record) (m : Inc
   document = document_after j.session.server.table uri
 
   abbrev text : Option (List ℕ)
-  text = text_if (details.texts && is_changed j.verdict) document
+  text = text_if (details.texts && has_changed j.verdict) document
 
   abbrev before : List ℕ
   before =
@@ -80,12 +80,18 @@ module _ (details : Details) (known : Known) (s : Session) (r : Record) (m : Inc
 
   line_of_trace : trace_line details known s r j m ≡ traced_line line_of
   line_of_trace =
-      ap (λ (t : Option (List ℕ)). first_members j.session.records r.head m ++ last_members (verdict_word j.verdict)
-      (reason_json j.session.server.config.limits m j.verdict)
-      (option_map decimal (last_for known.mentions uri j.verdict))
-      (notes_json (notes_of s known.ranged r.body j.verdict))
-      (version_json document) (within s.server.config.limits.max_body (canonical_of_record s r.body j.verdict)) t
-      (body_json (details.bodies && is_json m) r.body)) (text_member (details.texts && is_changed j.verdict) document)
+      ap (λ (t : Option (List ℕ)). first_members j.session.records r.head m ++ (codes ",\"word\":\""
+      ++ verdict_word j.verdict ++ codes "\"" ++ last_members (
+      (codes ",\"reason\":", reason_json j.session.server.config.limits m j.verdict)
+      ∷ (codes ",\"last\":", option_map decimal (last_for known.mentions uri j.verdict))
+      ∷ (codes ",\"notes\":", notes_json (notes_of s known.ranged r.body j.verdict))
+      ∷ (codes ",\"version\":", version_json document)
+      ∷ (
+        codes ",\"canonical\":",
+        within s.server.config.limits.max_body (canonical_of_record s r.body j.verdict),
+      )
+      ∷ (codes ",\"text\":", t) ∷ (codes ",\"body\":", body_json (details.bodies && is_json m) r.body) ∷ [])))
+      (text_member (details.texts && has_changed j.verdict) document)
       ∙ line_parts (codes "{\"number\":") (decimal j.session.records) (codes ",\"offset\":") (decimal r.head.place)
       (codes ",\"from\":\"") (side_word r.head.side) (codes "\"")
       (member (codes ",\"method\":") (option_map json_string (method_of m)))
@@ -103,7 +109,7 @@ module _ (details : Details) (known : Known) (s : Session) (r : Record) (m : Inc
 
 -- ---- the text after a record
 
-word_changed : (verdict : Verdict) → bytes_eq (verdict_word verdict) (codes "changed") ≡ is_changed verdict
+word_changed : (verdict : Verdict) → bytes_eq (verdict_word verdict) (codes "changed") ≡ has_changed verdict
 word_changed bad = refl
 word_changed recorded = refl
 word_changed (answered (reply m)) = by m.code
@@ -144,11 +150,11 @@ module _ (details : Details) (known : Known) (s : Session) (r : Record) (uri : L
   table_after = (judge s r).session.server.table
 
   abbrev is_changed_here : Bool
-  is_changed_here = is_changed (judge s r).verdict && is_document uri l.uri
+  is_changed_here = has_changed (judge s r).verdict && is_document uri l.uri
 
   by_case : (old : Option (List ℕ)) → old ≡ text_in s.server.table uri → (b : Bool) → is_changed_here ≡ b
       → (if b then l.text else old) ≡ text_in table_after uri
-  by_case old is true here = text_there details.texts (is_changed (judge s r).verdict) table_after uri l.uri asked here
+  by_case old is true here = text_there details.texts (has_changed (judge s r).verdict) table_after uri l.uri asked here
   by_case old is false here =
       is ∙ ap (option_map (λ (entry : DocumentItem). entry.text)) (sym (record_keeps uri s r here))
 
@@ -175,7 +181,7 @@ record Beside (details : Details) (s : Session) (trace check report : RunOutput)
   texts : details.texts ≡ true → trace.stop ≡ None → TextsFrom s report lines
 
 abbrev given_by : Record → Verdict → List ℕ → RunOutput → RunOutput
-given_by r verdict out c = continue_with (unless_bad r verdict (writes out)).out (unless_bad r verdict (writes out)).end
+given_by r verdict out c = followed_by (unless_bad r verdict (writes out)).out (unless_bad r verdict (writes out)).end
     c
 
 module _ (details : Details) (known : Known) (s : Session) (r : Record) where

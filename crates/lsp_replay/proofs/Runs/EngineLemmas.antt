@@ -19,8 +19,8 @@ use Rattle.lsp_log.specs.laws.Logs.{BufferedLaw, RestLaw}
 use Rattle.lsp_log.proofs.SplitLemmas.{frame_len}
 use Rattle.lsp_replay.specs.RunOutput.{RunOutput, written_first, stopped}
 use Rattle.lsp_replay.specs.inside.RunOutput.{after}
-use Rattle.lsp_replay.specs.Engine.{Reached, last_of}
-use Rattle.lsp_replay.specs.inside.Engine.{IsPieceFault, Stopped, Broken, RanOut, AtEnd, BrokenAtEnd, RanOutAtEnd}
+use Rattle.lsp_replay.specs.Engine.{last_of}
+use Rattle.lsp_replay.specs.inside.Engine.{IsPieceFault, Reached, Stopped, Broken, RanOut, AtEnd, BrokenAtEnd, RanOutAtEnd}
 use Rattle.lsp_replay.specs.inside.Progress.{Continues, Ends, IsHandled, IsHandleFault, IsLastFault, IsEndFault, IsProgress}
 
 -- Without more records nothing more is written, and the run goes on.

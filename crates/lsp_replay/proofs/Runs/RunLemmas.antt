@@ -20,8 +20,8 @@ use Rattle.lsp_log.specs.Opening.{IsLineFront, IsBelowLine, IsUnfinished}
 use Rattle.lsp_log.specs.Splitting.{IsReady, IsOpen, IsAfter, buffered_of}
 use Rattle.lsp_log.specs.laws.Logs.{RestLaw}
 use Rattle.lsp_replay.specs.RunOutput.{RunOutput}
-use Rattle.lsp_replay.specs.Engine.{Reached, Called, NonePassedOver, PortState, WroteRecords}
-use Rattle.lsp_replay.specs.inside.Engine.{IsPieceFault, Stopped, AtEnd, Ran, IsRunFault}
+use Rattle.lsp_replay.specs.Engine.{Called, NonePassedOver, PortState, WroteRecords}
+use Rattle.lsp_replay.specs.inside.Engine.{IsPieceFault, Reached, Stopped, AtEnd, Ran, IsRunFault}
 use Rattle.lsp_replay.specs.inside.Progress.{IsProgress, Runs, IsEndFault, BothSpend}
 use Rattle.lsp_stream.specs.Ports.{Rose}
 use Rattle.lsp_stream.specs.Turns.{Spends, StaysWell, StaysFlushed}
@@ -271,28 +271,29 @@ module _ (log_rules : LogRules) (run_output : List Record → RunOutput) (left r
 
   -- No more could be read.
   read_fault : (state : PortState) (input : List ℕ) (received_new : Option (List ℕ)) (fault : EngineFault)
-      → (fault ≡ Read) ⊎ (fault ≡ TooManyTurns)
+      → (fault ≡ Read) ⊎ (fault ≡ TooManyTurns) → (fault ≡ Read → state.ended ≡ false)
       → (fault ≡ TooManyTurns → state.ended_before ≡ false → state.ended ≡ false) → Reached log_rules run_output input
       received received_new (IsUnfinished log_rules input) → IsRunFault log_rules run_output state input received
       received_new fault
-  read_fault state input received_new fault (inl is) not_ended reached =
-      subst (IsRunFault log_rules run_output state input received received_new) (sym is) reached
-  read_fault state input received_new fault (inr is) not_ended reached =
+  read_fault state input received_new fault (inl is) failed not_ended reached =
+      subst (IsRunFault log_rules run_output state input received received_new) (sym is) (failed is, reached)
+  read_fault state input received_new fault (inr is) failed not_ended reached =
       subst (IsRunFault log_rules run_output state input received received_new) (sym is)
       (inr (inr (not_ended is, reached)))
 
   pub ran_unread : (left_now left_new : Option (List ℕ)) (ended : Bool) (state : PortState) (place : ℕ) (s : Splitter)
       (now : List Record → RunOutput) (received_now : Option (List ℕ)) (fault : EngineFault) → RestLaw → IsReady s
       → IsQuiet now
-      → Keeps left_now left_new → (fault ≡ Read) ⊎ (fault ≡ TooManyTurns)
+      → Keeps left_now left_new → (fault ≡ Read) ⊎ (fault ≡ TooManyTurns) → (fault ≡ Read → state.ended ≡ false)
       → (fault ≡ TooManyTurns → state.ended_before ≡ false → state.ended ≡ false)
       → Runs log_rules run_output left received left_now ended place [] s now received_now
       → Ran log_rules run_output state left left_new received received_now (Err fault)
-  ran_unread left_now left_new ended state place s now received_now fault rest_law ready quiet kept kind not_ended r =
+  ran_unread left_now left_new ended state place s now received_now fault rest_law ready quiet kept kind failed
+      not_ended r =
       record {
         input = r.input;
         read = Consumes-kept left left_now left_new r.input r.read kept;
-        came = read_fault state r.input received_now fault kind not_ended
+        came = read_fault state r.input received_now fault kind failed not_ended
             (went_read log_rules run_output received r.input
             rest_law s now received_now ready quiet r.progress);
       }
@@ -317,12 +318,12 @@ module _ (log_rules : LogRules) (run_output : List Record → RunOutput) (left r
   -- Some first bytes of the line are no log of version 2, and begin no frame.
   pub ran_unopened : (left_new : Option (List ℕ)) (state : PortState) (fault : EngineFault) → IsQuiet run_output
       → IsBelowLine log_rules.versions left left_new → (fault ≡ Read) ⊎ (fault ≡ TooManyTurns)
-      → (fault ≡ TooManyTurns → state.ended_before ≡ false → state.ended ≡ false)
+      → (fault ≡ Read → state.ended ≡ false) → (fault ≡ TooManyTurns → state.ended_before ≡ false → state.ended ≡ false)
       → Ran log_rules run_output state left left_new received received (Err fault)
-  ran_unopened left_new state fault quiet below kind not_ended = record {
+  ran_unopened left_new state fault quiet below kind failed not_ended = record {
     input = below.0;
     read = below.3;
-    came = read_fault state below.0 received fault kind not_ended (record {
+    came = read_fault state below.0 received fault kind failed not_ended (record {
       log = record { version = One; records = []; rest = below.0 };
       reads = record {
         version = λ looks more e. omega (arith, ap length e, length-append version_line more, below.1.0);
@@ -358,6 +359,18 @@ module _ (log_rules : LogRules) (run_output : List Record → RunOutput) (left r
       ran_into_end_fault left_now ended state place s now received_now received_new fault error
       (fails log_rules run_output received) r
 
+  wrote_records : (left_now : Option (List ℕ)) (input : List ℕ) (received_new : Option (List ℕ))
+      → Consumes left left_now input → Reached log_rules run_output input received received_new (λ _. Unit {0})
+      → WroteRecords log_rules run_output left left_now received received_new
+  wrote_records left_now input received_new read reached = record {
+    input = input;
+    read = read;
+    log = reached.log;
+    reads = reached.reads;
+    continues = reached.continues;
+    wrote = reached.wrote;
+  }
+
   -- Memory ran out at a record.
   pub piece_whole : (left_now : Option (List ℕ)) (ended : Bool) (place : ℕ) (piece : List ℕ) (s : Splitter)
       (now : List Record → RunOutput) (received_now received_new : Option (List ℕ)) (unflushed : Bool)
@@ -369,12 +382,9 @@ module _ (log_rules : LogRules) (run_output : List Record → RunOutput) (left r
       left_now received received_new
   piece_whole left_now ended place piece s now received_now received_new unflushed fault fails r is =
       let same : fault ≡ NoMemory = cc in
-      record {
-        input = r.input;
-        read = r.read;
-        reached = subst (IsPieceFault log_rules run_output unflushed r.input received received_new) same
-            (fails r.input r.progress);
-      }
+      wrote_records left_now r.input received_new r.read
+      (subst (IsPieceFault log_rules run_output unflushed r.input received received_new) same
+      (fails r.input r.progress))
 
   -- And at the end of the input.
   pub end_whole : (left_now : Option (List ℕ)) (ended : Bool) (place : ℕ) (s : Splitter) (now : List Record → RunOutput)
@@ -388,11 +398,8 @@ module _ (log_rules : LogRules) (run_output : List Record → RunOutput) (left r
       absurd (let two : ◌≡◌ {A = Result Outcome EngineFault} (Ok outcome) (Err NoMemory) = is in cc)
   end_whole left_now ended place s now received_now received_new Holds (Err fault) whole one r is =
       let same : fault ≡ NoMemory = cc in
-      record {
-        input = r.input;
-        read = r.read;
-        reached = whole same one log_rules run_output received r.input r.progress;
-      }
+      wrote_records left_now r.input received_new r.read
+      (whole same one log_rules run_output received r.input r.progress)
 
 -- Which calls were made when a fault came.
 pub called_fault : (reads_old reads_new writes_old writes_new allowed turns : ℕ) (read_failed write_failed ended : Bool)

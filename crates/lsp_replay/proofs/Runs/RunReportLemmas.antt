@@ -15,22 +15,24 @@ use Rattle.lsp_stream.specs.Turns.{AppendsFront, AppendsShort}
 use Rattle.lsp_log.specs.Log.{LogRules, Record, Log, IsVersion, IsReadAs, HasNoRecord, IsCut, IsMalformed, IsBadMark, mark_of}
 use Rattle.lsp_replay.specs.RunOutput.{RunOutput}
 use Rattle.lsp_replay.specs.Session.{Session, judge}
-use Rattle.lsp_replay.specs.Engine.{Reached, PortState, WroteRecords}
-use Rattle.lsp_replay.specs.inside.Engine.{IsLoopRun, Ran, Stopped, Broken, RanOut, RanOutAtEnd, AtEnd, BreaksAtEnd, IsRunFault, RefusesInput}
-use Rattle.lsp_replay.specs.Commands.{View, continue_with, output_in}
+use Rattle.lsp_replay.specs.Engine.{PortState, WroteRecords}
+use Rattle.lsp_replay.specs.inside.Engine.{IsLoopRun, Ran, Reached, Stopped, Broken, RanOut, RanOutAtEnd, AtEnd, BreaksAtEnd, IsRunFault, RefusesInput}
+use Rattle.lsp_replay.specs.Commands.{View, followed_by, output_in}
 use Rattle.lsp_replay.specs.Run.{IsEngineRun}
-use Rattle.lsp_replay.specs.AllRecords.{EndedBy, Passed, PassedEnd, CutAtEnd, ShortAtEnd, IsFaultReported, IsRunReport, RanOver}
+use Rattle.lsp_replay.specs.AllRecords.{RanOver}
+use Rattle.lsp_replay.specs.inside.AllRecords.{EndedBy, Passed, PassedEnd, CutAtEnd, ShortAtEnd, IsFaultReported, IsRunReport}
 use Rattle.lsp_log.specs.Opening.{IsUnfinished}
 use Rattle.lsp_log.specs.laws.Logs.{IsFirstOf, FirstLaw, VersionLaw}
 use Rattle.lsp_log.proofs.UniqueLemmas.{first_byte}
 use Rattle.lsp_replay.proofs.Runs.EngineLemmas.{empty_rest, still_short}
+use Rattle.lsp_replay.proofs.Runs.ReportedLemmas.{by_cause}
 
 -- ---- outputs: a record that ended a run ends it whatever follows, and more records give more output
 
 pub settled_on : (out : List ℕ) (end : Option (Result Outcome EngineFault)) (c longer : RunOutput)
-    (answer : Result Outcome EngineFault) → (continue_with out end c).stop ≡ Some answer
-    → (c.stop ≡ Some answer → longer ≡ c) → continue_with out end longer ≡ continue_with out end c
-settled_on out None c longer answer e same = ap (continue_with out None) (same e)
+    (answer : Result Outcome EngineFault) → (followed_by out end c).stop ≡ Some answer
+    → (c.stop ≡ Some answer → longer ≡ c) → followed_by out end longer ≡ followed_by out end c
+settled_on out None c longer answer e same = ap (followed_by out None) (same e)
 settled_on out (Some other) c longer answer e same = refl
 
 -- the same of any course
@@ -53,7 +55,7 @@ unfoldable pub Grows : RunOutput → RunOutput → Type 0
 Grows c longer = (rest : List ℕ) × (longer.out ≡ c.out ++ rest)
 
 pub grows_on : (out : List ℕ) (end : Option (Result Outcome EngineFault)) (c longer : RunOutput) → Grows c longer
-    → Grows (continue_with out end c) (continue_with out end longer)
+    → Grows (followed_by out end c) (followed_by out end longer)
 unfolding Grows
 grows_on out None c longer more = (more.0, ap (λ z. out ++ z) more.1 ∙ sym (append_assoc out c.out more.0))
 grows_on out (Some answer) c longer more = ([], sym (append-nil out))
@@ -221,7 +223,8 @@ module _ (first_of : FirstLaw) (same_version : VersionLaw) (log_rules : LogRules
 
   fault_told : (fault : EngineFault) → IsRunFault log_rules run_output state input received_old received_new fault
       → IsFaultReported log_rules run_output state input received_old received_new all fault
-  fault_told Read r = reached (IsUnfinished log_rules input) (λ log is. is.none) r
+  fault_told Read r = let error = reached (IsUnfinished log_rules input) (λ log is. is.none) r.1 in
+      (r.0, error.0, error.1)
   fault_told Write (inl b) = inl (broken b)
   fault_told Write (inr b) = inr (cut b)
   fault_told (Frame fault) r =
@@ -269,7 +272,7 @@ module _ (same_version : VersionLaw) (log_rules : LogRules) (run_output : List R
 
   fault_answered : (fault : EngineFault) → IsRunFault log_rules run_output state input received_old received_new fault
       → IsBadFromStart received_old received_new (Err fault)
-  fault_answered Read r = absurd (unread r.log r.reads)
+  fault_answered Read r = absurd (unread r.1.log r.1.reads)
   fault_answered Write (inl b) = absurd (unread b.log b.reads)
   fault_answered Write (inr b) = absurd (unread b.1.log b.1.reads)
   fault_answered (Frame fault) r = absurd (unread r.log r.reads)
@@ -308,9 +311,9 @@ over_course first version log_rules run_output settles grows_all state left_old 
     result ran = record {
       input = ran.input;
       read = ran.read;
-      reported = λ all reads ends. is_told first version log_rules run_output settles grows_all state ran.input
-          received_old
-          received_new all reads ends result ran.came;
+      reported = λ all reads ends. by_cause log_rules run_output state ran.input received_old received_new all result
+          (is_told first version log_rules run_output settles grows_all state ran.input received_old received_new all
+          reads ends result ran.came);
       refused = λ only_one two. is_answered version log_rules run_output state ran.input received_old received_new
           only_one
           two result ran.came;

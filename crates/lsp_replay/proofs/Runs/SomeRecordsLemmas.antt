@@ -17,12 +17,14 @@ use Rattle.lsp_log.specs.Opening.{IsUnfinished}
 use Rattle.lsp_log.specs.laws.Logs.{AllRecords, AllRecordsLaw}
 use Rattle.lsp_log.proofs.OpeningLemmas.{starts_front, starts_known}
 use Rattle.lsp_replay.specs.RunOutput.{RunOutput}
-use Rattle.lsp_replay.specs.Engine.{PortState, Reached, WroteRecords, last_of, state_of}
-use Rattle.lsp_replay.specs.inside.Engine.{AtEnd, BreaksAtEnd, Broken, BrokenAtEnd, IsRunFault, Ran, RanOut, RanOutAtEnd, RefusesInput, Stopped, TurnsRanOut}
-use Rattle.lsp_replay.specs.AllRecords.{CutAtEnd, EndedBy, IsFaultReported, IsFirstPart, IsRunReport, IsShort, Passed, RanOver, ShortAtEnd}
+use Rattle.lsp_replay.specs.Engine.{PortState, WroteRecords, last_of, state_of}
+use Rattle.lsp_replay.specs.inside.Engine.{AtEnd, BreaksAtEnd, Broken, BrokenAtEnd, IsRunFault, Ran, RanOut, RanOutAtEnd, Reached, RefusesInput, Stopped, TurnsRanOut}
+use Rattle.lsp_replay.specs.AllRecords.{RanOver}
+use Rattle.lsp_replay.specs.inside.AllRecords.{CutAtEnd, EndedBy, IsFaultReported, IsFirstPart, IsRunReport, IsShort, Passed, ShortAtEnd}
 use Rattle.lsp_replay.specs.Commands.{report}
 use Rattle.lsp_replay.specs.laws.Written.{ReportLaw}
 use Rattle.lsp_replay.specs.Run.{Engine, IsEngineRun}
+use Rattle.lsp_replay.proofs.Runs.ReportedLemmas.{by_cases}
 
 -- ---- the version of an input
 
@@ -168,7 +170,7 @@ module _ (log_rules : LogRules) (run_output : List Record → RunOutput) (state 
   -- all but out of memory, of which the field `whole` speaks
   fault_came : (fault : EngineFault) → fault ≢ NoMemory → IsFaultReported log_rules run_output state input old new all
       fault → IsRunFault log_rules run_output state input old new fault
-  fault_came Read other r = reached (IsUnfinished log_rules input) r.0 r.1
+  fault_came Read other r = (r.0, reached (IsUnfinished log_rules input) r.1 r.2)
   fault_came Write other r = first_part r
   fault_came (Frame fault) other r = reached (IsMalformed log_rules.max_body input fault) r.0 r.1
   fault_came (Truncated place) other r = (r.0, r.1, reached (IsCut log_rules.max_body) r.2 r.3)
@@ -267,7 +269,9 @@ module _ (all_records : AllRecordsLaw) (engine : Engine) (silent : engine.in_par
         input = over.input;
         read = over.read;
         came = elim (all_or_refused all_records engine.log_rules over.input version.0 version.1) [
-          | inl all ↦ by_all all.log all.reads (over.reported all.log all.reads all.none)
+          | inl all ↦ by_all all.log all.reads (by_cases engine.log_rules engine.run_output
+              (state_in engine before after) over.input before.writer.written after.writer.written all.log result
+              (over.reported all.log all.reads all.none))
           | inr refused ↦ refused_came over.input result refused (over.refused refused.0 refused.1)
         ];
       }
@@ -275,7 +279,17 @@ module _ (all_records : AllRecordsLaw) (engine : Engine) (silent : engine.in_par
   -- out of memory, where the output of the input's end is not written in parts
   whole_came : WroteRecords engine.log_rules engine.run_output before.reader.left after.reader.left
       before.writer.written after.writer.written → RanAs engine before after (Err NoMemory)
-  whole_came wrote = record { input = wrote.input; read = wrote.read; came = inl wrote.reached }
+  whole_came wrote = record {
+    input = wrote.input;
+    read = wrote.read;
+    came = inl (record {
+      log = wrote.log;
+      reads = wrote.reads;
+      rest = tt;
+      continues = wrote.continues;
+      wrote = wrote.wrote;
+    });
+  }
 
   memory_came : IsEngineRun engine max_turns before after (Err NoMemory) → RanAs engine before after (Err NoMemory)
   memory_came run =

@@ -12,11 +12,11 @@ use Rattle.lsp_stream.specs.Ports.{Ports}
 use Rattle.lsp_log.specs.Log.{Record}
 use Rattle.lsp_replay.specs.RunOutput.{RunOutput}
 use Rattle.lsp_replay.specs.Session.{Session, Verdict, answered, recorded, bad, judge, opened}
-use Rattle.lsp_replay.specs.Engine.{PortState}
+use Rattle.lsp_replay.specs.Engine.{PortState, all_of}
 use Rattle.lsp_replay.specs.inside.Engine.{Ran, AtEnd, Stopped}
-use Rattle.lsp_replay.specs.Commands.{RecordOutput, writes, ends, continue_with, unless_bad, normalising, written, canonical_of_record, front_of, canonical_output, converting, line_before, reply_record, as_log, as_converted, log_config, canonical_log, converted}
+use Rattle.lsp_replay.specs.Commands.{RecordOutput, writes, ends, followed_by, unless_bad, normalising, written, canonical_of_record, front_of, canonical_output, converting, line_before, reply_record, as_log, as_converted, log_config, canonical_log, converted}
 use Rattle.lsp_replay.specs.inside.Commands.{run_output_in}
-use Rattle.lsp_replay.specs.laws.Written.{IsCanonicalLog, IsConverted, IsSquashed, Wrote, all_of}
+use Rattle.lsp_replay.specs.laws.Written.{IsCanonicalLog, IsConverted, IsSquashed, Wrote}
 use Rattle.lsp_replay.specs.Squashed.{squashed}
 use Rattle.lsp_replay.specs.Run.{IsEngineRun}
 use Rattle.lsp_replay.specs.inside.Run.{squash_engine}
@@ -35,7 +35,7 @@ IsNotOk (Some (Ok outcome)) = ⊥
 IsNotOk (Some (Err fault)) = ⊤
 
 pub not_ok_on : (out : List ℕ) (end : Option (Result Outcome EngineFault)) (c : RunOutput) → IsNotOk end
-    → IsNotOk c.stop → IsNotOk (continue_with out end c).stop
+    → IsNotOk c.stop → IsNotOk (followed_by out end c).stop
 not_ok_on out None c here later = later
 not_ok_on out (Some answer) c here later = here
 

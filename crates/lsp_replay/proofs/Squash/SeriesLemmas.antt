@@ -15,7 +15,7 @@ use Rattle.lsp_server.specs.Step.{edit_from_data, session_encoding}
 use Rattle.lsp_stream.specs.declared.fault.EngineFault.TheVariants.{BodyTooLong}
 use Rattle.lsp_log.specs.Log.{Record}
 use Rattle.lsp_replay.specs.RunOutput.{RunOutput, written_first}
-use Rattle.lsp_replay.specs.Commands.{RecordOutput, canonical_change_body, canonical_if, change_in, continue_with, ends, front_of, line_if, log_config, output_in, unless_bad, written, writes}
+use Rattle.lsp_replay.specs.Commands.{RecordOutput, canonical_change_body, canonical_if, change_in, followed_by, ends, front_of, line_if, log_config, output_in, unless_bad, written, writes}
 use Rattle.lsp_replay.specs.Session.{Session, Verdict, answered, recorded, bad, judge, opened, outcome_of}
 use Rattle.lsp_replay.specs.Squashed.{SeriesChange, change_if, change_on, joined, series_after, series_written, squash_output, squashed, squashing}
 use Rattle.lsp_replay.specs.inside.Squashed as kept
@@ -102,7 +102,7 @@ module _ (s : Session) (r : Record) (t : Session) (rs : List Record)
     (later : (series : List SeriesChange) → output_in squashing series t rs ≡ squashed_in t (kept_of series) rs) where
   -- the output from the record on, by a step of the code
   abbrev by_step : Step → RunOutput
-  by_step step = continue_with step.out step.end (squashed_in t step.series rs)
+  by_step step = followed_by step.out step.end (squashed_in t step.series rs)
 
   abbrev by_bytes : Option OpenSeries → Option ChangeData → Verdict → RunOutput
   by_bytes series change verdict = by_step (step_if s.server r (front_of r.head) series change verdict)
@@ -110,7 +110,7 @@ module _ (s : Session) (r : Record) (t : Session) (rs : List Record)
   -- the same, by what is written of the record without squash, and by the change in it
   abbrev by_output : List SeriesChange → Option SeriesChange → RecordOutput → RunOutput
   by_output series change given =
-      continue_with (squash_output series change given.out given.end).out
+      followed_by (squash_output series change given.out given.end).out
       (squash_output series change given.out given.end).end
       (output_in squashing (series_after series change) t rs)
 

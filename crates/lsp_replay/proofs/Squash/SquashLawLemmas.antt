@@ -7,7 +7,7 @@ use Rattle.lsp_log.specs.declared.record.Version.{Version}
 use Rattle.lsp_log.specs.Log.{Record, IsRecord, AreRecords, together, record_bytes, mark_of}
 use Rattle.lsp_log.proofs.LogLemmas.{due_after}
 use Rattle.lsp_replay.specs.RunOutput.{RunOutput, written_first}
-use Rattle.lsp_replay.specs.Commands.{writes, continue_with, unless_bad, replaying, line_if}
+use Rattle.lsp_replay.specs.Commands.{writes, followed_by, unless_bad, replaying, line_if}
 use Rattle.lsp_replay.specs.inside.Commands.{run_output_in}
 use Rattle.lsp_replay.specs.Session.{Session, Verdict, answered, recorded, bad, judge}
 use Rattle.lsp_replay.specs.inside.Squashed.{OpenSeries, Step, end_bytes, squash_step, squashed_in}
@@ -73,14 +73,14 @@ pub step_on : (s : Session) (series : Option OpenSeries) (r : Record) (rs : List
     → squash_step s series r (judge s r) ≡ record { out = out; end = None; series = next }
     → squashed_in s series (r ∷ rs) ≡ written_first out (squashed_in (judge s r).session next rs)
 step_on s series r rs out next is =
-    ap (λ (step : Step). continue_with step.out step.end (squashed_in (judge s r).session step.series rs)) is
+    ap (λ (step : Step). followed_by step.out step.end (squashed_in (judge s r).session step.series rs)) is
 
 -- `replay` reports nothing for a record that isn't bad.
 pub report_on : (s : Session) (r : Record) (rs : List Record) → (judge s r).verdict ≢ bad
     → run_output_in replaying s (r ∷ rs) ≡ run_output_in replaying (judge s r).session rs
 report_on s r rs not_bad = by (judge s r).verdict not_bad
   where
-    by : (v : Verdict) → v ≢ bad → continue_with (unless_bad r v (writes [])).out (unless_bad r v (writes [])).end
+    by : (v : Verdict) → v ≢ bad → followed_by (unless_bad r v (writes [])).out (unless_bad r v (writes [])).end
         (run_output_in replaying (judge s r).session rs) ≡ run_output_in replaying (judge s r).session rs
     by bad other = absurd (other refl)
     by recorded other = refl

@@ -11,7 +11,7 @@ use Rattle.lsp_replay.specs.declared.outcome.Outcome.{Outcome}
 use Rattle.lsp_stream.specs.declared.fault.EngineFault.{EngineFault}
 use Rattle.lsp_log.specs.Log.{Record}
 use Rattle.lsp_replay.specs.RunOutput.{RunOutput}
-use Rattle.lsp_replay.specs.Commands.{RecordOutput, change_in, front_of, continue_with, log_config, canonical_log, canonical_change_body, canonical_if, normalising, unless_bad, written}
+use Rattle.lsp_replay.specs.Commands.{RecordOutput, change_in, front_of, followed_by, log_config, canonical_log, canonical_change_body, canonical_if, normalising, unless_bad, written}
 use Rattle.lsp_replay.specs.inside.Commands.{run_output_in}
 use Rattle.lsp_replay.specs.Session.{Session, Verdict, answered, recorded, bad, judge, opened}
 use Rattle.lsp_replay.specs.laws.Written.{StopsAlike}
@@ -57,7 +57,7 @@ step_end server r front series (Some p) (answered changed) =
     (cases_Bool (nat_lt server.config.limits.max_body (length (canonical_change_body server p))))
 
 pub stop_on : (out bytes : List ℕ) (end also : Option (Result Outcome EngineFault)) (c d : RunOutput) → end ≡ also
-    → c.stop ≡ d.stop → (continue_with out end c).stop ≡ (continue_with bytes also d).stop
+    → c.stop ≡ d.stop → (followed_by out end c).stop ≡ (followed_by bytes also d).stop
 stop_on out bytes None None c d same stops = stops
 stop_on out bytes None (Some a) c d same stops = absurd (cc)
 stop_on out bytes (Some e) None c d same stops = absurd (cc)
@@ -72,7 +72,7 @@ stops_in s series (r ∷ rs) =
     (stops_in (judge s r).session (squash_step s series r (judge s r)).series rs)
 
 outcome_on : (out bytes : List ℕ) (end also : Option (Result Outcome EngineFault)) (c d : RunOutput) → end ≡ also
-    → c.outcome ≡ d.outcome → (continue_with out end c).outcome ≡ (continue_with bytes also d).outcome
+    → c.outcome ≡ d.outcome → (followed_by out end c).outcome ≡ (followed_by bytes also d).outcome
 outcome_on out bytes None None c d same outcomes = outcomes
 outcome_on out bytes None (Some a) c d same outcomes = absurd (cc)
 outcome_on out bytes (Some e) None c d same outcomes = absurd (cc)

@@ -17,9 +17,10 @@ use Rattle.lsp_replay.specs.declared.commands.Settings.{Settings}
 use Rattle.lsp_replay.specs.declared.outcome.Outcome.{Outcome}
 use Rattle.lsp_stream.specs.declared.fault.EngineFault.{EngineFault}
 use Rattle.lsp_replay.specs.RunOutput.{RunOutput}
-use Rattle.lsp_replay.specs.Commands.{change_in, front_of, continue_with, line_if, as_log, canonical_if, log_config, replaying, report}
+use Rattle.lsp_replay.specs.Commands.{change_in, front_of, followed_by, line_if, as_log, canonical_if, log_config, replaying, report}
 use Rattle.lsp_replay.specs.inside.Commands.{run_output_in}
-use Rattle.lsp_replay.specs.laws.Written.{SquashedLaw, LeavesAlike, all_of}
+use Rattle.lsp_replay.specs.Engine.{all_of}
+use Rattle.lsp_replay.specs.laws.Written.{SquashedLaw, LeavesAlike}
 use Rattle.lsp_replay.specs.Session.{Session, answered, bad, judge, opened}
 use Rattle.lsp_replay.specs.Squashed.{squashed}
 use Rattle.lsp_replay.specs.inside.Squashed.{OpenSeries, Step, end_bytes, other_step, squash_step, squashed_in, squashed_steps}
@@ -258,7 +259,7 @@ same_outcome settings rs goes = outcome_on (opened (log_config settings)) None r
         let step = squash_step s series r (judge s r) in
         let on = went_on step.out step.end (squashed_in (judge s r).session step.series rs) goes in
         ap (λ (o : Option (Result Outcome EngineFault)).
-        (continue_with step.out o (squashed_in (judge s r).session step.series rs)).outcome) on.0
+        (followed_by step.out o (squashed_in (judge s r).session step.series rs)).outcome) on.0
         ∙ outcome_on (judge s r).session step.series rs on.1
         ∙ sym (ap (λ (c : RunOutput). c.outcome)
         (report_on s r rs (not_bad_of s.server r (front_of r.head) series (change_in (incoming_of (reading r.body)))

@@ -9,12 +9,12 @@ use Rattle.lsp_log.specs.declared.record.Version.TheVariants.{One, Two}
 use Rattle.lsp_log.specs.Log.{Record, Log, IsReadAs, AreRecords, is_line_due, line_of, together}
 use Rattle.lsp_replay.specs.declared.commands.Settings.{Settings}
 use Rattle.lsp_replay.specs.declared.outcome.Outcome.{Outcome}
-use Rattle.lsp_replay.specs.Documents.{Kept, KeepsDocuments, WroteDocuments, documents, documents_engine, kept, nothing_selected, output_of_kept}
+use Rattle.lsp_replay.specs.Documents.{Kept, KeepsDocuments, WroteDocuments, documents, documents_engine, kept_records, nothing_selected, output_of_kept}
 use Rattle.lsp_replay.specs.laws.Documents.{DocumentsLaw, DocumentsStopAlike}
-use Rattle.lsp_replay.specs.Engine.{PortState}
+use Rattle.lsp_replay.specs.Engine.{PortState, all_of}
 use Rattle.lsp_replay.specs.inside.Engine.{AtEnd, Ran, Stopped}
 use Rattle.lsp_replay.specs.Commands.{as_log, canonical_log, log_config, report}
-use Rattle.lsp_replay.specs.laws.Written.{IsCanonicalLog, IsSquashed, LeavesAlike, all_of}
+use Rattle.lsp_replay.specs.laws.Written.{IsCanonicalLog, IsSquashed, LeavesAlike}
 use Rattle.lsp_stream.specs.Ports.{Ports}
 use Rattle.lsp_replay.specs.Run.{IsEngineRun}
 use Rattle.lsp_replay.specs.RunOutput.{RunOutput}
@@ -39,7 +39,7 @@ stop_if settings false rs = refl
 
 pub documents_stop : DocumentsStopAlike
 documents_stop settings records =
-    stop_if settings settings.squash (kept settings records).records
+    stop_if settings settings.squash (kept_records settings records).records
     ∙ kept_stop (opened (log_config settings)) (opened (log_config settings)) nothing_selected records
     (alike_self (opened (log_config settings)))
 
@@ -66,7 +66,7 @@ module _ (settings : Settings) (ranges : AreInRange settings.limits) (input : Li
   start = length (line_of log.version)
 
   abbrev k : Kept
-  k = kept settings log.records
+  k = kept_records settings log.records
 
   abbrev ks : List Record
   ks = located_all start log.version k.records
@@ -105,9 +105,9 @@ module _ (settings : Settings) (ranges : AreInRange settings.limits) (input : Li
 
       by : (rs : List Record) → log.records ≡ rs → due_at_end ≡ is_line_due log.version ks
       by [] e =
-          ap (λ (xs : List Record). (kept settings xs).due || is_line_due log.version xs) e
+          ap (λ (xs : List Record). (kept_records settings xs).due || is_line_due log.version xs) e
           ∙ sym (ap (λ (xs : List Record). is_line_due log.version
-          (located_all start log.version (kept settings xs).records)) e)
+          (located_all start log.version (kept_records settings xs).records)) e)
       by (r ∷ rs) e =
           ap (λ (xs : List Record). k.due || is_line_due log.version xs) e
           ∙ ap (λ b. k.due || b) (later log.version r rs) ∙ or_none k.due
@@ -215,16 +215,16 @@ module _ (settings : Settings) (ranges : AreInRange settings.limits)
 
 as_each : (settings : Settings) → settings.squash ≡ false → (P : (List Record → RunOutput) → Type 0)
     → P (each_of_kept (opened (log_config settings)) nothing_selected) → P (documents settings)
-as_each settings e P p = subst (λ (b : Bool). P (λ rs. output_of_kept (normalised_if b settings) (kept settings rs)))
-    (sym e) p
+as_each settings e P p =
+    subst (λ (b : Bool). P (λ rs. output_of_kept (normalised_if b settings) (kept_records settings rs))) (sym e) p
 
 as_squashed : (settings : Settings) → settings.squash ≡ true → (P : (List Record → RunOutput) → Type 0)
     → P (squashed_of_kept (record { session = opened (log_config settings); series = None }) nothing_selected)
     → P (documents settings)
 as_squashed settings e P p =
-    subst (λ (b : Bool). P (λ rs. output_of_kept (normalised_if b settings) (kept settings rs))) (sym e)
-    (subst (λ (f : Settings → List Record → RunOutput). P (λ rs. output_of_kept (f settings) (kept settings rs)))
-    squashed_is p)
+    subst (λ (b : Bool). P (λ rs. output_of_kept (normalised_if b settings) (kept_records settings rs))) (sym e)
+    (subst (λ (f : Settings → List Record → RunOutput).
+    P (λ rs. output_of_kept (f settings) (kept_records settings rs))) squashed_is p)
 
 -- What the engines wrote, and that each is the engine of these settings.
 module _ (settings : Settings) (ranges : AreInRange settings.limits)

@@ -13,7 +13,7 @@ use Rattle.lsp_log.specs.Log.{LogRules, Record}
 use Rattle.lsp_log.specs.laws.Logs.{FirstLaw, VersionLaw}
 use Rattle.lsp_message.specs.Message.{IdData}
 use Rattle.lsp_replay.specs.Documents.{Kept, Selection, after_kept, after_left_out, is_due, kept_in, output_of_kept, record_stays, waiting_after, with_due, with_line}
-use Rattle.lsp_replay.specs.Commands.{RecordOutput, canonical_of_record, continue_with, ends, front_of, normalising, unless_bad, writes, written}
+use Rattle.lsp_replay.specs.Commands.{RecordOutput, canonical_of_record, followed_by, ends, front_of, normalising, unless_bad, writes, written}
 use Rattle.lsp_replay.specs.Run.{IsEngineRun}
 use Rattle.lsp_replay.specs.RunOutput.{RunOutput, stopped, written_first}
 use Rattle.lsp_replay.specs.Session.{Session, Verdict, bad, judge}
@@ -92,7 +92,7 @@ pub each_step : (s t u : Session) (r : Record) → t ≡ s → u ≡ (judge t r)
     → (more : List Record) → run_output_in normalising s (r ∷ more) ≡ after out None (run_output_in normalising u more)
 each_step s t u r same session out gives more =
     ap (λ (v : Session). run_output_in normalising v (r ∷ more)) (sym same)
-    ∙ ap (λ (g : RecordOutput). continue_with g.out g.end (run_output_in normalising (judge t r).session more)) gives
+    ∙ ap (λ (g : RecordOutput). followed_by g.out g.end (run_output_in normalising (judge t r).session more)) gives
     ∙ ap (λ (v : Session). written_first out (run_output_in normalising v more)) (sym session)
 
 pub each_step_ends : (s t : Session) (r : Record) → t ≡ s → (fault : EngineFault) → each_output t r
@@ -100,7 +100,7 @@ pub each_step_ends : (s t : Session) (r : Record) → t ≡ s → (fault : Engin
     → (more : List Record) → run_output_in normalising s (r ∷ more) ≡ stopped [] (Err fault)
 each_step_ends s t r same fault gives more =
     ap (λ (v : Session). run_output_in normalising v (r ∷ more)) (sym same)
-    ∙ ap (λ (g : RecordOutput). continue_with g.out g.end (run_output_in normalising (judge t r).session more)) gives
+    ∙ ap (λ (g : RecordOutput). followed_by g.out g.end (run_output_in normalising (judge t r).session more)) gives
 
 -- ---- a record that is left out
 
@@ -157,7 +157,7 @@ module _ (s : Session) (c d : Selection) (head : Head) (raw body : List ℕ) (wr
     each_stays out gives more =
         ap (output_of_kept (run_output_in normalising s)) (kept_true s c r more stays.stays)
         ∙ ap (λ (g : RecordOutput). with_due (later more).due
-        (continue_with g.out g.end (run_output_in normalising (judge s r).session (later more).records)))
+        (followed_by g.out g.end (run_output_in normalising (judge s r).session (later more).records)))
         (ap (each_output s) (sym its_is) ∙ gives)
         ∙ ap (λ (u : Session). with_due (later more).due
         (written_first out (run_output_in normalising u (later more).records))) (sym same_session)
@@ -174,7 +174,7 @@ module _ (s : Session) (c d : Selection) (head : Head) (raw body : List ℕ) (wr
     squashed_stays series next out gives more =
         ap (output_of_kept (squashed_in s series)) (kept_true s c r more stays.stays)
         ∙ ap (λ (step : Step). with_due (later more).due
-        (continue_with step.out step.end (squashed_in (judge s r).session step.series (later more).records)))
+        (followed_by step.out step.end (squashed_in (judge s r).session step.series (later more).records)))
         (ap (λ (q : Record). squash_step s series q (judge s q)) (sym its_is) ∙ gives)
         ∙ ap (λ (u : Session). with_due (later more).due (written_first out (squashed_in u next (later more).records)))
         (sym same_session)
@@ -186,7 +186,7 @@ module _ (s : Session) (c d : Selection) (head : Head) (raw body : List ℕ) (wr
   each_ends fault gives more =
       ap (output_of_kept (run_output_in normalising s)) (kept_true s c r more stays.stays)
       ∙ ap (λ (g : RecordOutput). with_due (later more).due
-      (continue_with g.out g.end (run_output_in normalising (judge s r).session (later more).records)))
+      (followed_by g.out g.end (run_output_in normalising (judge s r).session (later more).records)))
       (ap (each_output s) (sym its_is) ∙ gives)
 
   pub squashed_ends : (series : Option OpenSeries) (fault : EngineFault) → squash_step s series its (judge s its) ≡
@@ -196,7 +196,7 @@ module _ (s : Session) (c d : Selection) (head : Head) (raw body : List ℕ) (wr
   squashed_ends series fault gives more =
       ap (output_of_kept (squashed_in s series)) (kept_true s c r more stays.stays)
       ∙ ap (λ (step : Step). with_due (later more).due
-      (continue_with step.out step.end (squashed_in (judge s r).session step.series (later more).records)))
+      (followed_by step.out step.end (squashed_in (judge s r).session step.series (later more).records)))
       (ap (λ (q : Record). squash_step s series q (judge s q)) (sym its_is) ∙ gives)
 
 -- ---- the same, by what the calls of a handler are known to do
@@ -292,14 +292,14 @@ module _ (q : Squashing) (c d : Selection) (head : Head) (raw body : List ℕ) (
 pub step_writes : (q next : Squashing) (r : Record) (out : List ℕ) → IsSquashStep q r out next → (more : List Record)
     → squashed_in q.session q.series (r ∷ more) ≡ after out None (squashed_in next.session next.series more)
 step_writes q next r out is more =
-    ap (λ (step : Step). continue_with step.out step.end (squashed_in (judge q.session r).session step.series more))
+    ap (λ (step : Step). followed_by step.out step.end (squashed_in (judge q.session r).session step.series more))
     is.step
     ∙ ap (λ (u : Session). written_first out (squashed_in u next.series more)) (sym is.session)
 
 pub step_ends : (q : Squashing) (r : Record) (fault : EngineFault) → step_at q r ≡ faulty fault → (more : List Record)
     → squashed_in q.session q.series (r ∷ more) ≡ stopped [] (Err fault)
 step_ends q r fault is more =
-    ap (λ (step : Step). continue_with step.out step.end (squashed_in (judge q.session r).session step.series more)) is
+    ap (λ (step : Step). followed_by step.out step.end (squashed_in (judge q.session r).session step.series more)) is
 
 abbrev pub squashing_at : Session → Option OpenSeries → Squashing
 squashing_at s series = record { session = s; series = series }
@@ -345,8 +345,8 @@ abbrev IsEven : RunOutput → Type 0
 IsEven c = (due other : Bool) → with_due due c ≡ with_due other c
 
 even_on : (out : List ℕ) (end : Option (Result Outcome EngineFault)) (c : RunOutput)
-    (answer : Result Outcome EngineFault) → (continue_with out end c).stop ≡ Some answer
-    → (c.stop ≡ Some answer → IsEven c) → IsEven (continue_with out end c)
+    (answer : Result Outcome EngineFault) → (followed_by out end c).stop ≡ Some answer
+    → (c.stop ≡ Some answer → IsEven c) → IsEven (followed_by out end c)
 even_on out None c answer e even = λ due other. ap (written_first out) (even e due other)
 even_on out (Some given) c answer e even = λ due other. refl
 

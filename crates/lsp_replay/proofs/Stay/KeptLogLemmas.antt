@@ -14,7 +14,7 @@ use Rattle.lsp_log.specs.declared.record.Version.TheVariants.{One, Two}
 use Rattle.lsp_log.specs.Log.{Record, AreRecords, is_line_due, record_bytes}
 use Rattle.lsp_replay.specs.declared.outcome.Outcome.{Outcome}
 use Rattle.lsp_replay.specs.Documents.{Kept, Selection, after_kept, after_left_out, is_due, kept_first, kept_in, record_stays, with_line}
-use Rattle.lsp_replay.specs.Commands.{RecordOutput, canonical_change_body, canonical_if, change_in, continue_with, ends, front_of, normalising, replaying, unless_bad, writes, written}
+use Rattle.lsp_replay.specs.Commands.{RecordOutput, canonical_change_body, canonical_if, change_in, followed_by, ends, front_of, normalising, replaying, unless_bad, writes, written}
 use Rattle.lsp_replay.specs.inside.Commands.{run_output_in}
 use Rattle.lsp_replay.specs.inside.Joining.{IsChange}
 use Rattle.lsp_replay.specs.RunOutput.{RunOutput}
@@ -80,8 +80,8 @@ single_none server r recorded not_bad none = written_none server.config.limits.m
 single_none server r (answered a) not_bad none = written_none server.config.limits.max_body r (front_of r.head) _ none
 
 goes_on_after : (out : List ℕ) (end : Option (Result Outcome EngineFault)) (c : RunOutput) → end ≡ None
-    → (continue_with out end c).stop ≡ c.stop
-goes_on_after out end c e = ap (λ (o : Option (Result Outcome EngineFault)). (continue_with out o c).stop) e
+    → (followed_by out end c).stop ≡ c.stop
+goes_on_after out end c e = ap (λ (o : Option (Result Outcome EngineFault)). (followed_by out o c).stop) e
 
 pub kept_stop : (s t : Session) (c : Selection) (rs : List Record) → IsAlike s t
     → (run_output_in normalising t (kept_in t c rs).records).stop ≡ (run_output_in normalising s rs).stop
@@ -253,9 +253,9 @@ each_located s (r ∷ rs) at version goes =
     let given = single s.server r (judge s r).verdict in
     let on = went_on given.out given.end (run_output_in normalising (judge s r).session rs) goes in
     let later = located_all (at + length (record_bytes version r)) version rs in
-    ap (λ (g : RecordOutput). continue_with g.out g.end (run_output_in normalising (judge s r).session later))
+    ap (λ (g : RecordOutput). followed_by g.out g.end (run_output_in normalising (judge s r).session later))
     (located_single s.server at r (judge s r).verdict on.0)
-    ∙ ap (continue_with given.out given.end) (each_located (judge s r).session rs (at + length (record_bytes version r))
+    ∙ ap (followed_by given.out given.end) (each_located (judge s r).session rs (at + length (record_bytes version r))
     version on.1)
 
 module _ (s : Session) (series : Option OpenSeries) (at : ℕ) (r : Record) where
@@ -286,9 +286,9 @@ squash_located s series (r ∷ rs) at version goes =
     let step = squash_step s series r (judge s r) in
     let on = went_on step.out step.end (squashed_in (judge s r).session step.series rs) goes in
     let later = located_all (at + length (record_bytes version r)) version rs in
-    ap (λ (g : Step). continue_with g.out g.end (squashed_in (judge s r).session g.series later))
+    ap (λ (g : Step). followed_by g.out g.end (squashed_in (judge s r).session g.series later))
     (located_step s series at r on.0)
-    ∙ ap (continue_with step.out step.end) (squash_located (judge s r).session step.series rs
+    ∙ ap (followed_by step.out step.end) (squash_located (judge s r).session step.series rs
     (at + length (record_bytes version r)) version on.1)
 
 -- ---- what `replay` reports

@@ -13,7 +13,17 @@ use Rattle.lsp_stream.specs.Turns.{AppendsFront, AppendsShort, StaysFlushed}
 use Rattle.lsp_log.specs.Log.{LogRules, Record, Log, IsVersion, IsReadAs, IsCut, IsMalformed, IsBadMark}
 use Rattle.lsp_log.specs.Opening.{IsUnfinished}
 use Rattle.lsp_replay.specs.RunOutput.{RunOutput}
-use Rattle.lsp_replay.specs.Engine.{Called, NonePassedOver, PortState, Reached, last_of, state_of}
+use Rattle.lsp_replay.specs.Engine.{Called, NonePassedOver, PortState, last_of, state_of}
+
+-- No record ended the run: the output of these records was written, and `IsRest` holds of what is
+-- left.
+pub record Reached (log_rules : LogRules) (run_output : List Record → RunOutput) (input : List ℕ)
+    (old new : Option (List ℕ)) (IsRest : Log → Type 0) : Type 0 where
+  pub log : Log
+  pub reads : IsReadAs log_rules input log
+  pub rest : IsRest log
+  pub continues : (run_output log.records).stop ≡ None
+  pub wrote : Appends old new (run_output log.records).out
 
 -- A record ended the run: the output of the records up to it was written.
 pub record Stopped (log_rules : LogRules) (run_output : List Record → RunOutput) (input : List ℕ)
@@ -94,8 +104,8 @@ TurnsRanOut log_rules run_output state input old new =
 -- What is written when a fault comes, and what the fault says of the input.
 abbrev pub IsRunFault : LogRules → (List Record → RunOutput) → PortState → List ℕ →
     Option (List ℕ) → Option (List ℕ) → EngineFault → Type 0
-IsRunFault log_rules run_output state input old new Read
-    = Reached log_rules run_output input old new (IsUnfinished log_rules input)
+IsRunFault log_rules run_output state input old new Read =
+    (state.ended ≡ false) × Reached log_rules run_output input old new (IsUnfinished log_rules input)
 IsRunFault log_rules run_output state input old new Write =
     Broken log_rules run_output input old new
     ⊎ BreaksAtEnd log_rules run_output state.ended input old new

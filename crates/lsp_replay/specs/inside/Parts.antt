@@ -4,14 +4,14 @@ use Rattle.std.specs.String.{string_bytes}
 use Rattle.lsp_log.specs.Log.{Record}
 use Rattle.lsp_replay.specs.declared.handler.partial.ReplayPart.{ReplayPart}
 use Rattle.lsp_replay.specs.Commands.{output_in}
-use Rattle.lsp_replay.specs.Parts.{PartData, last_text_in, part_of, replaying_part}
+use Rattle.lsp_replay.specs.Parts.{PartData, last_text_in, part_data, replaying_part}
 use Rattle.lsp_replay.specs.RunOutput.{RunOutput}
 use Rattle.lsp_replay.specs.Session.{Session}
 
 -- The last text of the part's document, by the text that was kept when it was closed.
-abbrev pub last_of : ReplayPart → Option (List ℕ)
-last_of replay =
-    last_text_in (part_of replay.part).uri (option_map string_bytes replay.kept)
+abbrev pub last_text_now : ReplayPart → Option (List ℕ)
+last_text_now replay =
+    last_text_in (part_data replay.part).uri (option_map string_bytes replay.kept)
     replay.session.server.table
 
 -- The output for records before which this is the last text.

@@ -10,8 +10,7 @@ use Rattle.lsp_stream.specs.Turns.{AppendsFront, AppendsShort}
 use Rattle.lsp_log.specs.Log.{LogRules, Record, IsVersion, IsCut}
 use Rattle.lsp_log.specs.Splitting.{IsAfter}
 use Rattle.lsp_replay.specs.RunOutput.{RunOutput, written_first, stopped}
-use Rattle.lsp_replay.specs.Engine.{Reached}
-use Rattle.lsp_replay.specs.inside.Engine.{BrokenAtEnd, RanOutAtEnd}
+use Rattle.lsp_replay.specs.inside.Engine.{BrokenAtEnd, RanOutAtEnd, Reached}
 
 -- A record's output was written, and the run continues.
 pub record Continues (old new : List Record → RunOutput)

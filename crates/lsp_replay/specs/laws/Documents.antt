@@ -4,7 +4,7 @@ use Rattle.lsp_frame.specs.Limits.{AreInRange}
 use Rattle.lsp_log.specs.Log.{Record, Log, IsReadAs}
 use Rattle.lsp_replay.specs.declared.commands.Settings.{Settings}
 use Rattle.lsp_replay.specs.Commands.{as_log, canonical_log}
-use Rattle.lsp_replay.specs.laws.Written.{all_of}
+use Rattle.lsp_replay.specs.Engine.{all_of}
 use Rattle.lsp_replay.specs.Documents.{KeepsDocuments, documents}
 
 -- What is written of a log in which no record ends the run.

@@ -1,5 +1,5 @@
 -- What holds of every log, and of the logs that the commands write of it.
-use Rattle.std.specs.Prelude.{ℕ, ◌≡◌, ◌≤◌, Bool, List, [], ◌∷◌, ◌++◌, length, Option, None}
+use Rattle.std.specs.Prelude.{ℕ, ◌≡◌, ◌≤◌, Bool, List, [], ◌∷◌, length, Option, None}
 use Rattle.std.specs.Io.KnownBytes.{Consumes, Appends}
 use Rattle.lsp_frame.specs.Frame.{frame}
 use Rattle.lsp_frame.specs.Limits.{AreInRange}
@@ -7,15 +7,10 @@ use Rattle.lsp_server.specs.Answer.{reply}
 use Rattle.lsp_replay.specs.declared.commands.Settings.{Settings}
 use Rattle.lsp_replay.specs.declared.outcome.Outcome.{Outcome}
 use Rattle.lsp_log.specs.Log.{Record, Log, IsReadAs}
-use Rattle.lsp_replay.specs.RunOutput.{RunOutput}
-use Rattle.lsp_replay.specs.Engine.{last_of}
+use Rattle.lsp_replay.specs.Engine.{all_of}
 use Rattle.lsp_replay.specs.Commands.{report, canonical_log, converted, as_log, as_converted, log_config}
 use Rattle.lsp_replay.specs.Session.{Session, Verdict, answered, judge, opened}
 use Rattle.lsp_replay.specs.Squashed.{squashed}
-
--- All that an engine writes for a log that is records and nothing else.
-abbrev pub all_of : (List Record → RunOutput) → Log → List ℕ
-all_of run_output log = (run_output log.records).out ++ last_of run_output log
 
 -- The bytes are a log, records and nothing else. `replay` reports of it what it reports of these
 -- records: the same documents, status and counts.

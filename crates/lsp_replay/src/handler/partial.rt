@@ -7,8 +7,8 @@ ghost use Rattle.lsp_log.specs.Log.{Record};
 ghost use Rattle.lsp_replay.specs.RunOutput.{RunOutput};
 ghost use Rattle.lsp_replay.specs.Session.{opened, outcome_of};
 ghost use Rattle.lsp_replay.specs.Commands.{report_from};
-ghost use Rattle.lsp_replay.specs.Parts.{is_last, last_text, part_bytes, part_of, part_outcome};
-ghost use Rattle.lsp_replay.specs.inside.Parts.{last_of, replayed_in};
+ghost use Rattle.lsp_replay.specs.Parts.{is_last, last_text, part_bytes, part_data, part_outcome};
+ghost use Rattle.lsp_replay.specs.inside.Parts.{last_text_now, replayed_in};
 
 use crate::commands::Part;
 use crate::handler::replaying::push_document_line;
@@ -33,8 +33,8 @@ pub struct ReplayPart {
 impl ReplayPart {
     /// Starts before the first record, over a new server.
     pub fn new(alloc: Global, config: Config, part: Part) -> ReplayPart
-        ensures { replayed_in (part_of result.part) (last_of result) result.session
-            ≡ replayed_in (part_of part) None (opened config) }
+        ensures { replayed_in (part_data result.part) (last_text_now result) result.session
+            ≡ replayed_in (part_data part) None (opened config) }
     {
         let session = Session::new(alloc, config);
         ReplayPart {
@@ -72,10 +72,10 @@ impl ReplayPart {
     /// Writes what is printed of the part, and returns the outcome.
     fn push_report(&self, buffer: &mut Vec<u8>) -> Result<Outcome, AllocError>
         ensures bytes { OnOk result (buffer.new.items ≡ buffer.old.items
-            ++ part_bytes (part_of self.now.part).uri (last_of self.now)
+            ++ part_bytes (part_data self.now.part).uri (last_text_now self.now)
             self.now.session.server.table) }
         ensures outcome { IfOk result (λ outcome. outcome
-            ≡ part_outcome (part_of self.now.part).uri (last_of self.now)
+            ≡ part_outcome (part_data self.now.part).uri (last_text_now self.now)
             (outcome_of self.now.session)) }
     {
         let outcome = self.session.outcome();
@@ -97,7 +97,7 @@ impl ReplayPart {
 
 impl Handler for ReplayPart {
     ghost run_output = { λ replay.
-        replayed_in (part_of replay.part) (last_of replay) replay.session };
+        replayed_in (part_data replay.part) (last_text_now replay) replay.session };
 
     ghost FLUSHES = { false };
 

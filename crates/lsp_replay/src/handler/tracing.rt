@@ -9,7 +9,7 @@ ghost use Rattle.lsp_replay.specs.Session.{opened};
 ghost use Rattle.lsp_replay.specs.Commands.{change_in};
 ghost use Rattle.lsp_replay.specs.Lines.{nothing_known};
 ghost use Rattle.lsp_replay.specs.inside.Lines.{lines_in};
-ghost use Rattle.lsp_replay.specs.Trace.{document_after, is_changed, member, notes_json, reason_json, tracing};
+ghost use Rattle.lsp_replay.specs.Trace.{document_after, has_changed, member, notes_json, reason_json, tracing};
 ghost use Rattle.lsp_replay.specs.inside.Tracing.{members_by};
 ghost use Rattle.lsp_replay.specs.inside.Verdicts.{verdict_view};
 
@@ -117,7 +117,7 @@ impl Trace {
     /// Returns whether the last record's line has the document's text, if the document is open.
     fn has_text(&self, verdict: &Verdict) -> bool
         ensures { result
-            ≡ (self.now.details.texts && is_changed (verdict_view verdict.now)) }
+            ≡ (self.now.details.texts && has_changed (verdict_view verdict.now)) }
     {
         self.details.texts && is_changed(verdict)
     }
@@ -177,7 +177,7 @@ impl Handler for Trace {
 
 /// Returns whether a record changed the documents.
 fn is_changed(verdict: &Verdict) -> bool
-    ensures { result ≡ is_changed (verdict_view verdict.now) }
+    ensures { result ≡ has_changed (verdict_view verdict.now) }
 {
     matches!(verdict, Verdict::Answered(Answer::Changed))
 }

@@ -24,6 +24,7 @@ returns-in_err-opening-clause-run g c =
             unstopped = g.met.H.Handler.unstopped c.args.handler.now;
           })
           (rw c.reader.ensures.value at c.in_err-opening.ensures.below) c.in_err-opening.ensures.calls.fault
+          (λ is. ((rw c.reader.ensures.value at c.in_err-opening.ensures.calls.failed) is).1)
           (rw c.reader.ensures.value at c.in_err-opening.ensures.calls.not_ended));
       called = search rules;
       none_passed_over = search rules;
@@ -238,6 +239,7 @@ returns-in_err-to-clause-run g c =
             silent = g.met.H.Handler.silent c.take_piece.new.handler;
             unstopped = g.met.H.Handler.unstopped c.take_piece.new.handler;
           }) (rw c.reader-in-pieces.ensures.value at c.in_err-to.ensures.kept) c.in_err-to.ensures.calls.fault
+          (λ is. ((rw c.reader-in-pieces.ensures.value at c.in_err-to.ensures.calls.failed) is).1)
           (λ is _. (rw c.reader-in-pieces.ensures.value at c.in_err-to.ensures.calls.not_ended) is
           (not_at_end (g.R.Source.seen c.pieces.ends.reader.now).ended c.pieces.ended c.pieces.invariant.ended.0
           c.if-ended.false))

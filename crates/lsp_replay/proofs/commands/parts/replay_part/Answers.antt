@@ -4,7 +4,7 @@ use Rattle.lsp_stream.specs.Ports.{ports}
 use Rattle.lsp_replay.specs.Engine.{WroteRecords}
 use Rattle.lsp_replay.specs.inside.Engine.{IsLoopRun}
 use Rattle.lsp_replay.specs.Commands.{as_log, log_config}
-use Rattle.lsp_replay.specs.Parts.{part_of, replaying_part}
+use Rattle.lsp_replay.specs.Parts.{part_data, replaying_part}
 use Rattle.lsp_replay.specs.Session.{opened}
 use Rattle.lsp_replay.proofs.Runs.RunReportLemmas.{run_of}
 use Rattle.lsp_replay.proofs.commands.parts.replay_part.Goals as goal
@@ -15,7 +15,7 @@ returns g c =
     let run = rw c.rules-rules.ensures at c.run_engine.ensures.run in
     let whole = rw c.rules-rules.ensures at c.run_engine.ensures.whole in
     record {
-      run = run_of c.run_engine.ensures.first c.run_engine.ensures.version (replaying_part (part_of c.args.part)) None
+      run = run_of c.run_engine.ensures.first c.run_engine.ensures.version (replaying_part (part_data c.args.part)) None
           (opened (log_config c.args.settings)) false
           (subst (λ run_output. IsLoopRun (as_log c.args.settings) run_output false c.args.max_turns
           (ports (g.R.Source.seen c.args.reader.now) (g.W.Sink.seen c.args.writer.now))

@@ -1,13 +1,13 @@
 use Rattle.std.proofs.Common.{sym, ◌∙◌, option_map, string_bytes}
-use Rattle.lsp_replay.specs.Parts.{part_of}
-use Rattle.lsp_replay.specs.inside.Parts.{last_of}
+use Rattle.lsp_replay.specs.Parts.{part_data}
+use Rattle.lsp_replay.specs.inside.Parts.{last_text_now}
 use Rattle.lsp_replay.specs.inside.Verdicts.{verdict_view}
 use Rattle.lsp_replay.proofs.Reports.PartLemmas.{part_ends}
 use Rattle.lsp_replay.proofs.handler.partial.ReplayPartHandler.handle.Goals as goal
 
 pub returns-clause-ok : goal.returns-clause-ok
 returns-clause-ok c = λ more.
-    part_ends (part_of c.args.self.now.part) (last_of c.args.self.now) c.args.self.now.session
+    part_ends (part_data c.args.self.now.part) (last_text_now c.args.self.now) c.args.self.now.session
     (record { head = c.args.head; raw = c.args._raw.now; body = c.args.body.now })
     c.accept_and_keep.new.self (verdict_view c.in_ok-accept_and_keep.field-0)
     (option_map string_bytes c.accept_and_keep.new.kept)

@@ -1,0 +1,335 @@
+-- The statement of a run by its output and a cause says the same as the one by cases.
+use Rattle.std.proofs.Common.{◌≡◌, ◌⊎◌, inl, inr, ℕ, ◌<◌, Bool, true, false, List, [], ◌∷◌, ◌++◌, length, Option, Some, None, refl, sym, ap, ◌∙◌, subst, append_assoc, append-nil, arith}
+use Rattle.std.specs.Prelude.{Result, Ok, Err}
+use Rattle.std.specs.Io.KnownBytes.{Appends}
+use Rattle.lsp_frame.specs.Frame.{frame}
+use Rattle.lsp_frame.specs.declared.fault.FrameFault.{FrameFault}
+use Rattle.lsp_frame.proofs.WrittenLemmas.{written_is_frame}
+use Rattle.lsp_replay.specs.declared.outcome.Outcome.{Outcome}
+use Rattle.lsp_stream.specs.declared.fault.EngineFault.{EngineFault}
+use Rattle.lsp_stream.specs.declared.fault.EngineFault.TheVariants.{Read, Write, Frame, Truncated, BodyTooLong, NoMemory, TooManyTurns, BadLog}
+use Rattle.lsp_log.specs.Log.{LogRules, Record, Log, IsMalformed, IsBadMark, mark_of}
+use Rattle.lsp_replay.specs.RunOutput.{RunOutput}
+use Rattle.lsp_replay.specs.Engine.{PortState, all_of, last_of}
+use Rattle.lsp_replay.specs.AllRecords.{IsCause, IsObserved, all_output, is_cut_off, last_if}
+use Rattle.lsp_replay.specs.inside.AllRecords.{EndedBy, IsFaultReported, IsFirstPart, IsRunReport, IsShort, Passed}
+use Rattle.lsp_replay.proofs.Runs.EngineLemmas.{still_short}
+
+-- ---- is the output at the end due?
+
+module _ (last : List ℕ) where
+  stopped_none : (ended : Bool) (rest : List ℕ) (stop : Option (Result Outcome EngineFault))
+      (answer : Result Outcome EngineFault) → stop ≡ Some answer → last_if ended rest stop last ≡ []
+  stopped_none false rest stop answer e = refl
+  stopped_none true (x ∷ rest) stop answer e = refl
+  stopped_none true [] (Some other) answer e = refl
+  stopped_none true [] None answer e = absurd (let wrong : None ≡ Some answer = e in cc)
+
+  open_none : (ended : Bool) (rest : List ℕ) (stop : Option (Result Outcome EngineFault)) → ended ≡ false
+      → last_if ended rest stop last ≡ []
+  open_none false rest stop e = refl
+  open_none true rest stop e = absurd (let wrong : true ≡ false = e in cc)
+
+  rest_none : (ended : Bool) (rest : List ℕ) (stop : Option (Result Outcome EngineFault)) → (rest ≡ [] → ⊥)
+      → last_if ended rest stop last ≡ []
+  rest_none false rest stop some = refl
+  rest_none true (x ∷ rest) stop some = refl
+  rest_none true [] stop some = absurd (some refl)
+
+  due_last : (ended : Bool) (rest : List ℕ) (stop : Option (Result Outcome EngineFault)) → ended ≡ true → rest ≡ []
+      → stop ≡ None → last_if ended rest stop last ≡ last
+  due_last true [] None error whole continues = refl
+  due_last true [] (Some answer) error whole continues = absurd (let wrong : Some answer ≡ None = continues in cc)
+  due_last true (x ∷ rest) stop error whole continues = absurd (let wrong : x ∷ rest ≡ [] = whole in cc)
+  due_last false rest stop error whole continues = absurd (let wrong : false ≡ true = error in cc)
+
+  due_or_none : (ended : Bool) (rest : List ℕ) (stop : Option (Result Outcome EngineFault))
+      → (last_if ended rest stop last ≡ []) ⊎ ((ended ≡ true) × (rest ≡ []) × (stop ≡ None))
+  due_or_none false rest stop = inl refl
+  due_or_none true (x ∷ rest) stop = inl refl
+  due_or_none true [] (Some answer) = inl refl
+  due_or_none true [] None = inr (refl, refl, refl)
+
+-- ---- rests that aren't empty
+
+nothing_after : (a b : List ℕ) → a ++ b ≡ [] → b ≡ []
+nothing_after [] b e = e
+nothing_after (x ∷ a) b e = absurd (cc)
+
+malformed_some : (max_body : ℕ) (input : List ℕ) (fault : FrameFault) (log : Log) → IsMalformed max_body input fault log
+    → log.rest ≡ [] → ⊥
+malformed_some max_body input fault log is none =
+    let part : is.part ≡ [] = nothing_after (mark_of log.version is.side) is.part (sym is.is ∙ none) in
+    is.hopeless (frame []) (frame []) [] [] (written_is_frame max_body [] (omega arith) (omega arith))
+    (ap (λ z. z ++ frame []) part ∙ sym (append-nil (frame [])))
+
+bad_some : (input : List ℕ) (place : ℕ) (log : Log) → IsBadMark input place log → log.rest ≡ [] → ⊥
+bad_some input place log is none = let wrong : is.byte ∷ is.more ≡ [] = sym is.is ∙ none in cc
+
+-- ---- both statements
+
+module _ (log_rules : LogRules) (run_output : List Record → RunOutput) (state : PortState) (input : List ℕ)
+    (old new : Option (List ℕ)) (all : Log) where
+  abbrev output : RunOutput
+  output = run_output all.records
+
+  abbrev at_end : List ℕ
+  at_end = last_if state.ended all.rest output.stop (last_of run_output all)
+
+  abbrev Reported : Result Outcome EngineFault → Type 0
+  Reported result = IsObserved log_rules state input old new all output result
+
+  abbrev Cause : List ℕ → List ℕ → Result Outcome EngineFault → Type 0
+  Cause written left result = IsCause log_rules state input all output written left result
+
+  -- ---- from the cases to the output and the cause
+
+  -- the records' output was written, and no more was to be
+  of_records : (result : Result Outcome EngineFault) → at_end ≡ [] → Appends old new output.out
+      → Cause output.out [] result → Reported result
+  of_records result none wrote cause = record {
+    written = output.out;
+    left = [];
+    is = ap (λ z. output.out ++ z) none;
+    wrote = wrote;
+    whole = λ _. refl;
+    cause = cause;
+  }
+
+  -- some first bytes of it were
+  of_front : (result : Result Outcome EngineFault) → is_cut_off result ≡ true → (written left : List ℕ) → output.out
+      ≡ written ++ left → Appends old new written → Cause written (left ++ at_end) result → Reported result
+  of_front result cut written left is wrote cause = record {
+    written = written;
+    left = left ++ at_end;
+    is = ap (λ z. z ++ at_end) is ∙ append_assoc written left at_end;
+    wrote = wrote;
+    whole = λ whole. absurd (let wrong : true ≡ false = sym cut ∙ whole in cc);
+    cause = cause;
+  }
+
+  -- some first bytes of all output were
+  of_all : (result : Result Outcome EngineFault) → is_cut_off result ≡ true → (written left : List ℕ)
+      → state.ended ≡ true → all.rest ≡ [] → output.stop ≡ None → all_of run_output all ≡ written ++ left
+      → Appends old new written → Cause written left result → Reported result
+  of_all result cut written left error whole continues is wrote cause = record {
+    written = written;
+    left = left;
+    is = ap (λ z. output.out ++ z) (due_last (last_of run_output all) state.ended all.rest output.stop error whole
+        continues) ∙ is;
+    wrote = wrote;
+    whole = λ whole. absurd (let wrong : true ≡ false = sym cut ∙ whole in cc);
+    cause = cause;
+  }
+
+  of_end : (result : Result Outcome EngineFault) (answer : Result Outcome EngineFault)
+      → EndedBy run_output old new answer all → (output.stop ≡ Some answer → Cause output.out [] result)
+      → Reported result
+  of_end result answer ended cause =
+      of_records result
+      (stopped_none (last_of run_output all) state.ended all.rest output.stop answer ended.stops)
+      ended.wrote (cause ended.stops)
+
+  of_passed : (result : Result Outcome EngineFault) → (all.rest ≡ [] → ⊥) → Passed run_output old new all
+      → (output.stop ≡ None → Cause output.out [] result) → Reported result
+  of_passed result some passed cause =
+      of_records result (rest_none (last_of run_output all) state.ended all.rest output.stop some) passed.wrote
+      (cause passed.continues)
+
+  of_first_part : (result : Result Outcome EngineFault) → is_cut_off result ≡ true
+      → ((written left : List ℕ) → Cause written left result) → IsFirstPart run_output state.ended old new all
+      → Reported result
+  of_first_part result cut cause (inl front) =
+      of_front result cut front.0 front.1 front.2 front.3 (cause front.0 (front.1 ++ at_end))
+  of_first_part result cut cause (inr at) =
+      of_all result cut at.1.wrote.0 at.1.wrote.1 at.0 at.1.whole at.1.continues at.1.wrote.2 at.1.wrote.3
+      (cause at.1.wrote.0 at.1.wrote.1)
+
+  -- a turn was needed
+  still_needed : (left more : List ℕ) → (0 < length left) ⊎ (state.unflushed ≡ true)
+      → (0 < length (left ++ more)) ⊎ (state.unflushed ≡ true)
+  still_needed left more short = still_short state.unflushed left more short
+
+  needs : (written left : List ℕ) → (0 < length left) ⊎ (state.unflushed ≡ true)
+      → Cause written left (Err TooManyTurns)
+  needs written left (inl long) = inl long
+  needs written left (inr unflushed) = inr (inl unflushed)
+
+  of_short : IsShort log_rules run_output state input old new all → Reported (Err TooManyTurns)
+  of_short (inl short) =
+      of_front (Err TooManyTurns) refl short.0 short.1 short.2 short.3
+      (needs short.0 (short.1 ++ at_end) (still_needed short.1 at_end short.4))
+  of_short (inr (inl at)) =
+      let wrote = at.1.wrote in
+      of_all (Err TooManyTurns) refl wrote.0 wrote.1 at.0 at.1.whole at.1.continues wrote.2 wrote.3
+      (needs wrote.0 wrote.1 wrote.4)
+  of_short (inr (inr at)) =
+      of_front (Err TooManyTurns) refl output.out [] (sym (append-nil output.out)) at.2.wrote
+      (inr (inr (at.0, refl, at.2.continues, at.1)))
+
+  of_fault : (fault : EngineFault) → IsFaultReported log_rules run_output state input old new all fault
+      → Reported (Err fault)
+  of_fault Read r =
+      of_records (Err Read) (open_none (last_of run_output all) state.ended all.rest output.stop r.0) r.2.wrote
+      (r.0, r.2.continues, r.1)
+  of_fault Write r = of_first_part (Err Write) refl (λ written left. tt) r
+  of_fault (Frame fault) r =
+      of_passed (Err (Frame fault)) (malformed_some log_rules.max_body input fault all r.0) r.1 (λ on. (on, r.0))
+  of_fault (Truncated place) r = of_passed (Err (Truncated place)) r.2.some r.3 (λ on. (r.0, r.1, on, r.2))
+  of_fault (BodyTooLong place) r = of_end (Err (BodyTooLong place)) (Err (BodyTooLong place)) r (λ e. e)
+  of_fault NoMemory r = of_first_part (Err NoMemory) refl (λ written left. tt) r
+  of_fault TooManyTurns r = of_short r
+  of_fault (BadLog place) (inl r) = of_end (Err (BadLog place)) (Err (BadLog place)) r (λ e. inl e)
+  of_fault (BadLog place) (inr r) =
+      of_passed (Err (BadLog place)) (bad_some input place all r.0) r.1 (λ on. inr (on, r.0))
+
+  pub by_cause : (result : Result Outcome EngineFault) → IsRunReport log_rules run_output state input old new all result
+      → Reported result
+  by_cause (Ok outcome) (inl r) = of_end (Ok outcome) (Ok outcome) r (λ e. inl e)
+  by_cause (Ok outcome) (inr at) = record {
+    written = all_of run_output all;
+    left = [];
+    is = ap (λ z. output.out ++ z) (due_last (last_of run_output all) state.ended all.rest output.stop at.0 at.1.whole
+        at.1.continues) ∙ sym (append-nil (all_of run_output all));
+    wrote = at.1.wrote;
+    whole = λ _. refl;
+    cause = inr (at.0, at.1.whole, at.1.continues, at.1.reports);
+  }
+  by_cause (Err fault) r = of_fault fault r
+
+  -- ---- and back
+
+  -- what was written, where nothing is left of it
+  to_records : (written left : List ℕ) → all_output state.ended all output ≡ written ++ left → left ≡ [] → at_end ≡ []
+      → written ≡ output.out
+  to_records written left is nothing none =
+      sym (append-nil written) ∙ ap (λ z. written ++ z) (sym nothing) ∙ sym is ∙ ap (λ z. output.out ++ z) none
+      ∙ append-nil output.out
+
+  to_end : (result : Result Outcome EngineFault) (answer : Result Outcome EngineFault) (r : Reported result)
+      → is_cut_off result ≡ false → output.stop ≡ Some answer → EndedBy run_output old new answer all
+  to_end result answer r whole stops = record {
+    stops = stops;
+    wrote = subst (Appends old new) (to_records r.written r.left r.is (r.whole whole)
+        (stopped_none (last_of run_output all) state.ended all.rest output.stop answer stops)) r.wrote;
+  }
+
+  to_passed : (result : Result Outcome EngineFault) (r : Reported result) → is_cut_off result ≡ false
+      → at_end ≡ [] → output.stop ≡ None → Passed run_output old new all
+  to_passed result r whole none continues = record {
+    continues = continues;
+    wrote = subst (Appends old new) (to_records r.written r.left r.is (r.whole whole) none) r.wrote;
+  }
+
+  -- some first bytes of the records' output, where no more was to be written
+  front_of_out : (written left : List ℕ) → all_output state.ended all output ≡ written ++ left → at_end ≡ []
+      → output.out ≡ written ++ left
+  front_of_out written left is none =
+      sym (append-nil output.out) ∙ ap (λ z. output.out ++ z) (sym none) ∙ is
+
+  front_of_all : (written left : List ℕ) → all_output state.ended all output ≡ written ++ left → state.ended ≡ true
+      → all.rest ≡ [] → output.stop ≡ None → all_of run_output all ≡ written ++ left
+  front_of_all written left is error whole continues =
+      ap (λ z. output.out ++ z) (sym (due_last (last_of run_output all) state.ended all.rest output.stop error whole
+      continues)) ∙ is
+
+  to_first_part : (result : Result Outcome EngineFault) → Reported result
+      → IsFirstPart run_output state.ended old new all
+  to_first_part result r =
+      elim (due_or_none (last_of run_output all) state.ended all.rest output.stop) [
+        | inl none ↦ inl (r.written, r.left, front_of_out r.written r.left r.is none, r.wrote)
+        | inr at ↦ inr (
+          at.0,
+          record {
+            whole = at.1;
+            continues = at.2;
+            wrote = (r.written, r.left, front_of_all r.written r.left r.is at.0 at.1 at.2, r.wrote);
+          },
+        )
+      ]
+
+  to_short : (r : Reported (Err TooManyTurns)) → (0 < length r.left) ⊎ (state.unflushed ≡ true)
+      → IsShort log_rules run_output state input old new all
+  to_short r short =
+      elim (due_or_none (last_of run_output all) state.ended all.rest output.stop) [
+        | inl none ↦ inl (r.written, r.left, front_of_out r.written r.left r.is none, r.wrote, short)
+        | inr at ↦ inr (inl (
+          at.0,
+          record {
+            whole = at.1;
+            continues = at.2;
+            wrote = (r.written, r.left, front_of_all r.written r.left r.is at.0 at.1 at.2, r.wrote, short);
+          },
+        ))
+      ]
+
+  to_turns : (r : Reported (Err TooManyTurns)) → Cause r.written r.left (Err TooManyTurns)
+      → IsShort log_rules run_output state input old new all
+  to_turns r (inl long) = to_short r (inl long)
+  to_turns r (inr (inl unflushed)) = to_short r (inr unflushed)
+  to_turns r (inr (inr at)) = inr (inr (
+    at.0,
+    at.3,
+    record { continues = at.2; wrote = subst (Appends old new) at.1 r.wrote },
+  ))
+
+  to_bad : (place : ℕ) (r : Reported (Err (BadLog place))) → Cause r.written r.left (Err (BadLog place))
+      → IsFaultReported log_rules run_output state input old new all (BadLog place)
+  to_bad place r (inl stops) = inl (to_end (Err (BadLog place)) (Err (BadLog place)) r refl stops)
+  to_bad place r (inr at) = inr (
+    at.1,
+    to_passed (Err (BadLog place)) r refl
+        (rest_none (last_of run_output all) state.ended all.rest output.stop (bad_some input place all at.1)) at.0,
+  )
+
+  to_fault : (fault : EngineFault) → Reported (Err fault)
+      → IsFaultReported log_rules run_output state input old new all fault
+  to_fault Read r =
+      let cause : Cause r.written r.left (Err Read) = r.cause in (
+        cause.0,
+        cause.2,
+        to_passed (Err Read) r refl (open_none (last_of run_output all) state.ended all.rest output.stop cause.0)
+            cause.1,
+      )
+  to_fault Write r = to_first_part (Err Write) r
+  to_fault (Frame fault) r =
+      let cause : Cause r.written r.left (Err (Frame fault)) = r.cause in (
+        cause.1,
+        to_passed (Err (Frame fault)) r refl
+            (rest_none (last_of run_output all) state.ended all.rest output.stop
+            (malformed_some log_rules.max_body input fault all cause.1)) cause.0,
+      )
+  to_fault (Truncated place) r =
+      let cause : Cause r.written r.left (Err (Truncated place)) = r.cause in (
+        cause.0,
+        cause.1,
+        cause.3,
+        to_passed (Err (Truncated place)) r refl
+            (rest_none (last_of run_output all) state.ended all.rest output.stop cause.3.some) cause.2,
+      )
+  to_fault (BodyTooLong place) r = to_end (Err (BodyTooLong place)) (Err (BodyTooLong place)) r refl r.cause
+  to_fault NoMemory r = to_first_part (Err NoMemory) r
+  to_fault TooManyTurns r = to_turns r r.cause
+  to_fault (BadLog place) r = to_bad place r r.cause
+
+  to_ok : (outcome : Outcome) (r : Reported (Ok outcome)) → Cause r.written r.left (Ok outcome)
+      → IsRunReport log_rules run_output state input old new all (Ok outcome)
+  to_ok outcome r (inl stops) = inl (to_end (Ok outcome) (Ok outcome) r refl stops)
+  to_ok outcome r (inr at) =
+      let nothing : r.left ≡ [] = r.whole refl in
+      let all_written : all_of run_output all ≡ r.written =
+      front_of_all r.written r.left r.is at.0 at.1 at.2 ∙ ap (λ z. r.written ++ z) nothing ∙ append-nil r.written in
+      inr (
+        at.0,
+        record {
+          whole = at.1;
+          continues = at.2;
+          reports = at.3;
+          wrote = subst (Appends old new) (sym all_written) r.wrote;
+        },
+      )
+
+  pub by_cases : (result : Result Outcome EngineFault) → Reported result
+      → IsRunReport log_rules run_output state input old new all result
+  by_cases (Ok outcome) r = to_ok outcome r r.cause
+  by_cases (Err fault) r = to_fault fault r
