@@ -1,4 +1,7 @@
 //! From a reader to a writer, record by record.
+//!
+//! Whether output is flushed before more is read is a constant of the engine's handler. A record's
+//! head has its log's version, so an engine keeps none.
 
 ghost use Rattle.std.specs.Prelude.{◌≡◌, ◌≢◌, ◌&&◌, [], ℕ, List, Option, Err, not, true, OnOk, OnErr, IfOk, IfErr};
 ghost use Rattle.std.specs.Io.KnownBytes.{Appends};

@@ -1,5 +1,8 @@
 //! Changes that the server receives: each is planned once, and the plan is applied once its engine
 //! has read what it writes from it.
+//!
+//! A change of one range is resolved once. A plan of several changes is composed again for its
+//! canonical message, and once more for a squash.
 
 ghost use Rattle.std.specs.Prelude.{◌≡◌, ◌≢◌, Err, IfErr, IfOk, OnErr, None, Ok, Some};
 ghost use Rattle.lsp_message.specs.Params.{ChangeData};
