@@ -104,9 +104,9 @@ impl<'a> Pieces<'a> {
         }
     }
 
-    /// Makes the same, ready for several changes: with a current text that shares its blocks with a
-    /// text in blocks. Fails only if it is out of memory. Costs what [`TextBuffer::clone_in`] costs;
-    /// a text in one string is copied.
+    /// Makes the same, ready for several changes: with a current text that shares the blocks of a
+    /// text in blocks. Fails only if it is out of memory. Costs what [`TextBuffer::clone_in`]
+    /// costs; a text in one string is copied.
     pub(crate) fn begin_several(alloc: Global, before: OldText<'a>) -> Result<Self, AllocError>
         ensures begun { IfOk result (λ pieces. pieces.edited ≡ record {
           before = chars before.entry;
@@ -346,8 +346,8 @@ impl<'a> Pieces<'a> {
         text_of_spans(self.alloc, &self.before, self.spans.as_slice(), self.len)
     }
 
-    /// Returns the current text and its lines. Fails only if it is out of memory. Costs one copy, and
-    /// a search through it for its lines.
+    /// Returns the current text and its lines. Fails only if it is out of memory. Costs one copy,
+    /// and a search through it for its lines.
     pub fn into_text(self) -> Result<(String, Lines), AllocError>
         ensures { IfOk result (λ indexed. (string_bytes indexed.0 ≡ edited_bytes self.entry.edited)
             × Indexes indexed.1 (string_bytes indexed.0)) }

@@ -90,8 +90,8 @@ pub fn text_of_spans(
     Ok(text)
 }
 
-/// Returns the byte offsets of a range's two ends in the current text. `change` is the number of the
-/// change that a fault reports.
+/// Returns the byte offsets of a range's two ends in the current text. `change` is the number of
+/// the change that a fault reports.
 pub fn ends_in(
     text: &TextBuffer,
     encoding: Encoding,
