@@ -1,12 +1,13 @@
 //! `compose`, which applies a whole batch of changes to a text.
 
-ghost use Rattle.std.specs.Prelude.{◌≡◌, ◌+◌, ◌≤◌, ℕ, Ok, OnOk, MatchResult, length, map, string_len, sum_by};
+ghost use Rattle.std.specs.Prelude.{◌≡◌, ◌+◌, ◌≤◌, ℕ, IfOk, Ok, OnOk, MatchResult, length, map, string_len, sum_by};
 ghost use Rattle.std.specs.Str.{IsUtf8, chars};
 ghost use Rattle.lsp_text.specs.LineStarts.{Indexes};
 ghost use Rattle.lsp_text.specs.Units.{units_in};
 ghost use Rattle.lsp_edit.specs.Batch.{after_changes, meaning};
 ghost use Rattle.lsp_edit.specs.Edited.{Means, edit_of, edited_bytes};
 ghost use Rattle.lsp_edit.specs.Faults.{IsFaultOfChanges};
+ghost use Rattle.lsp_edit.specs.Items.{plain};
 
 use crate::change::{Change, MAX_NEW_TEXT};
 use crate::fault::EditFault;
@@ -14,10 +15,31 @@ use crate::old_text::OldText;
 use crate::pieces::{MAX_TEXT, Pieces};
 use lsp_buffer::TextBuffer;
 use lsp_text::{Encoding, Lines};
-use std::alloc::Global;
+use std::alloc::{AllocError, Global};
 
 /// How many bytes a text may have to which a batch is applied.
 pub const MAX_OLD_TEXT: usize = 1_073_741_824;
+
+/// Makes the pieces that a batch begins with. A single change needs no current text, and neither
+/// does a batch whose first change replaces all.
+fn begun<'a>(
+    alloc: Global,
+    before: OldText<'a>,
+    changes: &[Change],
+) -> Result<Pieces<'a>, AllocError>
+    ensures begun { IfOk result (λ pieces. pieces.edited ≡ record {
+      before = chars before.entry;
+      items = plain (chars before.entry);
+      changes = 0;
+    }) }
+    ensures utf8 { IsUtf8 before.entry }
+{
+    let _ = before.len();
+    match changes {
+        [Change { range: Some(_), .. }, _, ..] => Pieces::begin_several(alloc, before),
+        _ => Ok(Pieces::begin(alloc, before)),
+    }
+}
 
 /// Applies the changes of a batch to pieces, one after another.
 fn apply_all<'a>(
@@ -122,6 +144,6 @@ pub(crate) fn compose_old<'a>(
         (meaning (units_in encoding) (chars before.entry) (map edit_of changes.now)) fault) }
     ensures utf8 { OnOk result (IsUtf8 before.entry) }
 {
-    let pieces = Pieces::begin(alloc, before);
+    let pieces = begun(alloc, before, changes)?;
     apply_all(pieces, encoding, changes)
 }

@@ -327,8 +327,8 @@ impl IndexedText {
     ///
     /// It has the errors of [`IndexedText::change`], and changes nothing. Costs what each change
     /// costs to apply, and one exact position for each end of a changed gap. Some thousand changes
-    /// are composed in series, each of which costs some copies of the text. If that fails they are
-    /// composed once more, to find the error.
+    /// are composed in series, each of which costs some [`IndexedText::clone_in`]. If that fails
+    /// they are composed once more, to find the error.
     pub fn canonical(
         &self,
         encoding: Encoding,

@@ -103,7 +103,7 @@ impl Joined {
     ///
     /// Fails if a change has no result, a text grows too long, or memory runs out; the error
     /// doesn't reliably say which. Costs what the changes cost to apply, and for each series some
-    /// copies of the text and its line starts.
+    /// copies by [`IndexedText::clone_in`].
     pub(crate) fn of_batch(
         alloc: Global,
         encoding: Encoding,

@@ -116,6 +116,17 @@ impl<'a> OldText<'a> {
         }
     }
 
+    /// Returns a copy in blocks, which shares those of a text in blocks. Fails only if it is out of
+    /// memory. Costs what [`TextBuffer::clone_in`] costs; one string is copied.
+    pub fn to_buffer(&self, alloc: Global) -> Result<TextBuffer, AllocError>
+        ensures { IfOk result (λ buffer. buffer ≡ self.now) }
+    {
+        match &self.form {
+            Form::Str(text) => text.to_buffer(alloc),
+            Form::Buffer(buffer) => buffer.clone_in(alloc),
+        }
+    }
+
     /// Returns the text with the bytes from `start` to `end` replaced. Fails only if it is out of
     /// memory. Costs one copy of the result.
     pub fn replaced(

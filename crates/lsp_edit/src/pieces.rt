@@ -29,12 +29,13 @@ use crate::ends::ends;
 use crate::fault::EditFault;
 use crate::old_text::OldText;
 use crate::pieces::canonical::canonical_of;
-use crate::pieces::current::{current_or_new, ends_in, text_of_spans, text_with_lines};
+use crate::pieces::current::{current_or_new, ends_in, replaced, text_of_spans, text_with_lines};
 use crate::pieces::row::Row;
 use crate::pieces::span::Span;
 use crate::pieces::spans::Spans;
 use crate::pieces::through::spans_through;
-use lsp_text::{Encoding, GapText, Lines, Range};
+use lsp_buffer::TextBuffer;
+use lsp_text::{Encoding, Lines, Range};
 use std::alloc::{AllocError, Global};
 use std::marker::Model;
 
@@ -54,8 +55,8 @@ pub struct Pieces<'a> {
     len: usize,
     // How many changes were applied.
     changes: usize,
-    // The result in one copy, once a change of a range was resolved on it.
-    current: Option<GapText>,
+    // The result, if it was made: before the first of several changes, or for a later one.
+    current: Option<TextBuffer>,
 }
 
 impl<'a> Model for Pieces<'a> {
@@ -101,6 +102,30 @@ impl<'a> Pieces<'a> {
             changes: 0,
             current: None,
         }
+    }
+
+    /// Makes the same, ready for several changes: with a current text that shares the blocks of a
+    /// text in blocks. Fails only if it is out of memory. Costs what [`TextBuffer::clone_in`]
+    /// costs; a text in one string is copied.
+    pub(crate) fn begin_several(alloc: Global, before: OldText<'a>) -> Result<Self, AllocError>
+        ensures begun { IfOk result (λ pieces. pieces.edited ≡ record {
+          before = chars before.entry;
+          items = plain (chars before.entry);
+          changes = 0;
+        }) }
+        ensures utf8 { OnOk result (IsUtf8 before.entry) }
+    {
+        let current = before.to_buffer(alloc)?;
+        let len = before.len();
+        let spans = Spans::whole(alloc, &before);
+        Ok(Pieces {
+            alloc,
+            before,
+            spans,
+            len,
+            changes: 0,
+            current: Some(current),
+        })
     }
 
     /// Makes pieces of a text before any change. Fails only if it is out of memory. Costs a search
@@ -192,14 +217,14 @@ impl<'a> Pieces<'a> {
         if self.changes == 0 {
             return ends(&self.before, encoding, range, 0);
         }
-        let mut current = current_or_new(
+        let current = current_or_new(
             self.current.take(),
             self.alloc,
             &self.before,
             self.spans.as_slice(),
             self.len,
         )?;
-        let places = ends_in(&mut current, encoding, range, self.changes);
+        let places = ends_in(&current, encoding, range, self.changes);
         self.current = Some(current);
         places
     }
@@ -237,7 +262,7 @@ impl<'a> Pieces<'a> {
         let (start, stop) = self.places(encoding, range)?;
         let current = match self.current.take() {
             None => None,
-            Some(current) => Some(current.replaced(start, stop, text)?),
+            Some(current) => Some(replaced(current, start, stop, text)?),
         };
         self.spans.replace(self.alloc, start, stop, text)?;
         self.len = self.len - (stop - start) + text.len();
@@ -250,8 +275,9 @@ impl<'a> Pieces<'a> {
     ///
     /// After an error everything is unchanged, and the fault reports how many changes were applied
     /// before. Costs a walk over the spans from the last change to this one, and one move of those
-    /// after it. From the second change with a range on, it also moves the text and the line starts
-    /// between the last change and this one. The second of them makes two copies of the text.
+    /// after it. From the second change with a range on, it also costs what
+    /// [`TextBuffer::replace_range`] costs in the current text. The second of them makes that text,
+    /// if it isn't there yet, by two copies.
     pub fn apply(&mut self, encoding: Encoding, change: &'a Change) -> Result<(), EditFault>
         requires { length (edited_bytes self.old.edited) + string_len change.now.text ≤ MAX_TEXT }
         ensures applied { OnOk result (Applied (units_in encoding) self.old.edited
@@ -320,11 +346,8 @@ impl<'a> Pieces<'a> {
         text_of_spans(self.alloc, &self.before, self.spans.as_slice(), self.len)
     }
 
-    /// Returns the current text and its lines. Fails only if it is out of memory.
-    ///
-    /// It copies the text and searches it for its lines after at most one change, after a change of
-    /// the whole text, and after `then`. Otherwise both exist already, and what lies after the last
-    /// change is moved.
+    /// Returns the current text and its lines. Fails only if it is out of memory. Costs one copy,
+    /// and a search through it for its lines.
     pub fn into_text(self) -> Result<(String, Lines), AllocError>
         ensures { IfOk result (λ indexed. (string_bytes indexed.0 ≡ edited_bytes self.entry.edited)
             × Indexes indexed.1 (string_bytes indexed.0)) }
@@ -334,12 +357,8 @@ impl<'a> Pieces<'a> {
             before,
             spans,
             len,
-            current,
             ..
         } = self;
-        match current {
-            Some(current) => current.into_text(),
-            None => text_with_lines(alloc, &before, spans.as_slice(), len),
-        }
+        text_with_lines(alloc, &before, spans.as_slice(), len)
     }
 }

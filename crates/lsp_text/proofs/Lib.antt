@@ -4,4 +4,3 @@ pub mod PlainLemmas
 pub mod TextLines
 pub mod Positions
 pub mod Counting
-pub mod Gaps

@@ -6,6 +6,5 @@ pub mod Starts
 pub mod LineStarts
 pub mod Leads
 pub mod Splice
-pub mod Gapped
 pub mod inside
 pub mod laws

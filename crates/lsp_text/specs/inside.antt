@@ -1,4 +1,3 @@
 -- Definitions that only private contracts speak of.
-pub mod Gapped
 pub mod Leads
 pub mod Splice

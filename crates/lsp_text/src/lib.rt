@@ -7,9 +7,6 @@
 //!   starts after an edit.
 //! - `position`, `encoding`, `units`: a position as the protocol writes it, and how many units a
 //!   character has.
-//! - `gap_text`: `GapText`, a text for many changes, with a gap at the last one. A change costs the
-//!   distance to the one before. It is built on `gap_bytes`, `gap_starts`, `gap_resolve` and `gap`
-//!   (moves of a gap).
 //! - `starts`: the line of a byte offset, by a binary search whose steps are counted.
 //! - `plain`: the definitions as a plain and slow program over characters. Tests compare `Lines`
 //!   with it.
@@ -18,14 +15,12 @@
 #![tactic(auto)]
 
 mod encoding;
-mod gap_text;
 mod laws;
 mod lines;
 pub mod plain;
 mod position;
 
 pub use encoding::{Encoding, UnknownEncoding};
-pub use gap_text::GapText;
 pub use laws::{encoding_laws, line_laws, place_laws, position_laws};
 pub use lines::Lines;
 pub use lines::starts::{Looks, Starts, line_of};

@@ -6,7 +6,6 @@ ghost use Rattle.lsp_text.specs.Text.{place_of};
 ghost use Rattle.lsp_text.specs.TextLines.{line_ends};
 ghost use Rattle.lsp_text.specs.LineStarts.{Indexes, IsPlace};
 ghost use Rattle.lsp_text.specs.Splice.{IsSpliced};
-ghost use Rattle.lsp_text.specs.Starts.{AreStarts};
 ghost use Rattle.lsp_text.specs.Units.{units_in};
 ghost use Rattle.lsp_text.specs.Positions.{exact_position, denoted};
 
@@ -55,21 +54,6 @@ impl Lines {
         starts.push(0)?;
         push_ends(&mut starts, bytes, 0, bytes.len())?;
         Ok(Lines { starts })
-    }
-
-    /// Makes lines of their starts.
-    pub(crate) fn of_starts(starts: Vec<u32>) -> Self
-        requires { AreStarts starts.items }
-        ensures { result ≡ starts.items }
-    {
-        Lines { starts }
-    }
-
-    /// Returns the line starts themselves, without a copy.
-    pub(crate) fn into_starts(self) -> Vec<u32>
-        ensures { result.items ≡ self }
-    {
-        self.starts
     }
 
     /// Returns a copy, or fails if it is out of memory. Costs four bytes for each line.

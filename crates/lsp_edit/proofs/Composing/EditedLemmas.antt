@@ -67,6 +67,14 @@ whole_is before utf8 =
     (λ (e : (length before == 0) ≡ false). rw e (whole_some before utf8 (eqb-false (length before) 0 e)))
     (cases_Bool (length before == 0))
 
+-- The one part has the bytes of the text.
+pub whole_bytes : (before : List ℕ) → IsUtf8 before → bytes_of before (whole_parts before) ≡ before
+whole_bytes before utf8 =
+    let whole : IsWhole before (whole_parts before) = whole_is before utf8 in
+    parts_bytes before utf8 (whole_parts before) whole.are
+    ∙ (ap (λ (items : List Item). encode_utf8_all (text_of (chars before) items)) whole.items
+    ∙ (ap encode_utf8_all (plain_text (chars before)) ∙ encodes-chars before utf8))
+
 -- What the fields are at first.
 pub begun : (before : List ℕ) (parts : List Part) → IsUtf8 before → length before ≤ 2147483648 → IsWhole before parts
     → ArePieces before parts (length before) 0

@@ -1,6 +1,6 @@
 //! One string with its lines.
 
-ghost use Rattle.std.specs.Prelude.{◌≡◌, ◌++◌, ◌≤◌, ℕ, OnOk, length, option_map, string_bytes};
+ghost use Rattle.std.specs.Prelude.{◌≡◌, ◌++◌, ◌≤◌, ℕ, IfOk, OnOk, length, option_map, string_bytes};
 ghost use Rattle.std.specs.List.{slice_range};
 ghost use Rattle.std.specs.Result.{result_ok};
 ghost use Rattle.std.specs.Str.{IsCharBoundary, IsUtf8, chars};
@@ -11,8 +11,9 @@ ghost use Rattle.lsp_text.specs.Units.{units_in};
 ghost use Rattle.lsp_edit.specs.inside.OldLines.{lines_of};
 
 use crate::old_text::kept_lines::KeptLines;
+use lsp_buffer::TextBuffer;
 use lsp_text::{Encoding, InsideCharacter, Position};
-use std::alloc::AllocError;
+use std::alloc::{AllocError, Global};
 use std::marker::Model;
 
 /// One string with its lines. Clauses see its bytes.
@@ -80,6 +81,13 @@ impl<'a> IndexedStr<'a> {
         ensures utf8 { IsUtf8 self.now }
     {
         self.lines.get().position(self.text, encoding, offset)
+    }
+
+    /// Copies the text into blocks.
+    pub fn to_buffer(&self, alloc: Global) -> Result<TextBuffer, AllocError>
+        ensures { IfOk result (λ buffer. buffer ≡ self.now) }
+    {
+        TextBuffer::from_str(alloc, self.text)
     }
 
     /// Appends the bytes from `start` to `end` to a string.

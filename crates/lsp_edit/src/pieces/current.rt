@@ -1,31 +1,29 @@
-//! The current text of spans, in one copy, and the ends of a range in it.
+//! The current text of spans, and the ends of a range in it.
 
 ghost use Rattle.std.specs.Prelude.{◌≡◌, ◌≤◌, IfOk, MatchOption, length, string_bytes};
-ghost use Rattle.std.specs.Str.{IsUtf8, chars};
+ghost use Rattle.std.specs.List.{replace_range};
+ghost use Rattle.std.specs.Str.{IsCharBoundary, IsUtf8, chars};
 ghost use Rattle.lsp_text.specs.LineStarts.{Indexes};
 ghost use Rattle.lsp_text.specs.Units.{units_in};
 ghost use Rattle.lsp_edit.specs.Faults.{ends_of, places_at};
 ghost use Rattle.lsp_edit.specs.Parts.{AreParts, bytes_of, parts_of};
 
-use crate::ends::ends_in_order;
+use crate::ends::ends;
 use crate::fault::EditFault;
 use crate::old_text::OldText;
 use crate::pieces::span::Span;
-use lsp_text::{Encoding, GapText, Lines, Range};
+use lsp_buffer::TextBuffer;
+use lsp_text::{Encoding, Lines, Range};
 use std::alloc::{AllocError, Global};
 
-/// The room, in bytes, that a text with a gap has for new text before it grows.
-const ROOM: usize = 4096;
-
-/// Returns the current text, if there is one already, or else copies the text of the spans into a
-/// text with a gap.
+/// Returns the current text, if there is one already, or else the text of the spans in one block.
 pub fn current_or_new(
-    current: Option<GapText>,
+    current: Option<TextBuffer>,
     alloc: Global,
     before: &OldText<'_>,
     spans: &[Span<'_>],
     len: usize,
-) -> Result<GapText, AllocError>
+) -> Result<TextBuffer, AllocError>
     requires parts { AreParts before.now (parts_of spans.now) }
     requires room { length (bytes_of before.now (parts_of spans.now)) ≤ 2147483648 }
     requires current { MatchOption current (Unit {0})
@@ -35,8 +33,26 @@ pub fn current_or_new(
     if let Some(text) = current {
         return Ok(text);
     }
-    let (text, lines) = text_with_lines(alloc, before, spans, len)?;
-    GapText::new(alloc, &text, lines, ROOM)
+    let text = text_of_spans(alloc, before, spans, len)?;
+    TextBuffer::new(alloc, text)
+}
+
+/// Returns a text with the bytes from `start` to `stop` replaced. Out of memory loses the text.
+pub fn replaced(
+    text: TextBuffer,
+    start: usize,
+    stop: usize,
+    new: &str,
+) -> Result<TextBuffer, AllocError>
+    requires order { start ≤ stop }
+    requires at_start { IsCharBoundary text start }
+    requires at_stop { IsCharBoundary text stop }
+    requires room { length (replace_range text start stop new.now) ≤ 2147483648 }
+    ensures { IfOk result (λ next. next ≡ replace_range text start stop new.now) }
+{
+    let mut text = text;
+    text.replace_range(start, stop, new)?;
+    Ok(text)
 }
 
 /// Returns the text of spans, of `len` bytes, with its lines.
@@ -74,20 +90,19 @@ pub fn text_of_spans(
     Ok(text)
 }
 
-/// Returns the byte offsets of a range's two ends in a text with a gap. `change` is the number of
+/// Returns the byte offsets of a range's two ends in the current text. `change` is the number of
 /// the change that a fault reports.
 pub fn ends_in(
-    text: &mut GapText,
+    text: &TextBuffer,
     encoding: Encoding,
     range: Range,
     change: usize,
 ) -> Result<(usize, usize), EditFault>
-    ensures utf8 { IsUtf8 text.old }
-    ensures unchanged { text.new ≡ text.old }
+    ensures utf8 { IsUtf8 text.now }
     ensures value { result
-        ≡ places_at change (chars text.old) (ends_of (units_in encoding) (chars text.old) range) }
+        ≡ places_at change (chars text.now) (ends_of (units_in encoding) (chars text.now) range) }
 {
-    let start = text.resolve(encoding, range.start);
-    let stop = text.resolve(encoding, range.stop);
-    ends_in_order(start, stop, change)
+    let text = OldText::in_blocks(text);
+    let _ = text.len();
+    ends(&text, encoding, range, change)
 }

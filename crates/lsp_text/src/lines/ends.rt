@@ -1,10 +1,9 @@
 //! The search for line ends in bytes.
-ghost use Rattle.std.specs.Prelude.{◌≡◌, ◌++◌, ◌≤◌, ◌<◌, suc, length, OnOk, IsTrue};
+ghost use Rattle.std.specs.Prelude.{◌≡◌, ◌++◌, ◌≤◌, ◌<◌, suc, length, OnOk};
 ghost use Rattle.lsp_text.specs.TextLines.{starts_line, splits_crlf};
-ghost use Rattle.lsp_text.specs.inside.Gapped.{HasNoEnd};
 ghost use Rattle.lsp_text.specs.LineStarts.{starts_between};
 
-use memchr::{memchr2, memchr2_iter};
+use memchr::memchr2_iter;
 use std::alloc::AllocError;
 
 /// Returns whether a line ends right after the byte at `at`.
@@ -25,13 +24,6 @@ pub fn is_inside_crlf(bytes: &[u8], place: usize) -> bool
     ensures { result ≡ splits_crlf bytes.now place }
 {
     place > 0 && place < bytes.len() && bytes[place - 1] == b'\r' && bytes[place] == b'\n'
-}
-
-/// Returns whether neither a line feed nor a carriage return is among the bytes.
-pub fn has_no_end(bytes: &[u8]) -> bool
-    ensures { IsTrue result → HasNoEnd bytes.now }
-{
-    memchr2(b'\n', b'\r', bytes).is_none()
 }
 
 /// Appends to `starts` the byte offsets after `low`, up to `high`, at which a line ends. Linear in

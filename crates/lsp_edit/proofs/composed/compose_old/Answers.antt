@@ -5,7 +5,7 @@ use Rattle.lsp_edit.proofs.composed.compose_old.Goals as goal
 pub apply_all-requires-clause-room : goal.apply_all-requires-clause-room
 apply_all-requires-clause-room c = omega (
   arith,
-  first_bytes c.args.before c.begin-pieces.result.edited c.begin-pieces.ensures.utf8 c.begin-pieces.ensures.begun,
+  first_bytes c.args.before c.in_ok-pieces.pieces.edited c.in_ok-pieces.ensures.utf8 c.in_ok-pieces.ensures.begun,
   c.requires.size,
   c.requires.fits,
 )

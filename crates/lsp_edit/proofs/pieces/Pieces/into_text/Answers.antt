@@ -3,18 +3,9 @@ use Rattle.lsp_text.specs.LineStarts.{Indexes}
 use Rattle.lsp_edit.specs.Parts.{bytes_of, parts_of}
 use Rattle.lsp_edit.specs.declared.pieces.span.Span.{Span}
 use Rattle.lsp_edit.specs.Edited.{edited_bytes}
-use Rattle.lsp_edit.proofs.Composing.CurrentLemmas.{current_is}
 use Rattle.lsp_edit.proofs.Composing.EditedLemmas.{now_bytes}
 use Rattle.lsp_edit.proofs.Composing.SpannedLemmas.{same_edited}
 use Rattle.lsp_edit.proofs.pieces.Pieces.into_text.Goals as goal
-
-pub returns-in-Some : goal.returns-in-Some
-returns-in-Some c =
-    subst (λ (bytes : List ℕ). IfOk c.into_text.result (λ made. (string_bytes made.0 ≡ bytes)
-    × Indexes made.1 (string_bytes made.0)))
-    (current_is _ _ _ c.self.invariant.1 c.in-Some.is
-    ∙ (sym (now_bytes _ _ _ _ c.self.invariant.0) ∙ ap edited_bytes (same_edited c.self.view_is)))
-    c.into_text.ensures
 
 pub returns : goal.returns
 returns c =
