@@ -18,7 +18,8 @@ abbrev pub no_history : History
 no_history = record { sent = []; handled = 0 }
 
 -- The history after a step, with the client's documents after it. The client sends a message in an
--- accepted call, and where it answers one of the server.
+-- accepted call, and where it answers one of the server. A delivery to the server handles one; no
+-- other step changes the history.
 abbrev pub after : History → Happened → List DocumentItem → History
 after h Sent documents = record h { sent = h.sent ++ documents ∷ [] }
 after h (Client Send) documents = record h { sent = h.sent ++ documents ∷ [] }

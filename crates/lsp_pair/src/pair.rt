@@ -80,7 +80,8 @@ impl Pair {
         ensures sound { OnOk result
             (IsFitting (record { limits = limits; offers = offers; config = config })) }
         ensures encoding { (result ≡ Err PairFault.NotUtf16) ↔ (is_utf16 config.choice ≡ false) }
-        // Refused where a limit of the server, in `config`, is below the client's, `limits`.
+        // Refused where a limit of the server, in `config`, is below the client's, `limits`, or
+        // where the server's are strict and the client's lenient.
         ensures limits { (result ≡ Err PairFault.LimitsTooSmall)
             ↔ ((is_utf16 config.choice ≡ true) × (are_within limits config.limits ≡ false)) }
     {
