@@ -135,6 +135,13 @@ impl TextBuffer {
         self.starts[last] as usize + block.len()
     }
 
+    /// Returns whether the text has no bytes. In constant time.
+    pub fn is_empty(&self) -> bool
+        ensures { IsTrue result ↔ (length self.now ≡ 0) }
+    {
+        self.len() == 0
+    }
+
     /// Returns how many lines there are: one more than line ends, so at least one. In constant
     /// time.
     pub fn line_count(&self) -> usize

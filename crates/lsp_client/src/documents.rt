@@ -67,7 +67,7 @@ impl Client {
         ensures memory { result ≡ Err store_faults.NoMemory
             → IsAdmitted self.old (open_order uri language version text) }
     {
-        self.store.may_open(&uri, &text)?;
+        self.store.check_open(&uri, &text)?;
         let message = Outgoing::DidOpen(OpenParams {
             uri,
             language,

@@ -12,7 +12,7 @@ ghost use Rattle.lsp_edit.specs.Items.{Item};
 ghost use Rattle.lsp_edit.specs.Once.{IsOn, IsPut, bytes_after, encoding_of, meant_by, put_items};
 
 use crate::change::Change;
-use crate::indexed::IndexedText;
+use crate::indexed::{IndexedText, TextFault};
 use crate::joined::layer::Layer;
 use crate::pieces::canonical::canonical_of;
 use crate::pieces::spans::Spans;
@@ -132,7 +132,10 @@ impl<'a> Delta<'a> {
                 ..
             } => match text.layer(*encoding, changes, usize::MAX) {
                 Ok(layer) => Ok(layer),
-                Err(_) => Err(AllocError),
+                // The batch has a result on this text, so no other fault comes.
+                Err(TextFault::NoMemory | TextFault::Edit(_) | TextFault::TooLong) => {
+                    Err(AllocError)
+                }
             },
         }
     }
@@ -156,7 +159,10 @@ impl<'a> Delta<'a> {
                 ..
             } => match text.canonical(*encoding, changes, usize::MAX) {
                 Ok(batch) => Ok(batch),
-                Err(_) => Err(AllocError),
+                // As in `layer`.
+                Err(TextFault::NoMemory | TextFault::Edit(_) | TextFault::TooLong) => {
+                    Err(AllocError)
+                }
             },
         }
     }

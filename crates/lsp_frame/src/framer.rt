@@ -96,11 +96,10 @@ impl Framer {
             return Err(FrameFault::Failed);
         }
         let max_body = self.limits.max_body();
-        let taken = match take_piece(&mut self.buffered, &mut self.stage, piece, max_body) {
-            Ok(taken) => taken,
-            Err(stop) => return Err(stop.in_stream(self.place)),
-        };
-        Ok(taken)
+        match take_piece(&mut self.buffered, &mut self.stage, piece, max_body) {
+            Ok(taken) => Ok(taken),
+            Err(stop) => Err(stop.in_stream(self.place)),
+        }
     }
 
     /// Returns the body of the buffered frame, once the frame is whole.

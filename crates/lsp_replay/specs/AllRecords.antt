@@ -34,7 +34,7 @@ is_cut_off result = false
 -- engine's for them. The reader and the writer report `state`.
 module _ (log_rules : LogRules) (state : PortState) (input : List ℕ) (all : Log)
     (output : RunOutput) where
-  -- One more call was needed: to write what is left, to pass on what was written, or to read. Then
+  -- One more call was needed: to write what is left, to flush what was written, or to read. Then
   -- the output of the records is written, and the input has no fault so far.
   abbrev pub NeedsTurn : (written left : List ℕ) → Type 0
   NeedsTurn written left =

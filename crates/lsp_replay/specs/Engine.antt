@@ -23,7 +23,7 @@ pub record PortState : Type 0 where
   pub ended_before : Bool
   -- is it now?
   pub ended : Bool
-  -- is output still to be passed on?
+  -- is output still to be flushed?
   pub unflushed : Bool
 
 -- The three reports as a record.

@@ -46,8 +46,8 @@ pub record IsEngineRun (engine : Engine) (max_turns : ℕ) (before after : Ports
   pub none_passed_over : NonePassedOver before.reader.failed after.reader.failed
       before.writer.failed after.writer.failed result
   -- After an outcome, and after each fault but those of writing and of too many turns, `serve` has
-  -- passed on all that was written.
-  pub passed_on : engine.flushes ≡ true → result ≢ Err Write → result ≢ Err TooManyTurns →
+  -- flushed all that was written.
+  pub all_flushed : engine.flushes ≡ true → result ≢ Err Write → result ≢ Err TooManyTurns →
       StaysFlushed before.writer.flushed after.writer.flushed
 
 -- ---- the engines of `serve`, `check`, `replay`, `normalise` and `convert`

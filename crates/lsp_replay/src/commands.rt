@@ -124,8 +124,8 @@ pub fn serve<R: Source, W: Sink>(
 }
 
 /// Runs [`serve`] over both ends of a connection. Each read comes after all that was written is
-/// passed on, so [`Duplex::read_early`] stays as it was. The writer must have passed on all that it
-/// took before.
+/// flushed, so [`Duplex::read_early`] stays as it was. All that the writer took before must be
+/// flushed.
 pub fn serve_on<R: Source, W: Sink>(
     alloc: Global,
     ends: &mut Duplex<'_, R, W>,
@@ -135,7 +135,7 @@ pub fn serve_on<R: Source, W: Sink>(
     ensures run { IsEngineRun (serve_engine config) max_turns
         (ports (R.seen ends.old.reader.now) (W.seen ends.old.writer.now))
         (ports (R.seen ends.new.reader.now) (W.seen ends.new.writer.now)) result }
-    // No read came before all that was written was passed on.
+    // No read came before all that was written was flushed.
     ensures in_time { (W.seen ends.old.writer.now).flushed ≡ true →
         ends.new.read_early ≡ ends.old.read_early }
     ensures same_reader { ends.new.reader.ghost_name ≡ ends.old.reader.ghost_name }

@@ -7,7 +7,7 @@ ghost use Rattle.std.specs.Prelude.{◌≡◌, ◌≢◌, ◌&&◌, [], ℕ, Lis
 ghost use Rattle.std.specs.Io.KnownBytes.{Appends};
 ghost use Rattle.lsp_stream.specs.Ports.{ports};
 ghost use Rattle.lsp_stream.specs.Turns.{AppendsFront, AppendsShort, WritesWithin};
-ghost use Rattle.lsp_stream.specs.inside.Turns.{PassesOn};
+ghost use Rattle.lsp_stream.specs.inside.Turns.{LeavesFlushed};
 ghost use Rattle.lsp_log.specs.Log.{LogRules, Record};
 ghost use Rattle.lsp_log.specs.Splitting.{IsReady};
 ghost use Rattle.lsp_log.specs.laws.Logs.{VersionLaw, FirstLaw};
@@ -76,7 +76,7 @@ fn write_last<W: Sink, H: Handler>(
         Appends (W.seen writer.old).written (W.seen writer.new).written []) }
     ensures calls { WritesWithin turns.old.left turns.new.left
         (W.seen writer.old) (W.seen writer.new) result }
-    ensures passed_on { PassesOn H.FLUSHES (W.seen writer.old) (W.seen writer.new) result }
+    ensures all_flushed { LeavesFlushed H.FLUSHES (W.seen writer.old) (W.seen writer.new) result }
 {
     let mut due = line_due;
     'parts: loop {
@@ -122,7 +122,7 @@ fn finish_run<W: Sink, H: Handler>(
     ensures not_read { IfErr result (λ fault. fault ≢ EngineFault.Read) }
     ensures calls { WritesWithin turns.old.left turns.new.left
         (W.seen writer.old) (W.seen writer.new) result }
-    ensures passed_on { PassesOn H.FLUSHES (W.seen writer.old) (W.seen writer.new) result }
+    ensures all_flushed { LeavesFlushed H.FLUSHES (W.seen writer.old) (W.seen writer.new) result }
 {
     reading_laws();
     if !splitter.at_rest() {
@@ -149,7 +149,7 @@ pub fn run_on<R: Source, W: Sink, H: Handler>(
         WroteRecords (reading_by rules) (H.run_output handler.old)
         (R.seen ends.old.reader.now).left (R.seen ends.new.reader.now).left
         (W.seen ends.old.writer.now).written (W.seen ends.new.writer.now).written }
-    // No read came before all that was written was passed on.
+    // No read came before all that was written was flushed.
     ensures in_time { H.FLUSHES ≡ true → (W.seen ends.old.writer.now).flushed ≡ true →
         ends.new.read_early ≡ ends.old.read_early }
     ensures same_reader { ends.new.reader.ghost_name ≡ ends.old.reader.ghost_name }

@@ -60,7 +60,7 @@ pub trait Handler {
     // The output for the records that are still to come.
     ghost run_output: { Self → List Record → RunOutput };
 
-    // Whether each output is passed on before more is read.
+    // Whether each output is flushed before more is read.
     ghost FLUSHES: { Bool };
 
     const FLUSHES: bool;

@@ -136,8 +136,8 @@ step_in Running s (did_change None) = stays s (refused params_invalid)
 step_in Running s (did_close None) = stays s (refused params_invalid)
 -- Any other notification is ignored, also one whose name begins with `$/`.
 step_in Running s (other_notification method) = stays s ignored
--- After `shutdown` requests are errors (Shutdown Request), and notifications are dropped, of which
--- the standard doesn't speak: this project's choice.
+-- After `shutdown` requests are errors (Shutdown Request). The standard has a client send no other
+-- notification but `exit`; that one which comes is dropped is this project's choice.
 step_in Down s (initialize id offers) = fails s (Some id) InvalidRequest
 step_in Down s (shutdown id) = fails s (Some id) InvalidRequest
 step_in Down s (other_request id method) = fails s (Some id) InvalidRequest

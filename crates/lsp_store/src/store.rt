@@ -112,7 +112,7 @@ impl Store {
     /// language and version.
     ///
     /// Refuses as `open` does, in the same order. Takes no memory. Costs two hash look-ups.
-    pub fn may_open(&self, uri: &str, text: &str) -> Result<(), StoreFault>
+    pub fn check_open(&self, uri: &str, text: &str) -> Result<(), StoreFault>
         ensures may { OnOk result ((language : List ℕ) (version : ℤ) →
             open_refusal self.now.limits self.now.table
             (record { uri = uri.now; language = language; version = version; text = text.now })
@@ -195,7 +195,7 @@ impl Store {
               text = string_bytes text;
             }) ≡ None }
     {
-        self.may_open(&uri, &text)?;
+        self.check_open(&uri, &text)?;
         let stored = Stored::new(*self.documents.allocator(), language, version, text)?;
         self.documents.insert_last(uri, stored)?;
         Ok(())

@@ -23,7 +23,7 @@ pub record WriterState : Type 0 where
   pub failed : Bool
   -- how many writes and flushes were made
   pub calls : ℕ
-  -- Is all that it took passed on?
+  -- Is all that it took flushed?
   pub flushed : Bool
 
 -- What is known of both.
@@ -50,7 +50,7 @@ abbrev pub IsFlushFailure : Result (Unit {0}) Error → Type 0
 IsFlushFailure (Ok _) = ⊥
 IsFlushFailure (Err e) = error_kind e ≢ Interrupted
 
--- Whether all that was taken is passed on after a write: if all was before, and it took no byte.
+-- Whether all that was taken is flushed after a write: if all was before, and it took no byte.
 abbrev pub flushed_after_write : Bool → Result ℕ Error → Bool
 flushed_after_write flushed (Ok n) = flushed && n == 0
 flushed_after_write flushed (Err e) = flushed

@@ -17,7 +17,7 @@ pub record Spends (count_old count_new left_old left_new : ℕ) : Type 0 where
 abbrev pub AppendsFront : Option (List ℕ) → Option (List ℕ) → List ℕ → Type 0
 AppendsFront old new bytes = (front rest : List ℕ) × (bytes ≡ front ++ rest) × Appends old new front
 
--- Only some first bytes were written, or all were and they are still to be passed on.
+-- Only some first bytes were written, or all were and they are still to be flushed.
 abbrev pub AppendsShort : Bool → Option (List ℕ) → Option (List ℕ) → List ℕ → Type 0
 AppendsShort unflushed old new bytes =
     (front rest : List ℕ) × (bytes ≡ front ++ rest) × Appends old new front
@@ -28,7 +28,7 @@ AppendsShort unflushed old new bytes =
 abbrev pub StaysWell : Bool → Bool → Type 0
 StaysWell failed_old failed_new = failed_old ≡ false → failed_new ≡ false
 
--- Nothing is kept back: if all bytes had been passed on before these calls, all are passed on now.
+-- Nothing is kept back: if all bytes had been flushed before these calls, all are flushed now.
 abbrev pub StaysFlushed : Bool → Bool → Type 0
 StaysFlushed flushed_old flushed_new = flushed_old ≡ true → flushed_new ≡ true
 

@@ -8,7 +8,7 @@ ghost use Rattle.lsp_stream.specs.contracts.duplex.Duplex.{the_row};
 use crate::port::{Sink, Source};
 
 /// Both ends of a connection. It notes whether a read came too early: before all that was written
-/// was passed on. A peer that waits for the rest sends nothing then, and both ends wait.
+/// was flushed. A peer that waits for the rest sends nothing then, and both ends wait.
 ///
 /// While one end is borrowed the other can't be used. So nothing is written between
 /// [`reader`](Duplex::reader) and the reads that are made through its result.
@@ -35,7 +35,7 @@ impl<'a, R: Source, W: Sink> Duplex<'a, R, W> {
         }
     }
 
-    /// Returns the reader, to read from. Notes whether something that was written is not passed on
+    /// Returns the reader, to read from. Notes whether something that was written is not flushed
     /// yet.
     pub fn reader(&mut self) -> &mut R
         ensures value { result.now ≡ self.old.reader.now }
@@ -63,7 +63,7 @@ impl<'a, R: Source, W: Sink> Duplex<'a, R, W> {
     }
 
     /// Returns whether a read came too early: the reader was borrowed while something that was
-    /// written was not passed on.
+    /// written was not flushed.
     pub fn read_early(&self) -> bool
         ensures { result ≡ self.now.read_early }
     {

@@ -51,7 +51,7 @@ pub trait Sink {
             ≡ flushed_after_write (seen self.old).flushed result }
         ensures counted { (seen self.new).calls ≡ one_more (seen self.old).calls };
 
-    /// Passes on what was written, as std's `Write` does.
+    /// Flushes what was written, as std's `Write` does.
     fn flush(&mut self) -> io::Result<()>
         ensures bytes { Keeps (seen self.old).written (seen self.new).written }
         ensures failed { (seen self.new).failed ≡ true ↔ IsFlushFailure result }
@@ -68,7 +68,7 @@ pub trait Sink {
     fn calls(&self) -> u64
         ensures { result ≡ (seen self.now).calls };
 
-    /// Returns whether all that was written is passed on: a flush succeeded after the last write
+    /// Returns whether all that was written is flushed: a flush succeeded after the last write
     /// that took bytes. True before the first.
     fn flushed(&self) -> bool
         ensures { result ≡ (seen self.now).flushed };

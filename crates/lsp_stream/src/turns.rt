@@ -102,7 +102,7 @@ fn write_out<W: Sink>(writer: &mut W, bytes: &[u8], turns: &mut Turns) -> Result
     Ok(())
 }
 
-/// Flushes the writer, which passes on what was written. An interrupted flush is repeated.
+/// Flushes the writer. An interrupted flush is repeated.
 ///
 /// # Errors
 /// [`EngineFault::Write`] if a flush fails, [`EngineFault::TooManyTurns`] if no turn is left for
@@ -113,8 +113,8 @@ pub fn flush_out<W: Sink>(writer: &mut W, turns: &mut Turns) -> Result<(), Engin
     ensures flushed { OnOk result
         (((W.seen writer.new).failed ≡ false)
         × Rose (W.seen writer.old).calls (W.seen writer.new).calls) }
-    ensures passed_on { OnOk result ((W.seen writer.new).flushed ≡ true) }
-    ensures not_passed_on { OnErr result
+    ensures all_flushed { OnOk result ((W.seen writer.new).flushed ≡ true) }
+    ensures not_flushed { OnErr result
         ((W.seen writer.new).flushed ≡ (W.seen writer.old).flushed) }
     ensures error { IfErr result
         (λ fault. (fault ≡ EngineFault.Write) ⊎ (fault ≡ EngineFault.TooManyTurns)) }
@@ -134,8 +134,8 @@ pub fn flush_out<W: Sink>(writer: &mut W, turns: &mut Turns) -> Result<(), Engin
     }
 }
 
-/// Writes the output of a record or of the end of the input. With `flush` it then passes on all
-/// that was written, if something isn't passed on yet.
+/// Writes the output of a record or of the end of the input. With `flush` it then flushes the
+/// writer, if something that was written isn't flushed yet.
 ///
 /// # Errors
 /// [`EngineFault::Write`] if a write or a flush fails, or a write takes nothing.
@@ -152,7 +152,7 @@ pub fn write_given<W: Sink>(
         (AppendsFront (W.seen writer.old).written (W.seen writer.new).written bytes.now) }
     ensures error { IfErr result
         (λ fault. (fault ≡ EngineFault.Write) ⊎ (fault ≡ EngineFault.TooManyTurns)) }
-    // Where the turns ran out, bytes were still to be written, or to be passed on.
+    // Where the turns ran out, bytes were still to be written, or to be flushed.
     ensures short { IfErr result (λ fault. fault ≡ EngineFault.TooManyTurns →
         AppendsShort (flush && not (W.seen writer.new).flushed) (W.seen writer.old).written
         (W.seen writer.new).written bytes.now) }

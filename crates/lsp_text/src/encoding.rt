@@ -2,8 +2,9 @@
 
 ghost use Rattle.std.specs.Prelude.{◌≡◌, Some};
 ghost use Rattle.std.specs.Result.{result_ok};
-ghost use Rattle.lsp_text.specs.Units.{name_of, encoding_named};
+ghost use Rattle.lsp_text.specs.Units.{name_of, encoding_named, units_in};
 
+use crate::position::units::{Units, Utf8, Utf16, Utf32};
 use std::fmt;
 use std::str::FromStr;
 use thiserror::Error;
@@ -43,6 +44,17 @@ impl Encoding {
             "utf-16" => Some(Encoding::Utf16),
             "utf-32" => Some(Encoding::Utf32),
             _ => None,
+        }
+    }
+
+    /// Returns how many units a character has. In constant time.
+    pub fn units(self, c: char) -> u32
+        ensures { result ≡ units_in self c }
+    {
+        match self {
+            Encoding::Utf8 => Utf8::units(c),
+            Encoding::Utf16 => Utf16::units(c),
+            Encoding::Utf32 => Utf32::units(c),
         }
     }
 }

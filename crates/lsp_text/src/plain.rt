@@ -13,7 +13,6 @@ ghost use Rattle.lsp_text.specs.Positions.{exact_position as spec_exact_position
 
 use crate::encoding::Encoding;
 use crate::position::Position;
-use crate::position::units::{Units, Utf8, Utf16, Utf32};
 
 /// Returns whether an index starts a line: a line feed is before it, or a carriage return with no
 /// line feed after it.
@@ -100,11 +99,7 @@ pub fn line_stop(text: &[char], line: usize) -> usize
 pub fn units(encoding: Encoding, character: char) -> u32
     ensures { result ≡ units_in encoding character }
 {
-    match encoding {
-        Encoding::Utf8 => Utf8::units(character),
-        Encoding::Utf16 => Utf16::units(character),
-        Encoding::Utf32 => Utf32::units(character),
-    }
+    encoding.units(character)
 }
 
 /// Returns the units of the characters from one index to another, in a text of at most

@@ -95,7 +95,7 @@ fn is_emptied(alloc: Global, from_end: bool) -> Result<bool, AllocError> {
             return Ok(false);
         }
     }
-    Ok(both.buffer.len() == 0 && both.buffer.as_str() == Some(""))
+    Ok(both.buffer.is_empty() && both.buffer.as_str() == Some(""))
 }
 
 #[test]

@@ -520,7 +520,7 @@ passed_result flushes old new (Ok t) ok err holds not_write not_turns = ok holds
 passed_result flushes old new (Err fault) ok err holds not_write not_turns =
     passed_fault flushes old new fault err holds not_write not_turns
 
--- A read after all was passed on notes nothing.
+-- A read after all was flushed notes nothing.
 pub in_time : (early flushed : Bool) → flushed ≡ true → (early || not flushed) ≡ early
 in_time true flushed is = refl
 in_time false true is = refl

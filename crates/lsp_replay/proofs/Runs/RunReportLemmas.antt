@@ -339,7 +339,7 @@ run_of_course first version run_output settles grows_all in_parts {log_rules} {f
       whole = whole;
       called = run.called;
       none_passed_over = run.none_passed_over;
-      passed_on = run.passed_on;
+      all_flushed = run.all_flushed;
     }
 
 pub run_of : {State : Type 0} → FirstLaw → VersionLaw → (view : View State) (state : State) (s : Session)

@@ -40,7 +40,7 @@ pub record Broken (log_rules : LogRules) (run_output : List Record → RunOutput
   pub reads : IsReadAs log_rules input log
   pub wrote : AppendsFront old new (run_output log.records).out
 
--- The same if no turn was left: more was to be written, or what was written was to be passed on.
+-- The same if no turn was left: more was to be written, or what was written was to be flushed.
 pub record RanOut (log_rules : LogRules) (run_output : List Record → RunOutput) (unflushed : Bool)
     (input : List ℕ) (old new : Option (List ℕ)) : Type 0 where
   pub log : Log
@@ -70,7 +70,7 @@ pub record BrokenAtEnd (log_rules : LogRules) (run_output : List Record → RunO
   pub is : last_of run_output log ≡ first ++ others
   pub wrote : Appends old new ((run_output log.records).out ++ first)
 
--- The same if no turn was left: more was to be written, or what was written was to be passed on.
+-- The same if no turn was left: more was to be written, or what was written was to be flushed.
 pub record RanOutAtEnd (log_rules : LogRules) (run_output : List Record → RunOutput)
     (unflushed : Bool) (input : List ℕ) (old new : Option (List ℕ)) : Type 0 where
   pub broken : BrokenAtEnd log_rules run_output input old new
@@ -91,7 +91,7 @@ BreaksAtEnd log_rules run_output ended input old new = (ended ≡ true)
     × BrokenAtEnd log_rules run_output input old new
 
 -- No turn was left and one more call was needed. Either more was to be written, or what was
--- written was to be passed on. Or all of it was, the input has no fault so far, and more was to be
+-- written was to be flushed. Or all of it was, the input has no fault so far, and more was to be
 -- read.
 abbrev pub TurnsRanOut : LogRules → (List Record → RunOutput) → PortState → List ℕ →
     Option (List ℕ) → Option (List ℕ) → Type 0
@@ -183,7 +183,7 @@ pub record IsLoopRun (log_rules : LogRules) (run_output : List Record → RunOut
   -- No failure was passed over.
   pub none_passed_over : NonePassedOver before.reader.failed after.reader.failed
       before.writer.failed after.writer.failed result
-  -- Where each output is passed on before more is read: after an outcome, and after each fault but
-  -- those of writing and of too many turns, all that was written is passed on.
-  pub passed_on : flushes ≡ true → result ≢ Err Write → result ≢ Err TooManyTurns →
+  -- Where each output is flushed before more is read: after an outcome, and after each fault but
+  -- those of writing and of too many turns, all that was written is flushed.
+  pub all_flushed : flushes ≡ true → result ≢ Err Write → result ≢ Err TooManyTurns →
       StaysFlushed before.writer.flushed after.writer.flushed

@@ -3,7 +3,7 @@
 ghost use Rattle.std.specs.Prelude.{◌≡◌, ◌&&◌, [], ℕ, List, drop, Option, not, OnOk, IfOk, IfErr, MatchOption};
 ghost use Rattle.lsp_frame.specs.Frame.{IsFrameOf};
 ghost use Rattle.lsp_stream.specs.Turns.{WritesWithin};
-ghost use Rattle.lsp_stream.specs.inside.Turns.{PassesOn};
+ghost use Rattle.lsp_stream.specs.inside.Turns.{LeavesFlushed};
 ghost use Rattle.lsp_log.specs.Log.{LogRules, Record};
 ghost use Rattle.lsp_log.specs.Splitting.{IsReady, IsFed};
 ghost use Rattle.lsp_replay.specs.RunOutput.{RunOutput};
@@ -47,7 +47,7 @@ fn handle_record<W: Sink, H: Handler>(
         (record { head = head; raw = raw.now; body = body.now })) }
     ensures calls { WritesWithin turns.old.left turns.new.left
         (W.seen writer.old) (W.seen writer.new) result }
-    ensures passed_on { PassesOn H.FLUSHES (W.seen writer.old) (W.seen writer.new) result }
+    ensures all_flushed { LeavesFlushed H.FLUSHES (W.seen writer.old) (W.seen writer.new) result }
 {
     buffer.clear();
     let given = handler.handle(head, raw, body, buffer)?;
@@ -90,7 +90,7 @@ fn take_record<W: Sink, H: Handler>(
         received (W.seen writer.new).written fault) }
     ensures calls { WritesWithin turns.old.left turns.new.left
         (W.seen writer.old) (W.seen writer.new) result }
-    ensures passed_on { PassesOn H.FLUSHES (W.seen writer.old) (W.seen writer.new) result }
+    ensures all_flushed { LeavesFlushed H.FLUSHES (W.seen writer.old) (W.seen writer.new) result }
 {
     reading_laws();
     let head = splitter.head();
@@ -135,7 +135,7 @@ pub(crate) fn take_piece<W: Sink, H: Handler>(
         received (W.seen writer.new).written fault) }
     ensures calls { WritesWithin turns.old.left turns.new.left
         (W.seen writer.old) (W.seen writer.new) result }
-    ensures passed_on { PassesOn H.FLUSHES (W.seen writer.old) (W.seen writer.new) result }
+    ensures all_flushed { LeavesFlushed H.FLUSHES (W.seen writer.old) (W.seen writer.new) result }
 {
     let mut at = 0;
     'bytes: while at < piece.len() {

@@ -5,7 +5,6 @@ ghost use Rattle.std.specs.Str.{chars};
 ghost use Rattle.lsp_text.specs.Units.{units_in};
 
 use lsp_text::Encoding;
-use lsp_text::plain::units;
 
 /// Returns how many units the characters of a text have.
 pub fn units_of(encoding: Encoding, text: &str) -> usize
@@ -13,7 +12,7 @@ pub fn units_of(encoding: Encoding, text: &str) -> usize
 {
     let mut count = 0;
     for c in text.chars() {
-        count += units(encoding, c) as usize;
+        count += encoding.units(c) as usize;
     }
     count
 }

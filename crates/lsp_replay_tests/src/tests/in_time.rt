@@ -1,9 +1,9 @@
-//! Replies are passed on before more is read.
+//! Replies are flushed before more is read.
 
 use super::*;
 use lsp_replay::{Duplex, serve_on};
 
-/// What was written before the run and not passed on, how the calls end, how the run ends, and
+/// What was written before the run and not flushed, how the calls end, how the run ends, and
 /// whether a read came too early.
 static ROWS: [(&[u8], Calls<'static>, End, bool); 5] = [
     (b"", SMOOTH, Ended(0, 7, 0), false),
@@ -45,7 +45,7 @@ fn leaves(alloc: Global, row: &(&[u8], Calls, End, bool)) -> Result<bool, Fail> 
 }
 
 #[test]
-fn serve_reads_on_once_its_replies_are_passed_on(rt: HostRuntime) -> Result<(), Fail> {
+fn serve_reads_on_once_its_replies_are_flushed(rt: HostRuntime) -> Result<(), Fail> {
     for (number, row) in ROWS.iter().enumerate() {
         assert!(rt; leaves(rt.alloc(), row)?, "{number}");
     }

@@ -24,7 +24,7 @@ id_of m = None
 abbrev pub RepliesTo : IdData → AnswerData OutgoingData → Type 0
 RepliesTo id answer = (m : OutgoingData) × (answer ≡ reply m) × (id_of m ≡ Some id)
 
--- Each request has one reply, with its id (Request Message, Response Message).
+-- Before `exit` each request has one reply, with its id (Request Message, Response Message).
 abbrev pub RequestLaw : Type 0
 RequestLaw =
     (s : ServerData) (id : IdData) (method : List ℕ) (params : Option Data) → s.phase ≢ Ended

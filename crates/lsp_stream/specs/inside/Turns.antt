@@ -5,9 +5,9 @@ use Rattle.lsp_stream.specs.declared.fault.EngineFault.TheVariants.{Write, TooMa
 use Rattle.lsp_stream.specs.Ports.{WriterState}
 use Rattle.lsp_stream.specs.Turns.{StaysFlushed}
 
--- Where each output is passed on before more is read, nothing is kept back: after an answer, and
+-- Where each output is flushed before more is read, nothing is kept back: after an answer, and
 -- after each fault but those of writing and of too many turns.
-pub record PassesOn {A : Type 0} (flushes : Bool) (before after : WriterState)
+pub record LeavesFlushed {A : Type 0} (flushes : Bool) (before after : WriterState)
     (result : Result A EngineFault) : Type 0 where
   pub flushed : OnOk result (flushes ≡ true → StaysFlushed before.flushed after.flushed)
   pub flushed_else : IfErr result (λ fault. flushes ≡ true → fault ≢ Write → fault ≢ TooManyTurns →

@@ -1,4 +1,4 @@
-//! A read that comes before all that was written is passed on.
+//! A read that comes before all that was written is flushed.
 
 use crate::{Call, Duplex, Sink, Source, StopReader, StopWriter, Told};
 use std::alloc::Global;

@@ -28,7 +28,7 @@ returns-in_err-opening-clause-run g c =
           (rw c.reader.ensures.value at c.in_err-opening.ensures.calls.not_ended));
       called = search rules;
       none_passed_over = search rules;
-      passed_on = search rules;
+      all_flushed = search rules;
     }
 
 pub returns-in_err-accept-clause-run : goal.returns-in_err-accept-clause-run
@@ -49,7 +49,7 @@ returns-in_err-accept-clause-run g c =
           (λ more none. c.in_ok-opening.ensures.known more (λ _. none)));
       called = search rules;
       none_passed_over = search rules;
-      passed_on = search rules;
+      all_flushed = search rules;
     }
 
 pub pieces-init : goal.pieces-init
@@ -134,12 +134,12 @@ returns-in_err-end-clause-run g c =
       ) (told_fault _ _ _ _ _ (λ _. c.pieces.invariant.reads_well)
           (λ other before. (rw c.writer.ensures.value at c.in_err-end.ensures.calls.well_else) other
           (c.pieces.invariant.writes_well before)));
-      passed_on = rw (
+      all_flushed = rw (
         p.1,
         p.2,
       ) (passed_fault _ _ _ _
           (λ holds not_write not_turns before.
-          (rw c.writer.ensures.value at c.in_err-end.ensures.passed_on.flushed_else) holds not_write not_turns
+          (rw c.writer.ensures.value at c.in_err-end.ensures.all_flushed.flushed_else) holds not_write not_turns
           (c.pieces.invariant.flushed holds before)));
     }
 
@@ -166,7 +166,7 @@ returns-in-Some-clause-run g c =
           c.pieces.invariant.runs;
       called = search rules;
       none_passed_over = search rules;
-      passed_on = λ holds _ _ before. (rw c.writer.ensures.value at c.in_ok-end.ensures.passed_on.flushed) holds
+      all_flushed = λ holds _ _ before. (rw c.writer.ensures.value at c.in_ok-end.ensures.all_flushed.flushed) holds
           (c.pieces.invariant.flushed holds before);
     }
 
@@ -210,12 +210,12 @@ returns-then-ended-clause-run g c =
           (c.pieces.invariant.writes_well before))
           (rw c.writer-then-ended.ensures.value at c.finish_run.ensures.calls.well)
           (rw c.writer-then-ended.ensures.value at c.finish_run.ensures.calls.well_else);
-      passed_on = λ holds not_write not_turns before.
+      all_flushed = λ holds not_write not_turns before.
           passed_result _ _ _ c.finish_run.result
-          (rw c.writer-then-ended.ensures.value at c.finish_run.ensures.passed_on.flushed)
-          (rw c.writer-then-ended.ensures.value at c.finish_run.ensures.passed_on.flushed_else) holds not_write
+          (rw c.writer-then-ended.ensures.value at c.finish_run.ensures.all_flushed.flushed)
+          (rw c.writer-then-ended.ensures.value at c.finish_run.ensures.all_flushed.flushed_else) holds not_write
           not_turns
-          ((rw c.writer.ensures.value at c.in_ok-end.ensures.passed_on.flushed) holds
+          ((rw c.writer.ensures.value at c.in_ok-end.ensures.all_flushed.flushed) holds
           (c.pieces.invariant.flushed holds before));
     }
 
@@ -277,10 +277,10 @@ returns-in_err-to-clause-run g c =
           (c.pieces.invariant.reads_well before))
           (λ _ before. (rw c.writer.ensures.value at c.in_ok-end.ensures.calls.well)
           (c.pieces.invariant.writes_well before)));
-      passed_on = rw (
+      all_flushed = rw (
         p.1,
         p.2,
-      ) (λ holds _ _ before. (rw c.writer.ensures.value at c.in_ok-end.ensures.passed_on.flushed) holds
+      ) (λ holds _ _ before. (rw c.writer.ensures.value at c.in_ok-end.ensures.all_flushed.flushed) holds
           (c.pieces.invariant.flushed holds before));
     }
 
@@ -335,10 +335,10 @@ pieces-preserved g c =
           (c.pieces.invariant.reads_well before);
       writes_well = λ before. (rw c.writer.ensures.value at c.in_ok-end.ensures.calls.well)
           (c.pieces.invariant.writes_well before);
-      flushed = λ holds before. (rw c.writer.ensures.value at c.in_ok-end.ensures.passed_on.flushed) holds
+      flushed = λ holds before. (rw c.writer.ensures.value at c.in_ok-end.ensures.all_flushed.flushed) holds
           (c.pieces.invariant.flushed holds before);
-      in_time = λ holds before. in_time _ _ ((rw c.writer.ensures.value at c.in_ok-end.ensures.passed_on.flushed) holds
-          (c.pieces.invariant.flushed holds before)) ∙ c.pieces.invariant.in_time holds before;
+      in_time = λ holds before. in_time _ _ ((rw c.writer.ensures.value at c.in_ok-end.ensures.all_flushed.flushed)
+          holds (c.pieces.invariant.flushed holds before)) ∙ c.pieces.invariant.in_time holds before;
       same_reader = c.pieces.invariant.same_reader;
       same_writer = c.pieces.invariant.same_writer;
       spent = both_reads _ _ _ _ _ _ _ _ (both_writes _ _ _ _ _ _ _ _ c.pieces.invariant.spent
@@ -416,5 +416,5 @@ returns-then-ended-clause-in_time g c = c.pieces.invariant.in_time
 
 pub returns-in_err-to-clause-in_time : goal.returns-in_err-to-clause-in_time
 returns-in_err-to-clause-in_time g c = λ holds before.
-    in_time _ _ ((rw c.writer.ensures.value at c.in_ok-end.ensures.passed_on.flushed) holds
+    in_time _ _ ((rw c.writer.ensures.value at c.in_ok-end.ensures.all_flushed.flushed) holds
     (c.pieces.invariant.flushed holds before)) ∙ c.pieces.invariant.in_time holds before

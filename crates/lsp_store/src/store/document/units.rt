@@ -8,7 +8,6 @@ ghost use Rattle.lsp_store.specs.inside.UnitsPassed.{IsPassed};
 
 use lsp_buffer::TextBuffer;
 use lsp_text::Encoding;
-use lsp_text::plain::units;
 
 /// Returns how many units the characters of a string have.
 fn counted(encoding: Encoding, text: &str) -> usize
@@ -16,7 +15,7 @@ fn counted(encoding: Encoding, text: &str) -> usize
 {
     let mut count = 0;
     for c in text.chars() {
-        count += units(encoding, c) as usize;
+        count += encoding.units(c) as usize;
     }
     count
 }
@@ -69,7 +68,7 @@ fn passed_by(encoding: Encoding, text: &str, count: usize) -> (usize, usize)
     let mut offset = 0;
     let mut left = count;
     for c in text.chars() {
-        let here = units(encoding, c) as usize;
+        let here = encoding.units(c) as usize;
         if left < here {
             return (offset, left);
         }

@@ -13,8 +13,8 @@ use Rattle.lsp_client.proofs.SentLemmas.{order_sent, open_sent, long_refused, bo
 use Rattle.lsp_store.specs.declared.fault.StoreFault.TheVariants as store_faults
 use Rattle.lsp_client.proofs.client.Client.send_open.Goals as goal
 
-pub returns-in_err-may_open-clause-error : goal.returns-in_err-may_open-clause-error
-returns-in_err-may_open-clause-error c =
+pub returns-in_err-check_open-clause-error : goal.returns-in_err-check_open-clause-error
+returns-in_err-check_open-clause-error c =
     let s : ClientData = c.args.self.now in
     let entry : DocumentItem = record {
       uri = string_bytes c.args.uri;
@@ -30,7 +30,7 @@ returns-in_err-may_open-clause-error c =
       c.deref-2.ensures,
       ap (λ (x : ClientData). x.limits) c.self.view_is,
       ap (λ (x : ClientData). x.table) c.self.view_is,
-    ) at (c.in_err-may_open.ensures.error entry.language entry.version))))
+    ) at (c.in_err-check_open.ensures.error entry.language entry.version))))
 
 pub returns-in_err-frame-clause-error : goal.returns-in_err-frame-clause-error
 returns-in_err-frame-clause-error c =
@@ -50,7 +50,7 @@ returns-in_err-frame-clause-error c =
       c.deref-2.ensures,
       ap (λ (x : ClientData). x.limits) c.self.view_is,
       ap (λ (x : ClientData). x.table) c.self.view_is,
-    ) at (c.in_ok-may_open.ensures.may params.language params.version) in
+    ) at (c.in_ok-check_open.ensures.may params.language params.version) in
     let p = err_from_is_err_and c.from_residual-in_err-frame.result c.from_residual-in_err-frame.ensures.1 in
     rw (p.1, p.2)
     (long_refused c.limits.result s (agreement s).kind command _ c.in_err-frame.field-0.0 limits may
@@ -85,14 +85,14 @@ returns-clause-ok c =
     (body_within c.limits.result s.limits _ _ limits body (rw version at c.in_ok-frame.ensures.within))
     ((rw version at c.in_ok-frame.ensures.ok) ∙ ap frame body)
 
-pub returns-in_err-may_open-clause-memory : goal.returns-in_err-may_open-clause-memory
-returns-in_err-may_open-clause-memory c = λ e.
+pub returns-in_err-check_open-clause-memory : goal.returns-in_err-check_open-clause-memory
+returns-in_err-check_open-clause-memory c = λ e.
     let p = err_from_is_err_and c.from_residual.result c.from_residual.ensures.1 in
     let converted = p.1 in
     let same = p.2 in
-    let was = c.in_err-may_open.was in
-    let no_memory : c.may_open.result ≡ Err store_faults.NoMemory = cc in
-    absurd (c.may_open.ensures.memory no_memory)
+    let was = c.in_err-check_open.was in
+    let no_memory : c.check_open.result ≡ Err store_faults.NoMemory = cc in
+    absurd (c.check_open.ensures.memory no_memory)
 
 pub returns-in_err-frame-clause-memory : goal.returns-in_err-frame-clause-memory
 returns-in_err-frame-clause-memory c = λ e.
@@ -101,7 +101,7 @@ returns-in_err-frame-clause-memory c = λ e.
       c.deref-2.ensures,
       ap (λ (x : ClientData). x.limits) c.self.view_is,
       ap (λ (x : ClientData). x.table) c.self.view_is,
-    ) at (c.in_ok-may_open.ensures.may (string_bytes c.args.language) c.args.version)
+    ) at (c.in_ok-check_open.ensures.may (string_bytes c.args.language) c.args.version)
 
 pub returns-in_err-open-clause-memory : goal.returns-in_err-open-clause-memory
 returns-in_err-open-clause-memory c = λ e.
@@ -110,4 +110,4 @@ returns-in_err-open-clause-memory c = λ e.
       c.deref-2.ensures,
       ap (λ (x : ClientData). x.limits) c.self.view_is,
       ap (λ (x : ClientData). x.table) c.self.view_is,
-    ) at (c.in_ok-may_open.ensures.may (string_bytes c.args.language) c.args.version)
+    ) at (c.in_ok-check_open.ensures.may (string_bytes c.args.language) c.args.version)

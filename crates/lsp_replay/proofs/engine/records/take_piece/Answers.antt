@@ -62,7 +62,7 @@ bytes-preserved g c = record {
       c.bytes.invariant.within refl (λ records at. c.in_ok-at.ensures.is_after log_rules input records at)
       (c.bytes.invariant.progress log_rules run_output received input w)));
   well = λ before. c.in_ok-outcome.ensures.calls.well (c.bytes.invariant.well before);
-  flushed = λ holds before. c.in_ok-outcome.ensures.passed_on.flushed holds (c.bytes.invariant.flushed holds before);
+  flushed = λ holds before. c.in_ok-outcome.ensures.all_flushed.flushed holds (c.bytes.invariant.flushed holds before);
   spent = record {
     within = omega (arith, c.bytes.invariant.spent.within, c.in_ok-outcome.ensures.calls.spent.within);
     least = omega (arith, c.bytes.invariant.spent.least, c.in_ok-outcome.ensures.calls.spent.least);

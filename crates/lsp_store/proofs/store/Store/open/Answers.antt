@@ -5,8 +5,8 @@ use Rattle.lsp_store.specs.declared.fault.StoreFault.TheVariants.{NoMemory}
 use Rattle.lsp_store.proofs.Tables.StoreLemmas.{opened, opened_few}
 use Rattle.lsp_store.proofs.store.Store.open.Goals as goal
 
-pub returns-in_err-may_open-clause-error : goal.returns-in_err-may_open-clause-error
-returns-in_err-may_open-clause-error c =
+pub returns-in_err-check_open-clause-error : goal.returns-in_err-check_open-clause-error
+returns-in_err-check_open-clause-error c =
     let p = err_from_is_err_and c.from_residual.result c.from_residual.ensures.1 in
     rw (
       p.1,
@@ -14,7 +14,7 @@ returns-in_err-may_open-clause-error c =
     ) (inr (rw (
       c.deref.ensures,
       c.deref-2.ensures,
-    ) at (c.in_err-may_open.ensures.error (string_bytes c.args.language) c.args.version)))
+    ) at (c.in_err-check_open.ensures.error (string_bytes c.args.language) c.args.version)))
 
 pub invariant_of-self-2 : goal.invariant_of-self-2
 invariant_of-self-2 c =
@@ -22,7 +22,7 @@ invariant_of-self-2 c =
     opened_few c.self.inside.limits c.self.inside.documents.entries c.args.self.now c.self.view_is c.args.uri
     c.in_ok-stored.stored _ (rw version at (c.in_ok-stored.ensures (string_bytes c.args.uri))) _
     c.in_ok-insert_last.ensures.inserted
-    (rw c.deref.ensures at c.in_ok-may_open.ensures.room)
+    (rw c.deref.ensures at c.in_ok-check_open.ensures.room)
 
 pub returns-clause-taken : goal.returns-clause-taken
 returns-clause-taken c =
@@ -33,27 +33,27 @@ returns-clause-taken c =
     (rw (
       c.deref.ensures,
       c.deref-2.ensures,
-    ) at (c.in_ok-may_open.ensures.may (string_bytes c.args.language) c.args.version))
+    ) at (c.in_ok-check_open.ensures.may (string_bytes c.args.language) c.args.version))
 
-pub returns-in_err-may_open-clause-memory : goal.returns-in_err-may_open-clause-memory
-returns-in_err-may_open-clause-memory c = λ e.
+pub returns-in_err-check_open-clause-memory : goal.returns-in_err-check_open-clause-memory
+returns-in_err-check_open-clause-memory c = λ e.
     let p = err_from_is_err_and c.from_residual.result c.from_residual.ensures.1 in
     let converted = p.1 in
     let same = p.2 in
-    let was = c.in_err-may_open.was in
-    let no_memory : c.may_open.result ≡ Err NoMemory = cc in
-    absurd (c.may_open.ensures.memory no_memory)
+    let was = c.in_err-check_open.was in
+    let no_memory : c.check_open.result ≡ Err NoMemory = cc in
+    absurd (c.check_open.ensures.memory no_memory)
 
 pub returns-in_err-stored-clause-memory : goal.returns-in_err-stored-clause-memory
 returns-in_err-stored-clause-memory c = λ e.
     rw (
       c.deref.ensures,
       c.deref-2.ensures,
-    ) at (c.in_ok-may_open.ensures.may (string_bytes c.args.language) c.args.version)
+    ) at (c.in_ok-check_open.ensures.may (string_bytes c.args.language) c.args.version)
 
 pub returns-in_err-insert_last-clause-memory : goal.returns-in_err-insert_last-clause-memory
 returns-in_err-insert_last-clause-memory c = λ e.
     rw (
       c.deref.ensures,
       c.deref-2.ensures,
-    ) at (c.in_ok-may_open.ensures.may (string_bytes c.args.language) c.args.version)
+    ) at (c.in_ok-check_open.ensures.may (string_bytes c.args.language) c.args.version)

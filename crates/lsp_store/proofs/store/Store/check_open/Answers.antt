@@ -2,7 +2,7 @@ use Rattle.std.proofs.Common.{◌≡◌, ◌∙◌, sym, ap, arith}
 use Rattle.lsp_frame.specs.Limits.{LimitsData}
 use Rattle.lsp_message.specs.Params.{DocumentItem}
 use Rattle.lsp_store.proofs.Tables.StoreLemmas.{taken_refused, many_refused, long_refused, open_accepted, limits_are}
-use Rattle.lsp_store.proofs.store.Store.may_open.Goals as goal
+use Rattle.lsp_store.proofs.store.Store.check_open.Goals as goal
 
 pub returns-then-is_taken-clause-error : goal.returns-then-is_taken-clause-error
 returns-then-is_taken-clause-error c language version =
