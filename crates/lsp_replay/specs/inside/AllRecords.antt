@@ -48,7 +48,7 @@ IsFirstPart run_output ended received_old received_new all =
     ⊎ ((ended ≡ true) × CutAtEnd run_output received_old received_new all)
 
 -- All records were read, and no turn was left. More of all output was to be written, or what was
--- written was to be passed on.
+-- written was to be flushed.
 pub record ShortAtEnd (run_output : List Record → RunOutput) (unflushed : Bool)
     (received_old received_new : Option (List ℕ)) (all : Log) : Type 0 where
   pub whole : all.rest ≡ []
@@ -60,7 +60,7 @@ pub record ShortAtEnd (run_output : List Record → RunOutput) (unflushed : Bool
 module _ (log_rules : LogRules) (run_output : List Record → RunOutput) (state : PortState)
     (input : List ℕ) (received_old received_new : Option (List ℕ)) (all : Log) where
   -- No turn was left and one more call was needed. Either more was to be written, or what was
-  -- written was to be passed on. Or all of it was, the input has no fault so far, and more was to
+  -- written was to be flushed. Or all of it was, the input has no fault so far, and more was to
   -- be read.
   abbrev pub IsShort : Type 0
   IsShort =
