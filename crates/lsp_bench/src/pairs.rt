@@ -6,7 +6,7 @@ use crate::timing::{Row, Work, done, time};
 use lsp_edit::Change;
 use lsp_frame::Limits;
 use lsp_message::{ChangeParams, Offers, OpenParams, Outgoing};
-use lsp_pair::{Event, Pair, ServerReport, StepReport};
+use lsp_pair::{Did, Event, Happened, Pair};
 use lsp_server::{Answer, ChangeForm, Config, EncodingChoice, Server};
 use lsp_text::Encoding;
 use std::alloc::{AllocError, Global};
@@ -16,7 +16,7 @@ use std::rt::Runtime;
 /// The bytes of the text that is typed into: 1,000 lines.
 const SIZE: usize = 40_000;
 
-const CHANGED: StepReport = StepReport::Server(ServerReport::Changed);
+const CHANGED: Happened = Happened::Server(Did::Changed);
 
 /// Who is handed a keystroke.
 #[derive(Clone, Copy)]

@@ -1,9 +1,9 @@
 -- The documents of both ends: the server has those that the client had at an earlier time.
 use Rattle.std.specs.Prelude.{ℕ, ◌≡◌, ◌+◌, List, [], ◌∷◌, ◌++◌, length, slice_get, Some}
 use Rattle.lsp_message.specs.Params.{DocumentItem}
-use Rattle.lsp_pair.specs.declared.event.StepReport.{StepReport}
-use Rattle.lsp_pair.specs.declared.event.StepReport.TheVariants.{Sent, Server, Client}
-use Rattle.lsp_pair.specs.declared.event.ClientReport.TheVariants.{Send}
+use Rattle.lsp_pair.specs.declared.event.Happened.{Happened}
+use Rattle.lsp_pair.specs.declared.event.Happened.TheVariants.{Sent, Server, Client}
+use Rattle.lsp_pair.specs.declared.event.Heard.TheVariants.{Send}
 use Rattle.lsp_pair.specs.Events.{EventData}
 use Rattle.lsp_pair.specs.Pair.{PairData, IsStep}
 
@@ -20,7 +20,7 @@ no_history = record { sent = []; handled = 0 }
 -- The history after a step, with the client's documents after it. The client sends a message in an
 -- accepted call, and where it answers one of the server. A delivery to the server handles one; no
 -- other step changes the history.
-abbrev pub after : History → StepReport → List DocumentItem → History
+abbrev pub after : History → Happened → List DocumentItem → History
 after h Sent documents = record h { sent = h.sent ++ documents ∷ [] }
 after h (Client Send) documents = record h { sent = h.sent ++ documents ∷ [] }
 after h (Server did) documents = record h { handled = h.handled + 1 }
@@ -37,5 +37,5 @@ pub record HaveDocuments (h : History) (pair : PairData) : Type 0 where
 abbrev pub IsLater : History → PairData → List EventData → History → PairData → Type 0
 IsLater h old [] later new = (later ≡ h) × (new ≡ old)
 IsLater h old (event ∷ events) later new =
-    (happened : StepReport) × (mid : PairData) × IsStep old event happened mid
+    (happened : Happened) × (mid : PairData) × IsStep old event happened mid
     × IsLater (after h happened mid.client.table) mid events later new

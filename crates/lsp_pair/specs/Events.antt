@@ -8,10 +8,10 @@ use Rattle.lsp_server.specs.Answer as answer
 use Rattle.lsp_server.specs.Answer.{AnswerData, reply_code}
 use Rattle.lsp_client.specs.Step as client
 use Rattle.lsp_client.specs.Step.{Call, DeliveredData}
-use Rattle.lsp_pair.specs.declared.event.ServerReport.{ServerReport}
-use Rattle.lsp_pair.specs.declared.event.ServerReport.TheVariants as done
-use Rattle.lsp_pair.specs.declared.event.ClientReport.{ClientReport}
-use Rattle.lsp_pair.specs.declared.event.ClientReport.TheVariants as heard
+use Rattle.lsp_pair.specs.declared.event.Did.{Did}
+use Rattle.lsp_pair.specs.declared.event.Did.TheVariants as done
+use Rattle.lsp_pair.specs.declared.event.Heard.{Heard}
+use Rattle.lsp_pair.specs.declared.event.Heard.TheVariants as heard
 
 -- The configuration of both ends.
 pub record Setting : Type 0 where
@@ -26,7 +26,7 @@ pub data EventData : Type 0 where
 
 -- An answer of the server without its message. (An ended server has no answer: it drops what
 -- comes.)
-abbrev pub did_of : AnswerData OutgoingData → ServerReport
+abbrev pub did_of : AnswerData OutgoingData → Did
 did_of (answer.reply m) = done.Reply (reply_code m)
 did_of answer.changed = done.Changed
 did_of answer.ignored = done.Ignored
@@ -40,7 +40,7 @@ replies_in (answer.reply m) = m ∷ []
 replies_in a = []
 
 -- The result of a delivery without its message.
-abbrev pub heard_of : {Message : Type 0} → DeliveredData Message → ClientReport
+abbrev pub heard_of : {Message : Type 0} → DeliveredData Message → Heard
 heard_of (client.sends m) = heard.Send
 heard_of client.noted = heard.Noted
 heard_of client.ignored = heard.Ignored

@@ -12,8 +12,8 @@ use Rattle.lsp_server.specs.declared.phase.Phase.TheVariants.{Ended}
 use Rattle.lsp_server.specs.Step as server
 use Rattle.lsp_client.specs.declared.fault.ClientFault.{ClientFault}
 use Rattle.lsp_client.specs.Step as client
-use Rattle.lsp_pair.specs.declared.event.StepReport.{StepReport}
-use Rattle.lsp_pair.specs.declared.event.StepReport.TheVariants.{Sent, Refused, Server, Client, Nothing}
+use Rattle.lsp_pair.specs.declared.event.Happened.{Happened}
+use Rattle.lsp_pair.specs.declared.event.Happened.TheVariants.{Sent, Refused, Server, Client, Nothing}
 use Rattle.lsp_pair.specs.Events.{Setting, EventData, calls, to_server, to_client, did_of, replies_in, heard_of, messages_in}
 
 -- Both ends, and the frames on the way to each, oldest first.
@@ -41,7 +41,7 @@ message_frame m = frame (body_of m)
 
 -- A call of the client. The frame of an accepted call comes last in the queue to the server, and a
 -- refused one changes nothing.
-abbrev pub IsCallStep : PairData → Result client.Sending ClientFault → StepReport → PairData →
+abbrev pub IsCallStep : PairData → Result client.Sending ClientFault → Happened → PairData →
     Type 0
 IsCallStep old (Ok sending) happened new =
     (happened ≡ Sent)
@@ -54,7 +54,7 @@ IsCallStep old (Err fault) happened new = (happened ≡ Refused fault) × (new �
 -- The server, which has not ended, handles the first frame of its queue, and its reply comes last
 -- in the other.
 pub record IsServerStep (old : PairData) (first : List ℕ) (rest : List (List ℕ))
-    (happened : StepReport) (new : PairData) : Type 0 where
+    (happened : Happened) (new : PairData) : Type 0 where
   pub body : List ℕ
   pub framed : IsFrameOf old.server.config.limits.max_body first body
   pub has_not_ended : old.server.phase ≢ Ended
@@ -71,7 +71,7 @@ pub record IsServerStep (old : PairData) (first : List ℕ) (rest : List (List �
 -- The client, which listens, handles the first frame of its queue. What it sends comes last in the
 -- other.
 pub record IsClientStep (old : PairData) (first : List ℕ) (rest : List (List ℕ))
-    (happened : StepReport) (new : PairData) : Type 0 where
+    (happened : Happened) (new : PairData) : Type 0 where
   pub body : List ℕ
   pub framed : IsFrameOf old.client.limits.max_body first body
   pub is_listening : client.is_listening old.client.phase ≡ true
@@ -87,13 +87,13 @@ pub record IsClientStep (old : PairData) (first : List ℕ) (rest : List (List �
 
 -- A delivery from a queue; where it is empty nothing changes.
 abbrev pub IsDeliveryStep : (List ℕ → List (List ℕ) → Type 0) → PairData → List (List ℕ) →
-    StepReport
+    Happened
     → PairData → Type 0
 IsDeliveryStep taken old [] happened new = (happened ≡ Nothing) × (new ≡ old)
 IsDeliveryStep taken old (first ∷ rest) happened new = taken first rest
 
 -- One step of a pair: what happens, and the pair after it.
-abbrev pub IsStep : PairData → EventData → StepReport → PairData → Type 0
+abbrev pub IsStep : PairData → EventData → Happened → PairData → Type 0
 IsStep old (calls call) happened new =
     IsCallStep old (client.call_result old.client call) happened new
 IsStep old to_server happened new =
@@ -107,7 +107,7 @@ IsStep old to_client happened new =
 abbrev pub IsRun : PairData → List EventData → PairData → Type 0
 IsRun old [] new = new ≡ old
 IsRun old (event ∷ events) new =
-    (happened : StepReport) × (mid : PairData) × IsStep old event happened mid
+    (happened : Happened) × (mid : PairData) × IsStep old event happened mid
     × IsRun mid events new
 
 -- ---- which settings a pair accepts

@@ -13,7 +13,7 @@ ghost use Rattle.lsp_pair.specs.Pair.{IsStep};
 ghost use Rattle.lsp_pair.specs.inside.Ends.{HoldsOfFirst, both_ends, did_of_sent, frames_in_answer, frames_in_delivery};
 ghost use Rattle.lsp_pair.specs.Seen.{frames};
 
-use crate::event::{ClientReport, ServerReport, StepReport};
+use crate::event::{Did, Happened, Heard};
 use lsp_client::{Client, Delivered};
 use lsp_frame::{Framer, Limits};
 use lsp_server::{Answer, Server};
@@ -39,7 +39,7 @@ pub(crate) fn serve_first(
     server: &mut Server,
     sent: &mut VecDeque<Vec<u8>>,
     replies: &mut VecDeque<Vec<u8>>,
-) -> Result<StepReport, AllocError>
+) -> Result<Happened, AllocError>
     requires { HoldsOfFirst (frames sent.old.items) (λ first.
         IsFrame server.old.config.limits.max_body first × (server.old.phase ≢ Ended)) }
     ensures step { (client : ClientData) → IfOk result (λ happened.
@@ -54,7 +54,7 @@ pub(crate) fn serve_first(
         × (frames replies.new.items ≡ frames replies.old.items)) }
 {
     let Some(first) = sent.front() else {
-        return Ok(StepReport::Nothing);
+        return Ok(Happened::Nothing);
     };
     replies.reserve(1)?;
     let framer = framer_of(alloc, server.store().limits(), first)?;
@@ -66,11 +66,11 @@ pub(crate) fn serve_first(
         Err(_) => return Err(AllocError),
     };
     let _ = sent.pop_front();
-    Ok(StepReport::Server(push_reply(replies, answer)))
+    Ok(Happened::Server(push_reply(replies, answer)))
 }
 
 /// Appends the frame of a reply to a queue with room.
-fn push_reply(replies: &mut VecDeque<Vec<u8>>, answer: Answer) -> ServerReport
+fn push_reply(replies: &mut VecDeque<Vec<u8>>, answer: Answer) -> Did
     requires { deque_len replies.old < deque_capacity replies.old }
     ensures did { result ≡ did_of_sent (answer_view answer) }
     ensures pushed { frames replies.new.items
@@ -79,13 +79,13 @@ fn push_reply(replies: &mut VecDeque<Vec<u8>>, answer: Answer) -> ServerReport
     match answer {
         Answer::Reply { frame, code } => {
             replies.push_back_reserved(frame);
-            ServerReport::Reply(code)
+            Did::Reply(code)
         }
-        Answer::Changed => ServerReport::Changed,
-        Answer::Dropped => ServerReport::Dropped,
-        Answer::Ignored => ServerReport::Ignored,
-        Answer::Refused(refusal) => ServerReport::Refused(refusal),
-        Answer::Exit(status) => ServerReport::Exit(status),
+        Answer::Changed => Did::Changed,
+        Answer::Dropped => Did::Dropped,
+        Answer::Ignored => Did::Ignored,
+        Answer::Refused(refusal) => Did::Refused(refusal),
+        Answer::Exit(status) => Did::Exit(status),
     }
 }
 
@@ -95,7 +95,7 @@ pub(crate) fn hear_first(
     client: &mut Client,
     replies: &mut VecDeque<Vec<u8>>,
     sent: &mut VecDeque<Vec<u8>>,
-) -> Result<StepReport, AllocError>
+) -> Result<Happened, AllocError>
     requires { HoldsOfFirst (frames replies.old.items) (λ first.
         IsFrame client.old.limits.max_body first × (is_listening client.old.phase ≡ true)) }
     ensures step { (other : server.ServerData) → IfOk result (λ happened.
@@ -110,7 +110,7 @@ pub(crate) fn hear_first(
         × (frames sent.new.items ≡ frames sent.old.items)) }
 {
     let Some(first) = replies.front() else {
-        return Ok(StepReport::Nothing);
+        return Ok(Happened::Nothing);
     };
     sent.reserve(1)?;
     let framer = framer_of(alloc, client.store().limits(), first)?;
@@ -122,11 +122,11 @@ pub(crate) fn hear_first(
         Err(_) => return Err(AllocError),
     };
     let _ = replies.pop_front();
-    Ok(StepReport::Client(push_sent(sent, delivered)))
+    Ok(Happened::Client(push_sent(sent, delivered)))
 }
 
 /// Appends the frame that the client sends to a queue with room.
-fn push_sent(sent: &mut VecDeque<Vec<u8>>, delivered: Delivered) -> ClientReport
+fn push_sent(sent: &mut VecDeque<Vec<u8>>, delivered: Delivered) -> Heard
     requires { deque_len sent.old < deque_capacity sent.old }
     ensures heard { result ≡ heard_of (delivered_view delivered) }
     ensures pushed { frames sent.new.items
@@ -135,10 +135,10 @@ fn push_sent(sent: &mut VecDeque<Vec<u8>>, delivered: Delivered) -> ClientReport
     match delivered {
         Delivered::Send(frame) => {
             sent.push_back_reserved(frame);
-            ClientReport::Send
+            Heard::Send
         }
-        Delivered::Noted => ClientReport::Noted,
-        Delivered::Ignored => ClientReport::Ignored,
-        Delivered::BadServer(reason) => ClientReport::BadServer(reason),
+        Delivered::Noted => Heard::Noted,
+        Delivered::Ignored => Heard::Ignored,
+        Delivered::BadServer(reason) => Heard::BadServer(reason),
     }
 }

@@ -39,15 +39,15 @@ pub enum Event {
 
 /// What happened.
 #[derive(Clone, Copy, Debug, PartialEq, Eq)]
-pub enum StepReport {
+pub enum Happened {
     /// The client accepted the call, and its frame waits for the server.
     Sent,
     /// The client refused the call.
     Refused(ClientFault),
     /// What the server answered to a message.
-    Server(ServerReport),
+    Server(Did),
     /// What the client did with a message.
-    Client(ClientReport),
+    Client(Heard),
     /// No message waited.
     Nothing,
 }
@@ -55,7 +55,7 @@ pub enum StepReport {
 /// An answer of the server ([`Answer`](lsp_server::Answer)) without its frame, which waits for the
 /// client.
 #[derive(Clone, Copy, Debug, PartialEq, Eq)]
-pub enum ServerReport {
+pub enum Did {
     Reply(Option<ErrorCode>),
     Changed,
     Dropped,
@@ -67,7 +67,7 @@ pub enum ServerReport {
 /// What the client did with a message ([`Delivered`](lsp_client::Delivered)), without its frame,
 /// which waits for the server.
 #[derive(Clone, Copy, Debug, PartialEq, Eq)]
-pub enum ClientReport {
+pub enum Heard {
     Send,
     Noted,
     Ignored,

@@ -9,9 +9,9 @@
 //!
 //! ```text
 //! let mut pair = Pair::new(alloc, limits, offers, config)?;
-//! pair.step(&Event::Start)?;             // StepReport::Sent
-//! pair.step(&Event::ToServer)?;          // StepReport::Server(ServerReport::Reply(None))
-//! pair.step(&Event::ToClient)?;          // StepReport::Client(ClientReport::Send)
+//! pair.step(&Event::Start)?;             // Happened::Sent
+//! pair.step(&Event::ToServer)?;          // Happened::Server(Did::Reply(None))
+//! pair.step(&Event::ToClient)?;          // Happened::Client(Heard::Send)
 //! pair.waiting();                        // (1, 0): `initialized` waits for the server
 //! ```
 //!
@@ -30,7 +30,7 @@ mod pair;
 mod run;
 mod setting;
 
-pub use event::{ClientReport, Event, ServerReport, StepReport};
+pub use event::{Did, Event, Happened, Heard};
 pub use laws::pair_laws;
 pub use pair::Pair;
 pub use run::{Ran, run_pair};

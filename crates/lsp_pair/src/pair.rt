@@ -15,7 +15,7 @@ ghost use Rattle.lsp_pair.specs.Documents.{History, no_history, after, HaveDocum
 ghost use Rattle.lsp_pair.specs.Seen.{event_view};
 
 use crate::delivery::{hear_first, serve_first};
-use crate::event::{Event, StepReport};
+use crate::event::{Event, Happened};
 use crate::setting::{PairFault, are_within, is_utf16};
 use lsp_client::{Client, ClientFault};
 use lsp_frame::Limits;
@@ -128,13 +128,13 @@ impl Pair {
     /// repeat the same step. Costs what the client's call costs, or what the message costs the end
     /// that handles it, and a copy of its frame. Taking the first frame of a queue costs constant
     /// time.
-    pub fn step(&mut self, event: &Event) -> Result<StepReport, AllocError>
+    pub fn step(&mut self, event: &Event) -> Result<Happened, AllocError>
         ensures step { IfOk result (λ happened.
             IsStep self.old (event_view event.now) happened self.new) }
         ensures unchanged { OnErr result (self.new ≡ self.old) }
         // A refused call changes nothing.
         ensures refused { IfOk result (λ happened. (fault : ClientFault)
-            → happened ≡ StepReport.Refused fault → self.new ≡ self.old) }
+            → happened ≡ Happened.Refused fault → self.new ≡ self.old) }
         // A delivery where nothing waits takes no memory.
         ensures memory { OnErr result ((event_view event.now ≡ to_server
             → self.old.to_server ≢ []) × (event_view event.now ≡ to_client
@@ -211,20 +211,20 @@ fn call(alloc: Global, client: &mut Client, event: &Event) -> Result<Vec<u8>, Cl
 fn push_call(
     queue: &mut VecDeque<Vec<u8>>,
     sent: Result<Vec<u8>, ClientFault>,
-) -> Result<StepReport, AllocError>
+) -> Result<Happened, AllocError>
     requires { deque_len queue.old < deque_capacity queue.old }
     ensures sent { IfOk sent (λ bytes.
-        (result ≡ Ok StepReport.Sent) × (queue.new.items ≡ queue.old.items ++ bytes ∷ [])) }
+        (result ≡ Ok Happened.Sent) × (queue.new.items ≡ queue.old.items ++ bytes ∷ [])) }
     ensures refused { IfErr sent (λ fault. (queue.new.items ≡ queue.old.items)
-        × IfOk result (λ h. (fault ≢ NoMemory) × (h ≡ StepReport.Refused fault))) }
+        × IfOk result (λ h. (fault ≢ NoMemory) × (h ≡ Happened.Refused fault))) }
     ensures memory { OnErr result (sent ≡ Err ClientFault.NoMemory) }
 {
     match sent {
         Ok(frame) => {
             queue.push_back_reserved(frame);
-            Ok(StepReport::Sent)
+            Ok(Happened::Sent)
         }
         Err(ClientFault::NoMemory) => Err(AllocError),
-        Err(fault) => Ok(StepReport::Refused(fault)),
+        Err(fault) => Ok(Happened::Refused(fault)),
     }
 }

@@ -9,7 +9,7 @@ mod settings;
 use lsp_edit::Change;
 use lsp_frame::{BadLimits, Limits};
 use lsp_message::Offers;
-use lsp_pair::{Event, Pair, StepReport};
+use lsp_pair::{Event, Happened, Pair};
 use lsp_server::{ChangeForm, Config, EncodingChoice};
 use lsp_store::Store;
 use lsp_text::{Encoding, Position, Range};
@@ -36,7 +36,7 @@ pub(super) enum Script {
 pub(super) type Open = Option<(i32, &'static str)>;
 
 /// An event, what happens, and the documents of the client and of the server after it.
-pub(super) type Row = (Script, StepReport, Open, Open);
+pub(super) type Row = (Script, Happened, Open, Open);
 
 pub(super) fn event(alloc: Global, script: Script) -> Result<Event, AllocError> {
     match script {

@@ -9,7 +9,7 @@ use Rattle.lsp_stream.specs.Turns.{AppendsFront, Spends, StaysWell, WritesWithin
 use Rattle.lsp_program.specs.Output.{allowed_turns}
 use Rattle.lsp_message.specs.Outgoing.{document_text}
 use Rattle.lsp_message.specs.Params.{DocumentItem}
-use Rattle.lsp_pair.specs.declared.event.StepReport.{StepReport}
+use Rattle.lsp_pair.specs.declared.event.Happened.{Happened}
 use Rattle.lsp_pair.specs.declared.setting.PairFault.{PairFault}
 use Rattle.lsp_pair.specs.declared.setting.PairFault.TheVariants.{NotUtf16, LimitsTooSmall}
 use Rattle.lsp_pair.specs.Pair.{PairData, IsFitting, IsStep, are_within, is_utf16, new_pair}
@@ -35,7 +35,7 @@ lines-append xs ys whole (inl none) =
     subst AreWholeLines (sym (append-nil xs) ∙ ap (λ z. xs ++ z) (sym none)) whole
 lines-append xs ys whole (inr end) = inr (ends_line xs ys end)
 
-whole_step : (number : ℕ) (happened : StepReport) → AreWholeLines (step_line number happened)
+whole_step : (number : ℕ) (happened : Happened) → AreWholeLines (step_line number happened)
 whole_step number happened = inr ((decimal number ++ codes " ") ++ happened_words happened, refl)
 
 whole_steps : (number : ℕ) (steps : List PairStep) → AreWholeLines (step_lines number steps)

@@ -6,7 +6,7 @@ use Rattle.lsp_stream.specs.Turns.{AppendsFront, Spends}
 use Rattle.lsp_program.specs.Output.{allowed_turns}
 use Rattle.lsp_message.specs.Outgoing.{document_text}
 use Rattle.lsp_message.specs.Params.{DocumentItem}
-use Rattle.lsp_pair.specs.declared.event.StepReport.{StepReport}
+use Rattle.lsp_pair.specs.declared.event.Happened.{Happened}
 use Rattle.lsp_pair.specs.declared.setting.PairFault.{PairFault}
 use Rattle.lsp_pair.specs.declared.setting.PairFault.TheVariants.{NotUtf16, LimitsTooSmall}
 use Rattle.lsp_pair.specs.Events.{Setting as PairSetting, EventData}
@@ -19,7 +19,7 @@ use Rattle.lsp_simulate.specs.Words.{happened_words}
 -- A step: an event, and what happened.
 pub record PairStep : Type 0 where
   pub event : EventData
-  pub happened : StepReport
+  pub happened : Happened
 
 -- The steps of a pair, in order.
 abbrev pub AreSteps : PairData → List PairStep → PairData → Type 0
@@ -32,7 +32,7 @@ abbrev pub next_line_number : ℕ → ℕ
 next_line_number n = min (n + 1) (2 ^ 64 - 1)
 
 -- The line of a step: its number, and the words for what happened.
-abbrev pub step_line : ℕ → StepReport → List ℕ
+abbrev pub step_line : ℕ → Happened → List ℕ
 step_line number happened =
     ((decimal number ++ codes " ") ++ happened_words happened) ++ codes "\n"
 

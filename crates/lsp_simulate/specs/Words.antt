@@ -12,12 +12,12 @@ use Rattle.lsp_client.specs.declared.phase.Phase.{Phase}
 use Rattle.lsp_client.specs.declared.phase.Phase.TheVariants.{New, Asked, Ready, Closing, Closed, Done, Failed}
 use Rattle.lsp_client.specs.declared.phase.Reason.{Reason}
 use Rattle.lsp_client.specs.declared.phase.Reason.TheVariants.{NotAnAnswer, ErrorAnswer, NoSync, BadEncoding}
-use Rattle.lsp_pair.specs.declared.event.ServerReport.{ServerReport}
-use Rattle.lsp_pair.specs.declared.event.ServerReport.TheVariants as did
-use Rattle.lsp_pair.specs.declared.event.ClientReport.{ClientReport}
-use Rattle.lsp_pair.specs.declared.event.ClientReport.TheVariants as heard
-use Rattle.lsp_pair.specs.declared.event.StepReport.{StepReport}
-use Rattle.lsp_pair.specs.declared.event.StepReport.TheVariants as happened
+use Rattle.lsp_pair.specs.declared.event.Did.{Did}
+use Rattle.lsp_pair.specs.declared.event.Did.TheVariants as did
+use Rattle.lsp_pair.specs.declared.event.Heard.{Heard}
+use Rattle.lsp_pair.specs.declared.event.Heard.TheVariants as heard
+use Rattle.lsp_pair.specs.declared.event.Happened.{Happened}
+use Rattle.lsp_pair.specs.declared.event.Happened.TheVariants as happened
 
 -- The word of a client's phase.
 abbrev pub phase_name : Phase → List ℕ
@@ -53,7 +53,7 @@ refusal_words refusal.InvalidParams = codes "server refused M4"
 refusal_words (refusal.Store why) = codes "server refused " ++ fault_code why
 
 -- The words for what the server did with a message.
-abbrev pub did_words : ServerReport → List ℕ
+abbrev pub did_words : Did → List ℕ
 did_words (did.Reply error) = reply_words error
 did_words did.Changed = codes "server changed"
 did_words did.Dropped = codes "server dropped"
@@ -62,13 +62,13 @@ did_words (did.Refused why) = refusal_words why
 did_words (did.Exit status) = codes "server exit " ++ decimal status
 
 -- The words for what the client did with a message.
-abbrev pub heard_words : ClientReport → List ℕ
+abbrev pub heard_words : Heard → List ℕ
 heard_words heard.Send = codes "client send"
 heard_words heard.Noted = codes "client noted"
 heard_words heard.Ignored = codes "client ignored"
 heard_words (heard.BadServer reason) = codes "client bad-server " ++ reason_name reason
 
-abbrev pub happened_words : StepReport → List ℕ
+abbrev pub happened_words : Happened → List ℕ
 happened_words happened.Sent = codes "sent"
 happened_words (happened.Refused why) = refused_words why
 happened_words (happened.Server answer) = did_words answer

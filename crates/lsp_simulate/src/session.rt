@@ -11,7 +11,7 @@ use crate::run::RunFault;
 use crate::script::{ScriptFault, event_of};
 use crate::word::write_happened;
 use lsp_message::push_document;
-use lsp_pair::{Pair, StepReport};
+use lsp_pair::{Happened, Pair};
 use lsp_program::MAX_TURNS;
 use lsp_store::{Document, Store};
 use lsp_stream::{EngineFault, Sink, Turns, write_given};
@@ -65,7 +65,7 @@ fn step(alloc: Global, pair: &mut Pair, number: u64, line: &[u8]) -> Result<Vec<
 
 /// Returns the line of a step: its number, and the words for what happened. It fails only if out of
 /// memory.
-fn step_line(alloc: Global, number: u64, happened: StepReport) -> io::Result<Vec<u8>>
+fn step_line(alloc: Global, number: u64, happened: Happened) -> io::Result<Vec<u8>>
     ensures { IfOk result (λ line. line.items ≡ step_line number happened) }
 {
     let mut line = Vec::new(alloc);

@@ -7,21 +7,21 @@ ghost use Rattle.lsp_simulate.specs.Words.{phase_name, reason_name, refusal_word
 
 use lsp_client::{ClientFault, Phase, Reason};
 use lsp_message::ErrorCode;
-use lsp_pair::{ClientReport, ServerReport, StepReport};
+use lsp_pair::{Did, Happened, Heard};
 use lsp_server::Refusal;
 use std::io::{self, Write};
 
 /// Writes the words for what happened.
-pub fn write_happened<W: Write>(output: &mut W, happened: StepReport) -> io::Result<()>
+pub fn write_happened<W: Write>(output: &mut W, happened: Happened) -> io::Result<()>
     ensures { OnOk result
         (Appends (W.contents output.old) (W.contents output.new) (happened_words happened)) }
 {
     match happened {
-        StepReport::Sent => write!(output, "sent"),
-        StepReport::Refused(fault) => write_refused(output, fault),
-        StepReport::Server(did) => write_did(output, did),
-        StepReport::Client(heard) => write_heard(output, heard),
-        StepReport::Nothing => write!(output, "nothing"),
+        Happened::Sent => write!(output, "sent"),
+        Happened::Refused(fault) => write_refused(output, fault),
+        Happened::Server(did) => write_did(output, did),
+        Happened::Client(heard) => write_heard(output, heard),
+        Happened::Nothing => write!(output, "nothing"),
     }
 }
 
@@ -36,17 +36,17 @@ fn write_refused<W: Write>(output: &mut W, fault: ClientFault) -> io::Result<()>
     }
 }
 
-fn write_did<W: Write>(output: &mut W, did: ServerReport) -> io::Result<()>
+fn write_did<W: Write>(output: &mut W, did: Did) -> io::Result<()>
     ensures { OnOk result
         (Appends (W.contents output.old) (W.contents output.new) (did_words did)) }
 {
     match did {
-        ServerReport::Reply(error) => write_reply(output, error),
-        ServerReport::Changed => write!(output, "server changed"),
-        ServerReport::Dropped => write!(output, "server dropped"),
-        ServerReport::Ignored => write!(output, "server ignored"),
-        ServerReport::Refused(refusal) => write_refusal(output, refusal),
-        ServerReport::Exit(status) => write!(output, "server exit {status}"),
+        Did::Reply(error) => write_reply(output, error),
+        Did::Changed => write!(output, "server changed"),
+        Did::Dropped => write!(output, "server dropped"),
+        Did::Ignored => write!(output, "server ignored"),
+        Did::Refused(refusal) => write_refusal(output, refusal),
+        Did::Exit(status) => write!(output, "server exit {status}"),
     }
 }
 
@@ -70,19 +70,15 @@ fn write_refusal<W: Write>(output: &mut W, refusal: Refusal) -> io::Result<()>
     }
 }
 
-fn write_heard<W: Write>(output: &mut W, heard: ClientReport) -> io::Result<()>
+fn write_heard<W: Write>(output: &mut W, heard: Heard) -> io::Result<()>
     ensures { OnOk result
         (Appends (W.contents output.old) (W.contents output.new) (heard_words heard)) }
 {
     match heard {
-        ClientReport::Send => write!(output, "client send"),
-        ClientReport::Noted => write!(output, "client noted"),
-        ClientReport::Ignored => write!(output, "client ignored"),
-        ClientReport::BadServer(reason) => write!(
-            output,
-            "client bad-server {}",
-            reason_word(reason)
-        ),
+        Heard::Send => write!(output, "client send"),
+        Heard::Noted => write!(output, "client noted"),
+        Heard::Ignored => write!(output, "client ignored"),
+        Heard::BadServer(reason) => write!(output, "client bad-server {}", reason_word(reason)),
     }
 }
 

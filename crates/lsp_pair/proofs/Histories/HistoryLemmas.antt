@@ -8,7 +8,7 @@ use Rattle.lsp_message.specs.laws.Sent.{sent}
 use Rattle.lsp_message.specs.Params.{DocumentItem}
 use Rattle.lsp_client.specs.declared.fault.ClientFault.{ClientFault}
 use Rattle.lsp_client.specs.Step as client
-use Rattle.lsp_pair.specs.declared.event.StepReport.{StepReport}
+use Rattle.lsp_pair.specs.declared.event.Happened.{Happened}
 use Rattle.lsp_pair.specs.Events.{Setting, EventData, calls, to_server, to_client}
 use Rattle.lsp_pair.specs.Pair.{PairData, IsFitting, IsStep, new_pair}
 use Rattle.lsp_pair.specs.laws.World.{ClientMessage, commands, lifecycle, World, Turn, turn_of_call, turn_of_delivery, to_server_event, to_client_event, turn_of_result, turn, world_of, beginning, client_of, server_of}
@@ -131,8 +131,8 @@ turn_next setting w to_server = server_next setting w (slice_get w.out w.out_del
 turn_next setting w to_client = client_next setting w (slice_get w.back w.back_delivered)
 
 -- a pair at a world has its history, and after a step that of the next world
-pub next_history : (setting : Setting) (events : List EventData) (event : EventData) (h : History)
-    (happened : StepReport) (new : PairData)
+pub next_history : (setting : Setting) (events : List EventData) (event : EventData) (h : History) (happened : Happened)
+    (new : PairData)
     → IsFitting setting → h ≡ history_of (world_of setting events) → IsStepAt setting events event happened new
     → IsHistory (after h happened new.client.table) new
 next_history setting events event h happened new sound told steps =
@@ -151,7 +151,7 @@ next_history setting events event h happened new sound told steps =
     }
 
 -- after a step that leads to the world of the list with its event added
-pub history_if : {E : Type 0} (old new : PairData) (event : EventData) (result : Result StepReport E)
+pub history_if : {E : Type 0} (old new : PairData) (event : EventData) (result : Result Happened E)
     → IfOk result (λ happened. (setting : Setting) (events : List EventData) → IsFitting setting
     → IsAt setting old events → IsStepAt setting events event happened new)
     → IfOk result (λ happened. (h : History) → IsHistory h old
@@ -167,7 +167,7 @@ history_if old new event (Err e) steps = tt
 -- ---- a run
 
 pub later-last : (h mid_history : History) (old mid new : PairData) (events : List EventData) (event : EventData)
-    (happened : StepReport) → IsLater h old events mid_history mid
+    (happened : Happened) → IsLater h old events mid_history mid
     → IsStep mid event happened new → IsLater h old (events ++ event ∷ []) (after mid_history happened new.client.table)
     new
 later-last h mid_history old mid new [] event happened run steps = (

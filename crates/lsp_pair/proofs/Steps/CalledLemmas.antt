@@ -11,10 +11,10 @@ use Rattle.lsp_client.specs.Step.{Sending, call_result}
 use Rattle.lsp_client.specs.Seen.{IsSent, IsFaultOf}
 use Rattle.lsp_pair.specs.declared.event.Event.{Event}
 use Rattle.lsp_pair.specs.declared.event.Event.TheVariants.{Start, Open, Edit, Close, Shutdown, Exit, ToServer, ToClient}
-use Rattle.lsp_pair.specs.declared.event.StepReport.{StepReport}
-use Rattle.lsp_pair.specs.declared.event.StepReport.TheVariants.{Sent, Refused, Server, Client}
-use Rattle.lsp_pair.specs.declared.event.ServerReport.{ServerReport}
-use Rattle.lsp_pair.specs.declared.event.ClientReport.{ClientReport}
+use Rattle.lsp_pair.specs.declared.event.Happened.{Happened}
+use Rattle.lsp_pair.specs.declared.event.Happened.TheVariants.{Sent, Refused, Server, Client}
+use Rattle.lsp_pair.specs.declared.event.Did.{Did}
+use Rattle.lsp_pair.specs.declared.event.Heard.{Heard}
 use Rattle.lsp_pair.specs.Events.{EventData, calls, to_server, to_client}
 use Rattle.lsp_pair.specs.Pair.{PairData, IsCallStep, IsServerStep, IsClientStep, IsDeliveryStep, IsStep}
 use Rattle.lsp_pair.specs.Seen.{event_view, frames}
@@ -58,7 +58,7 @@ module _ (s : server.ServerData) (c new : client.ClientData) (q next : List (Vec
   )
   refused_is (Err NoMemory) fault error other same stays = absurd (other error)
 
-  pub call_is : (e : EventData) (sent : Result (Vec ℕ Global) ClientFault) (result : Result StepReport AllocError)
+  pub call_is : (e : EventData) (sent : Result (Vec ℕ Global) ClientFault) (result : Result Happened AllocError)
       → IsCall e
       → IfOk sent (λ bytes. HoldsOnCall e (λ k. IsSent (call_result c k) bytes.items new)) → OnErr sent (new ≡ c)
       → IfErr sent (λ fault. (fault ≡ NoMemory) ⊎ HoldsOnCall e (λ k. IsFaultOf (call_result c k) fault))
@@ -66,10 +66,10 @@ module _ (s : server.ServerData) (c new : client.ClientData) (q next : List (Vec
       → IfErr sent (λ fault. (next ≡ q) × IfOk result (λ h. (fault ≢ NoMemory) × (h ≡ Refused fault)))
       → IfOk result (λ h. IsStep (both_ends c s (frames q) b) e h (both_ends new s (frames next) b))
   call_is (calls k) (Ok bytes) result is sends same error pushed refused =
-      subst (λ (r : Result StepReport AllocError). IfOk r (λ h. IsStep (both_ends c s (frames q) b) (calls k) h
+      subst (λ (r : Result Happened AllocError). IfOk r (λ h. IsStep (both_ends c s (frames q) b) (calls k) h
       (both_ends new s (frames next) b))) (sym pushed.0) (sent_is (call_result c k) bytes sends pushed.1)
   call_is (calls k) (Err fault) (Ok h) is sends same error pushed refused =
-      subst (λ (x : StepReport). IsStep (both_ends c s (frames q) b) (calls k) x (both_ends new s (frames next) b))
+      subst (λ (x : Happened). IsStep (both_ends c s (frames q) b) (calls k) x (both_ends new s (frames next) b))
       (sym refused.1.1) (⊎_elim (λ (out : fault ≡ NoMemory). absurd (refused.1.0 out))
       (λ (error : IsFaultOf (call_result c k) fault). refused_is (call_result c k) fault error refused.1.0 same
       refused.0) error)
@@ -77,13 +77,13 @@ module _ (s : server.ServerData) (c new : client.ClientData) (q next : List (Vec
   call_is to_server sent result is sends same error pushed refused = absurd is
   call_is to_client sent result is sends same error pushed refused = absurd is
 
-  pub call_same : (sent : Result (Vec ℕ Global) ClientFault) (result : Result StepReport AllocError)
+  pub call_same : (sent : Result (Vec ℕ Global) ClientFault) (result : Result Happened AllocError)
       → OnErr sent (new ≡ c) → IfOk sent (λ bytes. (result ≡ Ok Sent) × (next ≡ q ++ bytes ∷ []))
       → IfErr sent (λ fault. (next ≡ q) × IfOk result (λ h. (fault ≢ NoMemory) × (h ≡ Refused fault)))
       → OnErr result (both_ends new s (frames next) b ≡ both_ends c s (frames q) b)
   call_same (Ok bytes) result same pushed refused =
-      subst (λ (r : Result StepReport AllocError). OnErr r
-      (both_ends new s (frames next) b ≡ both_ends c s (frames q) b)) (sym pushed.0) tt
+      subst (λ (r : Result Happened AllocError). OnErr r (both_ends new s (frames next) b ≡ both_ends c s (frames q) b))
+      (sym pushed.0) tt
   call_same (Err fault) (Ok h) same pushed refused = tt
   call_same (Err fault) (Err e) same pushed refused = λ i. both_ends (same i) s (frames (refused.0 i)) b
 
@@ -92,33 +92,33 @@ module _ (s : server.ServerData) (c new : client.ClientData) (q next : List (Vec
 sent_apart : (fault : ClientFault) → Sent ≡ Refused fault → ⊥
 sent_apart fault e = cc
 
-served_apart : (did : ServerReport) (fault : ClientFault) → Server did ≡ Refused fault → ⊥
+served_apart : (did : Did) (fault : ClientFault) → Server did ≡ Refused fault → ⊥
 served_apart did fault e = cc
 
-heard_apart : (heard : ClientReport) (fault : ClientFault) → Client heard ≡ Refused fault → ⊥
+heard_apart : (heard : Heard) (fault : ClientFault) → Client heard ≡ Refused fault → ⊥
 heard_apart heard fault e = cc
 
-refused_call : (old new : PairData) (result : Result Sending ClientFault) (happened : StepReport) (fault : ClientFault)
+refused_call : (old new : PairData) (result : Result Sending ClientFault) (happened : Happened) (fault : ClientFault)
     → happened ≡ Refused fault → IsCallStep old result happened new → new ≡ old
 refused_call old new (Ok sending) happened fault is steps = absurd (sent_apart fault (sym steps.0 ∙ is))
 refused_call old new (Err refusal) happened fault is steps = steps.1
 
 refused_delivery : (taken : List ℕ → List (List ℕ) → Type 0) (old new : PairData) (queue : List (List ℕ))
-    (happened : StepReport)
+    (happened : Happened)
     → ((first : List ℕ) (rest : List (List ℕ)) → taken first rest → ⊥) → IsDeliveryStep taken old queue happened new
     → new ≡ old
 refused_delivery taken old new [] happened never steps = steps.1
 refused_delivery taken old new (first ∷ rest) happened never steps = absurd (never first rest steps)
 
-never_served : (old new : PairData) (happened : StepReport) (fault : ClientFault) → happened ≡ Refused fault
+never_served : (old new : PairData) (happened : Happened) (fault : ClientFault) → happened ≡ Refused fault
     → (first : List ℕ) (rest : List (List ℕ)) → IsServerStep old first rest happened new → ⊥
 never_served old new happened fault is first rest served = served_apart _ fault (sym served.happens ∙ is)
 
-never_heard : (old new : PairData) (happened : StepReport) (fault : ClientFault) → happened ≡ Refused fault
+never_heard : (old new : PairData) (happened : Happened) (fault : ClientFault) → happened ≡ Refused fault
     → (first : List ℕ) (rest : List (List ℕ)) → IsClientStep old first rest happened new → ⊥
 never_heard old new happened fault is first rest hears = heard_apart _ fault (sym hears.happens ∙ is)
 
-refused_step : (old new : PairData) (event : EventData) (happened : StepReport) (fault : ClientFault) → happened
+refused_step : (old new : PairData) (event : EventData) (happened : Happened) (fault : ClientFault) → happened
     ≡ Refused fault → IsStep old event happened new → new ≡ old
 refused_step old new (calls call) happened fault is steps =
     refused_call old new (call_result old.client call) happened fault is steps
@@ -129,7 +129,7 @@ refused_step old new to_client happened fault is steps =
     refused_delivery (λ first rest. IsClientStep old first rest happened new) old new old.to_client happened
     (never_heard old new happened fault is) steps
 
-pub refused_if : {E : Type 0} (old new : PairData) (event : EventData) (result : Result StepReport E)
+pub refused_if : {E : Type 0} (old new : PairData) (event : EventData) (result : Result Happened E)
     → IfOk result (λ happened. IsStep old event happened new)
     → IfOk result (λ happened. (fault : ClientFault) → happened ≡ Refused fault → new ≡ old)
 refused_if old new event (Ok happened) steps = λ fault is. refused_step old new event happened fault is steps

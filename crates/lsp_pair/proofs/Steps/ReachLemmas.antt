@@ -11,9 +11,9 @@ use Rattle.lsp_server.specs.Step as server
 use Rattle.lsp_client.specs.Step as client
 use Rattle.lsp_server.specs.Step.{Step, step_in}
 use Rattle.lsp_client.specs.Step.{is_listening}
-use Rattle.lsp_pair.specs.declared.event.StepReport.{StepReport}
-use Rattle.lsp_pair.specs.declared.event.StepReport.TheVariants.{Server}
-use Rattle.lsp_pair.specs.declared.event.ServerReport.TheVariants as done
+use Rattle.lsp_pair.specs.declared.event.Happened.{Happened}
+use Rattle.lsp_pair.specs.declared.event.Happened.TheVariants.{Server}
+use Rattle.lsp_pair.specs.declared.event.Did.TheVariants as done
 use Rattle.lsp_pair.specs.Events.{Setting, EventData, did_of}
 use Rattle.lsp_pair.specs.Pair.{PairData, message_frame, IsFitting, IsStep}
 use Rattle.lsp_pair.specs.laws.World.{ClientMessage, commands, lifecycle, World, incoming_of_message, server_of, world_of, IsProperEvent}
@@ -104,20 +104,20 @@ reached_hears pair r =
 
 -- ---- a step that may run out of memory
 
-pub reach_or_same : {E : Type 0} (old new : PairData) (event : EventData) (result : Result StepReport E)
+pub reach_or_same : {E : Type 0} (old new : PairData) (event : EventData) (result : Result Happened E)
     → IsProperEvent event → IsReached old
     → IfOk result (λ a. IsStep old event a new) → OnErr result (new ≡ old) → IsReached new
 reach_or_same old new event (Ok a) proper reached steps same = steps_reach old new event a proper reached steps
 reach_or_same old new event (Err e) proper reached steps same = subst IsReached (sym same) reached
 
-pub step_from : {E : Type 0} (old now new : PairData) (event given : EventData) (result : Result StepReport E)
-    → old ≡ now → given ≡ event
+pub step_from : {E : Type 0} (old now new : PairData) (event given : EventData) (result : Result Happened E) → old ≡ now
+    → given ≡ event
     → IfOk result (λ a. IsStep old event a new) → IfOk result (λ a. IsStep now given a new)
 step_from old now new event given result same is steps =
     subst (λ (e : EventData). IfOk result (λ a. IsStep now e a new)) (sym is)
     (subst (λ (p : PairData). IfOk result (λ a. IsStep p event a new)) same steps)
 
-pub at_if : {E : Type 0} (old new : PairData) (event : EventData) (result : Result StepReport E) → IsProperEvent event
+pub at_if : {E : Type 0} (old new : PairData) (event : EventData) (result : Result Happened E) → IsProperEvent event
     → IfOk result (λ a. IsStep old event a new)
     → IfOk result (λ a. (setting : Setting) (events : List EventData) → IsFitting setting → IsAt setting old events
     → IsStepAt setting events event a new)
@@ -125,7 +125,7 @@ at_if old new event (Ok a) proper steps = λ setting events sound at. steps_at s
     proper at steps
 at_if old new event (Err e) proper steps = tt
 
-pub at_next : {E : Type 0} (old new : PairData) (event : EventData) (result : Result StepReport E)
+pub at_next : {E : Type 0} (old new : PairData) (event : EventData) (result : Result Happened E)
     → IfOk result (λ happened. (setting : Setting) (events : List EventData) → IsFitting setting
     → IsAt setting old events → IsStepAt setting events event happened new)
     → OnOk result ((setting : Setting) (events : List EventData) → IsFitting setting → IsAt setting old events

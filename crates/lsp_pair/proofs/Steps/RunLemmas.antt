@@ -1,11 +1,11 @@
 -- Runs of a pair.
 use Rattle.std.proofs.Common.{ℕ, zero, suc, ◌≡◌, ◌<◌, ◌+◌, length, map, take, get_or, add-one, arith, List, [], ◌∷◌, ◌++◌, refl, sym, ap, ◌∙◌, subst}
-use Rattle.lsp_pair.specs.declared.event.StepReport.{StepReport}
+use Rattle.lsp_pair.specs.declared.event.Happened.{Happened}
 use Rattle.lsp_pair.specs.Events.{EventData}
 use Rattle.lsp_pair.specs.Pair.{PairData, IsStep, IsRun}
 
 -- A run goes on by one step.
-pub run-last : (old mid new : PairData) (events : List EventData) (event : EventData) (happened : StepReport)
+pub run-last : (old mid new : PairData) (events : List EventData) (event : EventData) (happened : Happened)
     → IsRun old events mid → IsStep mid event happened new → IsRun old (events ++ event ∷ []) new
 run-last old mid new [] event happened run steps =
     (happened, new, subst (λ (p : PairData). IsStep p event happened new) run steps, refl)

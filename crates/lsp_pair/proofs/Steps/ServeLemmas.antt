@@ -13,9 +13,9 @@ use Rattle.lsp_server.specs.Step as server
 use Rattle.lsp_client.specs.declared.fault.ClientFault.TheVariants.{WrongPhase}
 use Rattle.lsp_client.specs.Step as client
 use Rattle.lsp_client.specs.Seen as seen
-use Rattle.lsp_pair.specs.declared.event.ServerReport.{ServerReport}
-use Rattle.lsp_pair.specs.declared.event.ClientReport.{ClientReport}
-use Rattle.lsp_pair.specs.declared.event.StepReport.TheVariants.{Server, Client}
+use Rattle.lsp_pair.specs.declared.event.Did.{Did}
+use Rattle.lsp_pair.specs.declared.event.Heard.{Heard}
+use Rattle.lsp_pair.specs.declared.event.Happened.TheVariants.{Server, Client}
 use Rattle.lsp_pair.specs.Events.{to_server, to_client, did_of, replies_in, heard_of, messages_in}
 use Rattle.lsp_pair.specs.Pair.{message_frame, IsStep}
 use Rattle.lsp_pair.specs.Seen.{frames}
@@ -50,7 +50,7 @@ some_wait (x ∷ xs) some = λ none. absurd (omega (arith, ap length none))
 
 pub serve_is : (c : client.ClientData) (s new : server.ServerData) (limits : LimitsData)
     (items rest : List (Vec ℕ Global)) (back next : List (List ℕ)) (first : Vec ℕ Global) (body buffered : List ℕ)
-    (given : AnswerData Sent) (result : ServerReport)
+    (given : AnswerData Sent) (result : Did)
     → items ≡ first ∷ rest → IsFrameOf limits.max_body buffered body → buffered ≡ first.items → limits ≡ s.config.limits
     → s.phase ≢ Ended
     → given ≡ as_sent (server.step s (reading body)).answer → new ≡ (server.step s (reading body)).state
@@ -99,7 +99,7 @@ listening false e s body given new h = absurd h
 
 pub hear_is : (s : server.ServerData) (c new : client.ClientData) (limits : LimitsData)
     (items rest : List (Vec ℕ Global)) (there next : List (List ℕ)) (first : Vec ℕ Global) (body buffered : List ℕ)
-    (given : client.DeliveredData (List ℕ)) (result : ClientReport)
+    (given : client.DeliveredData (List ℕ)) (result : Heard)
     → items ≡ first ∷ rest → IsFrameOf limits.max_body buffered body → buffered ≡ first.items → limits ≡ c.limits
     → client.is_listening c.phase ≡ true
     → seen.IsDelivered (client.delivery_result c (reading body)) given new

@@ -10,8 +10,8 @@ use Rattle.lsp_store.specs.Table.{table_of}
 use Rattle.lsp_server.specs.Step as server
 use Rattle.lsp_client.specs.declared.fault.ClientFault.{ClientFault}
 use Rattle.lsp_client.specs.Step.{Call, Sending, Delivery, call_result, delivery_of, sent_body}
-use Rattle.lsp_pair.specs.declared.event.StepReport.{StepReport}
-use Rattle.lsp_pair.specs.declared.event.StepReport.TheVariants.{Server, Client}
+use Rattle.lsp_pair.specs.declared.event.Happened.{Happened}
+use Rattle.lsp_pair.specs.declared.event.Happened.TheVariants.{Server, Client}
 use Rattle.lsp_pair.specs.Events.{Setting, EventData, calls, to_server, to_client, did_of, replies_in, heard_of, messages_in}
 use Rattle.lsp_pair.specs.Pair.{PairData, new_pair, message_frame, IsFitting, IsCallStep, IsServerStep, IsClientStep, IsDeliveryStep, IsStep}
 use Rattle.lsp_pair.specs.laws.World.{ClientMessage, commands, lifecycle, World, commands_in, Turn, turn_of_call, message_of_call, message_in, turn_of_step, turn_of_delivery, turn, world_of, beginning, client_of, server_of, IsProperEvent}
@@ -34,7 +34,7 @@ frame_on kind table (commands command) = refl
 frame_on kind table (lifecycle m) = refl
 
 -- what happens is what a turn has, and the pair is that of its world
-pub record AsTurn (setting : Setting) (t : Turn) (happened : StepReport) (new : PairData) : Type 0 where
+pub record AsTurn (setting : Setting) (t : Turn) (happened : Happened) (new : PairData) : Type 0 where
   pub happens : happened ≡ t.happened
   pub leaves : new ≡ pair_of setting t.world
 
@@ -82,7 +82,7 @@ module _ (setting : Setting) (sound : IsFitting setting) (w : World) (ok : World
       ap (λ (f : List ℕ). old.to_server ++ f ∷ []) is.frame ∙ queue_more said in
       λ i. record { client = client_is i; server = server_is i; to_server = queue i; to_client = old.to_client }
 
-  call_step : (call : Call) (result : Result Sending ClientFault) (happened : StepReport) (new : PairData)
+  call_step : (call : Call) (result : Result Sending ClientFault) (happened : Happened) (new : PairData)
       → CallResult setting w (message_of_call (client_of setting w) call) result
       → IsCallStep old result happened new
       → AsTurn setting (turn_of_call w (message_of_call (client_of setting w) call (message_in result)) result) happened
@@ -124,7 +124,7 @@ module _ (setting : Setting) (sound : IsFitting setting) (w : World) (ok : World
       (sym (drop-append-le w.back_delivered w.back (replies_in a.step_is.answer) ok.at.returned)) in
       λ j. record { client = client_of setting w; server = server_is j; to_server = queue j; to_client = back j }
 
-  server_step : (q : List ClientMessage) → waiting_out w ≡ q → Arrivals setting w q → (happened : StepReport)
+  server_step : (q : List ClientMessage) → waiting_out w ≡ q → Arrivals setting w q → (happened : Happened)
       (new : PairData)
       → IsDeliveryStep (λ first rest. IsServerStep old first rest happened new) old
       (frames_from kind (server_of setting w).table q) happened new
@@ -191,7 +191,7 @@ module _ (setting : Setting) (sound : IsFitting setting) (w : World) (ok : World
         to_client = map message_frame (sym i.after j);
       }
 
-  client_step : (q : List OutgoingData) → waiting_back w ≡ q → Returning setting w q → (happened : StepReport)
+  client_step : (q : List OutgoingData) → waiting_back w ≡ q → Returning setting w q → (happened : Happened)
       (new : PairData)
       → IsDeliveryStep (λ first rest. IsClientStep old first rest happened new) old (map message_frame q) happened new
       → AsTurn setting (turn setting w to_client) happened new
@@ -217,7 +217,7 @@ module _ (setting : Setting) (sound : IsFitting setting) (w : World) (ok : World
 
   -- ---- any step
 
-  pub steps_as : (event : EventData) → IsProperEvent event → (happened : StepReport) (new : PairData)
+  pub steps_as : (event : EventData) → IsProperEvent event → (happened : Happened) (new : PairData)
       → IsStep old event happened new → AsTurn setting (turn setting w event) happened new
   steps_as (calls call) proper happened new steps =
       call_step call (call_result (client_of setting w) call) happened new
@@ -234,7 +234,7 @@ pub new_at : (setting : Setting) → IsAt setting (new_pair setting) []
 new_at setting = record { proper = tt; is = refl }
 
 pub steps_at : (setting : Setting) → IsFitting setting → (old new : PairData) (events : List EventData)
-    (event : EventData) (happened : StepReport) → IsProperEvent event
+    (event : EventData) (happened : Happened) → IsProperEvent event
     → IsAt setting old events → IsStep old event happened new → IsStepAt setting events event happened new
 steps_at setting sound old new events event happened proper at steps =
     let w : World = world_of setting events in
@@ -263,7 +263,7 @@ agrees setting pair events sound at =
     subst (HaveOneEncoding setting) (sym at.is) (agree_at setting w ok.shape ok.at)
 
 -- A step from a reached pair reaches the next.
-pub steps_reach : (old new : PairData) (event : EventData) (happened : StepReport) → IsProperEvent event → IsReached old
+pub steps_reach : (old new : PairData) (event : EventData) (happened : Happened) → IsProperEvent event → IsReached old
     → IsStep old event happened new → IsReached new
 steps_reach old new event happened proper reached steps =
     record {

@@ -20,7 +20,7 @@ use Rattle.lsp_server.specs.Incoming as incoming
 use Rattle.lsp_server.specs.Step as server
 use Rattle.lsp_server.specs.Step.{ServerData, Step, step_on, step_in, step, begins}
 use Rattle.lsp_client.specs.Step.{sent_body}
-use Rattle.lsp_pair.specs.declared.event.StepReport.TheVariants.{Server}
+use Rattle.lsp_pair.specs.declared.event.Happened.TheVariants.{Server}
 use Rattle.lsp_pair.specs.Events.{Setting, did_of, replies_in}
 use Rattle.lsp_pair.specs.Pair.{IsFitting}
 use Rattle.lsp_pair.specs.laws.World.{ClientMessage, commands, lifecycle, World, incoming_of_message, server_of, turn_of_step}

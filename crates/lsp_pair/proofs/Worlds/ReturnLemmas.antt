@@ -22,7 +22,7 @@ use Rattle.lsp_client.specs.declared.phase.Phase.{Phase}
 use Rattle.lsp_client.specs.declared.phase.Phase.TheVariants.{Closed}
 use Rattle.lsp_client.specs.Step as client
 use Rattle.lsp_client.specs.Step.{ClientData, Delivery, delivery_of, delivery_in, is_awaited, begin_if_agreed, begin_as_announced, begin_in, is_listening}
-use Rattle.lsp_pair.specs.declared.event.StepReport.TheVariants.{Client}
+use Rattle.lsp_pair.specs.declared.event.Happened.TheVariants.{Client}
 use Rattle.lsp_pair.specs.Events.{Setting, heard_of, messages_in}
 use Rattle.lsp_pair.specs.Pair.{IsFitting, is_utf16}
 use Rattle.lsp_pair.specs.laws.World.{ClientMessage, lifecycle, World, client_of, turn_of_delivery}

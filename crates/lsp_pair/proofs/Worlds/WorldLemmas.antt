@@ -8,7 +8,7 @@ use Rattle.lsp_client.specs.declared.fault.ClientFault.{ClientFault}
 use Rattle.lsp_client.specs.declared.fault.ClientFault.TheVariants.{WrongPhase}
 use Rattle.lsp_client.specs.Step as client
 use Rattle.lsp_client.specs.Step.{Call, call_result}
-use Rattle.lsp_pair.specs.declared.event.StepReport.TheVariants.{Server, Client, Nothing}
+use Rattle.lsp_pair.specs.declared.event.Happened.TheVariants.{Server, Client, Nothing}
 use Rattle.lsp_pair.specs.Events.{Setting, EventData, calls, to_server, to_client, did_of, heard_of}
 use Rattle.lsp_pair.specs.Pair.{IsFitting}
 use Rattle.lsp_pair.specs.laws.World.{ClientMessage, World, beginning, Turn, turn_of_call, message_of_call, message_in, turn_of_step, to_server_event, turn_of_delivery, turn_of_result, to_client_event, turn, world_from, world_of, client_of, IsProperEvent, AreProperEvents}

@@ -5,8 +5,8 @@ use Rattle.lsp_server.specs.Answer.{AnswerData, reply, changed, ignored, refused
 use Rattle.lsp_client.specs.Step as client
 use Rattle.lsp_client.specs.Step.{Call, DeliveredData}
 use Rattle.lsp_server.specs.Step as server
-use Rattle.lsp_pair.specs.declared.event.ServerReport.{ServerReport}
-use Rattle.lsp_pair.specs.declared.event.ServerReport.TheVariants as done
+use Rattle.lsp_pair.specs.declared.event.Did.{Did}
+use Rattle.lsp_pair.specs.declared.event.Did.TheVariants as done
 use Rattle.lsp_pair.specs.Events.{EventData, calls, to_server, to_client}
 use Rattle.lsp_pair.specs.Pair.{PairData}
 
@@ -35,7 +35,7 @@ HoldsOfFirst [] P = ⊤
 HoldsOfFirst (first ∷ rest) P = P first
 
 -- An answer of the server without its frame.
-abbrev pub did_of_sent : AnswerData Sent → ServerReport
+abbrev pub did_of_sent : AnswerData Sent → Did
 did_of_sent (reply r) = done.Reply r.code
 did_of_sent changed = done.Changed
 did_of_sent ignored = done.Ignored

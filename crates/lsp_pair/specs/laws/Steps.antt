@@ -1,6 +1,6 @@
 -- What happens in a step of a pair at the world of a list of events, and the pair after it.
 use Rattle.std.specs.Prelude.{◌≡◌, List, [], ◌∷◌, ◌++◌}
-use Rattle.lsp_pair.specs.declared.event.StepReport.{StepReport}
+use Rattle.lsp_pair.specs.declared.event.Happened.{Happened}
 use Rattle.lsp_pair.specs.Events.{Setting, EventData}
 use Rattle.lsp_pair.specs.Pair.{PairData, IsFitting, IsStep}
 use Rattle.lsp_pair.specs.laws.World.{turn, world_of}
@@ -10,7 +10,7 @@ use Rattle.lsp_pair.specs.laws.Usual.{IsUsualTurn, HaveOneEncoding}
 -- What happens is what happens in that world, and the pair is then at the world of the list with
 -- the event added. The answer is a usual one, and both ends use one encoding.
 pub record IsStepAt (setting : Setting) (events : List EventData) (event : EventData)
-    (happened : StepReport) (new : PairData) : Type 0 where
+    (happened : Happened) (new : PairData) : Type 0 where
   pub happens : happened ≡ (turn setting (world_of setting events) event).happened
   pub at : IsAt setting new (events ++ event ∷ [])
   pub usual : IsUsualTurn (world_of setting events) event happened
@@ -20,7 +20,7 @@ pub record IsStepAt (setting : Setting) (events : List EventData) (event : Event
 -- step is one.
 abbrev pub StepLaw : Type 0
 StepLaw =
-    (setting : Setting) (events : List EventData) (event : EventData) (happened : StepReport)
+    (setting : Setting) (events : List EventData) (event : EventData) (happened : Happened)
     (old new : PairData) → IsFitting setting → IsAt setting old events
     → IsAt setting new (events ++ event ∷ []) → IsStep old event happened new
     → IsStepAt setting events event happened new

@@ -6,17 +6,17 @@ use Rattle.lsp_server.specs.Choice.{chosen, announced_kind}
 use Rattle.lsp_client.specs.declared.agreed.Agreed.{Agreed}
 use Rattle.lsp_client.specs.declared.phase.Phase.{Phase}
 use Rattle.lsp_client.specs.declared.phase.Phase.TheVariants.{New, Asked, Failed}
-use Rattle.lsp_pair.specs.declared.event.StepReport.{StepReport}
-use Rattle.lsp_pair.specs.declared.event.StepReport.TheVariants.{Server, Client, Nothing}
-use Rattle.lsp_pair.specs.declared.event.ServerReport.TheVariants as done
-use Rattle.lsp_pair.specs.declared.event.ClientReport.TheVariants as heard
+use Rattle.lsp_pair.specs.declared.event.Happened.{Happened}
+use Rattle.lsp_pair.specs.declared.event.Happened.TheVariants.{Server, Client, Nothing}
+use Rattle.lsp_pair.specs.declared.event.Did.TheVariants as done
+use Rattle.lsp_pair.specs.declared.event.Heard.TheVariants as heard
 use Rattle.lsp_pair.specs.Events.{Setting, EventData, calls, to_server, to_client}
 use Rattle.lsp_pair.specs.Pair.{PairData}
 use Rattle.lsp_pair.specs.laws.World.{ClientMessage, commands, lifecycle, World}
 
 -- The server answers `initialize` and `shutdown` with their results, ignores `initialized`, accepts
 -- each document command, and ends at `exit` with status 0.
-abbrev pub IsUsual : ClientMessage → StepReport → Type 0
+abbrev pub IsUsual : ClientMessage → Happened → Type 0
 IsUsual (commands command) happened = happened ≡ Server done.Changed
 IsUsual (lifecycle (outgoing.initialize offers)) happened =
     happened ≡ Server (done.Reply None)
@@ -26,7 +26,7 @@ IsUsual (lifecycle outgoing.exit) happened = happened ≡ Server (done.Exit 0)
 IsUsual (lifecycle m) happened = ⊥
 
 -- The client sends `initialized` after the result of `initialize`, and notes that of `shutdown`.
-abbrev pub IsUsualBack : OutgoingData → StepReport → Type 0
+abbrev pub IsUsualBack : OutgoingData → Happened → Type 0
 IsUsualBack (outgoing.initialize_result id encoding kind) happened =
     happened ≡ Client heard.Send
 IsUsualBack (outgoing.shutdown_result id) happened = happened ≡ Client heard.Noted
@@ -34,7 +34,7 @@ IsUsualBack m happened = ⊥
 
 -- What happens in a delivery is usual for the first message that waits. Where none waits, nothing
 -- happens.
-abbrev pub IsUsualTurn : World → EventData → StepReport → Type 0
+abbrev pub IsUsualTurn : World → EventData → Happened → Type 0
 IsUsualTurn w (calls call) happened = ⊤
 IsUsualTurn w to_server happened =
     MatchOption (slice_get w.out w.out_delivered) (happened ≡ Nothing)

@@ -21,8 +21,8 @@ use Rattle.lsp_client.specs.declared.phase.Phase as client_phase
 use Rattle.lsp_client.specs.declared.phase.Phase.TheVariants as client_phases
 use Rattle.lsp_client.specs.Step as client
 use Rattle.lsp_client.specs.Step.{Call, orders, Order}
-use Rattle.lsp_pair.specs.declared.event.StepReport.{StepReport}
-use Rattle.lsp_pair.specs.declared.event.StepReport.TheVariants.{Sent, Refused, Server, Client, Nothing}
+use Rattle.lsp_pair.specs.declared.event.Happened.{Happened}
+use Rattle.lsp_pair.specs.declared.event.Happened.TheVariants.{Sent, Refused, Server, Client, Nothing}
 use Rattle.lsp_pair.specs.Events.{Setting, EventData, calls, to_server, to_client, did_of, replies_in, heard_of, messages_in}
 
 -- A message of the client: a document command, with the batch that the caller passed, or a message
@@ -88,7 +88,7 @@ server_of setting w =
 
 -- What happens, and the world after it.
 pub record Turn : Type 0 where
-  pub happened : StepReport
+  pub happened : Happened
   pub world : World
 
 -- The message of an accepted call comes last in `out`; a refused call changes nothing.

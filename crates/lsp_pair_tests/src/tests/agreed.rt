@@ -4,7 +4,7 @@ use super::{Row, Script, new_pair, wrong_row};
 use lsp_client::ClientFault;
 use lsp_edit::{EditFault, Side};
 use lsp_message::Offers;
-use lsp_pair::{ClientReport, Pair, ServerReport, StepReport};
+use lsp_pair::{Did, Happened, Heard, Pair};
 use lsp_server::{ChangeForm, EncodingChoice};
 use lsp_store::StoreFault;
 use lsp_text::Encoding;
@@ -14,30 +14,20 @@ use std::test::Fail;
 /// One character of four bytes, two units of UTF-16 and one of UTF-32.
 const FACE: &str = "\u{1F600}";
 
-const CHANGED: StepReport = StepReport::Server(ServerReport::Changed);
+const CHANGED: Happened = Happened::Server(Did::Changed);
 
 /// The beginning of a session, with that document open on both ends.
 static OPENED: &[Row] = &[
-    (Script::Start, StepReport::Sent, None, None),
+    (Script::Start, Happened::Sent, None, None),
     (
         Script::ToServer,
-        StepReport::Server(ServerReport::Reply(None)),
+        Happened::Server(Did::Reply(None)),
         None,
         None,
     ),
-    (
-        Script::ToClient,
-        StepReport::Client(ClientReport::Send),
-        None,
-        None,
-    ),
-    (
-        Script::ToServer,
-        StepReport::Server(ServerReport::Ignored),
-        None,
-        None,
-    ),
-    (Script::Open(FACE), StepReport::Sent, Some((1, FACE)), None),
+    (Script::ToClient, Happened::Client(Heard::Send), None, None),
+    (Script::ToServer, Happened::Server(Did::Ignored), None, None),
+    (Script::Open(FACE), Happened::Sent, Some((1, FACE)), None),
     (Script::ToServer, CHANGED, Some((1, FACE)), Some((1, FACE))),
 ];
 
@@ -45,7 +35,7 @@ static OPENED: &[Row] = &[
 static IN_UTF8: &[Row] = &[
     (
         Script::Edit(2, 1, 1, "b"),
-        StepReport::Refused(ClientFault::Store(StoreFault::Edit(EditFault::InsideCharacter {
+        Happened::Refused(ClientFault::Store(StoreFault::Edit(EditFault::InsideCharacter {
             change: 0,
             side: Side::Start,
         }))),
@@ -54,7 +44,7 @@ static IN_UTF8: &[Row] = &[
     ),
     (
         Script::Edit(2, 4, 4, "b"),
-        StepReport::Sent,
+        Happened::Sent,
         Some((2, "\u{1F600}b")),
         Some((1, FACE)),
     ),
@@ -70,7 +60,7 @@ static IN_UTF8: &[Row] = &[
 static IN_UTF32: &[Row] = &[
     (
         Script::Edit(2, 1, 1, "b"),
-        StepReport::Sent,
+        Happened::Sent,
         Some((2, "\u{1F600}b")),
         Some((1, FACE)),
     ),

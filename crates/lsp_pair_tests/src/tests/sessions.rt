@@ -2,96 +2,56 @@
 
 use super::{NO_OFFERS, Row, Script, UTF16, event, new_pair, wrong_row};
 use lsp_client::{ClientFault, Phase};
-use lsp_pair::{ClientReport, Pair, ServerReport, StepReport};
+use lsp_pair::{Did, Happened, Heard, Pair};
 use lsp_server::ChangeForm;
 use std::alloc::{AllocError, Global};
 use std::test::Fail;
 
-const REPLY: StepReport = StepReport::Server(ServerReport::Reply(None));
+const REPLY: Happened = Happened::Server(Did::Reply(None));
 
-const CHANGED: StepReport = StepReport::Server(ServerReport::Changed);
+const CHANGED: Happened = Happened::Server(Did::Changed);
 
 /// The client edits while what it sent before still waits.
 static LATE: &[Row] = &[
-    (Script::ToClient, StepReport::Nothing, None, None),
-    (Script::Start, StepReport::Sent, None, None),
+    (Script::ToClient, Happened::Nothing, None, None),
+    (Script::Start, Happened::Sent, None, None),
     (
         Script::Edit(2, 1, 2, "X"),
-        StepReport::Refused(ClientFault::WrongPhase {
+        Happened::Refused(ClientFault::WrongPhase {
             phase: Phase::Asked,
         }),
         None,
         None,
     ),
     (Script::ToServer, REPLY, None, None),
-    (
-        Script::ToClient,
-        StepReport::Client(ClientReport::Send),
-        None,
-        None,
-    ),
-    (
-        Script::Open("abc"),
-        StepReport::Sent,
-        Some((1, "abc")),
-        None,
-    ),
+    (Script::ToClient, Happened::Client(Heard::Send), None, None),
+    (Script::Open("abc"), Happened::Sent, Some((1, "abc")), None),
     (
         Script::Edit(2, 1, 2, "X"),
-        StepReport::Sent,
+        Happened::Sent,
         Some((2, "aXc")),
         None,
     ),
-    (Script::Close, StepReport::Sent, None, None),
-    (Script::Shutdown, StepReport::Sent, None, None),
-    (
-        Script::ToServer,
-        StepReport::Server(ServerReport::Ignored),
-        None,
-        None,
-    ),
+    (Script::Close, Happened::Sent, None, None),
+    (Script::Shutdown, Happened::Sent, None, None),
+    (Script::ToServer, Happened::Server(Did::Ignored), None, None),
     (Script::ToServer, CHANGED, None, Some((1, "abc"))),
     (Script::ToServer, CHANGED, None, Some((2, "aXc"))),
     (Script::ToServer, CHANGED, None, None),
     (Script::ToServer, REPLY, None, None),
-    (
-        Script::ToClient,
-        StepReport::Client(ClientReport::Noted),
-        None,
-        None,
-    ),
-    (Script::Exit, StepReport::Sent, None, None),
-    (
-        Script::ToServer,
-        StepReport::Server(ServerReport::Exit(0)),
-        None,
-        None,
-    ),
-    (Script::ToServer, StepReport::Nothing, None, None),
+    (Script::ToClient, Happened::Client(Heard::Noted), None, None),
+    (Script::Exit, Happened::Sent, None, None),
+    (Script::ToServer, Happened::Server(Did::Exit(0)), None, None),
+    (Script::ToServer, Happened::Nothing, None, None),
 ];
 
 /// The same, each message delivered at once.
 static AT_ONCE: &[Row] = &[
-    (Script::Start, StepReport::Sent, None, None),
+    (Script::Start, Happened::Sent, None, None),
     (Script::ToServer, REPLY, None, None),
-    (
-        Script::ToClient,
-        StepReport::Client(ClientReport::Send),
-        None,
-        None,
-    ),
-    (
-        Script::ToServer,
-        StepReport::Server(ServerReport::Ignored),
-        None,
-        None,
-    ),
-    (
-        Script::Open("abc"),
-        StepReport::Sent,
-        Some((1, "abc")),
-        None,
-    ),
+    (Script::ToClient, Happened::Client(Heard::Send), None, None),
+    (Script::ToServer, Happened::Server(Did::Ignored), None, None),
+    (Script::Open("abc"), Happened::Sent, Some((1, "abc")), None),
     (
         Script::ToServer,
         CHANGED,
@@ -100,7 +60,7 @@ static AT_ONCE: &[Row] = &[
     ),
     (
         Script::Edit(2, 1, 2, "X"),
-        StepReport::Sent,
+        Happened::Sent,
         Some((2, "aXc")),
         Some((1, "abc")),
     ),
@@ -110,23 +70,13 @@ static AT_ONCE: &[Row] = &[
         Some((2, "aXc")),
         Some((2, "aXc")),
     ),
-    (Script::Close, StepReport::Sent, None, Some((2, "aXc"))),
+    (Script::Close, Happened::Sent, None, Some((2, "aXc"))),
     (Script::ToServer, CHANGED, None, None),
-    (Script::Shutdown, StepReport::Sent, None, None),
+    (Script::Shutdown, Happened::Sent, None, None),
     (Script::ToServer, REPLY, None, None),
-    (
-        Script::ToClient,
-        StepReport::Client(ClientReport::Noted),
-        None,
-        None,
-    ),
-    (Script::Exit, StepReport::Sent, None, None),
-    (
-        Script::ToServer,
-        StepReport::Server(ServerReport::Exit(0)),
-        None,
-        None,
-    ),
+    (Script::ToClient, Happened::Client(Heard::Noted), None, None),
+    (Script::Exit, Happened::Sent, None, None),
+    (Script::ToServer, Happened::Server(Did::Exit(0)), None, None),
 ];
 
 /// Returns whether a session of a new pair goes so, and nothing waits at its end.

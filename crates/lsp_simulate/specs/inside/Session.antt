@@ -7,7 +7,7 @@ use Rattle.lsp_stream.specs.Ports.{WriterState}
 use Rattle.lsp_stream.specs.Turns.{AppendsFront, Spends}
 use Rattle.lsp_program.specs.Output.{allowed_turns}
 use Rattle.lsp_message.specs.Params.{DocumentItem}
-use Rattle.lsp_pair.specs.declared.event.StepReport.{StepReport}
+use Rattle.lsp_pair.specs.declared.event.Happened.{Happened}
 use Rattle.lsp_pair.specs.Events.{EventData}
 use Rattle.lsp_pair.specs.Pair.{PairData, IsFitting, IsStep, new_pair}
 use Rattle.lsp_simulate.specs.declared.command_line.Setting.{Setting}
@@ -16,7 +16,7 @@ use Rattle.lsp_simulate.specs.Session.{AppendsLines, AreSteps, AreWholeLines, Pa
 -- A step was made, and this is its line.
 pub record IsStepLine (old new : PairData) (number : ℕ) (line : List ℕ) : Type 0 where
   pub event : EventData
-  pub happened : StepReport
+  pub happened : Happened
   pub is_step : IsStep old event happened new
   pub is : line ≡ step_line number happened
 
