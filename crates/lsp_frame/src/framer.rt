@@ -96,10 +96,11 @@ impl Framer {
             return Err(FrameFault::Failed);
         }
         let max_body = self.limits.max_body();
-        match take_piece(&mut self.buffered, &mut self.stage, piece, max_body) {
-            Ok(taken) => Ok(taken),
-            Err(stop) => Err(stop.in_stream(self.place)),
-        }
+        let taken = match take_piece(&mut self.buffered, &mut self.stage, piece, max_body) {
+            Ok(taken) => taken,
+            Err(stop) => return Err(stop.in_stream(self.place)),
+        };
+        Ok(taken)
     }
 
     /// Returns the body of the buffered frame, once the frame is whole.

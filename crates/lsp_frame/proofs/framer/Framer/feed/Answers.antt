@@ -6,22 +6,22 @@ use Rattle.lsp_frame.specs.Stream.{has_failed}
 use Rattle.lsp_frame.proofs.FaultLemmas.{stage_part, part_one, not_failed, same_framing, feed_stop}
 use Rattle.lsp_frame.proofs.framer.Framer.feed.Goals as goal
 
-pub returns-in-Ok-clause-buffered : goal.returns-in-Ok-clause-buffered
-returns-in-Ok-clause-buffered c =
+pub returns-clause-buffered : goal.returns-clause-buffered
+returns-clause-buffered c =
     let before : has_failed c.self.inside.stage ≡ false = not_failed c.self.inside.stage c.in_default.not-Failed in
     same_framing c.self.inside.place c.take_piece.new.buffered.items (c.self.inside.buffered.items ++ take c.in-Ok.taken
     c.args.piece.now) (has_failed c.take_piece.new.stage) (has_failed c.self.inside.stage) c.self.inside.limits
     c.in-Ok.ensures.buffered (c.in-Ok.ensures.sound ∙ sym before)
     ∙ ap (λ (f : FramerData). record f { buffered = f.buffered ++ take c.in-Ok.taken c.args.piece.now }) c.self.view_is
 
-pub returns-in-Ok-clause-part : goal.returns-in-Ok-clause-part
-returns-in-Ok-clause-part c =
+pub returns-clause-part : goal.returns-clause-part
+returns-clause-part c =
     subst (λ (n : ℕ). IsPart n c.take_piece.new.buffered.items) c.max_body-max_body.ensures.value
     (stage_part c.max_body-max_body.result c.take_piece.new.buffered.items c.take_piece.new.stage c.in-Ok.ensures.stage
     c.in-Ok.ensures.sound)
 
-pub returns-in-Ok-clause-one : goal.returns-in-Ok-clause-one
-returns-in-Ok-clause-one c =
+pub returns-clause-one : goal.returns-clause-one
+returns-clause-one c =
     subst (λ (n : ℕ). HoldsOne n c.take_piece.new.buffered.items) c.max_body-max_body.ensures.value
     (part_one c.max_body-max_body.result c.take_piece.new.buffered.items
     (stage_part c.max_body-max_body.result c.take_piece.new.buffered.items c.take_piece.new.stage c.in-Ok.ensures.stage
