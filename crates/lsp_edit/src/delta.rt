@@ -12,7 +12,8 @@ ghost use Rattle.lsp_edit.specs.Items.{Item};
 ghost use Rattle.lsp_edit.specs.Once.{IsOn, IsPut, bytes_after, encoding_of, meant_by, put_items};
 
 use crate::change::Change;
-use crate::indexed::{IndexedText, TextFault};
+use crate::indexed::IndexedText;
+use crate::indexed::fault::TextFault;
 use crate::joined::layer::Layer;
 use crate::pieces::canonical::canonical_of;
 use crate::pieces::spans::Spans;

@@ -3,7 +3,7 @@
 ghost use Rattle.std.specs.Prelude.{ℕ, ◌≡◌, ◌≤◌, ◌⊎◌, List, Err, IfErr, IfOk, IsOk, Ok, OnErr, OnOk, length, map, string_bytes, string_len, sum_by};
 ghost use Rattle.std.specs.Str.{chars};
 ghost use Rattle.lsp_text.specs.Units.{units_in};
-ghost use Rattle.lsp_edit.specs.declared.indexed.TextFault.TheVariants.{NoMemory};
+ghost use Rattle.lsp_edit.specs.declared.indexed.fault.TextFault.TheVariants.{NoMemory};
 ghost use Rattle.lsp_edit.specs.Batch.{Edit, meaning};
 ghost use Rattle.lsp_edit.specs.Canonical.{canonical};
 ghost use Rattle.lsp_edit.specs.Edited.{edit_of};
@@ -18,7 +18,8 @@ pub(crate) mod layer;
 use crate::change::{Change, MAX_NEW_TEXT};
 use crate::composed::MAX_OLD_TEXT;
 use crate::delta::Delta;
-use crate::indexed::{IndexedText, TextFault};
+use crate::indexed::IndexedText;
+use crate::indexed::fault::TextFault;
 use crate::joined::layer::Layer;
 use crate::pieces::MAX_TEXT;
 use crate::pieces::canonical::canonical_of;

@@ -3,8 +3,8 @@ use Rattle.std.specs.Prelude.{ℕ, ◌≡◌, ◌⊎◌, List, Option, Some, cod
 use Rattle.lsp_frame.specs.declared.written.EncodeFault.{EncodeFault}
 use Rattle.lsp_frame.specs.declared.written.EncodeFault.TheVariants as encode
 use Rattle.lsp_edit.specs.declared.fault.EditFault.TheVariants.{InsideCharacter, ReversedRange}
-use Rattle.lsp_edit.specs.declared.indexed.TextFault.{TextFault}
-use Rattle.lsp_edit.specs.declared.indexed.TextFault.TheVariants as text
+use Rattle.lsp_edit.specs.declared.indexed.fault.TextFault.{TextFault}
+use Rattle.lsp_edit.specs.declared.indexed.fault.TextFault.TheVariants as text
 use Rattle.lsp_edit.specs.Faults.{fault_at}
 use Rattle.lsp_store.specs.declared.fault.StoreFault.{StoreFault}
 use Rattle.lsp_store.specs.declared.fault.StoreFault.TheVariants.{AlreadyOpen, TooManyDocuments, TextTooLong, NotOpen, StaleVersion, TooManyChanges, Edit, BodyTooLong, NoMemory}

@@ -13,8 +13,8 @@ use Rattle.lsp_text.proofs.Positions.PlaceLemmas.{take_place, drop_place}
 use Rattle.lsp_edit.specs.declared.change.Change.{Change}
 use Rattle.lsp_edit.specs.declared.fault.EditFault.{EditFault}
 use Rattle.lsp_edit.specs.declared.fault.EditFault.TheVariants.{NoMemory}
-use Rattle.lsp_edit.specs.declared.indexed.TextFault.{TextFault}
-use Rattle.lsp_edit.specs.declared.indexed.TextFault.TheVariants.{Edit as EditOf, TooLong, NoMemory as OutOfMemory}
+use Rattle.lsp_edit.specs.declared.indexed.fault.TextFault.{TextFault}
+use Rattle.lsp_edit.specs.declared.indexed.fault.TextFault.TheVariants.{Edit as EditOf, TooLong, NoMemory as OutOfMemory}
 use Rattle.lsp_edit.specs.Items.{Item, New, plain, character_of, text_of}
 use Rattle.lsp_edit.specs.Batch.{Edit, Fault, InsideStart, InsideStop, Reversed, replaced, changed_in, after_change, after_changes, continue_with, meaning}
 use Rattle.lsp_edit.specs.inside.TextBatch.{text_replaced, text_changed, text_after_change, text_after_changes, text_continue_with, IsFaultOf, IsFaultOfBatch}
