@@ -4,7 +4,7 @@ use Rattle.lsp_text.specs.Units.{units_in}
 use Rattle.lsp_buffer.specs.Blocks.{AreBlocks, ends_of, heads_from, sums_from}
 use Rattle.lsp_buffer.proofs.Blocks.BufferLemmas.{starts_count, lines_count}
 use Rattle.lsp_buffer.proofs.Changes.AgainLemmas.{IsAgain, again_are, again_size, again_start, again_stop, again_text, again_is, first_last, last_within, text_small, starts_room, lines_room}
-use Rattle.lsp_buffer.proofs.text_buffer.change.replace_across.Goals as goal
+use Rattle.lsp_buffer.proofs.text_buffer.change.across.replace_across.Goals as goal
 
 -- What was made of slices, said of what they were lent from.
 made_of : (f : List ℕ → ℕ) (made shown_sums sums : List ℕ) (shown blocks shown_fresh fresh : List (List ℕ))

@@ -5,7 +5,7 @@ use Rattle.std.specs.List.{concat, replace_range}
 use Rattle.lsp_buffer.specs.Blocks.{IsBuffer, ends_of, sums_from}
 use Rattle.lsp_buffer.proofs.Blocks.BufferLemmas.{starts_count, lines_count}
 use Rattle.lsp_buffer.proofs.Changes.PutLemmas.{IsPut, put_start, put_stop, put_text, put_size, fresh_small, block_small, block_whole, next_are, next_ends, next_lengths, set_is, sums_after, sums_room, sums_moved, sums_same, ends_small, fresh_ends_small}
-use Rattle.lsp_buffer.proofs.text_buffer.change.put_inside.Goals as goal
+use Rattle.lsp_buffer.proofs.text_buffer.change.inside.put_inside.Goals as goal
 
 pub index_mut-requires : goal.index_mut-requires
 index_mut-requires c = omega (
