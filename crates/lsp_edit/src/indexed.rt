@@ -1,6 +1,6 @@
 //! `IndexedText`, a text with its lines, under batches of changes.
 
-ghost use Rattle.std.specs.Prelude.{◌≡◌, ◌≢◌, ◌≤◌, ◌⊎◌, ◌↔◌, ℕ, List, IsTrue, IfErr, IfOk, IfSome, IsOk, OnErr, OnOk, Err, Ok, None, length, map, string_bytes, string_len, sum_by};
+ghost use Rattle.std.specs.Prelude.{◌≡◌, ◌≢◌, ◌≤◌, ◌↔◌, ℕ, List, IsTrue, IfErr, IfOk, IfSome, IsOk, OnErr, OnOk, Err, Ok, None, length, map, string_bytes, string_len, sum_by};
 ghost use Rattle.std.specs.Str.{IsUtf8, chars};
 ghost use Rattle.lsp_text.specs.Units.{units_in};
 ghost use Rattle.lsp_text.specs.declared.position.Range.{Range};
@@ -8,7 +8,7 @@ ghost use Rattle.lsp_edit.specs.declared.indexed.fault.TextFault.TheVariants.{No
 ghost use Rattle.lsp_edit.specs.Batch.{meaning};
 ghost use Rattle.lsp_edit.specs.Once.{IsDeltaOf, IsOn, bytes_after};
 ghost use Rattle.lsp_edit.specs.Edited.{edit_of};
-ghost use Rattle.lsp_edit.specs.Indexed.{alone, text_within};
+ghost use Rattle.lsp_edit.specs.Indexed.{IsTextFaultOf, alone, text_within};
 
 mod canonical;
 mod draft;
@@ -119,9 +119,8 @@ impl IndexedText {
             (meaning (units_in encoding) (chars self.old) (map edit_of changes.now))
             ≡ Ok self.new) }
         ensures unchanged { OnErr result (self.new ≡ self.old) }
-        ensures error { IfErr result (λ fault. (fault ≡ NoMemory)
-            ⊎ (text_within max_len self.old
-            (meaning (units_in encoding) (chars self.old) (map edit_of changes.now)) ≡ Err fault)) }
+        ensures error { IfErr result (IsTextFaultOf (units_in encoding) max_len self.old
+            (map edit_of changes.now)) }
         // For one change with a range, out of memory means that there is a result of that length.
         ensures memory { result ≡ Err NoMemory → (range : Range) (text : List ℕ)
             → map edit_of changes.now ≡ alone range text → IsOk (text_within max_len self.old
@@ -150,9 +149,8 @@ impl IndexedText {
         requires fits { length new.now ≤ MAX_NEW_TEXT }
         ensures ok { IfOk result
             (IsDeltaOf (units_in encoding) max_len self.now (alone range new.now)) }
-        ensures error { IfErr result (λ fault. (fault ≡ NoMemory)
-            ⊎ (text_within max_len self.now
-            (meaning (units_in encoding) (chars self.now) (alone range new.now)) ≡ Err fault)) }
+        ensures error { IfErr result (IsTextFaultOf (units_in encoding) max_len self.now
+            (alone range new.now)) }
         ensures memory { result ≢ Err NoMemory }
     {
         let text = self.as_old();
@@ -180,9 +178,8 @@ impl IndexedText {
         requires fits { sum_by (λ change. string_len change.text) changes.now ≤ MAX_NEW_TEXT }
         ensures ok { IfOk result
             (IsDeltaOf (units_in encoding) max_len self.now (map edit_of changes.now)) }
-        ensures error { IfErr result (λ fault. (fault ≡ NoMemory)
-            ⊎ (text_within max_len self.now
-            (meaning (units_in encoding) (chars self.now) (map edit_of changes.now)) ≡ Err fault)) }
+        ensures error { IfErr result (IsTextFaultOf (units_in encoding) max_len self.now
+            (map edit_of changes.now)) }
     {
         let _ = self.len();
         let left = self.draft(encoding, changes, max_len)?;
@@ -208,9 +205,8 @@ impl IndexedText {
         requires fits { sum_by (λ change. string_len change.text) changes.now ≤ MAX_NEW_TEXT }
         ensures ok { IfOk result
             (IsDeltaOf (units_in encoding) max_len self.now (map edit_of changes.now)) }
-        ensures error { IfErr result (λ fault. (fault ≡ NoMemory)
-            ⊎ (text_within max_len self.now
-            (meaning (units_in encoding) (chars self.now) (map edit_of changes.now)) ≡ Err fault)) }
+        ensures error { IfErr result (IsTextFaultOf (units_in encoding) max_len self.now
+            (map edit_of changes.now)) }
         ensures memory { result ≡ Err NoMemory → (range : Range) (text : List ℕ)
             → map edit_of changes.now ≡ alone range text → ⊥ }
     {

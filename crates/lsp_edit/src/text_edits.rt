@@ -30,14 +30,14 @@ pub struct TextEdit {
 #[derive(Clone, Copy, Debug, PartialEq, Eq, Error)]
 pub enum TextEditFault {
     /// An end of the edit's range lies inside a character.
-    #[error("edit {edit}: {side:?} lies inside a character")]
+    #[error("edit at index {edit}: the {side} of its range lies inside a character")]
     InsideCharacter { edit: usize, side: Side },
     /// The edit's range starts after its end.
-    #[error("edit {edit}: the range is reversed")]
+    #[error("edit at index {edit}: the range is reversed")]
     ReversedRange { edit: usize },
     /// The second edit starts before the first one stops. An insertion at the start of another edit
     /// must come before it in the list.
-    #[error("edits {first} and {second} overlap")]
+    #[error("edits at index {first} and {second} overlap")]
     Overlap { first: usize, second: usize },
     /// Out of memory.
     #[error("out of memory")]

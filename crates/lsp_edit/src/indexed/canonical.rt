@@ -1,6 +1,6 @@
 //! The canonical batch of changes and of text edits, and a batch as spans that own their texts.
 
-ghost use Rattle.std.specs.Prelude.{◌≡◌, ◌<◌, ◌≤◌, ◌⊎◌, IfErr, IfOk, IsOk, OnOk, Err, length, map, string_len, sum_by};
+ghost use Rattle.std.specs.Prelude.{◌≡◌, ◌<◌, ◌≤◌, IfErr, IfOk, IsOk, OnOk, Err, length, map, string_len, sum_by};
 ghost use Rattle.std.specs.Str.{IsUtf8, chars};
 ghost use Rattle.lsp_text.specs.Units.{units_in};
 ghost use Rattle.lsp_edit.specs.declared.indexed.fault.TextFault.TheVariants.{TooLong, NoMemory};
@@ -8,7 +8,7 @@ ghost use Rattle.lsp_edit.specs.Batch.{meaning};
 ghost use Rattle.lsp_edit.specs.Layers.{layer_parts};
 ghost use Rattle.lsp_edit.specs.inside.Layers.{IsLayer};
 ghost use Rattle.lsp_edit.specs.Edited.{Means, edit_of, edited_bytes};
-ghost use Rattle.lsp_edit.specs.Indexed.{IsCanonicalBatch, text_within};
+ghost use Rattle.lsp_edit.specs.Indexed.{IsCanonicalBatch, IsTextFaultOf, text_within};
 ghost use Rattle.lsp_edit.specs.TextEdits.{IsBatchOfEdits, IsEditsFault};
 
 use crate::change::{Change, MAX_NEW_TEXT};
@@ -39,9 +39,8 @@ impl IndexedText {
         ensures within { IfOk result (λ pieces. length (edited_bytes pieces.edited) ≤ max_len) }
         ensures ok { OnOk result (IsOk (text_within max_len self.now
             (meaning (units_in encoding) (chars self.now) (map edit_of changes.now)))) }
-        ensures error { IfErr result (λ fault. (fault ≡ NoMemory)
-            ⊎ (text_within max_len self.now
-            (meaning (units_in encoding) (chars self.now) (map edit_of changes.now)) ≡ Err fault)) }
+        ensures error { IfErr result (IsTextFaultOf (units_in encoding) max_len self.now
+            (map edit_of changes.now)) }
     {
         let alloc = *self.allocator();
         let pieces = compose_old(alloc, self.as_old(), encoding, changes)?;
@@ -67,9 +66,8 @@ impl IndexedText {
         ensures batch { IfOk result
             (λ batch. IsCanonicalBatch (units_in encoding) max_len self.now
             (map edit_of changes.now) (map edit_of batch.items)) }
-        ensures error { IfErr result (λ fault. (fault ≡ NoMemory)
-            ⊎ (text_within max_len self.now
-            (meaning (units_in encoding) (chars self.now) (map edit_of changes.now)) ≡ Err fault)) }
+        ensures error { IfErr result (IsTextFaultOf (units_in encoding) max_len self.now
+            (map edit_of changes.now)) }
     {
         if changes.len() >= 2 * SERIES {
             let alloc = *self.allocator();
@@ -118,9 +116,8 @@ impl IndexedText {
             (layer_parts delta)) }
         ensures within { OnOk result (IsOk (text_within max_len self.now
             (meaning (units_in encoding) (chars self.now) (map edit_of changes.now)))) }
-        ensures error { IfErr result (λ fault. (fault ≡ NoMemory)
-            ⊎ (text_within max_len self.now
-            (meaning (units_in encoding) (chars self.now) (map edit_of changes.now)) ≡ Err fault)) }
+        ensures error { IfErr result (IsTextFaultOf (units_in encoding) max_len self.now
+            (map edit_of changes.now)) }
     {
         let alloc = *self.allocator();
         let pieces = self.composed(encoding, changes, max_len)?;

@@ -1,12 +1,12 @@
 //! The text that a batch leaves, which is made in a copy.
 
-ghost use Rattle.std.specs.Prelude.{◌≡◌, ◌+◌, ◌<◌, ◌≤◌, ◌⊎◌, ℕ, IfErr, IfOk, OnOk, Err, Ok, Some, length, map, string_len, sum_by};
+ghost use Rattle.std.specs.Prelude.{◌≡◌, ◌+◌, ◌<◌, ◌≤◌, ℕ, IfErr, IfOk, OnOk, Err, Ok, Some, length, map, string_len, sum_by};
 ghost use Rattle.std.specs.Str.{IsUtf8, chars};
 ghost use Rattle.lsp_text.specs.Units.{units_in};
 ghost use Rattle.lsp_edit.specs.declared.indexed.fault.TextFault.TheVariants.{TooLong, NoMemory};
 ghost use Rattle.lsp_edit.specs.Batch.{meaning};
 ghost use Rattle.lsp_edit.specs.Edited.{edit_of};
-ghost use Rattle.lsp_edit.specs.Indexed.{text_within};
+ghost use Rattle.lsp_edit.specs.Indexed.{IsTextFaultOf, text_within};
 ghost use Rattle.lsp_edit.specs.inside.TextBatch.{IsFaultOf, IsFaultOfBatch, text_after_change, text_after_changes};
 
 use crate::change::{Change, MAX_NEW_TEXT};
@@ -134,9 +134,8 @@ impl IndexedText {
         ensures ok { IfOk result
             (λ left. text_within max_len self.now
             (meaning (units_in encoding) (chars self.now) (map edit_of changes.now)) ≡ Ok left) }
-        ensures error { IfErr result (λ fault. (fault ≡ NoMemory)
-            ⊎ (text_within max_len self.now
-            (meaning (units_in encoding) (chars self.now) (map edit_of changes.now)) ≡ Err fault)) }
+        ensures error { IfErr result (IsTextFaultOf (units_in encoding) max_len self.now
+            (map edit_of changes.now)) }
     {
         let draft = self.left_by(encoding, changes)?;
         may_be_left(&draft, max_len)?;
