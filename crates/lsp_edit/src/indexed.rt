@@ -126,7 +126,7 @@ impl IndexedText {
             → map edit_of changes.now ≡ alone range text → IsOk (text_within max_len self.old
             (meaning (units_in encoding) (chars self.old) (map edit_of changes.now))) }
     {
-        // `?` isn't proved at a value that holds a `&str` beside a struct with a model.
+        // `?` isn't proved here.
         match self.delta(encoding, changes, max_len) {
             Ok(delta) => {
                 self.apply(delta)?;
@@ -181,6 +181,7 @@ impl IndexedText {
         ensures error { IfErr result (IsTextFaultOf (units_in encoding) max_len self.now
             (map edit_of changes.now)) }
     {
+        // States that the text is UTF-8.
         let _ = self.len();
         let left = self.draft(encoding, changes, max_len)?;
         Ok(Delta::Left {

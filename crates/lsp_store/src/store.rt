@@ -135,7 +135,7 @@ impl Store {
         ensures memory { result ≡ Err NoMemory
             → MayTakeMemory self.old uri.now version (map edit_of changes.now) }
     {
-        // `?` isn't proved at a value that holds a `&str` beside a struct with a model.
+        // `?` isn't proved here.
         match self.plan(uri, version, encoding, changes) {
             Ok(plan) => {
                 self.apply(plan)?;
@@ -169,7 +169,7 @@ impl Store {
         let Some((index, _, stored)) = self.documents.get_full(uri) else {
             return Err(StoreFault::NotOpen);
         };
-        // `?` isn't proved at a value that holds a `&str` beside a struct with a model.
+        // `?` isn't proved here.
         match stored.plan(&self.limits, version, encoding, changes) {
             Ok(delta) => Ok(Plan {
                 index,

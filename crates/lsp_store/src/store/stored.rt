@@ -114,7 +114,7 @@ impl Stored {
     {
         let max_len = limits.max_text();
         self.may_change(limits, version, changes)?;
-        // `?` isn't proved at a value that holds a `&str` beside a struct with a model.
+        // `?` isn't proved here.
         match self.text.delta(encoding, changes, max_len) {
             Ok(delta) => Ok(delta),
             Err(fault) => Err(StoreFault::from(fault)),
