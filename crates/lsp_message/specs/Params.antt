@@ -126,9 +126,9 @@ change_of params = option_and_then (λ p. change_by p.0 p.1) (document_and_chang
 abbrev pub HasChanges : ChangeData → Type 0
 HasChanges change = 0 < length change.changes
 
--- Reading params as those of a `textDocument/didChange` takes memory.
-abbrev pub TakesMemory : Option Data → Type 0
-TakesMemory params = IsSomeAnd (change_of params) HasChanges
+-- Reading params as those of a `textDocument/didChange` may take memory.
+abbrev pub ParamsMayAllocate : Option Data → Type 0
+ParamsMayAllocate params = IsSomeAnd (change_of params) HasChanges
 
 -- The params of a `textDocument/didClose`, by the members of its document.
 abbrev pub close_by : Members → Option CloseData

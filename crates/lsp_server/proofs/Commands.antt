@@ -13,7 +13,7 @@ use Rattle.lsp_store.specs.Table.{Command, unless_refused, command_refusal, tabl
 use Rattle.lsp_server.specs.declared.answer.Answer.{Answer}
 use Rattle.lsp_server.specs.declared.answer.Answer.TheVariants.{Changed, Refused}
 use Rattle.lsp_server.specs.declared.answer.Refusal.TheVariants.{Store}
-use Rattle.lsp_server.specs.Answer.{refused, IsQuiet}
+use Rattle.lsp_server.specs.Answer.{refused, NeverAllocates}
 use Rattle.lsp_server.specs.Step.{ServerData, edit_from_data, stays, obeyed, obeys}
 use Rattle.lsp_server.specs.Calls.{IsStepOf, IsRowOf}
 use Rattle.lsp_server.specs.Planned.{store_of}
@@ -68,7 +68,8 @@ obeyed_step s given command new (Err fault) (Ok a) takes unchanged error changed
     }
 
 -- A step that answers for the store takes memory.
-loud : (s : ServerData) (result : Result (List DocumentItem) table.Refusal) → IsQuiet (obeyed s result).answer → ⊥
+loud : (s : ServerData) (result : Result (List DocumentItem) table.Refusal)
+    → NeverAllocates (obeyed s result).answer → ⊥
 loud s (Ok next) quiet = quiet
 loud s (Err refusal) quiet = quiet
 

@@ -6,7 +6,7 @@ ghost use Rattle.lsp_edit.specs.Edited.{edit_of};
 ghost use Rattle.lsp_store.specs.declared.fault.StoreFault.TheVariants.{NotOpen, NoMemory};
 ghost use Rattle.lsp_message.specs.Params.{DocumentItem};
 ghost use Rattle.lsp_store.specs.Table.{entry_at, is_taken, open_refusal, opens, other_count, changes as changing, closes};
-ghost use Rattle.lsp_store.specs.Opened.{IsRefused, MayTakeMemory, Takes};
+ghost use Rattle.lsp_store.specs.Opened.{ChangeMayAllocate, IsRefused, Takes};
 ghost use Rattle.lsp_store.specs.Faults.{fault_of};
 ghost use Rattle.lsp_store.specs.Plan.{IsPlanOf, IsPlanOn, after_plan};
 
@@ -227,7 +227,7 @@ impl Store {
             (IsRefused self.old (changing uri.now version encoding (map edit_of changes.now))) }
         // Memory is taken only once nothing but what the batch means can refuse it.
         ensures memory { result ≡ Err NoMemory
-            → MayTakeMemory self.old uri.now version (map edit_of changes.now) }
+            → ChangeMayAllocate self.old uri.now version (map edit_of changes.now) }
     {
         // `?` isn't proved at a value that holds a `&str` beside a struct with a model.
         match self.plan(uri, version, encoding, changes) {
@@ -258,7 +258,7 @@ impl Store {
         ensures error { IfErr result
             (IsRefused self.now (changing uri.now version encoding (map edit_of changes.now))) }
         ensures memory { result ≡ Err NoMemory
-            → MayTakeMemory self.now uri.now version (map edit_of changes.now) }
+            → ChangeMayAllocate self.now uri.now version (map edit_of changes.now) }
     {
         let Some((index, _, stored)) = self.documents.get_full(uri) else {
             return Err(StoreFault::NotOpen);

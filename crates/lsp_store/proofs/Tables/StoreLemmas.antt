@@ -15,7 +15,7 @@ use Rattle.lsp_store.specs.declared.store.stored.Stored.{Stored}
 use Rattle.lsp_store.specs.Faults.{fault_of, IsRefusal}
 use Rattle.lsp_message.specs.Params.{DocumentItem}
 use Rattle.lsp_store.specs.Table.{IsLeftToMeaning, Refusal, entry_at, is_taken, open_refusal, entry_refusal, change_refusal, changed, after_close, after_open, unless_refused, opens, changes, closes}
-use Rattle.lsp_store.specs.Opened.{MayTakeMemory, StoreData, Takes, IsRefused, entry_under, entry_of}
+use Rattle.lsp_store.specs.Opened.{ChangeMayAllocate, StoreData, Takes, IsRefused, entry_under, entry_of}
 use Rattle.lsp_store.proofs.Tables.TableLemmas.{at_uri, entry_at-lookup, is_some-entry_at, entry_found, table-opened, others_all, others_but_one, table-set_value, set_value-found, table-remove_entry}
 
 -- what callers see of the fields
@@ -195,5 +195,5 @@ module _ (limits : LimitsData) (es : List (String Global × Stored)) (kept : Sto
 -- An open document, on which nothing but its meaning refuses a batch.
 pub may_take : (kept : StoreData) (uri : List ℕ) (version : ℤ) (batch : List Edit) (entry : DocumentItem)
     → entry_at kept.table uri ≡ Some entry
-    → IsLeftToMeaning kept.limits entry version batch → MayTakeMemory kept uri version batch
+    → IsLeftToMeaning kept.limits entry version batch → ChangeMayAllocate kept uri version batch
 may_take kept uri version batch entry is_open left = rw is_open left
