@@ -62,16 +62,16 @@ delivered_view Ignored = ignored
 delivered_view (BadServer reason) = bad_server reason
 
 -- The result of a delivery, with its message as a frame.
-abbrev pub as_sent : DeliveredData OutgoingData → DeliveredData (List ℕ)
-as_sent (sends m) = sends (frame (body_of m))
-as_sent noted = noted
-as_sent ignored = ignored
-as_sent (bad_server reason) = bad_server reason
+abbrev pub as_frame : DeliveredData OutgoingData → DeliveredData (List ℕ)
+as_frame (sends m) = sends (frame (body_of m))
+as_frame noted = noted
+as_frame ignored = ignored
+as_frame (bad_server reason) = bad_server reason
 
 -- A body is accepted: this is the result, and this is the client's new state.
 abbrev pub IsDelivered : Result Delivery ClientFault → DeliveredData (List ℕ) → ClientData → Type 0
 IsDelivered (Ok delivery) delivered new =
-    (delivered ≡ as_sent delivery.delivered) × (new ≡ delivery.state)
+    (delivered ≡ as_frame delivery.delivered) × (new ≡ delivery.state)
 IsDelivered (Err refusal) delivered new = ⊥
 
 -- ---- memory
