@@ -17,7 +17,7 @@ use Rattle.lsp_message.specs.Message.{whole, given, failed, Reading, message, re
 use Rattle.lsp_message.specs.Outgoing.{OutgoingData, initialize, initialized, did_open, did_close, shutdown, exit, error_reply, body_of}
 use Rattle.lsp_store.specs.Table as documents
 use Rattle.lsp_message.specs.Params.{DocumentItem}
-use Rattle.lsp_store.specs.Faults.{fault_of}
+use Rattle.lsp_store.specs.Faults.{refusal_fault}
 use Rattle.lsp_store.specs.Table.{Command, command_refusal, table_after}
 use Rattle.lsp_store.specs.Message.{canonical_batch, whole_batch, change_message, body_refusal, else_refused}
 use Rattle.lsp_client.specs.declared.agreed.Agreed.{Agreed}
@@ -89,7 +89,7 @@ sent_body kind table command = body_of (sent_message kind table command)
 
 -- What a call sends, unless there is a refusal.
 abbrev pub sending_unless : Option documents.Refusal → Sending → Result Sending ClientFault
-sending_unless (Some refusal) sending = Err (Store (fault_of refusal))
+sending_unless (Some refusal) sending = Err (Store (refusal_fault refusal))
 sending_unless None sending = Ok sending
 
 -- What a command sends and the client's new state, or why it is refused: as the store refuses it,

@@ -7,7 +7,7 @@ ghost use Rattle.lsp_store.specs.declared.fault.StoreFault.TheVariants.{NotOpen,
 ghost use Rattle.lsp_message.specs.Params.{DocumentItem};
 ghost use Rattle.lsp_store.specs.Table.{entry_at, is_taken, open_refusal, opens, other_count, changes as changing, closes};
 ghost use Rattle.lsp_store.specs.Opened.{ChangeMayAllocate, IsRefused, Takes};
-ghost use Rattle.lsp_store.specs.Faults.{fault_of};
+ghost use Rattle.lsp_store.specs.Faults.{refusal_fault};
 ghost use Rattle.lsp_store.specs.Plan.{IsPlanOf, IsPlanOn, after_plan};
 
 pub(crate) mod canonical;
@@ -118,7 +118,7 @@ impl Store {
             (record { uri = uri.now; language = language; version = version; text = text.now })
             ≡ None) }
         ensures error { IfErr result (λ fault. (language : List ℕ) (version : ℤ) →
-            option_map fault_of (open_refusal self.now.limits self.now.table
+            option_map refusal_fault (open_refusal self.now.limits self.now.table
             (record { uri = uri.now; language = language; version = version; text = text.now }))
             ≡ Some fault) }
         ensures short { OnOk result (length text.now ≤ 1073741824) }

@@ -12,7 +12,7 @@ use Rattle.lsp_edit.specs.Batch.{Edit}
 use Rattle.lsp_store.specs.declared.fault.StoreFault.{StoreFault}
 use Rattle.lsp_store.specs.declared.fault.StoreFault.TheVariants.{AlreadyOpen, TooManyDocuments, TextTooLong, NotOpen}
 use Rattle.lsp_store.specs.declared.store.stored.Stored.{Stored}
-use Rattle.lsp_store.specs.Faults.{fault_of, IsRefusal}
+use Rattle.lsp_store.specs.Faults.{refusal_fault, IsRefusal}
 use Rattle.lsp_message.specs.Params.{DocumentItem}
 use Rattle.lsp_store.specs.Table.{IsLeftToMeaning, Refusal, entry_at, is_taken, open_refusal, entry_refusal, change_refusal, changed, after_close, after_open, unless_refused, opens, changes, closes}
 use Rattle.lsp_store.specs.Opened.{ChangeMayAllocate, StoreData, Takes, IsRefused, entry_under, entry_of}
@@ -25,18 +25,18 @@ seen limits es = record { limits = limits; table = map entry_of es }
 -- ---- whether a document may be opened
 
 module _ (limits : LimitsData) (table : List DocumentItem) (entry : DocumentItem) where
-  pub taken_refused : is_taken limits table entry.uri ≡ true → option_map fault_of (open_refusal limits table entry)
-      ≡ Some AlreadyOpen
+  pub taken_refused : is_taken limits table entry.uri ≡ true
+      → option_map refusal_fault (open_refusal limits table entry) ≡ Some AlreadyOpen
   taken_refused taken = rw taken refl
 
   module _ (free : is_taken limits table entry.uri ≡ false) where
     pub many_refused : limits.max_docs ≤ length (after_close table entry.uri)
-        → option_map fault_of (open_refusal limits table entry) ≡ Some TooManyDocuments
+        → option_map refusal_fault (open_refusal limits table entry) ≡ Some TooManyDocuments
     many_refused many = rw (free, le-leb limits.max_docs (length (after_close table entry.uri)) many) refl
 
     module _ (few : length (after_close table entry.uri) < limits.max_docs) where
-      pub long_refused : limits.max_text < length entry.text → option_map fault_of (open_refusal limits table entry)
-          ≡ Some TextTooLong
+      pub long_refused : limits.max_text < length entry.text
+          → option_map refusal_fault (open_refusal limits table entry) ≡ Some TextTooLong
       long_refused long = rw (
         free,
         lt-leb limits.max_docs (length (after_close table entry.uri)) few,
