@@ -12,7 +12,7 @@ ghost use Rattle.lsp_edit.specs.Edited.{Applied, before_bytes, both_counts, edit
 ghost use Rattle.lsp_edit.specs.Edited.{edited_text};
 ghost use Rattle.lsp_edit.specs.Faults.{IsFaultOfChange, ends_of, places_at};
 ghost use Rattle.lsp_edit.specs.inside.Faults.{IsPlaces};
-ghost use Rattle.lsp_edit.specs.Batch.{Edit, after_change, meaning};
+ghost use Rattle.lsp_edit.specs.Batch.{Edit, items_after, meaning};
 ghost use Rattle.lsp_edit.specs.Canonical.{canonical};
 ghost use Rattle.lsp_edit.specs.laws.Batches.{IsCanonical, KeepsPairs, RangesStay};
 
@@ -253,10 +253,10 @@ impl<'a> Pieces<'a> {
             (record { range = Some range; text = chars text.now }) self.new.edited) }
         ensures unchanged { OnErr result (self.new ≡ self.old) }
         ensures error { IfErr result (λ fault. IsFaultOfChange self.old.edited.changes
-            (after_change (units_in encoding) self.old.edited.before self.old.edited.items
+            (items_after (units_in encoding) self.old.edited.before self.old.edited.items
             (record { range = Some range; text = chars text.now })) fault) }
         ensures memory { result ≡ Err NoMemory → self.old.edited.changes ≡ 0
-            → IsOk (after_change (units_in encoding) self.old.edited.before self.old.edited.items
+            → IsOk (items_after (units_in encoding) self.old.edited.before self.old.edited.items
             (record { range = Some range; text = chars text.now })) }
     {
         let (start, stop) = self.places(encoding, range)?;
@@ -284,11 +284,11 @@ impl<'a> Pieces<'a> {
             (edit_of change.now) self.new.edited) }
         ensures unchanged { OnErr result (self.new ≡ self.old) }
         ensures error { IfErr result (λ fault. IsFaultOfChange self.old.edited.changes
-            (after_change (units_in encoding) self.old.edited.before self.old.edited.items
+            (items_after (units_in encoding) self.old.edited.before self.old.edited.items
             (edit_of change.now)) fault) }
         // Before the first change a range is resolved without memory.
         ensures memory { result ≡ Err NoMemory → self.old.edited.changes ≡ 0
-            → IsOk (after_change (units_in encoding) self.old.edited.before self.old.edited.items
+            → IsOk (items_after (units_in encoding) self.old.edited.before self.old.edited.items
             (edit_of change.now)) }
     {
         match change.range {
