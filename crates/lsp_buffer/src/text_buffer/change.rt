@@ -6,7 +6,7 @@ ghost use Rattle.std.specs.List.{concat, replace_range};
 ghost use Rattle.std.specs.Str.{IsCharBoundary};
 ghost use Rattle.lsp_text.specs.Starts.{IsLineOf as IsBlockOf};
 ghost use Rattle.lsp_buffer.specs.inside.Seams.{row_of};
-ghost use Rattle.lsp_buffer.specs.Blocks.{AreBlocks, IsBuffer, IsTextBuffer, ends_of, sums_from};
+ghost use Rattle.lsp_buffer.specs.Blocks.{AreBlocks, IsBuffer, IsTextBuffer, block_ends, sums_from};
 
 use crate::block::{Block, BlockSplice};
 use crate::cut::{CUT, LAST, blocks_of};
@@ -81,8 +81,8 @@ fn put_in_block(
     ensures unchanged { OnErr result (block.new ≡ block.old) }
     ensures old_len { IfOk result (λ sizes. sizes.old_len ≡ length block.old) }
     ensures len { IfOk result (λ sizes. sizes.len ≡ length block.new) }
-    ensures old_ends { IfOk result (λ sizes. sizes.old_ends ≡ ends_of block.old) }
-    ensures ends { IfOk result (λ sizes. sizes.ends ≡ ends_of block.new) }
+    ensures old_ends { IfOk result (λ sizes. sizes.old_ends ≡ block_ends block.old) }
+    ensures ends { IfOk result (λ sizes. sizes.ends ≡ block_ends block.new) }
 {
     let old_len = block.len();
     let old_ends = block.ends();
@@ -232,13 +232,13 @@ fn starts_of(alloc: Global, starts: &[u32], change: BlockSplice<'_>) -> Result<V
 fn lines_of(alloc: Global, lines: &[u32], change: BlockSplice<'_>) -> Result<Vec<u32>, AllocError>
     requires first { change.first < length lines.now }
     requires past { change.past ≤ length change.blocks.now }
-    requires room { slice_index lines.now change.first + sum (map ends_of change.fresh.now)
-        + sum (map ends_of (drop change.past change.blocks.now)) ≤ 2147483648 }
+    requires room { slice_index lines.now change.first + sum (map block_ends change.fresh.now)
+        + sum (map block_ends (drop change.past change.blocks.now)) ≤ 2147483648 }
     ensures { IfOk result (λ made. made.items ≡ take change.entry.first lines.now
         ++ (sums_from (slice_index lines.now change.entry.first)
-        (map ends_of change.entry.fresh.now) ++ sums_from
-        (slice_index lines.now change.entry.first + sum (map ends_of change.entry.fresh.now))
-        (map ends_of (drop change.entry.past change.entry.blocks.now)))) }
+        (map block_ends change.entry.fresh.now) ++ sums_from
+        (slice_index lines.now change.entry.first + sum (map block_ends change.entry.fresh.now))
+        (map block_ends (drop change.entry.past change.entry.blocks.now)))) }
 {
     let BlockSplice {
         blocks,
