@@ -53,8 +53,8 @@ abbrev pub is_changed : Gap → Bool
 is_changed gap = nat_lt gap.low gap.high || nat_lt 0 (length gap.text)
 
 -- The change of a gap: its range is the exact positions of the gap's two ends in the old text.
-abbrev pub change_of : (ℕ → ℕ) → List ℕ → Gap → Edit
-change_of units old gap =
+abbrev pub gap_edit : (ℕ → ℕ) → List ℕ → Gap → Edit
+gap_edit units old gap =
     record {
       range = Some (record {
         start = exact_position units old gap.low;
@@ -65,4 +65,4 @@ change_of units old gap =
 
 -- The canonical batch of items: one change for each changed gap, from the last gap to the first.
 abbrev pub canonical : (ℕ → ℕ) → List ℕ → List Item → List Edit
-canonical units old items = reverse (map (change_of units old) (filter is_changed (gaps old items)))
+canonical units old items = reverse (map (gap_edit units old) (filter is_changed (gaps old items)))

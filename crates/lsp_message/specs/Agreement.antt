@@ -12,7 +12,7 @@ use Rattle.lsp_message.specs.declared.agreement.Offers.{Offers}
 use Rattle.lsp_message.specs.declared.agreement.Announced.{Announced}
 use Rattle.lsp_message.specs.declared.agreement.SyncKind.{SyncKind}
 use Rattle.lsp_message.specs.declared.agreement.SyncKind.TheVariants.{Off, Full, Incremental}
-use Rattle.lsp_message.specs.Values.{◌>>=◌, text_in, members_in, items_in, natural_in, is_missing}
+use Rattle.lsp_message.specs.Values.{◌>>=◌, text_in, members_in, array_in, natural_in, is_missing}
 
 -- Whether a client offers an encoding; UTF-16 always is offered.
 abbrev pub is_offered : Offers → Encoding → Bool
@@ -43,7 +43,7 @@ texts_in (item d ds) = do
 -- The offers of `positionEncodings`. Where it is missing or null, UTF-16 alone is offered.
 abbrev pub offers_by_encodings : Option Data → Option Offers
 offers_by_encodings value = if is_missing value then Some utf16_alone else
-    option_map offers_named (option_and_then texts_in (items_in value))
+    option_map offers_named (option_and_then texts_in (array_in value))
 
 -- The offers of `general`, in the same way.
 abbrev pub offers_by_general : Option Data → Option Offers

@@ -93,9 +93,9 @@ abbrev pub message_of : Data → Reading
 message_of value = option_map_or message_of_members (as_object value) (not_a_message None)
 
 -- The JSON value of a body; none where its bytes are not UTF-8 or `serde_json` refuses them.
-abbrev pub value_of : List ℕ → Option Data
-value_of body = if is_utf8 body then read body else None
+abbrev pub json_of : List ℕ → Option Data
+json_of body = if is_utf8 body then read body else None
 
 -- What a body is read as: no JSON, JSON that is no message, or a message.
 abbrev pub reading : List ℕ → Reading
-reading body = option_map_or message_of (value_of body) not_json
+reading body = option_map_or message_of (json_of body) not_json

@@ -6,7 +6,7 @@ use Rattle.serde_json.specs.Data.{Data, Items, no_items, item, Members}
 use Rattle.serde_json.specs.Find.{get_member, as_object}
 use Rattle.lsp_text.specs.declared.position.Position.{Position}
 use Rattle.lsp_text.specs.declared.position.Range.{Range}
-use Rattle.lsp_message.specs.Values.{◌>>=◌, member_at, text_in, members_in, items_in, whole_in, natural_in, is_missing}
+use Rattle.lsp_message.specs.Values.{◌>>=◌, member_at, text_in, members_in, array_in, whole_in, natural_in, is_missing}
 use Rattle.lsp_message.specs.Message.{notification, message, reading}
 
 -- An item of a document (TextDocumentItem). Its texts are bytes of UTF-8.
@@ -115,7 +115,7 @@ change_by document changes = do
 abbrev pub document_and_changes : Option Data → Option (Members × Items)
 document_and_changes params = do
   document ← document_in params
-  changes ← items_in (member_at (codes "contentChanges") params)
+  changes ← array_in (member_at (codes "contentChanges") params)
   Some (document, changes)
 
 -- What params are as those of a `textDocument/didChange`; none where they are refused.
@@ -126,9 +126,9 @@ change_of params = option_and_then (λ p. change_by p.0 p.1) (document_and_chang
 abbrev pub HasChanges : ChangeData → Type 0
 HasChanges change = 0 < length change.changes
 
--- Reading params as those of a `textDocument/didChange` takes memory.
-abbrev pub TakesMemory : Option Data → Type 0
-TakesMemory params = IsSomeAnd (change_of params) HasChanges
+-- Reading params as those of a `textDocument/didChange` may take memory.
+abbrev pub ParamsMayAllocate : Option Data → Type 0
+ParamsMayAllocate params = IsSomeAnd (change_of params) HasChanges
 
 -- The params of a `textDocument/didClose`, by the members of its document.
 abbrev pub close_by : Members → Option CloseData

@@ -22,8 +22,8 @@ abbrev pub members_in : Option Data → Option Members
 members_in value = option_and_then as_object value
 
 -- The items of an array.
-abbrev pub items_in : Option Data → Option Items
-items_in value = option_and_then as_array value
+abbrev pub array_in : Option Data → Option Items
+array_in value = option_and_then as_array value
 
 -- A whole number: in the range of `i64`, written without a fraction and an exponent. `-0` is none.
 abbrev pub whole_in : Option Data → Option ℤ

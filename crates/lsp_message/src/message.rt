@@ -4,7 +4,7 @@ ghost use Rattle.std.specs.Prelude.{◌≡◌, ◌↔◌, Some, IfOk, IfErr, IsE
 ghost use Rattle.serde_json.specs.Find.{get_member};
 ghost use Rattle.serde_json.specs.View.{view, members_view};
 ghost use Rattle.lsp_message.specs.Message.{reading, message, id_in, id_found, call_of, answer_of, outcome_of, message_by, message_of, is_version_two};
-ghost use Rattle.lsp_message.specs.Seen.{id_view, message_view, IsReadFault, IsFaultOf};
+ghost use Rattle.lsp_message.specs.Seen.{id_view, message_view, IsReadFault, IsFaultOfError};
 ghost use Rattle.lsp_message.specs.inside.Seen.{Answers};
 
 use crate::members::take;
@@ -67,9 +67,9 @@ pub enum ReadFault {
 }
 
 impl From<serde_json::Error> for ReadFault {
-    ghost use Rattle.lsp_message.specs.Seen.{IsFaultOf};
+    ghost use Rattle.lsp_message.specs.Seen.{IsFaultOfError};
 
-    ghost from_gives = { IsFaultOf };
+    ghost from_gives = { IsFaultOfError };
 
     fn from(error: serde_json::Error) -> ReadFault {
         if error.is_memory() {
@@ -108,7 +108,7 @@ fn begins_with_mark(body: &[u8]) -> bool
 fn message_from(parsed: Result<Value, serde_json::Error>) -> Result<Message, ReadFault>
     ensures { MatchResult parsed
         (λ value. Answers result (message_of (view value)))
-        (λ error. IsErrAnd result (IsFaultOf error)) }
+        (λ error. IsErrAnd result (IsFaultOfError error)) }
 {
     message_of(parsed?)
 }

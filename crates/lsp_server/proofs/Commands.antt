@@ -5,7 +5,7 @@ use Rattle.lsp_edit.specs.Edited as made
 use Rattle.lsp_message.specs.Seen.{edit_view}
 use Rattle.lsp_store.specs.declared.fault.StoreFault.{StoreFault}
 use Rattle.lsp_store.specs.declared.fault.StoreFault.TheVariants.{NoMemory}
-use Rattle.lsp_store.specs.Faults.{fault_of}
+use Rattle.lsp_store.specs.Faults.{refusal_fault}
 use Rattle.lsp_store.specs.Opened.{StoreData, Takes, IsRefused}
 use Rattle.lsp_store.specs.Table as table
 use Rattle.lsp_message.specs.Params.{DocumentItem}
@@ -13,7 +13,7 @@ use Rattle.lsp_store.specs.Table.{Command, unless_refused, command_refusal, tabl
 use Rattle.lsp_server.specs.declared.answer.Answer.{Answer}
 use Rattle.lsp_server.specs.declared.answer.Answer.TheVariants.{Changed, Refused}
 use Rattle.lsp_server.specs.declared.answer.Refusal.TheVariants.{Store}
-use Rattle.lsp_server.specs.Answer.{refused, IsQuiet}
+use Rattle.lsp_server.specs.Answer.{refused, NeverAllocates}
 use Rattle.lsp_server.specs.Step.{ServerData, edit_from_data, stays, obeyed, obeys}
 use Rattle.lsp_server.specs.Calls.{IsStepOf, IsRowOf}
 use Rattle.lsp_server.specs.Planned.{store_of}
@@ -29,11 +29,11 @@ over s store = record s { config = record s.config { limits = store.limits }; ta
 
 -- What is answered to a refused command tells the store's fault.
 refusal_answered : (s : ServerData) (refusal : Option table.Refusal) (next : List DocumentItem) (fault : StoreFault)
-    → option_map fault_of refusal ≡ Some fault → obeyed s (unless_refused refusal next)
+    → option_map refusal_fault refusal ≡ Some fault → obeyed s (unless_refused refusal next)
     ≡ stays s (refused (Store fault))
 refusal_answered s None next fault e = cc
 refusal_answered s (Some refusal) next fault e =
-    let same : fault_of refusal ≡ fault = cc in ap (λ error. stays s (refused (Store error))) same
+    let same : refusal_fault refusal ≡ fault = cc in ap (λ error. stays s (refused (Store error))) same
 
 pub obeyed_as_refused : (s : ServerData) (command : Command) (fault : StoreFault)
     → fault ≢ NoMemory → IsRefused (store_of s) command fault → obeys s command ≡ stays s (refused (Store fault))
@@ -68,7 +68,8 @@ obeyed_step s given command new (Err fault) (Ok a) takes unchanged error changed
     }
 
 -- A step that answers for the store takes memory.
-loud : (s : ServerData) (result : Result (List DocumentItem) table.Refusal) → IsQuiet (obeyed s result).answer → ⊥
+loud : (s : ServerData) (result : Result (List DocumentItem) table.Refusal)
+    → NeverAllocates (obeyed s result).answer → ⊥
 loud s (Ok next) quiet = quiet
 loud s (Err refusal) quiet = quiet
 

@@ -40,9 +40,9 @@ as_sent (refused refusal) = refused refusal
 as_sent (exits status) = exits status
 
 -- An answer that takes no memory: there is no reply, and the store isn't called.
-abbrev pub IsQuiet : {Reply : Type 0} → AnswerData Reply → Type 0
-IsQuiet dropped = ⊤
-IsQuiet ignored = ⊤
-IsQuiet (exits status) = ⊤
-IsQuiet (refused InvalidParams) = ⊤
-IsQuiet answer = ⊥
+abbrev pub NeverAllocates : {Reply : Type 0} → AnswerData Reply → Type 0
+NeverAllocates dropped = ⊤
+NeverAllocates ignored = ⊤
+NeverAllocates (exits status) = ⊤
+NeverAllocates (refused InvalidParams) = ⊤
+NeverAllocates answer = ⊥

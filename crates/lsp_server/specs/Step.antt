@@ -11,7 +11,7 @@ use Rattle.lsp_message.specs.declared.outgoing.ErrorCode.TheVariants.{ParseError
 use Rattle.lsp_message.specs.Message.{IdData, Reading}
 use Rattle.lsp_message.specs.Outgoing.{OutgoingData, initialize_result, shutdown_result, error_reply}
 use Rattle.lsp_message.specs.Params.{DocumentItem, EditData, ChangeData, CloseData}
-use Rattle.lsp_store.specs.Faults.{fault_of}
+use Rattle.lsp_store.specs.Faults.{refusal_fault}
 use Rattle.lsp_store.specs.Table as table
 use Rattle.lsp_store.specs.Table.{Command, opens, changes, closes, after_command}
 use Rattle.lsp_server.specs.declared.answer.Refusal.TheVariants.{InvalidParams as params_invalid, Store}
@@ -68,7 +68,7 @@ begins s id offers = begins_in s id (chosen s.config.choice offers)
 -- The step of a command with this result.
 abbrev pub obeyed : ServerData → Result (List DocumentItem) table.Refusal → Step
 obeyed s (Ok next) = record { answer = changed; state = record s { table = next } }
-obeyed s (Err refusal) = stays s (refused (Store (fault_of refusal)))
+obeyed s (Err refusal) = stays s (refused (Store (refusal_fault refusal)))
 
 -- A step that runs a command on the open documents, or refuses it.
 abbrev pub obeys : ServerData → Command → Step

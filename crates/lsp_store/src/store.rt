@@ -5,7 +5,7 @@ ghost use Rattle.lsp_edit.specs.Batch.{Edit};
 ghost use Rattle.lsp_edit.specs.Edited.{edit_of};
 ghost use Rattle.lsp_store.specs.declared.fault.StoreFault.TheVariants.{NotOpen, NoMemory};
 ghost use Rattle.lsp_store.specs.Table.{entry_at, changes as changing, closes};
-ghost use Rattle.lsp_store.specs.Opened.{IsRefused, MayTakeMemory, Takes};
+ghost use Rattle.lsp_store.specs.Opened.{ChangeMayAllocate, IsRefused, Takes};
 ghost use Rattle.lsp_store.specs.Plan.{IsPlanOf, IsPlanOn, after_plan};
 
 pub(crate) mod canonical;
@@ -133,7 +133,7 @@ impl Store {
             (IsRefused self.old (changing uri.now version encoding (map edit_of changes.now))) }
         // Memory is taken only once nothing but what the batch means can refuse it.
         ensures memory { result ≡ Err NoMemory
-            → MayTakeMemory self.old uri.now version (map edit_of changes.now) }
+            → ChangeMayAllocate self.old uri.now version (map edit_of changes.now) }
     {
         // `?` isn't proved here.
         match self.plan(uri, version, encoding, changes) {
@@ -164,7 +164,7 @@ impl Store {
         ensures error { IfErr result
             (IsRefused self.now (changing uri.now version encoding (map edit_of changes.now))) }
         ensures memory { result ≡ Err NoMemory
-            → MayTakeMemory self.now uri.now version (map edit_of changes.now) }
+            → ChangeMayAllocate self.now uri.now version (map edit_of changes.now) }
     {
         let Some((index, _, stored)) = self.documents.get_full(uri) else {
             return Err(StoreFault::NotOpen);

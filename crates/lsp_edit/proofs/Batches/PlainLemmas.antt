@@ -15,9 +15,9 @@ use Rattle.lsp_edit.specs.declared.change.Change.{Change}
 use Rattle.lsp_edit.specs.declared.fault.EditFault.{EditFault}
 use Rattle.lsp_edit.specs.declared.plain.Item.{Item as PlainItem}
 use Rattle.lsp_edit.specs.Items.{Item, Old, New, plain, character_of, text_of}
-use Rattle.lsp_edit.specs.Batch.{Edit, after_change, after_changes, changed_in, meaning}
+use Rattle.lsp_edit.specs.Batch.{Edit, items_after, after_changes, changed_in, meaning}
 use Rattle.lsp_edit.specs.Compose.{then_items}
-use Rattle.lsp_edit.specs.Canonical.{gaps, is_changed, change_of}
+use Rattle.lsp_edit.specs.Canonical.{gaps, is_changed, gap_edit}
 use Rattle.lsp_edit.specs.Edited.{PlainData, both_counts, edit_of, edited_bytes, edited_text}
 use Rattle.lsp_edit.specs.Faults.{places_at, ends_of}
 use Rattle.lsp_edit.specs.Keeps.{Keeps}
@@ -153,7 +153,7 @@ module _ (units : ℕ → ℕ) (old : List ℕ) (low high : ℕ) (text : List �
   gap_one changes change start stop some range same at_start at_stop =
       let own : chars (string_bytes change.text) ≡ text =
       sym (chars_from_encodes text (string_bytes change.text) (IsUtf8-string_bytes change.text) (sym same)) in
-      let e : edit_of change ≡ change_of units old (gap_at low high text)
+      let e : edit_of change ≡ gap_edit units old (gap_at low high text)
       = λ i. record {
         range = (range ∙ ap₂ (λ (x y : Position). Some (record { start = x; stop = y })) at_start at_stop) i;
         text = own i;
@@ -195,11 +195,11 @@ pub plain_next : (units : ℕ → ℕ) (before old : List ℕ) (items next : Lis
       items = items;
       changes = changes;
     } ≡ edited
-    → after_change units edited.before edited.items change ≡ Ok next → length (encode_utf8_all change.text) ≡ more
+    → items_after units edited.before edited.items change ≡ Ok next → length (encode_utf8_all change.text) ≡ more
     → length (edited_bytes edited) + more ≤ 2147483648 → ArePlain before old next
 plain_next units before old items next changes edited change more are view made own fits =
-    let here : after_change units (chars before) items change ≡ Ok next =
-    subst (λ (e : PlainData). after_change units e.before e.items change ≡ Ok next) (sym view) made in
+    let here : items_after units (chars before) items change ≡ Ok next =
+    subst (λ (e : PlainData). items_after units e.before e.items change ≡ Ok next) (sym view) made in
     let long : length (edited_bytes edited) ≡ length (encode_utf8_all (text_of (chars before) items)) =
     ap (λ (e : PlainData). length (edited_bytes e)) (sym view) in
     record {

@@ -6,8 +6,8 @@ use Rattle.lsp_text.specs.declared.position.Range.{Range}
 use Rattle.lsp_text.specs.TextLines.{numbers_from}
 use Rattle.lsp_text.specs.Positions.{denoted}
 use Rattle.lsp_edit.specs.Items.{Item, Old, New, plain, text_of}
-use Rattle.lsp_edit.specs.Batch.{Edit, Fault, Reversed, replaced, changed_in, after_change, after_changes, continue_with, meaning}
-use Rattle.lsp_edit.specs.Canonical.{Gap, is_changed, change_of, gaps, canonical}
+use Rattle.lsp_edit.specs.Batch.{Edit, Fault, Reversed, replaced, changed_in, items_after, after_changes, continue_with, meaning}
+use Rattle.lsp_edit.specs.Canonical.{Gap, is_changed, gap_edit, gaps, canonical}
 use Rattle.lsp_edit.proofs.Canonical.GapLemmas.{gap, gaps_from, gaps_are}
 
 abbrev one_if : Bool → ℕ
@@ -113,7 +113,7 @@ module _ (size : ℕ) where
       rw (le-ltb low low (omega arith)) (omega (arith, none_at_first (suc low) count (omega arith)))
 
   module _ (units : ℕ → ℕ) (old : List ℕ) where
-    change_adds : (items next : List Item) (change : Edit) → after_change units old items change ≡ Ok next
+    change_adds : (items next : List Item) (change : Edit) → items_after units old items change ≡ Ok next
         → hunks size false 0 next ≤ suc (hunks size false 0 items)
     change_adds items next change is = by_range change.range is
       where
@@ -145,9 +145,9 @@ module _ (size : ℕ) where
         ≡ Ok last → hunks size false 0 last ≤ hunks size false 0 items + length batch
     changes_add number items last [] is = let e : items ≡ last = cc in omega (arith, ap (hunks size false 0) e)
     changes_add number items last (change ∷ batch) is =
-        rest_after (after_change units old items change) refl (λ next. changes_add (suc number) next last batch) is
+        rest_after (items_after units old items change) refl (λ next. changes_add (suc number) next last batch) is
       where
-        rest_after : (made : Result (List Item) Fault) → after_change units old items change ≡ made
+        rest_after : (made : Result (List Item) Fault) → items_after units old items change ≡ made
             → ((next : List Item) → after_changes units old (suc number) next batch ≡ Ok last → hunks size false 0 last
             ≤ hunks size false 0 next + length batch)
             → continue_with (λ next. after_changes units old (suc number) next batch) number made ≡ Ok last
@@ -176,11 +176,11 @@ pub no_more_changes : (units : ℕ → ℕ) (old : List ℕ) (batch : List Edit)
     ≡ Ok items → length (canonical units old items) ≤ length batch
 no_more_changes units old batch items is =
     let r : length (canonical units old items)
-    ≡ length (map (change_of units old) (filter is_changed (gaps old items))) =
-    length-reverse (map (change_of units old) (filter is_changed (gaps old items))) in
-    let m : length (map (change_of units old) (filter is_changed (gaps old items)))
+    ≡ length (map (gap_edit units old) (filter is_changed (gaps old items))) =
+    length-reverse (map (gap_edit units old) (filter is_changed (gaps old items))) in
+    let m : length (map (gap_edit units old) (filter is_changed (gaps old items)))
     ≡ length (filter is_changed (gaps old items)) =
-    length-map (filter is_changed (gaps old items)) (change_of units old) in
+    length-map (filter is_changed (gaps old items)) (gap_edit units old) in
     let g : length (filter is_changed (gaps old items)) ≡ length (filter is_changed (gaps_from old 0 [] items)) =
     ap (λ (gs : List Gap). length (filter is_changed gs)) (gaps_are old items) in
     let h : length (filter is_changed (gaps_from old 0 [] items)) ≡ hunks (length old) false 0 items =

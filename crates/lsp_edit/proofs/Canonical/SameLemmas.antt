@@ -2,7 +2,7 @@
 use Rattle.std.proofs.Common.{ℕ, suc, ◌≡◌, ◌≤◌, ◌↔◌, List, [], ◌∷◌, ◌++◌, length, map, reverse, filter, Result, Ok, ap, ap₂}
 use Rattle.lsp_edit.specs.Items.{Item}
 use Rattle.lsp_edit.specs.Batch.{Edit, Fault, meaning}
-use Rattle.lsp_edit.specs.Canonical.{kept, gap_texts, DoTheSame, gaps_between, is_changed, change_of, canonical}
+use Rattle.lsp_edit.specs.Canonical.{kept, gap_texts, DoTheSame, gaps_between, is_changed, gap_edit, canonical}
 use Rattle.lsp_edit.proofs.Canonical.KeepsLemmas.{meaning_keeps}
 use Rattle.lsp_edit.proofs.Canonical.RebuiltLemmas.{canonical_makes}
 
@@ -28,7 +28,7 @@ module _ (units : ℕ → ℕ) (some : (c : ℕ) → 1 ≤ units c) (old : List 
     λ same.
         ap₂
         (λ (k : List ℕ) (texts : List (List ℕ)). reverse
-        (map (change_of units old) (filter is_changed (gaps_between (0 ∷ map suc k) (k ++ length old ∷ []) texts))))
+        (map (gap_edit units old) (filter is_changed (gaps_between (0 ∷ map suc k) (k ++ length old ∷ []) texts))))
         same.same_kept
         same.same_texts,
   )

@@ -8,7 +8,7 @@ ghost use Rattle.lsp_edit.specs.Edited.{Applied, edit_of, edited_bytes};
 ghost use Rattle.lsp_edit.specs.Edited.{edited_text};
 ghost use Rattle.lsp_edit.specs.Faults.{IsFaultOfChange, ends_of, places_at};
 ghost use Rattle.lsp_edit.specs.inside.Faults.{IsPlaces};
-ghost use Rattle.lsp_edit.specs.Batch.{after_change};
+ghost use Rattle.lsp_edit.specs.Batch.{items_after};
 
 use crate::change::Change;
 use crate::ends::ends;
@@ -67,10 +67,10 @@ impl<'a> Pieces<'a> {
             (record { range = Some range; text = chars text.now }) self.new.edited) }
         ensures unchanged { OnErr result (self.new ≡ self.old) }
         ensures error { IfErr result (λ fault. IsFaultOfChange self.old.edited.changes
-            (after_change (units_in encoding) self.old.edited.before self.old.edited.items
+            (items_after (units_in encoding) self.old.edited.before self.old.edited.items
             (record { range = Some range; text = chars text.now })) fault) }
         ensures memory { result ≡ Err NoMemory → self.old.edited.changes ≡ 0
-            → IsOk (after_change (units_in encoding) self.old.edited.before self.old.edited.items
+            → IsOk (items_after (units_in encoding) self.old.edited.before self.old.edited.items
             (record { range = Some range; text = chars text.now })) }
     {
         let (start, stop) = self.places(encoding, range)?;
@@ -98,11 +98,11 @@ impl<'a> Pieces<'a> {
             (edit_of change.now) self.new.edited) }
         ensures unchanged { OnErr result (self.new ≡ self.old) }
         ensures error { IfErr result (λ fault. IsFaultOfChange self.old.edited.changes
-            (after_change (units_in encoding) self.old.edited.before self.old.edited.items
+            (items_after (units_in encoding) self.old.edited.before self.old.edited.items
             (edit_of change.now)) fault) }
         // Before the first change a range is resolved without memory.
         ensures memory { result ≡ Err NoMemory → self.old.edited.changes ≡ 0
-            → IsOk (after_change (units_in encoding) self.old.edited.before self.old.edited.items
+            → IsOk (items_after (units_in encoding) self.old.edited.before self.old.edited.items
             (edit_of change.now)) }
     {
         match change.range {

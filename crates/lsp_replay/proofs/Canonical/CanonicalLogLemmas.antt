@@ -11,7 +11,7 @@ use Rattle.lsp_message.specs.Seen.{edit_view}
 use Rattle.lsp_edit.specs.declared.change.Change.{Change}
 use Rattle.lsp_store.specs.declared.fault.StoreFault.{StoreFault}
 use Rattle.lsp_store.specs.declared.fault.StoreFault.TheVariants.{BodyTooLong, NoMemory}
-use Rattle.lsp_store.specs.Faults.{IsRefusal, fault_of}
+use Rattle.lsp_store.specs.Faults.{IsRefusal, refusal_fault}
 use Rattle.lsp_store.specs.Message.{body_refusal, else_refused}
 use Rattle.lsp_store.specs.Table.{Refusal, body_too_long, change_refusal, unless_refused, command_refusal, table_after}
 use Rattle.lsp_server.specs.declared.phase.Phase.{Phase}
@@ -121,7 +121,7 @@ over_none true len e = cc
 over_none false len e = refl
 
 over_some : (over : Bool) (len : ℕ) (fault : StoreFault)
-    → option_map fault_of (if over then Some (body_too_long len) else None) ≡ Some fault
+    → option_map refusal_fault (if over then Some (body_too_long len) else None) ≡ Some fault
     → (over ≡ true) × (fault ≡ BodyTooLong len)
 over_some true len fault e = (refl, cc)
 over_some false len fault e = cc

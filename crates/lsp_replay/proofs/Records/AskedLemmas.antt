@@ -13,9 +13,9 @@ use Rattle.std.proofs.lemmas.Str.{IsUtf8-from_is_utf8, scalars-chars}
 use Rattle.serde_json.specs.Data.{Num, unsigned, negative, float, Data, null, boolean, number, string, array, object, Items, no_items, item, Members, no_members, member}
 use Rattle.serde_json.specs.Find.{get_member, get, as_object, as_str, as_array, as_i64}
 use Rattle.serde_json.specs.Read.{read}
-use Rattle.lsp_message.specs.Values.{member_at, text_in, items_in, is_null, whole_in}
+use Rattle.lsp_message.specs.Values.{member_at, text_in, array_in, is_null, whole_in}
 use Rattle.lsp_message.specs.Message as msg
-use Rattle.lsp_message.specs.Message.{IdData, whole, text, Reading, MessageData, id_in, value_of, message_of, call_of, answer_of, outcome_of, message_with, message_by, is_version_two, reading}
+use Rattle.lsp_message.specs.Message.{IdData, whole, text, Reading, MessageData, id_in, json_of, message_of, call_of, answer_of, outcome_of, message_with, message_by, is_version_two, reading}
 use Rattle.lsp_message.specs.Params.{DocumentItem, EditData, ChangeData, open_of, open_by, change_of, change_by, document_in, document_and_changes, edit_by, edit_in, edits_in, range_of, version_in, within_version}
 use Rattle.lsp_message.specs.laws.Sent.{IsProperId}
 use Rattle.lsp_server.specs.Incoming.{IncomingData, not_json, not_a_message, response, initialize, shutdown, other_request, exit, did_open, did_change, did_close, other_notification, incoming_by, incoming_of}
@@ -163,7 +163,7 @@ value_proper d received =
     (held_member (codes "id") ms h) (held_member (codes "params") ms h))
     (object_held d received) tt
 
-value_held : (body : List ℕ) → OnSome IsHeld (value_of body)
+value_held : (body : List ℕ) → OnSome IsHeld (json_of body)
 value_held body = by (is_utf8 body) refl
   where
     on_read : (found : Option Data) → IsUtf8 body → read body ≡ found → OnSome IsHeld found
@@ -175,7 +175,7 @@ value_held body = by (is_utf8 body) refl
     by false e = tt
 
 reading_proper : (body : List ℕ) → IsProperReading (reading body)
-reading_proper body = found_or IsHeld message_of (value_of body) msg.not_json value_proper (value_held body) tt
+reading_proper body = found_or IsHeld message_of (json_of body) msg.not_json value_proper (value_held body) tt
 
 -- ---- parameters
 
@@ -263,7 +263,7 @@ AreBothHeld p = MembersAreHeld p.0 × ItemsAreHeld p.1
 both_held : (params : Option Data) → OnSome IsHeld params → OnSome AreBothHeld (document_and_changes params)
 both_held params received =
     on_then MembersAreHeld AreBothHeld _
-    (λ ms h. on_then ItemsAreHeld AreBothHeld _ (λ ds i. (h, i)) (items_in (member_at (codes "contentChanges") params))
+    (λ ms h. on_then ItemsAreHeld AreBothHeld _ (λ ds i. (h, i)) (array_in (member_at (codes "contentChanges") params))
     (on_then IsHeld ItemsAreHeld as_array array_held (member_at (codes "contentChanges") params)
     (held_at (codes "contentChanges") params received)))
     (document_in params) (document_held params received)

@@ -4,7 +4,7 @@ ghost use Rattle.std.specs.Prelude.{◌≡◌, ◌≢◌, ◌<◌, ◌≤◌, �
 ghost use Rattle.lsp_store.specs.declared.fault.StoreFault.TheVariants.{NoMemory};
 ghost use Rattle.lsp_store.specs.Table.{is_taken, open_refusal, opens, other_count};
 ghost use Rattle.lsp_store.specs.Opened.{IsRefused, Takes};
-ghost use Rattle.lsp_store.specs.Faults.{fault_of};
+ghost use Rattle.lsp_store.specs.Faults.{refusal_fault};
 
 use crate::fault::StoreFault;
 use crate::store::Store;
@@ -21,7 +21,7 @@ impl Store {
             (record { uri = uri.now; language = language; version = version; text = text.now })
             ≡ None) }
         ensures error { IfErr result (λ fault. (language : List ℕ) (version : ℤ) →
-            option_map fault_of (open_refusal self.now.limits self.now.table
+            option_map refusal_fault (open_refusal self.now.limits self.now.table
             (record { uri = uri.now; language = language; version = version; text = text.now }))
             ≡ Some fault) }
         ensures short { OnOk result (length text.now ≤ 1073741824) }

@@ -6,7 +6,7 @@ ghost use Rattle.std.specs.List.{concat, replace_range};
 ghost use Rattle.std.specs.Str.{IsCharBoundary};
 ghost use Rattle.lsp_text.specs.Starts.{IsLineOf as IsBlockOf};
 ghost use Rattle.lsp_buffer.specs.inside.Seams.{row_of};
-ghost use Rattle.lsp_buffer.specs.Blocks.{IsTextBuffer, ends_of, sums_from};
+ghost use Rattle.lsp_buffer.specs.Blocks.{IsTextBuffer, block_ends, sums_from};
 
 use crate::block::{Block, BlockSplice};
 use crate::cut::blocks_of;
@@ -84,13 +84,13 @@ fn starts_of(alloc: Global, starts: &[u32], change: BlockSplice<'_>) -> Result<V
 fn lines_of(alloc: Global, lines: &[u32], change: BlockSplice<'_>) -> Result<Vec<u32>, AllocError>
     requires first { change.first < length lines.now }
     requires past { change.past ≤ length change.blocks.now }
-    requires room { slice_index lines.now change.first + sum (map ends_of change.fresh.now)
-        + sum (map ends_of (drop change.past change.blocks.now)) ≤ 2147483648 }
+    requires room { slice_index lines.now change.first + sum (map block_ends change.fresh.now)
+        + sum (map block_ends (drop change.past change.blocks.now)) ≤ 2147483648 }
     ensures { IfOk result (λ made. made.items ≡ take change.entry.first lines.now
         ++ (sums_from (slice_index lines.now change.entry.first)
-        (map ends_of change.entry.fresh.now) ++ sums_from
-        (slice_index lines.now change.entry.first + sum (map ends_of change.entry.fresh.now))
-        (map ends_of (drop change.entry.past change.entry.blocks.now)))) }
+        (map block_ends change.entry.fresh.now) ++ sums_from
+        (slice_index lines.now change.entry.first + sum (map block_ends change.entry.fresh.now))
+        (map block_ends (drop change.entry.past change.entry.blocks.now)))) }
 {
     let BlockSplice {
         blocks,

@@ -5,7 +5,7 @@ ghost use Rattle.std.specs.List.{concat, replace_range};
 ghost use Rattle.std.specs.Str.{IsCharBoundary};
 ghost use Rattle.lsp_text.specs.Starts.{IsLineOf as IsBlockOf};
 ghost use Rattle.lsp_buffer.specs.inside.Seams.{row_of};
-ghost use Rattle.lsp_buffer.specs.Blocks.{IsBuffer, IsTextBuffer, ends_of};
+ghost use Rattle.lsp_buffer.specs.Blocks.{IsBuffer, IsTextBuffer, block_ends};
 
 use crate::block::Block;
 use crate::heads::Heads;
@@ -38,8 +38,8 @@ fn put_in_block(
     ensures unchanged { OnErr result (block.new ≡ block.old) }
     ensures old_len { IfOk result (λ sizes. sizes.old_len ≡ length block.old) }
     ensures len { IfOk result (λ sizes. sizes.len ≡ length block.new) }
-    ensures old_ends { IfOk result (λ sizes. sizes.old_ends ≡ ends_of block.old) }
-    ensures ends { IfOk result (λ sizes. sizes.ends ≡ ends_of block.new) }
+    ensures old_ends { IfOk result (λ sizes. sizes.old_ends ≡ block_ends block.old) }
+    ensures ends { IfOk result (λ sizes. sizes.ends ≡ block_ends block.new) }
 {
     let old_len = block.len();
     let old_ends = block.ends();
