@@ -22,6 +22,8 @@ static int answered(laspidru_handle *server, laspidru_answer answer) {
     laspidru_size documents = 0;
     switch (answer.kind) {
     case LASPIDRU_REPLIED: /* with the error -32601 the request is yours: answer it instead */
+        if (answer.error == -32700 || answer.error == -32600) /* a change may be lost with it */
+            fprintf(stderr, "faulty: error %d\n", (int)answer.error);
         return reply(server, answer.reply_len) ? GOES_ON : FAILED;
     case LASPIDRU_CHANGED:
         laspidru_server_documents(server, &documents);

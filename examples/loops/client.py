@@ -12,13 +12,22 @@ CAPABILITIES = {"textDocument": {"hover": {"contentFormat": ["plaintext"]}}}
 CHANGE = {"range": {"start": {"line": 0, "character": 7}, "end": {"line": 0, "character": 10}}, "text": "2"}
 
 
-def answered(body):
-    """The id of the request that a body is the response to, if it is a response."""
+def members(body):
+    """The members of a message; none where the body has none."""
     try:
         message = json.loads(body)
-    except ValueError:
-        return None
-    return message.get("id") if isinstance(message, dict) and "method" not in message else None
+    except (ValueError, RecursionError):
+        return {}
+    return message if isinstance(message, dict) else {}
+
+
+def answered(body):
+    """The id of the request that a body is the response to, if it is a response."""
+    return members(body).get("id") if "method" not in members(body) else None
+
+
+def is_notification(body):
+    return "method" in members(body) and "id" not in members(body)
 
 
 def framed(message):
@@ -62,12 +71,14 @@ class Editor:
         if isinstance(answered(body), str):
             self.responses[answered(body)] = json.loads(body)
             return
+        if is_notification(body):
+            return  # yours, such as diagnostics. The client would ignore it, or fail where it can't read it
         event = self.client.deliver(body)
         if event.kind == "send":
             self.send(event.frame)
         elif event.kind == "bad-server":
             sys.exit(f"the server can't be used: code {event.reason}")
-        # "ignored" is a notification of the server, such as diagnostics; "noted" the response to `shutdown`
+        # "noted" is the response to `shutdown`
 
     def ask(self, method, params):
         """A request of the editor's own. Its id is a string: 1 and 2 are the client's."""

@@ -42,6 +42,8 @@ async def serve(server, loop):
                 return event.status
             if event.kind == "refused":
                 print("refused:", event.reason, event.body[:200], file=sys.stderr)
+            if event.kind == "replied" and event.error in (-32700, -32600):  # a change may be lost with it
+                print("faulty:", event.error, event.body[:200], file=sys.stderr)
             if event.kind == "replied":
                 writer.write(reply(server, event))
                 await writer.drain()

@@ -119,7 +119,7 @@ class Closure:
         return names[::-1]
 
     def in_order(self):
-        """Returns the definitions so that none is named before it is told, as far as modules go."""
+        """Returns the definitions so that none is named before it is defined, as far as modules go."""
         depths = {}
 
         def depth(module, seen=()):

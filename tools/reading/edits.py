@@ -67,7 +67,7 @@ class Edit:
 
     def __init__(self, path, crate):
         self.path, self.name, self.crate, self.texts, self.functions = path, os.path.basename(path), crate, {}, []
-        self.said = text_of(path)
+        self.text = text_of(path)
         was = self.apply()
         changed = [self.changed_in(it, text) for it, text in was.items()]
         if all(changed) and not any(it.is_const for found in changed for it in found):
@@ -76,7 +76,7 @@ class Edit:
     def apply(self):
         """Makes the texts, and returns what they were."""
         path, old, was = None, None, {}
-        for line in self.said.split("\n"):
+        for line in self.text.split("\n"):
             key, _, rest = line.partition(":")
             rest = re.sub("^ ", "", rest)
             if key == "file":

@@ -1,4 +1,4 @@
-"""The pages of tools/pages: a sentence, the clauses that say it, what is told elsewhere, and how long the page may be."""
+"""The pages of tools/pages: a sentence, the clauses that say it, what is said elsewhere, and how long the page may be."""
 import configparser
 import re
 
@@ -50,7 +50,7 @@ class Pages:
         return next((it for it in self.pages if it.title == target), None)
 
     def teller_of(self, name, but=None):
-        """Returns the shortest other page that tells a definition."""
+        """Returns the shortest other page that has a definition."""
         one = definition_named(self.repository, name)
         tellers = [it for it in self.pages if it is not but and one in self.closure_of(it).definitions]
         return min(tellers, key=lambda it: (name not in it.of, it.most), default=None)
@@ -61,7 +61,7 @@ class Pages:
         return page.held
 
     def next_below(self, page):
-        """Returns the pages that tell what a page leaves out."""
+        """Returns the pages that have what a page leaves out."""
         if page.below is None:
             tellers = (self.teller_of(it, page) for it in sorted(self.closure_of(page).given) if it not in self.tokens)
             page.below = list(dict.fromkeys(it for it in tellers if it))

@@ -70,7 +70,7 @@ def print_rest(pages, closure, page):
         heading("given")
     for name in sorted(closure.given):
         token, teller = pages.tokens.get(name), pages.teller_of(name, page)
-        print(f"`{name}`: " + (token.told() if token else f"tools/definitions --of {teller.of[0]}" if teller else "on no page"))
+        print(f"`{name}`: " + (token.reported() if token else f"tools/definitions --of {teller.of[0]}" if teller else "on no page"))
     print_kit(closure)
     files = len({it.module.name for it in closure.definitions})
     types = sum(it.size for it in closure.types)

@@ -104,7 +104,7 @@ class Token:
             return True
         return function.owner == self.subject and "&mut self" in text or bool(re.search(rf"&mut {self.subject}\b", text))
 
-    def told(self):
+    def reported(self):
         given = ", ".join(f"`{it.short()}` ({label})" for it, label in self.given_by)
         kept = ", ".join(f"`{it.short()}` ({label})" for it, label in self.kept_by)
         return f"a token: given by {given}, kept by {kept}; whatever it means, each {self.subject} that you can make has it"

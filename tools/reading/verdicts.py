@@ -11,10 +11,10 @@ LOST_NAME = re.compile(r"has no field|is not in scope|has no `|was not admitted"
 class Verdicts:
     """The lines of a check of some functions."""
 
-    def __init__(self, said):
-        self.said, self.lines = said, dict(LINE.findall(said))
-        self.has_ended = re.search(r"(?m)^only=", said) is not None
-        self.at_fault = {(path, int(line) - 1) for path, line in re.findall(r"(?m)^(?:\./)?(src/\S+\.rt):(\d+):\d+: error", said)}
+    def __init__(self, output):
+        self.output, self.lines = output, dict(LINE.findall(output))
+        self.has_ended = re.search(r"(?m)^only=", output) is not None
+        self.at_fault = {(path, int(line) - 1) for path, line in re.findall(r"(?m)^(?:\./)?(src/\S+\.rt):(\d+):\d+: error", output)}
 
     def refuses(self, name):
         """Returns whether a function isn't proved by itself, whatever it calls."""
@@ -22,21 +22,21 @@ class Verdicts:
 
     def why(self, name):
         """Returns why a function isn't proved, and says where that shows little: its proof only names what the edit took away."""
-        goals = re.split(r"(?m)^(?:fn|struct|enum|impl) .*$", self.said.partition(f"\nfn {name}: ")[0])[-1]
+        goals = re.split(r"(?m)^(?:fn|struct|enum|impl) .*$", self.output.partition(f"\nfn {name}: ")[0])[-1]
         found = re.findall(r"(?m)^note: (src/\S+: it is not proved that .*)$", goals)
         # (what the function's own clauses ask comes first: what a call in the new body requires says nothing of them)
         found.sort(key=lambda it: "requires holds at this call" in it)
-        own = re.findall(rf"(?m)^\./proofs/{'/'.join(name.split('::')[1:])}/\S+: error: (.*)$", self.said)
+        own = re.findall(rf"(?m)^\./proofs/{'/'.join(name.split('::')[1:])}/\S+: error: (.*)$", self.output)
         found += [it for it in own if not LOST_NAME.search(it)]
         return found[0] if found else f"only since its proof names what the edit took away: {own[0]}" if own else self.lines[name]
 
 
-def outcome_of(status, said):
+def outcome_of(status, output):
     """Returns what the check of a crate with one edit comes to, and why."""
     if not status:
         return PROVED, "the crate is still proved with it"
-    lines = re.findall(r"(?m)^(?:note: src/.*: it is not proved .*|\./\S+:\d+:\d+: error.*|src/\S+: error.*|error.*|fn .*: (?!proved).*)$", said)
-    why = next((it for it in lines if not LOST_NAME.search(it)), (lines or [said.strip().rpartition("\n")[2]])[0])
-    if status == 1 and re.search(r"(?m)^logic=not-proved", said) or status == 3 and LIMIT.search(said):
+    lines = re.findall(r"(?m)^(?:note: src/.*: it is not proved .*|\./\S+:\d+:\d+: error.*|src/\S+: error.*|error.*|fn .*: (?!proved).*)$", output)
+    why = next((it for it in lines if not LOST_NAME.search(it)), (lines or [output.strip().rpartition("\n")[2]])[0])
+    if status == 1 and re.search(r"(?m)^logic=not-proved", output) or status == 3 and LIMIT.search(output):
         return REFUSED, why
-    return UNFIT if re.search(r"error\[", said) else UNKNOWN, why
+    return UNFIT if re.search(r"error\[", output) else UNKNOWN, why

@@ -17,11 +17,11 @@ pub struct Settings {
     pub max_docs: usize,
     /// 1 to 1,048,576 changes in one message.
     pub max_changes: usize,
-    /// Does the client offer UTF-8?
+    /// Whether UTF-8 is offered.
     pub utf8: bool,
-    /// Does the client offer UTF-32?
+    /// Whether UTF-32 is offered.
     pub utf32: bool,
-    /// Is a change of any version taken, and may an open document be opened again?
+    /// Whether a change of any version is taken, and an open document may be opened again.
     pub lenient: bool,
 }
 
@@ -142,7 +142,10 @@ pub struct Client {
 }
 
 impl Client {
-    /// A client at the start of a session.
+    /// Returns a client at the start of a session.
+    ///
+    /// # Errors
+    /// [`ClientError::BadLimit`] if a limit is out of its range, else [`ClientError::OutOfMemory`].
     pub fn new(settings: &Settings) -> Result<Self, ClientError> {
         let settings = ffi::ClientSettings {
             max_body: settings.max_body,
@@ -158,19 +161,30 @@ impl Client {
         Ok(Client { handle, received: Received::default() })
     }
 
-    /// Begins the session: the frame of `initialize`.
+    /// Begins the session, and returns the frame of `initialize`.
+    ///
+    /// # Errors
+    /// [`ClientError::WrongPhase`] but in [`Phase::New`], and [`ClientError::OutOfMemory`].
     pub fn start(&mut self) -> Result<Vec<u8>, ClientError> {
         self.call(ffi::Lifecycle::Start)
     }
 
-    /// Opens a document: the frame of `textDocument/didOpen`.
+    /// Opens a document, and returns the frame of `textDocument/didOpen`.
+    ///
+    /// # Errors
+    /// [`ClientError::WrongPhase`] but in [`Phase::Ready`], [`ClientError::Refused`] where the documents refuse it or the message
+    /// would be too long, and [`ClientError::OutOfMemory`].
     pub fn open(&mut self, uri: &str, language: &str, version: i32, text: &str) -> Result<Vec<u8>, ClientError> {
         let mut len = 0;
         self.frame(self.handle.client_open(uri, language, version, text, &mut len), len)
     }
 
-    /// Changes a document: the frame of one `textDocument/didChange`, with the canonical batch, or where the server asked
-    /// for it with the whole text. Positions count units of [`Client::encoding`].
+    /// Changes a document, and returns the frame of one `textDocument/didChange`, with the canonical batch, or where the server
+    /// asked for it with the whole text. Positions count units of [`Client::encoding`].
+    ///
+    /// # Errors
+    /// As those of [`Client::open`]; and [`ClientError::InsideCharacter`] or [`ClientError::ReversedRange`] of the first change
+    /// that has no result.
     pub fn edit(&mut self, uri: &str, version: i32, changes: &[Change]) -> Result<Vec<u8>, ClientError> {
         let (edits, texts) = batch(changes);
         let (mut fault, mut len) = (ffi::Fault::default(), 0);
@@ -178,18 +192,27 @@ impl Client {
         Ok(self.handle.client_frame(len))
     }
 
-    /// Closes a document: the frame of `textDocument/didClose`.
+    /// Closes a document, and returns the frame of `textDocument/didClose`.
+    ///
+    /// # Errors
+    /// As those of [`Client::open`].
     pub fn close(&mut self, uri: &str) -> Result<Vec<u8>, ClientError> {
         let mut len = 0;
         self.frame(self.handle.client_close(uri, &mut len), len)
     }
 
-    /// Asks the server to shut down: the frame of `shutdown`.
+    /// Asks the server to shut down, and returns the frame of `shutdown`.
+    ///
+    /// # Errors
+    /// [`ClientError::WrongPhase`] but in [`Phase::Ready`], and [`ClientError::OutOfMemory`].
     pub fn shutdown(&mut self) -> Result<Vec<u8>, ClientError> {
         self.call(ffi::Lifecycle::Shutdown)
     }
 
-    /// Ends the session, once `shutdown` was answered: the frame of `exit`.
+    /// Ends the session, once `shutdown` was answered, and returns the frame of `exit`.
+    ///
+    /// # Errors
+    /// [`ClientError::WrongPhase`] but in [`Phase::Closed`], and [`ClientError::OutOfMemory`].
     pub fn exit(&mut self) -> Result<Vec<u8>, ClientError> {
         self.call(ffi::Lifecycle::Exit)
     }
@@ -199,8 +222,11 @@ impl Client {
         self.received.add(bytes);
     }
 
-    /// The next message that is whole, and what the client did with it; none where the rest of it is to come. After
-    /// [`ClientError::OutOfMemory`] the same call continues.
+    /// Handles the next message that is whole, and returns it with what the client did, or `None` if the rest of it is to come.
+    ///
+    /// # Errors
+    /// [`ClientError::Frame`] if the stream is faulty, and [`ClientError::WrongPhase`] for a message in a phase in which none is
+    /// awaited. After [`ClientError::OutOfMemory`] the same call continues.
     pub fn next_message(&mut self) -> Result<Option<(Vec<u8>, Delivered)>, ClientError> {
         match self.received.take_by(&self.handle, ffi::End::Client) {
             Ok(found) => Ok(found.map(|(body, answer)| (body, self.delivered(&answer)))),
@@ -210,6 +236,9 @@ impl Client {
     }
 
     /// Handles the body of a message of the server.
+    ///
+    /// # Errors
+    /// [`ClientError::WrongPhase`] in [`Phase::New`], [`Phase::Done`] and [`Phase::Failed`], and [`ClientError::OutOfMemory`].
     pub fn deliver(&mut self, body: &[u8]) -> Result<Delivered, ClientError> {
         let mut answer = ffi::Answer::default();
         demand(self.handle.client_deliver(body, &mut answer), &ffi::Fault::default())?;
@@ -226,7 +255,7 @@ impl Client {
         }
     }
 
-    /// The phase of the session.
+    /// Returns the phase of the session.
     pub fn phase(&self) -> Phase {
         let state = self.state();
         match state.phase {
@@ -241,39 +270,45 @@ impl Client {
         }
     }
 
-    /// The encoding that was agreed on.
+    /// Returns the encoding that was agreed on, or `None` before that.
     pub fn encoding(&self) -> Option<Encoding> {
         Encoding::of(self.state().encoding)
     }
 
-    /// How many documents are open.
+    /// Returns how many documents are open.
     pub fn document_count(&self) -> usize {
         self.state().documents
     }
 
-    /// The version of the open document of a URI, which is compared byte for byte.
+    /// Returns the version of the open document of a URI, which is compared byte for byte.
     pub fn version(&self, uri: &str) -> Option<i32> {
         self.handle.opened(ffi::End::Client, uri).map(|opened| opened.version)
     }
 
-    /// A copy of the text of the open document of a URI, which is compared byte for byte.
+    /// Returns a copy of the text of the open document of a URI, which is compared byte for byte.
     pub fn text(&self, uri: &str) -> Option<String> {
         self.handle.text(ffi::End::Client, uri)
     }
 
-    /// A line, counted from 0, of the open document of a URI, without its line end; none where no document of the URI is open,
-    /// or it has no such line. The rest of the text is not read.
+    /// Returns a line, counted from 0, of the open document of a URI, without its line end, or `None` if no document of the URI
+    /// is open or it has no such line. The rest of the text is not read.
     pub fn line(&self, uri: &str, number: u32) -> Option<String> {
         self.handle.line(ffi::End::Client, uri, number)
     }
 
-    /// The byte offset of a position in the open document of a URI; none where no document of the URI is open. A position after
-    /// the line's end is the line's end. Positions count units of [`Client::encoding`].
+    /// Returns the byte offset of a position in the open document of a URI, or `None` if no document of the URI is open. A
+    /// position after the line's end is the line's end. Positions count units of [`Client::encoding`].
+    ///
+    /// # Errors
+    /// [`Error::NoPosition`] if the position is inside a character.
     pub fn offset(&self, uri: &str, position: Position) -> Result<Option<usize>, Error> {
         self.handle.offset(ffi::End::Client, uri, self.units(), position)
     }
 
-    /// The exact position of a byte offset in the open document of a URI; none where no document of the URI is open.
+    /// Returns the exact position of a byte offset in the open document of a URI, or `None` if no document of the URI is open.
+    ///
+    /// # Errors
+    /// [`Error::NoPosition`] if the offset is inside a character, inside a CRLF or past the end.
     pub fn position(&self, uri: &str, offset: usize) -> Result<Option<Position>, Error> {
         self.handle.position(ffi::End::Client, uri, self.units(), offset)
     }

@@ -531,7 +531,7 @@ fn in_open<T>(code: u32, found: T) -> Result<Option<T>, Error> {
     match code {
         OK => Ok(Some(found)),
         NOT_OPEN => Ok(None),
-        INSIDE_CHARACTER => Err(Error::NoPlace),
+        INSIDE_CHARACTER => Err(Error::NoPosition),
         code => unreachable!("code {code} of a full handle, an encoding and a URI in UTF-8"),
     }
 }

@@ -1,4 +1,4 @@
-//! A stream that is taken apart into its messages.
+//! Takes a stream apart into its messages.
 
 use crate::ffi;
 use crate::received::{NotTaken, Received};
@@ -12,7 +12,7 @@ use std::fmt;
 /// assert_eq!(framer.next_body()?, Some(b"{}".to_vec()));
 /// assert_eq!(framer.next_body()?, None);
 /// framer.receive(b"ngth: 3\r\n\r\n[1]");
-/// for body in framer.by_ref() {
+/// for body in framer.bodies() {
 ///     assert_eq!(body?, b"[1]");
 /// }
 /// # Ok::<(), laspidru::framer::FrameError>(())
@@ -31,7 +31,7 @@ pub enum FrameError {
     /// The limit is out of its range.
     BadLimit,
     /// The stream is faulty: the number of F1 to F7, and the byte offset on which it was decided. No more is taken.
-    Fault { number: u32, place: u64 },
+    Fault { number: u32, offset: u64 },
     /// There was such a fault before.
     Failed,
 }
@@ -41,7 +41,7 @@ impl fmt::Display for FrameError {
         match self {
             FrameError::OutOfMemory => write!(f, "out of memory"),
             FrameError::BadLimit => write!(f, "a limit is out of its range"),
-            FrameError::Fault { number, place } => write!(f, "frame fault F{number} at {place}"),
+            FrameError::Fault { number, offset } => write!(f, "frame fault F{number} at byte offset {offset}"),
             FrameError::Failed => write!(f, "the stream was faulty before"),
         }
     }
@@ -50,13 +50,17 @@ impl fmt::Display for FrameError {
 impl std::error::Error for FrameError {}
 
 impl Framer {
-    /// A framer at the start of a stream, for bodies of at most so many bytes: 4,096 to 1,073,741,824.
+    /// Returns a framer at the start of a stream, for bodies of at most so many bytes: 4,096 to 1,073,741,824.
+    ///
+    /// # Errors
+    /// [`FrameError::BadLimit`] if the number isn't between these, else [`FrameError::OutOfMemory`].
     pub fn new(max_body: usize) -> Result<Self, FrameError> {
         let handle = ffi::Handle::empty();
         match handle.framer_new(max_body) {
             ffi::OK => Ok(Framer { handle, received: Received::default() }),
             ffi::BAD_LIMIT => Err(FrameError::BadLimit),
-            _ => Err(FrameError::OutOfMemory),
+            ffi::OUT_OF_MEMORY => Err(FrameError::OutOfMemory),
+            code => unreachable!("code {code} of an empty handle"),
         }
     }
 
@@ -65,7 +69,11 @@ impl Framer {
         self.received.add(bytes);
     }
 
-    /// The body of the next message that is whole; none where the rest of it is to come.
+    /// Returns the body of the next message that is whole, or `None` if the rest of it is to come.
+    ///
+    /// # Errors
+    /// [`FrameError::Fault`] if the stream is faulty, and [`FrameError::Failed`] at each later call. After
+    /// [`FrameError::OutOfMemory`] the same call continues.
     pub fn next_body(&mut self) -> Result<Option<Vec<u8>>, FrameError> {
         match self.received.take(|piece, taken| self.handle.framer_feed(piece, taken)) {
             Ok(None) => Ok(None),
@@ -75,8 +83,17 @@ impl Framer {
                 Ok(Some(body))
             }
             Err(NotTaken::Stream(fault)) => Err(fault),
-            Err(NotTaken::Code(_)) => Err(FrameError::OutOfMemory),
+            Err(NotTaken::Code(ffi::OUT_OF_MEMORY)) => Err(FrameError::OutOfMemory),
+            Err(NotTaken::Code(code)) => unreachable!("code {code} of the handle of a framer"),
         }
+    }
+
+    /// Returns the bodies of the messages that are whole, up to a fault. Receive more, and call it again.
+    pub fn bodies(&mut self) -> impl Iterator<Item = Result<Vec<u8>, FrameError>> + '_ {
+        std::iter::from_fn(|| match self.next_body() {
+            Err(FrameError::Failed) => None,
+            found => found.transpose(),
+        })
     }
 
     /// Whether the stream may end here: no byte of a message is left, and there was no fault.
@@ -84,19 +101,6 @@ impl Framer {
         let mut at_rest = false;
         assert_eq!(self.handle.framer_at_rest(&mut at_rest), ffi::OK, "the handle of a framer is full");
         at_rest && self.received.is_at_rest()
-    }
-}
-
-/// The bodies of the messages that are whole, up to a fault. `None` says that the rest of a message is to come: receive more, and
-/// iterate again. So iterate over `framer.by_ref()`: `for body in framer` drops the framer, and what it has of the next message.
-impl Iterator for Framer {
-    type Item = Result<Vec<u8>, FrameError>;
-
-    fn next(&mut self) -> Option<Self::Item> {
-        match self.next_body() {
-            Err(FrameError::Failed) => None,
-            found => found.transpose(),
-        }
     }
 }
 

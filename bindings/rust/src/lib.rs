@@ -1,4 +1,4 @@
-//! Texts that are kept as LSP 3.17 says, and both ends of a session, by a library that is proved.
+//! Applies the changes of LSP 3.17 to a server's or an editor's texts, over a formally verified library.
 //!
 //! - [`Document`] is a text with its lines. It makes the changes of a `didChange` or text edits, and finds positions.
 //! - [`Server`] keeps the documents of a session behind your server: bytes that were read go in, and replies come out.
@@ -53,8 +53,11 @@ const DEFAULT_LIMITS: [usize; 4] = [16_777_216, 16_777_216, 1_024, 65_536];
 /// What a position's character counts.
 #[derive(Clone, Copy, Debug, PartialEq, Eq, Hash)]
 pub enum Encoding {
+    /// Bytes.
     Utf8 = 8,
+    /// Code units of 16 bits: what both ends count unless they agree otherwise.
     Utf16 = 16,
+    /// Whole characters.
     Utf32 = 32,
 }
 
@@ -113,7 +116,7 @@ pub enum Error {
     /// The text edit at the index `second` starts before the one at `first` ends.
     Overlap { first: usize, second: usize },
     /// A position or an offset lies inside a character, or an offset inside a CRLF or past the end.
-    NoPlace,
+    NoPosition,
 }
 
 impl fmt::Display for Error {
@@ -131,7 +134,7 @@ impl fmt::Display for Error {
             }
             Error::EditReversedRange { edit } => write!(f, "edit at index {edit}: the range is reversed"),
             Error::Overlap { first, second } => write!(f, "edits at the indexes {first} and {second} overlap"),
-            Error::NoPlace => write!(f, "no position of the text"),
+            Error::NoPosition => write!(f, "the position or offset is inside a character, inside a CRLF or past the end"),
         }
     }
 }
@@ -147,25 +150,28 @@ pub struct Document {
 }
 
 impl Document {
-    /// A document of a text. Positions count units of `encoding`.
+    /// Returns a document of a text. Positions count units of `encoding`.
+    ///
+    /// # Errors
+    /// [`Error::TooLong`] if the text has more than 1,073,741,824 bytes, else [`Error::OutOfMemory`].
     pub fn new(text: &str, encoding: Encoding) -> Result<Self, Error> {
         let handle = ffi::Handle::empty();
         demand(handle.document_open(text), &ffi::Fault::default())?;
         Ok(Document { handle, text: OnceCell::new(), encoding })
     }
 
-    /// The text. The first call after a change copies it out of the library.
+    /// Returns the text. The first call after a change copies it out of the library.
     pub fn text(&self) -> &str {
         self.text.get_or_init(|| self.copied(0, self.length().bytes))
     }
 
-    /// How many lines the text has.
+    /// Returns how many lines the text has: one more than it has line ends.
     pub fn line_count(&self) -> usize {
         self.length().lines
     }
 
-    /// A line, counted from 0, without its line end; none where the text has no such line.
-    /// The rest of the text is not read.
+    /// Returns a line, counted from 0, without its line end, or `None` if the text has no such line. The rest of the text is not
+    /// read.
     pub fn line(&self, number: u32) -> Option<String> {
         let mut line = ffi::Line::default();
         match self.handle.document_line(number, &mut line) {
@@ -176,6 +182,10 @@ impl Document {
     }
 
     /// Makes the changes of a `didChange`, in order, or none of them.
+    ///
+    /// # Errors
+    /// [`Error::InsideCharacter`] or [`Error::ReversedRange`] of the first change that has no result, [`Error::TooLong`] if the text
+    /// would have, or the changes have, more than 1,073,741,824 bytes; or [`Error::OutOfMemory`].
     pub fn change(&mut self, changes: &[Change]) -> Result<(), Error> {
         let (edits, texts) = batch(changes);
         let mut fault = ffi::Fault::default();
@@ -185,7 +195,10 @@ impl Document {
         Ok(())
     }
 
-    /// The one canonical batch that means the same on the text, which stays as it is.
+    /// Returns the one canonical batch that means the same on the text, which stays as it is.
+    ///
+    /// # Errors
+    /// As those of [`Document::change`].
     pub fn canonical(&self, changes: &[Change]) -> Result<Vec<Change>, Error> {
         let (edits, texts) = batch(changes);
         let mut fault = ffi::Fault::default();
@@ -196,6 +209,10 @@ impl Document {
     }
 
     /// Makes text edits, or none of them. All their ranges count in the text as it is.
+    ///
+    /// # Errors
+    /// [`Error::EditInsideCharacter`], [`Error::EditReversedRange`] or [`Error::Overlap`] of faulty edits, [`Error::TooLong`] if the
+    /// text would have, or the edits have, more than 1,073,741,824 bytes; or [`Error::OutOfMemory`].
     pub fn apply_edits(&mut self, edits: &[TextEdit]) -> Result<(), Error> {
         let (passed, texts) = passed_edits(edits);
         let mut fault = ffi::EditsFault::default();
@@ -205,8 +222,11 @@ impl Document {
         Ok(())
     }
 
-    /// The canonical batch of what text edits mean on the text, which stays as it is: the changes
-    /// of the `didChange` that reports them.
+    /// Returns the canonical batch of what text edits mean on the text, which stays as it is: the changes of the `didChange` that
+    /// reports them.
+    ///
+    /// # Errors
+    /// As those of [`Document::apply_edits`]; but the text that the edits would leave may have any length.
     pub fn batch_of_edits(&self, edits: &[TextEdit]) -> Result<Vec<Change>, Error> {
         let (passed, texts) = passed_edits(edits);
         let mut fault = ffi::EditsFault::default();
@@ -217,26 +237,24 @@ impl Document {
         Ok(changes_of(&found))
     }
 
-    /// The byte offset of a position. One after the line's end is the line's end.
+    /// Returns the byte offset of a position. One after the line's end is the line's end.
+    ///
+    /// # Errors
+    /// [`Error::NoPosition`] if the position is inside a character.
     pub fn offset(&self, position: Position) -> Result<usize, Error> {
         let mut offset = 0;
         let code = self.handle.document_offset(self.encoding as u32, position, &mut offset);
-        if code == ffi::OK {
-            Ok(offset)
-        } else {
-            Err(Error::NoPlace)
-        }
+        found(code, offset)
     }
 
-    /// The exact position of a byte offset.
+    /// Returns the exact position of a byte offset.
+    ///
+    /// # Errors
+    /// [`Error::NoPosition`] if the offset is inside a character, inside a CRLF or past the end.
     pub fn position(&self, offset: usize) -> Result<Position, Error> {
         let mut position = Position::default();
         let code = self.handle.document_position(self.encoding as u32, offset, &mut position);
-        if code == ffi::OK {
-            Ok(position)
-        } else {
-            Err(Error::NoPlace)
-        }
+        found(code, position)
     }
 
     fn length(&self) -> ffi::Length {
@@ -297,6 +315,15 @@ fn passed_edits(edits: &[TextEdit]) -> (Vec<ffi::Edit>, String) {
         ffi::Edit { start, end, len: edit.new_text.len(), is_whole: false }
     };
     (edits.iter().map(passed).collect(), edits.iter().map(|edit| edit.new_text.as_str()).collect())
+}
+
+/// What a call found in a text, if the code says that there is such a position.
+fn found<T>(code: u32, value: T) -> Result<T, Error> {
+    match code {
+        ffi::OK => Ok(value),
+        ffi::INSIDE_CHARACTER => Err(Error::NoPosition),
+        code => unreachable!("code {code} of a full handle and an encoding"),
+    }
 }
 
 fn demand_edits(code: u32, fault: &ffi::EditsFault) -> Result<(), Error> {

@@ -1,19 +1,25 @@
 //! The commands of `lspsync` on the bytes of a log.
 
+use crate::framer::FrameError;
 use crate::{ffi, Encoding, DEFAULT_LIMITS};
 use std::fmt;
 
 /// How a log is read. The default is that of `lspsync`.
 #[derive(Clone, Copy, Debug, PartialEq, Eq)]
 pub struct Settings {
+    /// 4,096 to 1,073,741,824 bytes of a message.
     pub max_body: usize,
+    /// Up to 1,073,741,824 bytes of a document.
     pub max_text: usize,
+    /// 1 to 65,536 open documents.
     pub max_docs: usize,
+    /// 1 to 1,048,576 changes in one message.
     pub max_changes: usize,
+    /// What positions count in a log of version 1. A log of version 2 names it itself.
     pub encoding: Encoding,
-    /// Does [`normalise`] write changes of one document that follow each other as one message?
+    /// Whether [`normalise`] writes changes of one document that follow each other as one message.
     pub squash: bool,
-    /// Is a change of any version taken, and may an open document be opened again?
+    /// Whether a change of any version is taken, and an open document may be opened again.
     pub lenient: bool,
 }
 
@@ -28,8 +34,9 @@ impl Default for Settings {
 #[derive(Clone, Debug, PartialEq, Eq)]
 pub struct Output {
     pub bytes: Vec<u8>,
-    /// How many messages there were, and how many of them were refused.
+    /// How many messages there were.
     pub messages: u64,
+    /// How many of them were refused.
     pub refused: u64,
 }
 
@@ -44,7 +51,7 @@ pub enum LogError {
     /// More than 2^64 - 1 reads and writes would be needed.
     TooManyTurns,
     /// The log has a fault at a byte offset; `output` is what was written up to it.
-    Fault { fault: LogFault, place: u64, output: Vec<u8> },
+    Fault { fault: LogFault, offset: u64, output: Vec<u8> },
 }
 
 /// What is wrong with a log.
@@ -67,32 +74,47 @@ impl fmt::Display for LogError {
             LogError::OutOfMemory => write!(f, "out of memory"),
             LogError::BadLimit => write!(f, "a limit is out of its range"),
             LogError::TooManyTurns => write!(f, "too many reads and writes"),
-            LogError::Fault { fault: LogFault::Cut, place, .. } => write!(f, "truncated at {place}"),
-            LogError::Fault { fault: LogFault::BadFrame(number), place, .. } => write!(f, "frame fault F{number} at {place}"),
-            LogError::Fault { fault: LogFault::BodyTooLong, place, .. } => write!(f, "body too long at {place}"),
-            LogError::Fault { fault: LogFault::BadLog, place, .. } => write!(f, "bad log at {place}"),
+            LogError::Fault { fault: LogFault::Cut, offset, .. } => write!(f, "truncated at byte offset {offset}"),
+            LogError::Fault { fault: LogFault::BadFrame(number), offset, .. } => {
+                write!(f, "{}", FrameError::Fault { number: *number, offset: *offset })
+            }
+            LogError::Fault { fault: LogFault::BodyTooLong, offset, .. } => write!(f, "body too long at byte offset {offset}"),
+            LogError::Fault { fault: LogFault::BadLog, offset, .. } => write!(f, "bad log at byte offset {offset}"),
         }
     }
 }
 
 impl std::error::Error for LogError {}
 
-/// What a server answers to each record of a log, a line for each.
+/// Writes what a server answers to each record of a log, a line for each, as `lspsync check` does.
+///
+/// # Errors
+/// [`LogError::Fault`] if the log is faulty, with the output up to there; else a limit is out of its range, memory ran out, or more
+/// than 2^64 - 1 reads and writes would be needed.
 pub fn check(log: &[u8], settings: &Settings) -> Result<Output, LogError> {
     run(ffi::Command::Check, log, settings)
 }
 
-/// The documents that are open at the end of a log, a line of JSON for each.
+/// Writes the documents that are open at the end of a log, a line of JSON for each.
+///
+/// # Errors
+/// As those of [`check`].
 pub fn replay(log: &[u8], settings: &Settings) -> Result<Output, LogError> {
     run(ffi::Command::Replay, log, settings)
 }
 
-/// The log with each accepted change as its canonical message.
+/// Writes the log with each accepted change as its canonical message.
+///
+/// # Errors
+/// As those of [`check`].
 pub fn normalise(log: &[u8], settings: &Settings) -> Result<Output, LogError> {
     run(ffi::Command::Normalise, log, settings)
 }
 
-/// A log of version 1 in version 2, with the replies that a server gives.
+/// Writes a log of version 1 in version 2, with the replies that a server gives.
+///
+/// # Errors
+/// As those of [`check`]. A log of version 2 is [`LogFault::BadLog`].
 pub fn convert(log: &[u8], settings: &Settings) -> Result<Output, LogError> {
     run(ffi::Command::Convert, log, settings)
 }
@@ -122,5 +144,5 @@ fn run(command: ffi::Command, log: &[u8], settings: &Settings) -> Result<Output,
         ffi::BAD_LOG => LogFault::BadLog,
         code => unreachable!("code {code} of an empty handle and valid arguments"),
     };
-    Err(LogError::Fault { fault, place: ending.place, output: output.output_copy(ending.output_len) })
+    Err(LogError::Fault { fault, offset: ending.place, output: output.output_copy(ending.output_len) })
 }

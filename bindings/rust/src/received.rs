@@ -52,7 +52,7 @@ impl Received {
             }
             ffi::BAD_FRAME => {
                 self.is_inside = true;
-                Err(NotTaken::Stream(FrameError::Fault { number: taken.frame, place: taken.place }))
+                Err(NotTaken::Stream(FrameError::Fault { number: taken.frame, offset: taken.place }))
             }
             ffi::FAILED => Err(NotTaken::Stream(FrameError::Failed)),
             // (an end that takes no more is asked for nothing)

@@ -20,7 +20,7 @@ pub struct Settings {
     pub choice: EncodingChoice,
     /// How the client is asked to send changes. Both forms are taken.
     pub sync: ChangeForm,
-    /// Is a change of any version taken, and may an open document be opened again?
+    /// Whether a change of any version is taken, and an open document may be opened again.
     pub lenient: bool,
 }
 
@@ -203,7 +203,10 @@ pub struct Server {
 }
 
 impl Server {
-    /// A server at the start of a session.
+    /// Returns a server at the start of a session.
+    ///
+    /// # Errors
+    /// [`ServerError::BadLimit`] if a limit is out of its range, else [`ServerError::OutOfMemory`].
     pub fn new(settings: &Settings) -> Result<Self, ServerError> {
         let (encoding, is_fixed) = match settings.choice {
             EncodingChoice::Negotiated { prefer } => (prefer, false),
@@ -229,11 +232,14 @@ impl Server {
         self.received.add(bytes);
     }
 
-    /// Handles the next message that is whole, and returns it with what the server did; none where the rest of it is to come.
+    /// Handles the next message that is whole, and returns it with what the server did, or `None` if the rest of it is to come.
     ///
     /// A request that the server doesn't handle is answered by the code -32601: it is yours, and your answer goes in place of
-    /// that frame. Until the next call the documents are those that the request speaks of. After [`ServerError::OutOfMemory`]
-    /// the same call continues.
+    /// that frame. Until the next call the documents are those that the request speaks of.
+    ///
+    /// # Errors
+    /// [`ServerError::Frame`] if the stream is faulty, and [`ServerError::Ended`] for a message after `exit`. After
+    /// [`ServerError::OutOfMemory`] the same call continues.
     pub fn next_message(&mut self) -> Result<Option<(Vec<u8>, Answer)>, ServerError> {
         match self.received.take_by(&self.handle, ffi::End::Server) {
             Ok(found) => Ok(found.map(|(body, answer)| (body, self.answered(&answer)))),
@@ -248,6 +254,9 @@ impl Server {
     }
 
     /// Answers the body of a message: the bytes after its header.
+    ///
+    /// # Errors
+    /// [`ServerError::Ended`] after `exit`, and [`ServerError::OutOfMemory`]: then the same body can be passed again.
     pub fn handle(&mut self, body: &[u8]) -> Result<Answer, ServerError> {
         let mut answer = ffi::Answer::default();
         demand(self.handle.server_handle(body, &mut answer))?;
@@ -269,16 +278,19 @@ impl Server {
         }
     }
 
-    /// The encoding of positions, once `initialize` was answered.
+    /// Returns the encoding of positions, once `initialize` was answered.
     pub fn encoding(&self) -> Option<Encoding> {
         let mut number = 0;
         assert_eq!(self.handle.server_encoding(&mut number), ffi::OK, "the handle of a server is full");
         Encoding::of(number)
     }
 
-    /// The canonical batch of what text edits mean on the open document of a URI: the changes of the `didChange` that
-    /// reports them; none where no document of the URI is open. Positions count units of [`Server::encoding`], and all ranges
+    /// Returns the canonical batch of what text edits mean on the open document of a URI: the changes of the `didChange` that
+    /// reports them, or `None` if no document of the URI is open. Positions count units of [`Server::encoding`], and all ranges
     /// count in the text as it is. The document stays as it is.
+    ///
+    /// # Errors
+    /// As those of [`Document::batch_of_edits`](crate::Document::batch_of_edits).
     pub fn batch_of_edits(&self, uri: &str, edits: &[TextEdit]) -> Result<Option<Vec<Change>>, Error> {
         let (passed, texts) = passed_edits(edits);
         let (mut fault, found) = (ffi::EditsFault::default(), ffi::Handle::empty());
@@ -289,8 +301,12 @@ impl Server {
         }
     }
 
-    /// The frame of the one canonical `didChange` that means the same as these changes of the open document of a URI, under a
-    /// version greater than its own. Positions count units of [`Server::encoding`]. The document stays as it is.
+    /// Returns the frame of the one canonical `didChange` that means the same as these changes of the open document of a URI,
+    /// under a version greater than its own. Positions count units of [`Server::encoding`]. The document stays as it is.
+    ///
+    /// # Errors
+    /// What the documents would refuse the changes for, [`Refusal::TooLong`] if the message would be too long, or
+    /// [`MessageError::OutOfMemory`].
     pub fn canonical_message(&self, uri: &str, version: i32, changes: &[Change]) -> Result<Vec<u8>, MessageError> {
         let (edits, texts) = batch(changes);
         let (mut fault, units) = (ffi::Fault::default(), self.units());
@@ -303,36 +319,42 @@ impl Server {
         })
     }
 
-    /// How many documents are open.
+    /// Returns how many documents are open.
     pub fn document_count(&self) -> usize {
         let mut len = 0;
         assert_eq!(self.handle.server_documents(&mut len), ffi::OK, "the handle of a server is full");
         len
     }
 
-    /// The version of the open document of a URI, which is compared byte for byte.
+    /// Returns the version of the open document of a URI, which is compared byte for byte.
     pub fn version(&self, uri: &str) -> Option<i32> {
         self.handle.opened(ffi::End::Server, uri).map(|opened| opened.version)
     }
 
-    /// A copy of the text of the open document of a URI, which is compared byte for byte.
+    /// Returns a copy of the text of the open document of a URI, which is compared byte for byte.
     pub fn text(&self, uri: &str) -> Option<String> {
         self.handle.text(ffi::End::Server, uri)
     }
 
-    /// A line, counted from 0, of the open document of a URI, without its line end; none where no document of the URI is open,
-    /// or it has no such line. The rest of the text is not read.
+    /// Returns a line, counted from 0, of the open document of a URI, without its line end, or `None` if no document of the URI
+    /// is open or it has no such line. The rest of the text is not read.
     pub fn line(&self, uri: &str, number: u32) -> Option<String> {
         self.handle.line(ffi::End::Server, uri, number)
     }
 
-    /// The byte offset of a position in the open document of a URI; none where no document of the URI is open. A position after
-    /// the line's end is the line's end. Positions count units of [`Server::encoding`].
+    /// Returns the byte offset of a position in the open document of a URI, or `None` if no document of the URI is open. A
+    /// position after the line's end is the line's end. Positions count units of [`Server::encoding`].
+    ///
+    /// # Errors
+    /// [`Error::NoPosition`] if the position is inside a character.
     pub fn offset(&self, uri: &str, position: Position) -> Result<Option<usize>, Error> {
         self.handle.offset(ffi::End::Server, uri, self.units(), position)
     }
 
-    /// The exact position of a byte offset in the open document of a URI; none where no document of the URI is open.
+    /// Returns the exact position of a byte offset in the open document of a URI, or `None` if no document of the URI is open.
+    ///
+    /// # Errors
+    /// [`Error::NoPosition`] if the offset is inside a character, inside a CRLF or past the end.
     pub fn position(&self, uri: &str, offset: usize) -> Result<Option<Position>, Error> {
         self.handle.position(ffi::End::Server, uri, self.units(), offset)
     }

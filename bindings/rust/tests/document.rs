@@ -36,8 +36,8 @@ fn positions_both_ways() -> Result<(), Error> {
         let document = Document::new("a\r\nb\u{1F600}", encoding)?;
         assert_eq!(document.offset(at(1, character)), Ok(8));
         assert_eq!(document.position(8), Ok(at(1, character)));
-        assert_eq!(document.position(2), Err(Error::NoPlace));
-        assert_eq!(document.position(9), Err(Error::NoPlace));
+        assert_eq!(document.position(2), Err(Error::NoPosition));
+        assert_eq!(document.position(9), Err(Error::NoPosition));
     }
     Ok(())
 }
@@ -103,6 +103,8 @@ fn faults_name_their_change_or_edit() -> Result<(), Error> {
         "edits at the indexes 1 and 0 overlap",
     ];
     assert_eq!(refused, wanted);
+    let inside = document.position(1).unwrap_err().to_string();
+    assert_eq!(inside, "the position or offset is inside a character, inside a CRLF or past the end");
     Ok(())
 }
 

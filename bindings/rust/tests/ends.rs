@@ -194,8 +194,11 @@ fn positions_are_those_of_a_document() {
 fn positions_that_there_are_not() {
     let pair = opened("\u{1F600}", Encoding::Utf16);
     let inside = Position { line: 0, character: 1 };
-    assert_eq!((pair.server.offset("a", inside), pair.client.offset("a", inside)), (Err(Error::NoPlace), Err(Error::NoPlace)));
-    assert_eq!((pair.server.position("a", 5), pair.client.position("a", 1)), (Err(Error::NoPlace), Err(Error::NoPlace)));
+    assert_eq!(
+        (pair.server.offset("a", inside), pair.client.offset("a", inside)),
+        (Err(Error::NoPosition), Err(Error::NoPosition))
+    );
+    assert_eq!((pair.server.position("a", 5), pair.client.position("a", 1)), (Err(Error::NoPosition), Err(Error::NoPosition)));
     assert_eq!((pair.server.line("a", 1), pair.server.line("b", 0), pair.client.line("", 0)), (None, None, None));
     assert_eq!((pair.server.offset("b", inside), pair.client.offset("b", inside)), (Ok(None), Ok(None)));
     assert_eq!((pair.server.position("b", 0), pair.client.position("b", 0)), (Ok(None), Ok(None)));
@@ -245,10 +248,10 @@ fn phases_in_order() {
 
 #[test]
 fn errors_have_a_source() {
-    let (fault, refusal) = (FrameError::Fault { number: 5, place: 20 }, Refusal::NotOpen);
+    let (fault, refusal) = (FrameError::Fault { number: 5, offset: 20 }, Refusal::NotOpen);
     let with_source =
         |error: &dyn std::error::Error| (error.to_string(), error.source().map(ToString::to_string).unwrap_or_default());
-    let faulty = ("the stream is faulty".into(), "frame fault F5 at 20".into());
+    let faulty = ("the stream is faulty".into(), "frame fault F5 at byte offset 20".into());
     assert_eq!([with_source(&ServerError::Frame(fault)), with_source(&ClientError::Frame(fault))], [faulty.clone(), faulty]);
     let refused = ("the call was refused".into(), "the document is not open".into());
     assert_eq!(
@@ -262,19 +265,19 @@ fn errors_have_a_source() {
 fn streams() {
     let mut framer = Framer::new(4096).unwrap();
     framer.receive(b"Content-Length: 1\r\n\r\nxContent-Length: 0\r\n\r\nContent-Le");
-    assert_eq!(framer.by_ref().collect::<Result<Vec<_>, _>>(), Ok(vec![b"x".to_vec(), vec![]]));
-    assert!(framer.next().is_none() && !framer.is_at_rest());
+    assert_eq!(framer.bodies().collect::<Result<Vec<_>, _>>(), Ok(vec![b"x".to_vec(), vec![]]));
+    assert!(framer.bodies().next().is_none() && !framer.is_at_rest());
     framer.receive(b"ngth: 1\r\n\r\ny");
-    assert_eq!(framer.by_ref().collect::<Result<Vec<_>, _>>(), Ok(vec![b"y".to_vec()]));
+    assert_eq!(framer.bodies().collect::<Result<Vec<_>, _>>(), Ok(vec![b"y".to_vec()]));
     assert!(framer.is_at_rest());
     framer.receive(b"Content-Length 2");
-    let fault = FrameError::Fault { number: 1, place: 43 + 22 + 14 };
+    let fault = FrameError::Fault { number: 1, offset: 43 + 22 + 14 };
     assert_eq!((framer.next_body(), framer.next_body()), (Err(fault), Err(FrameError::Failed)));
-    assert!(framer.next().is_none());
+    assert!(framer.bodies().next().is_none());
     assert_eq!(Framer::new(4095).err(), Some(FrameError::BadLimit));
     let mut server = Server::new(&server::Settings::default()).unwrap();
     server.receive(b"Content-Length: x\r\n\r\n");
-    assert_eq!(server.next_message(), Err(ServerError::Frame(FrameError::Fault { number: 5, place: 20 })));
+    assert_eq!(server.next_message(), Err(ServerError::Frame(FrameError::Fault { number: 5, offset: 20 })));
 }
 
 #[test]

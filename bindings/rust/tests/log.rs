@@ -24,11 +24,13 @@ fn commands_write_what_lspsync_does() -> Result<(), LogError> {
 }
 
 #[test]
-fn a_fault_has_a_place_and_the_output_up_to_it() {
-    let fault = |fault, place, output: &[u8]| Err(LogError::Fault { fault, place, output: output.into() });
+fn a_fault_has_an_offset_and_the_output_up_to_it() {
+    let fault = |fault, offset, output: &[u8]| Err(LogError::Fault { fault, offset, output: output.into() });
     let settings = Settings::default();
     assert_eq!(check(CUT, &settings), fault(LogFault::Cut, 505, b"1 reply\n2 changed\n"));
     assert_eq!(replay(b"Content-Length 2", &settings), fault(LogFault::BadFrame(1), 14, b""));
     assert_eq!(convert(b"lsp-session-log 2\n", &settings), fault(LogFault::BadLog, 0, b""));
     assert_eq!(check(b"", &Settings { max_body: 1, ..settings }), Err(LogError::BadLimit));
+    let said = |log: &[u8]| check(log, &settings).unwrap_err().to_string();
+    assert_eq!([said(CUT), said(b"Content-Length 2")], ["truncated at byte offset 505", "frame fault F1 at byte offset 14"]);
 }

@@ -40,7 +40,12 @@ fn main() -> Result<ExitCode, Box<dyn Error>> {
         server.receive(&piece[..count]);
         while let Some((body, answer)) = server.next_message()? {
             match answer {
-                Answer::Reply { frame, code } => output.write_all(&reply(&server, &body, frame, code)?)?,
+                Answer::Reply { frame, code } => {
+                    if let Some(code @ (-32700 | -32600)) = code {
+                        eprintln!("faulty: {code}"); // a change may be lost with it
+                    }
+                    output.write_all(&reply(&server, &body, frame, code)?)?;
+                }
                 Answer::Refused(reason) => eprintln!("refused: {reason}"),
                 Answer::Exit(status) => return Ok(ExitCode::from(status)),
                 _ => {} // changed, dropped or ignored
