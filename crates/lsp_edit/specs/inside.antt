@@ -2,6 +2,7 @@
 pub mod Canonical
 pub mod Gaps
 pub mod TextBatch
+pub mod TextEdits
 pub mod Faults
 pub mod Joined
 pub mod OldLines

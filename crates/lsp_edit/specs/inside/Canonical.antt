@@ -1,4 +1,4 @@
--- The gaps of items, told by which characters are kept and by the texts between them. Only proofs
+-- The gaps of items by the indexes of the kept characters and the texts between them. Only proofs
 -- use this.
 use Rattle.std.specs.Prelude.{ℕ, suc, List, [], ◌∷◌, ◌++◌, map}
 use Rattle.lsp_edit.specs.Canonical.{Gap}
