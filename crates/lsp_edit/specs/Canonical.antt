@@ -34,19 +34,18 @@ pub record Gap : Type 0 where
   pub high : ℕ
   pub text : List ℕ
 
--- The gaps from each of `lows` to the one of `highs` at the same index, with their texts.
-abbrev pub gaps_between : List ℕ → List ℕ → List (List ℕ) → List Gap
-gaps_between [] highs texts = []
-gaps_between (low ∷ lows) [] texts = []
-gaps_between (low ∷ lows) (high ∷ highs) [] = []
-gaps_between (low ∷ lows) (high ∷ highs) (text ∷ texts)
-    = record { low = low; high = high; text = text } ∷ gaps_between lows highs texts
+-- The gaps of items over an old text of `len` characters, from the index `low` on, where `text` is
+-- the new text so far. At the end of the items the last gap goes up to `len`. A kept character ends
+-- a gap, and the next gap begins after it, with no text. A new character is appended to the text.
+abbrev pub gaps_from : ℕ → ℕ → List ℕ → List Item → List Gap
+gaps_from low len text [] = record { low = low; high = len; text = text } ∷ []
+gaps_from low len text (Old index ∷ items)
+    = record { low = low; high = index; text = text } ∷ gaps_from (suc index) len [] items
+gaps_from low len text (New character ∷ items) = gaps_from low len (text ++ character ∷ []) items
 
--- All gaps. Each starts after a kept character, or at 0, and ends at the next kept one, or at the
--- end of the old text.
+-- All gaps.
 abbrev pub gaps : List ℕ → List Item → List Gap
-gaps old items
-    = gaps_between (0 ∷ map suc (kept items)) (kept items ++ length old ∷ []) (gap_texts items)
+gaps old items = gaps_from 0 (length old) [] items
 
 -- A gap is changed if it has an old character, or a new text.
 abbrev pub is_changed : Gap → Bool
