@@ -3,8 +3,9 @@
 ghost use Rattle.std.specs.Prelude.{◌≡◌, ◌↔◌, Some, IfOk, IfErr, IsErrAnd, IsTrue, MatchResult, codes, option_map, slice_index, string_bytes};
 ghost use Rattle.serde_json.specs.Find.{get_member};
 ghost use Rattle.serde_json.specs.View.{view, members_view};
-ghost use Rattle.lsp_message.specs.Message.{reading, message, id_in, id_found, call_of, answer_of, outcome_of, message_by, message_of, is_version_two};
+ghost use Rattle.lsp_message.specs.Message.{reading, message, id_in, id_found, message_of, is_version_two};
 ghost use Rattle.lsp_message.specs.Seen.{id_view, message_view, IsReadFault, IsFaultOfError};
+ghost use Rattle.lsp_message.specs.inside.Message.{call_of, answer_of, outcome_of, reading_by};
 ghost use Rattle.lsp_message.specs.inside.Seen.{Answers};
 
 use crate::members::take;
@@ -167,7 +168,7 @@ impl Members {
 
 fn message_by(members: Members) -> Result<Message, ReadFault>
     ensures { Answers result
-        (message_by (option_map view members.version) (option_map view members.method)
+        (reading_by (option_map view members.version) (option_map view members.method)
         (option_map view members.id)
         (option_map view members.params) (option_map view members.error)
         (option_map view members.outcome)) }
