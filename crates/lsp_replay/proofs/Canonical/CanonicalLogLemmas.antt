@@ -18,7 +18,7 @@ use Rattle.lsp_server.specs.declared.phase.Phase.{Phase}
 use Rattle.lsp_server.specs.declared.phase.Phase.TheVariants.{New, Running, Down, Ended}
 use Rattle.lsp_server.specs.Answer.{AnswerData, Sent, changed, as_sent}
 use Rattle.lsp_server.specs.Incoming.{did_change}
-use Rattle.lsp_server.specs.Step.{ServerData, edit_from_data, session_encoding, obeyed, change_command, step_in}
+use Rattle.lsp_server.specs.Step.{ServerData, edit_from_data, session_encoding, result_step, change_command, step_in}
 use Rattle.lsp_replay.specs.Session.{Session, Verdict, answered, recorded, bad, Judged, judged, judge_client, judge_server}
 use Rattle.lsp_replay.specs.Commands.{canonical_if, written, writes, ends}
 use Rattle.lsp_log.specs.declared.record.Version.{Version}
@@ -52,7 +52,7 @@ heard_has_none server change s announced = none_unless_answered server change (j
 -- ---- a change that is answered by `changed` was not refused
 
 obeyed_changed : (s : ServerData) (refusal : Option Refusal) (next : List DocumentItem)
-    → as_sent (obeyed s (unless_refused refusal next)).answer ≡ changed → refusal ≡ None
+    → as_sent (result_step s (unless_refused refusal next)).answer ≡ changed → refusal ≡ None
 obeyed_changed s None next e = refl
 obeyed_changed s (Some refusal) next e = cc
 

@@ -21,7 +21,7 @@ impl Server {
     ghost use Rattle.lsp_store.specs.Opened.{ChangeMayAllocate};
     ghost use Rattle.lsp_store.specs.Table.{opens};
     ghost use Rattle.lsp_server.specs.declared.phase.Phase.TheVariants.{Running, Ended};
-    ghost use Rattle.lsp_server.specs.Step.{step_on, obeys, change_command, close_command};
+    ghost use Rattle.lsp_server.specs.Step.{step_on, command_step, change_command, close_command};
     ghost use Rattle.lsp_server.specs.Calls.{IsStepOf, IsRowOf};
     ghost use Rattle.lsp_server.specs.Planned.{IsCommittable, IsPlanOfChange, IsPlannedAs, after_commit, store_of};
 
@@ -52,7 +52,7 @@ impl Server {
     }
 
     fn open(&mut self, params: OpenParams) -> Result<Answer, AllocError>
-        ensures { IsStepOf (obeys self.old (opens (open_view params))) result
+        ensures { IsStepOf (command_step self.old (opens (open_view params))) result
             self.old self.new }
     {
         let OpenParams {
@@ -148,7 +148,7 @@ impl Server {
     /// Makes a change of a running session.
     fn change(&mut self, params: &ChangeParams) -> Result<Answer, AllocError>
         requires { self.old.phase ≡ Running }
-        ensures { IsStepOf (obeys self.old (change_command self.old (change_view params.now)))
+        ensures { IsStepOf (command_step self.old (change_command self.old (change_view params.now)))
             result self.old self.new }
     {
         match self.plan(params)? {
@@ -170,7 +170,7 @@ impl Server {
     }
 
     fn close(&mut self, params: CloseParams) -> Result<Answer, AllocError>
-        ensures { IsStepOf (obeys self.old (close_command (close_view params))) result
+        ensures { IsStepOf (command_step self.old (close_command (close_view params))) result
             self.old self.new }
     {
         answer_of(self.store.close(&params.uri))
