@@ -2,7 +2,7 @@
 use Rattle.std.proofs.Common.{◌≡◌, ◌⊎◌, ℕ, List, Option, Some, None, inl, inr, ap, subst, sym, ◌∙◌}
 use Rattle.std.proofs.lemmas.Option.{none-some}
 use Rattle.lsp_store.specs.declared.fault.StoreFault.{StoreFault}
-use Rattle.lsp_store.specs.Faults.{IsRefusal, fault_of}
+use Rattle.lsp_store.specs.Faults.{IsRefusal, refusal_fault}
 use Rattle.lsp_store.specs.Table.{Refusal}
 use Rattle.laspidru.specs.declared.codes.TheConstants.{OUT_OF_MEMORY}
 use Rattle.laspidru.specs.declared.object.Object.{Object}
@@ -18,6 +18,6 @@ pub message_refused : (refusal : Option Refusal) (frame : List ℕ) (fault : Sto
     → (code ≡ OUT_OF_MEMORY) ⊎ IsMessageLeft (frame_unless refusal frame) code stored len out
 message_refused refusal frame fault code len stored out (inl none) is written = inl (is ∙ ap store_code none)
 message_refused (Some refusal) frame fault code len stored out (inr why) is written =
-    let e : fault_of refusal ≡ fault = cc in
+    let e : refusal_fault refusal ≡ fault = cc in
     inr (is ∙ ap store_code (sym e), subst (λ f. IsStoreReport f out) (sym e) written)
 message_refused None frame fault code len stored out (inr why) is written = absurd (none-some fault why)

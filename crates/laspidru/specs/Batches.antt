@@ -11,8 +11,8 @@ use Rattle.lsp_edit.specs.declared.composed.TheConstants.{MAX_OLD_TEXT}
 use Rattle.lsp_edit.specs.declared.fault.EditFault.TheVariants as edit
 use Rattle.lsp_edit.specs.declared.fault.Side.{Side}
 use Rattle.lsp_edit.specs.declared.fault.Side.TheVariants.{Start, Stop}
-use Rattle.lsp_edit.specs.declared.indexed.TextFault.{TextFault}
-use Rattle.lsp_edit.specs.declared.indexed.TextFault.TheVariants.{Edit as EditOf, TooLong, NoMemory}
+use Rattle.lsp_edit.specs.declared.indexed.fault.TextFault.{TextFault}
+use Rattle.lsp_edit.specs.declared.indexed.fault.TextFault.TheVariants.{Edit as EditOf, TooLong, NoMemory}
 use Rattle.lsp_edit.specs.Batch as batch
 use Rattle.lsp_edit.specs.Batch.{meaning}
 use Rattle.lsp_edit.specs.Items.{Item}

@@ -17,7 +17,7 @@ use Rattle.lsp_client.specs.declared.phase.Phase.{Phase}
 use Rattle.lsp_client.specs.declared.phase.Phase.TheVariants.{New, Asked, Ready, Closing, Closed, Done, Failed}
 use Rattle.lsp_client.specs.declared.phase.Reason.{Reason}
 use Rattle.lsp_client.specs.declared.phase.Reason.TheVariants.{NotAnAnswer, ErrorAnswer, NoSync, BadEncoding}
-use Rattle.lsp_client.specs.Seen.{as_sent}
+use Rattle.lsp_client.specs.Seen.{as_frame}
 use Rattle.lsp_client.specs.Step.{Call, starts, shuts_down, exits, opens, edits, Order, Sending, Delivery, DeliveredData, sends, noted, ignored, bad_server, new_client}
 use Rattle.laspidru.specs.declared.answers.Answer.{Answer}
 use Rattle.laspidru.specs.declared.reports.Call.{Call as Lifecycle}
@@ -160,10 +160,10 @@ pub record IsTakenIn (stream : StreamData) (delivery : Delivery) (code : ℕ)
   pub done : code ≡ OK
   pub client : stored ≡ Some (Client (record {
     client = delivery.state;
-    frame = sent_frame (as_sent delivery.delivered);
+    frame = sent_frame (as_frame delivery.delivered);
     stream = stream;
   }))
-  pub answer : out ≡ delivered_out (as_sent delivery.delivered)
+  pub answer : out ≡ delivered_out (as_frame delivery.delivered)
 
 -- A body is handled or out of memory, or refused.
 abbrev pub IsDeliveredTo : StreamData → Result Delivery ClientFault → ℕ → Option Object → Answer →

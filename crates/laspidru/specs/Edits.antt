@@ -7,8 +7,8 @@ use Rattle.lsp_text.specs.Units.{units_in}
 use Rattle.lsp_edit.specs.declared.change.Change.{Change}
 use Rattle.lsp_edit.specs.declared.change.TheConstants.{MAX_NEW_TEXT}
 use Rattle.lsp_edit.specs.declared.composed.TheConstants.{MAX_OLD_TEXT}
-use Rattle.lsp_edit.specs.declared.indexed.TextFault.{TextFault}
-use Rattle.lsp_edit.specs.declared.indexed.TextFault.TheVariants.{TooLong}
+use Rattle.lsp_edit.specs.declared.indexed.fault.TextFault.{TextFault}
+use Rattle.lsp_edit.specs.declared.indexed.fault.TextFault.TheVariants.{TooLong}
 use Rattle.lsp_edit.specs.declared.text_edits.TextEdit.{TextEdit}
 use Rattle.lsp_edit.specs.declared.text_edits.TextEditFault.{TextEditFault}
 use Rattle.lsp_edit.specs.declared.text_edits.TextEditFault.TheVariants.{InsideCharacter, ReversedRange, Overlap, NoMemory}

@@ -65,5 +65,5 @@ abbrev pub IsMessageLeft : Result (List ℕ) Refusal → ℕ → Option Object �
 IsMessageLeft (Ok frame) code stored len out =
     (code ≡ OK) × (stored_output stored ≡ Ok frame) × (len ≡ length frame)
 IsMessageLeft (Err refusal) code stored len out =
-    (code ≡ store_code (documents.fault_of refusal))
-    × IsStoreReport (documents.fault_of refusal) out
+    (code ≡ store_code (documents.refusal_fault refusal))
+    × IsStoreReport (documents.refusal_fault refusal) out

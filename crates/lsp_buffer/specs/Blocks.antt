@@ -21,8 +21,8 @@ AreBlocks (block ∷ next ∷ blocks) =
     (is_utf8 block ≡ true) × EndsClear block × AreBlocks (next ∷ blocks)
 
 -- How many line ends a block has.
-abbrev pub ends_of : List ℕ → ℕ
-ends_of block = line_ends (chars block)
+abbrev pub block_ends : List ℕ → ℕ
+block_ends block = line_ends (chars block)
 
 -- The sums before each of these numbers, from a first one on.
 abbrev pub sums_from : ℕ → List ℕ → List ℕ
@@ -41,7 +41,7 @@ carried (suc line) head = 0
 -- The units from the start of the line that is at the end of a block to that end, if so many are
 -- before the block in its line.
 abbrev pub head_after : (ℕ → ℕ) → ℕ → List ℕ → ℕ
-head_after units head block = carried (ends_of block) head + head_of units block
+head_after units head block = carried (block_ends block) head + head_of units block
 
 -- The units before each of these blocks in its line, if so many are before the first.
 abbrev pub heads_from : (ℕ → ℕ) → ℕ → List (List ℕ) → List ℕ
@@ -53,7 +53,7 @@ heads_from units head (block ∷ blocks)
 pub record IsBuffer (blocks : List (List ℕ)) (starts lines : List ℕ) : Type 0 where
   pub are : AreBlocks blocks
   pub starts_are : starts ≡ sums_from 0 (map length blocks)
-  pub lines_are : lines ≡ sums_from 0 (map ends_of blocks)
+  pub lines_are : lines ≡ sums_from 0 (map block_ends blocks)
   pub size : length (concat blocks) ≤ 2147483648
 
 -- The units before each block in its line, for each encoding.

@@ -3,7 +3,7 @@ ghost use Rattle.std.specs.Prelude.{◌≡◌, ◌+◌, ◌-◌, ◌++◌, ◌�
 ghost use Rattle.std.specs.Prelude.{length, map, take, drop, vec_len};
 ghost use Rattle.std.specs.List.{concat};
 ghost use Rattle.lsp_text.specs.Units.{units_in};
-ghost use Rattle.lsp_buffer.specs.Blocks.{AreBlocks, AreHeads, ends_of, heads_from, sums_from};
+ghost use Rattle.lsp_buffer.specs.Blocks.{AreBlocks, AreHeads, block_ends, heads_from, sums_from};
 ghost use Rattle.lsp_buffer.specs.inside.Seams.{WereHeads, WereSums, heads_end, row_of};
 
 use crate::block::{Block, BlockSplice};
@@ -88,7 +88,7 @@ impl Heads {
             ++ (change.fresh.now ++ drop change.past change.blocks.now)) }
         requires size { length (concat (take change.first change.blocks.now
             ++ (change.fresh.now ++ drop change.past change.blocks.now))) ≤ 2147483648 }
-        requires lines_are { lines.now ≡ sums_from 0 (map ends_of change.blocks.now) }
+        requires lines_are { lines.now ≡ sums_from 0 (map block_ends change.blocks.now) }
         requires heads_are { AreHeads change.blocks.now (row_of self.now) }
         ensures { IfOk result (λ heads. AreHeads (take change.entry.first change.entry.blocks.now
             ++ (change.entry.fresh.now ++ drop change.entry.past change.entry.blocks.now))
@@ -164,7 +164,7 @@ fn splice(
         ++ (change.fresh.now ++ drop change.past change.blocks.now)) }
     requires size { length (concat (take change.first change.blocks.now
         ++ (change.fresh.now ++ drop change.past change.blocks.now))) ≤ 2147483648 }
-    requires lines_are { lines.now ≡ sums_from 0 (map ends_of change.blocks.now) }
+    requires lines_are { lines.now ≡ sums_from 0 (map block_ends change.blocks.now) }
     requires heads_are { heads.now ≡ heads_from (units_in encoding) 0 change.blocks.now }
     ensures { IfOk result (λ made. made.items ≡ heads_from (units_in encoding) 0
         (take change.entry.first change.entry.blocks.now

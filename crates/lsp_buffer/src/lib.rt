@@ -1,7 +1,8 @@
 //! `TextBuffer`, a text in blocks, in which a change costs what its block costs. Copies share blocks.
 //!
 //! - `text_buffer`: `TextBuffer`, the blocks and, beside them, the first byte and the first line of
-//!   each. `change` replaces bytes inside a block, or in several, which are cut again.
+//!   each. `reading` has its lines, chunks and copies. `change` replaces bytes: `inside` a block, or
+//!   `across` several, which are cut again.
 //! - `block`: `Block`, a few kilobytes of the text with their lines, which copies of the text share.
 //!   A change copies a block first that is shared.
 //! - `shared_text`: `SharedText`, what is shared: a string and its lines.

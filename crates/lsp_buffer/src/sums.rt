@@ -1,7 +1,7 @@
 //! What comes before each block, kept as sums: the first byte of each block, and its first line.
 ghost use Rattle.std.specs.Prelude.{◌≡◌, ◌+◌, ◌-◌, ◌++◌, ◌≤◌, ◌<◌, ◌^◌, ℕ, IfOk, OnOk, length, map, take, drop, sum, slice_index};
 ghost use Rattle.lsp_text.specs.Starts.{AreStarts, IsLineOf as IsBlockOf};
-ghost use Rattle.lsp_buffer.specs.Blocks.{ends_of, sums_from};
+ghost use Rattle.lsp_buffer.specs.Blocks.{block_ends, sums_from};
 
 use crate::block::Block;
 use lsp_text::{Starts, line_of};
@@ -110,10 +110,10 @@ pub fn push_starts(starts: &mut Vec<u32>, blocks: &[Block], first: u32) -> Resul
 /// Appends the first line of each of some blocks, the first of which begins with line `first`.
 /// Returns the line that they end in.
 pub fn push_lines(lines: &mut Vec<u32>, blocks: &[Block], first: u32) -> Result<u32, AllocError>
-    requires { first + sum (map ends_of blocks.now) ≤ 2147483648 }
+    requires { first + sum (map block_ends blocks.now) ≤ 2147483648 }
     ensures lines { OnOk result
-        (lines.new.items ≡ lines.old.items ++ sums_from first (map ends_of blocks.now)) }
-    ensures next { IfOk result (λ next. next ≡ first + sum (map ends_of blocks.now)) }
+        (lines.new.items ≡ lines.old.items ++ sums_from first (map block_ends blocks.now)) }
+    ensures next { IfOk result (λ next. next ≡ first + sum (map block_ends blocks.now)) }
 {
     let mut next = first;
     for block in blocks {

@@ -1,32 +1,31 @@
 //! `TextBuffer`, a text in blocks.
-ghost use Rattle.std.specs.Prelude.{◌≡◌, ◌+◌, ◌-◌, ◌≤◌, ◌<◌, ◌↔◌, ◌++◌, ℕ, List, Some, IsTrue, IfOk, IfSome};
-ghost use Rattle.std.specs.Prelude.{IfNone, OnOk, OnErr, OnSome, length, take, drop, min, option_map, string_bytes, string_len};
-ghost use Rattle.std.specs.List.{concat, replace_range, slice_range};
+ghost use Rattle.std.specs.Prelude.{◌≡◌, ◌+◌, ◌≤◌, ◌↔◌, ℕ, List, Some, IsTrue, IfOk};
+ghost use Rattle.std.specs.Prelude.{OnOk, OnErr, length, option_map, string_bytes, string_len};
+ghost use Rattle.std.specs.List.{concat, replace_range};
 ghost use Rattle.std.specs.Result.{result_ok};
 ghost use Rattle.std.specs.Str.{IsCharBoundary, IsUtf8, chars};
 ghost use Rattle.lsp_text.specs.Text.{place_of};
-ghost use Rattle.lsp_text.specs.TextLines.{line_ends, line_start, line_stop};
+ghost use Rattle.lsp_text.specs.TextLines.{line_ends};
 ghost use Rattle.lsp_text.specs.LineStarts.{IsPlace};
 ghost use Rattle.lsp_text.specs.Units.{units_in};
 ghost use Rattle.lsp_text.specs.Positions.{exact_position, denoted};
-ghost use Rattle.lsp_buffer.specs.Contents.{IsContentOf};
 ghost use Rattle.lsp_buffer.specs.Blocks.{AreBlocks};
 
 pub(crate) mod change;
+mod reading;
 
-use crate::block::{Block, are_text, shared_blocks};
+use crate::block::{Block, shared_blocks};
 use crate::cut::blocks_of;
 use crate::heads::Heads;
 use crate::seams::{block_at, position_after, position_from};
 use crate::sums::{block_of, push_lines, push_starts};
-use crate::text_buffer::change::{
-    BlockRange, fits, joins, replace_across, replace_inside, replace_joined,
-};
+use crate::text_buffer::change::across::{replace_across, replace_joined};
+use crate::text_buffer::change::inside::replace_inside;
+use crate::text_buffer::change::{BlockRange, fits, joins};
 use lsp_text::{Encoding, InsideCharacter, Position};
 use std::alloc::{AllocError, Global};
 use std::fmt;
 use std::marker::Model;
-use std::ops::Range;
 
 /// A text of at most 2,147,483,648 bytes in blocks of some kilobytes each. A change costs its
 /// block, and an addition for each later block. That is so in long lines too: a line may be in
@@ -211,167 +210,6 @@ impl TextBuffer {
         block.is_place(offset - self.starts[index] as usize)
     }
 
-    /// Returns the byte offsets of a line's content, without its line end, or `None` if there is no
-    /// such line. Costs two binary searches over the blocks.
-    pub fn line(&self, line: u32) -> Option<Range<usize>>
-        ensures content { IfSome result (IsContentOf self.now line) }
-        ensures some { OnSome result (line ≤ line_ends (chars self.now)) }
-        ensures none { IfNone result (line_ends (chars self.now) < line) }
-    {
-        if line as usize >= self.line_count() {
-            return None;
-        }
-        Some(self.line_start(line)..self.line_end(line))
-    }
-
-    /// Returns the byte offset at which a line starts.
-    fn line_start(&self, line: u32) -> usize
-        requires { line ≤ line_ends (chars self.now) }
-        ensures { result ≡ place_of (chars self.now) (line_start (chars self.now) line) }
-    {
-        let first = Position { line, character: 0 };
-        self.resolve(Encoding::Utf8, first).unwrap_or(0)
-    }
-
-    /// Returns the byte offset at which the content of a line ends.
-    fn line_end(&self, line: u32) -> usize
-        requires { line ≤ line_ends (chars self.now) }
-        ensures value { result ≡ place_of (chars self.now) (line_stop (chars self.now) line) }
-        ensures utf8 { IsUtf8 self.now }
-    {
-        // A text has at most 2,147,483,648 bytes, so no line has a character so far on.
-        let after_all = Position {
-            line,
-            character: u32::MAX,
-        };
-        let len = self.len();
-        self.resolve(Encoding::Utf8, after_all).unwrap_or(len)
-    }
-
-    /// Returns the text from an offset on, up to the end of its block. It is empty only at the end
-    /// of the text. Costs a binary search over the blocks.
-    ///
-    /// The next chunk begins at `offset + chunk.len()`.
-    pub fn chunk_from(&self, offset: usize) -> &str
-        requires { IsCharBoundary self.now offset }
-        ensures part { result.now ≡ take (length result.now) (drop offset self.now) }
-        ensures some { offset < length self.now → 0 < length result.now }
-        ensures next { IsCharBoundary self.now (offset + length result.now) }
-    {
-        let index = block_of(&self.starts, offset);
-        let block = &self.blocks[index];
-        &block.text()[offset - self.starts[index] as usize..]
-    }
-
-    /// Returns the part of the text from `offset` to `end`, or to the end of its block if that is
-    /// nearer.
-    pub fn chunk_to(&self, offset: usize, end: usize) -> &str
-        requires order { offset ≤ end }
-        requires at_offset { IsCharBoundary self.now offset }
-        requires at_end { IsCharBoundary self.now end }
-        ensures part { result.now ≡ take (length result.now) (drop offset self.now) }
-        ensures within { offset + length result.now ≤ end }
-        ensures some { offset < end → 0 < length result.now }
-        ensures next { IsCharBoundary self.now (offset + length result.now) }
-    {
-        let chunk = self.chunk_from(offset);
-        let len = end - offset;
-        if chunk.len() <= len {
-            chunk
-        } else {
-            &chunk[..len]
-        }
-    }
-
-    /// Copies the bytes from `start` to `end`. Fails only if it is out of memory. Costs a binary
-    /// search for each block of the range, and its bytes.
-    pub fn slice(&self, alloc: Global, start: usize, end: usize) -> Result<String, AllocError>
-        requires order { start ≤ end }
-        requires at_start { IsCharBoundary self.now start }
-        requires at_end { IsCharBoundary self.now end }
-        ensures { IfOk result (λ text. string_bytes text ≡ slice_range self.now start end) }
-    {
-        let mut text = String::with_capacity(alloc, end - start)?;
-        self.push_range(&mut text, start, end)?;
-        Ok(text)
-    }
-
-    /// Appends the bytes from `start` to `end` to a string. Fails only if it is out of memory.
-    /// Costs a binary search for each block of the range, and its bytes.
-    pub fn push_range(&self, out: &mut String, start: usize, end: usize) -> Result<(), AllocError>
-        requires order { start ≤ end }
-        requires at_start { IsCharBoundary self.now start }
-        requires at_end { IsCharBoundary self.now end }
-        ensures { OnOk result (string_bytes out.new
-            ≡ string_bytes out.old ++ slice_range self.now start end) }
-    {
-        let mut offset = start;
-        while offset < end {
-            let chunk = self.chunk_to(offset, end);
-            out.push_str(chunk)?;
-            offset += chunk.len();
-        }
-        Ok(())
-    }
-
-    /// Returns the text without a copy, if it is in one block.
-    pub fn as_str(&self) -> Option<&str>
-        ensures { IfSome result (λ text. text.now ≡ self.now) }
-    {
-        match self.blocks.as_slice() {
-            [block] => Some(block.text()),
-            _ => None,
-        }
-    }
-
-    /// Returns whether the text is this one, byte for byte. Nothing is copied. Linear in the text.
-    pub fn is_text(&self, text: &str) -> bool
-        ensures { IsTrue result ↔ (self.now ≡ text.now) }
-    {
-        are_text(&self.blocks, text.as_bytes())
-    }
-
-    /// Returns the bytes from an offset on, up to the end of their block. There are none only at
-    /// the end of the text. Costs a binary search over the blocks.
-    fn bytes_from(&self, offset: usize) -> &[u8]
-        requires { offset ≤ length self.now }
-        ensures part { result.now ≡ take (length result.now) (drop offset self.now) }
-        ensures some { offset < length self.now → 0 < length result.now }
-    {
-        let index = block_of(&self.starts, offset);
-        let block = &self.blocks[index];
-        let bytes = block.text().as_bytes();
-        let (_, rest) = bytes.split_at(offset - self.starts[index] as usize);
-        rest
-    }
-
-    /// Copies the bytes from `start` on, as many as `out` has room for, and returns how many. Costs
-    /// a binary search for each block of these bytes, and the copy.
-    pub fn copy_to(&self, start: usize, out: &mut [u8]) -> usize
-        requires { start ≤ length self.now }
-        ensures count { result ≡ min (length (drop start self.now)) (length out.old) }
-        ensures bytes { out.new ≡ take result (drop start self.now) ++ drop result out.old }
-    {
-        let end = out.len().min(self.len() - start);
-        let mut copied = 0;
-        while copied < end {
-            let bytes = self.bytes_from(start + copied);
-            copied += copy_front(bytes, &mut out[copied..end]);
-        }
-        copied
-    }
-
-    /// Copies the text into one string. Fails only if it is out of memory. Linear in the text.
-    pub fn to_string(&self, alloc: Global) -> Result<String, AllocError>
-        ensures { IfOk result (λ text. string_bytes text ≡ self.now) }
-    {
-        let mut text = String::with_capacity(alloc, self.len())?;
-        for block in &self.blocks {
-            text.push_str(block.text())?;
-        }
-        Ok(text)
-    }
-
     /// Replaces the bytes from `start` to `end` by another text. Out of memory changes nothing.
     ///
     /// Costs the new text, the blocks of the two ends, and an addition for each later block. Blocks
@@ -404,16 +242,6 @@ impl TextBuffer {
             replace_across(blocks, starts, lines, heads, range, new)
         }
     }
-}
-
-/// Copies the first bytes, as many as `out` has room for, and returns how many.
-fn copy_front(bytes: &[u8], out: &mut [u8]) -> usize
-    ensures count { result ≡ min (length bytes.now) (length out.old) }
-    ensures bytes { out.new ≡ take result bytes.now ++ drop result out.old }
-{
-    let count = out.len().min(bytes.len());
-    out[..count].copy_from_slice(&bytes[..count]);
-    count
 }
 
 impl fmt::Display for TextBuffer {

@@ -21,8 +21,8 @@ use Rattle.lsp_client.specs.Seen.{IsFaultOf, IsSent, client_fault}
 -- ---- refusals
 
 -- A refusal of the store is a refusal of the client, with the store's fault.
-fault_kept : (refusal : documents_table.Refusal) → client_fault (documents.fault_of refusal)
-    ≡ Store (documents.fault_of refusal)
+fault_kept : (refusal : documents_table.Refusal) → client_fault (documents.refusal_fault refusal)
+    ≡ Store (documents.refusal_fault refusal)
 fault_kept already_open = refl
 fault_kept too_many_documents = refl
 fault_kept text_too_long = refl
@@ -54,8 +54,8 @@ refused None sending fault why =
     ⊎_elim (λ (e : fault ≡ faults.NoMemory). rw e refl) (λ (e : None ≡ Some fault). absurd (cc)) why
 refused (Some refusal) sending fault why =
     ⊎_elim (λ (e : fault ≡ faults.NoMemory). inl (rw e refl))
-    (λ (e : Some (documents.fault_of refusal) ≡ Some fault). inr
-    (ap client_fault (sym (some_same (documents.fault_of refusal) fault e)) ∙ fault_kept refusal)) why
+    (λ (e : Some (documents.refusal_fault refusal) ≡ Some fault). inr
+    (ap client_fault (sym (some_same (documents.refusal_fault refusal) fault e)) ∙ fault_kept refusal)) why
 
 -- What is refused first is refused.
 pub refused_first : (first later : Option documents_table.Refusal) (fault : StoreFault) → IsRefusal first fault

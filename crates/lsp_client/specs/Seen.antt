@@ -11,7 +11,7 @@ use Rattle.lsp_client.specs.declared.fault.ClientFault.{ClientFault}
 use Rattle.lsp_client.specs.declared.fault.ClientFault.TheVariants.{Store, NoMemory}
 use Rattle.lsp_client.specs.declared.delivered.Delivered.{Delivered}
 use Rattle.lsp_client.specs.declared.delivered.Delivered.TheVariants.{Send, Noted, Ignored, BadServer}
-use Rattle.lsp_store.specs.Opened.{MayTakeMemory}
+use Rattle.lsp_store.specs.Opened.{ChangeMayAllocate}
 use Rattle.lsp_store.specs.Table.{open_refusal, close_refusal}
 use Rattle.lsp_client.specs.declared.phase.Phase.TheVariants.{Ready}
 use Rattle.lsp_client.specs.Step.{ClientData, Sending, Order, opens, edits, closes, Delivery, DeliveredData, sends, noted, ignored, bad_server}
@@ -62,27 +62,27 @@ delivered_view Ignored = ignored
 delivered_view (BadServer reason) = bad_server reason
 
 -- The result of a delivery, with its message as a frame.
-abbrev pub as_sent : DeliveredData OutgoingData → DeliveredData (List ℕ)
-as_sent (sends m) = sends (frame (body_of m))
-as_sent noted = noted
-as_sent ignored = ignored
-as_sent (bad_server reason) = bad_server reason
+abbrev pub as_frame : DeliveredData OutgoingData → DeliveredData (List ℕ)
+as_frame (sends m) = sends (frame (body_of m))
+as_frame noted = noted
+as_frame ignored = ignored
+as_frame (bad_server reason) = bad_server reason
 
 -- A body is accepted: this is the result, and this is the client's new state.
 abbrev pub IsDelivered : Result Delivery ClientFault → DeliveredData (List ℕ) → ClientData → Type 0
 IsDelivered (Ok delivery) delivered new =
-    (delivered ≡ as_sent delivery.delivered) × (new ≡ delivery.state)
+    (delivered ≡ as_frame delivery.delivered) × (new ≡ delivery.state)
 IsDelivered (Err refusal) delivered new = ⊥
 
 -- ---- memory
 
 -- Only what a batch means, or the length of the message, can still refuse an order.
-abbrev pub IsAdmitted : ClientData → Order → Type 0
-IsAdmitted s (opens entry) = open_refusal s.limits s.table entry ≡ None
-IsAdmitted s (edits uri version batch) =
-    MayTakeMemory (record { limits = s.limits; table = s.table }) uri version batch
-IsAdmitted s (closes uri) = close_refusal s.table uri ≡ None
+abbrev pub IsLeftToMessage : ClientData → Order → Type 0
+IsLeftToMessage s (opens entry) = open_refusal s.limits s.table entry ≡ None
+IsLeftToMessage s (edits uri version batch) =
+    ChangeMayAllocate (record { limits = s.limits; table = s.table }) uri version batch
+IsLeftToMessage s (closes uri) = close_refusal s.table uri ≡ None
 
--- An order takes memory only in phase Ready, and only where it is admitted.
-abbrev pub MayAllocate : ClientData → Order → Type 0
-MayAllocate s order = (s.phase ≡ Ready) × IsAdmitted s order
+-- An order may take memory only in phase Ready, and only where it is left to its message.
+abbrev pub OrderMayAllocate : ClientData → Order → Type 0
+OrderMayAllocate s order = (s.phase ≡ Ready) × IsLeftToMessage s order

@@ -17,7 +17,7 @@ use Rattle.lsp_message.specs.Message.{whole, given, failed, Reading, message, re
 use Rattle.lsp_message.specs.Outgoing.{OutgoingData, initialize, initialized, did_open, did_close, shutdown, exit, error_reply, body_of}
 use Rattle.lsp_store.specs.Table as documents
 use Rattle.lsp_message.specs.Params.{DocumentItem}
-use Rattle.lsp_store.specs.Faults.{fault_of}
+use Rattle.lsp_store.specs.Faults.{refusal_fault}
 use Rattle.lsp_store.specs.Table.{Command, command_refusal, table_after}
 use Rattle.lsp_store.specs.Message.{canonical_batch, whole_batch, change_message, body_refusal, else_refused}
 use Rattle.lsp_client.specs.declared.agreed.Agreed.{Agreed}
@@ -77,19 +77,19 @@ sent_batch Full units table uri version batch = whole_batch units table uri vers
 sent_batch kind units table uri version batch = canonical_batch units table uri batch
 
 -- The message of a command on a table (DidOpen-, DidChange-, DidCloseTextDocument).
-abbrev pub message_of : SyncKind → List DocumentItem → Command → OutgoingData
-message_of kind table (documents.opens entry) = did_open entry
-message_of kind table (documents.changes uri version encoding batch) =
+abbrev pub sent_message : SyncKind → List DocumentItem → Command → OutgoingData
+sent_message kind table (documents.opens entry) = did_open entry
+sent_message kind table (documents.changes uri version encoding batch) =
     change_message uri version (sent_batch kind (units_in encoding) table uri version batch)
-message_of kind table (documents.closes uri) = did_close (record { uri = uri })
+sent_message kind table (documents.closes uri) = did_close (record { uri = uri })
 
 -- The body of the message of a command on a table.
 unfoldable pub sent_body : SyncKind → List DocumentItem → Command → List ℕ
-sent_body kind table command = body_of (message_of kind table command)
+sent_body kind table command = body_of (sent_message kind table command)
 
 -- What a call sends, unless there is a refusal.
 abbrev pub sending_unless : Option documents.Refusal → Sending → Result Sending ClientFault
-sending_unless (Some refusal) sending = Err (Store (fault_of refusal))
+sending_unless (Some refusal) sending = Err (Store (refusal_fault refusal))
 sending_unless None sending = Ok sending
 
 -- What a command sends and the client's new state, or why it is refused: as the store refuses it,
@@ -101,7 +101,7 @@ command_result s kind command =
     (command_refusal s.limits s.table command)
     (body_refusal s.limits (sent_body kind s.table command)))
     (record {
-      message = message_of kind s.table command;
+      message = sent_message kind s.table command;
       state = record s { table = table_after s.table command };
     })
 

@@ -7,7 +7,7 @@ ghost use Rattle.lsp_message.specs.declared.params.OpenParams.{OpenParams};
 ghost use Rattle.lsp_store.specs.declared.fault.StoreFault.TheVariants as store_faults;
 ghost use Rattle.lsp_client.specs.declared.fault.ClientFault.TheVariants.{NoMemory};
 ghost use Rattle.lsp_client.specs.Step.{agreement, call_result, orders, closes};
-ghost use Rattle.lsp_client.specs.Seen.{IsAdmitted, IsSent, IsFaultOf, MayAllocate, open_order, edit_order};
+ghost use Rattle.lsp_client.specs.Seen.{IsLeftToMessage, IsSent, IsFaultOf, OrderMayAllocate, open_order, edit_order};
 ghost use Rattle.lsp_client.specs.inside.Orders.{IsOrderFault, order_result};
 
 use crate::agreed::Agreed;
@@ -43,7 +43,7 @@ impl Client {
         ensures error { IfErr result
             (IsFaultOf (call_result self.old (orders (open_order uri language version text)))) }
         ensures memory { result ≡ Err NoMemory
-            → MayAllocate self.old (open_order uri language version text) }
+            → OrderMayAllocate self.old (open_order uri language version text) }
     {
         match self.phase {
             Phase::Ready => Ok(self.send_open(uri, language, version, text)?),
@@ -65,7 +65,7 @@ impl Client {
         ensures error { IfErr result
             (IsOrderFault self.old (open_order uri language version text)) }
         ensures memory { result ≡ Err store_faults.NoMemory
-            → IsAdmitted self.old (open_order uri language version text) }
+            → IsLeftToMessage self.old (open_order uri language version text) }
     {
         self.store.check_open(&uri, &text)?;
         let message = Outgoing::DidOpen(OpenParams {
@@ -108,7 +108,7 @@ impl Client {
         ensures error { IfErr result
             (IsFaultOf (call_result self.old (orders (edit_order uri.now version changes.now)))) }
         ensures memory { result ≡ Err NoMemory
-            → MayAllocate self.old (edit_order uri.now version changes.now) }
+            → OrderMayAllocate self.old (edit_order uri.now version changes.now) }
     {
         match self.phase {
             Phase::Ready => Ok(self.send_edit(uri, version, changes)?),
@@ -129,7 +129,7 @@ impl Client {
         ensures error { IfErr result
             (IsOrderFault self.old (edit_order uri.now version changes.now)) }
         ensures memory { result ≡ Err store_faults.NoMemory
-            → IsAdmitted self.old (edit_order uri.now version changes.now) }
+            → IsLeftToMessage self.old (edit_order uri.now version changes.now) }
     {
         match self.agreement().kind {
             SyncKind::Full => self.send_whole(uri, version, changes),
@@ -152,7 +152,7 @@ impl Client {
         ensures error { IfErr result
             (IsOrderFault self.old (edit_order uri.now version changes.now)) }
         ensures memory { result ≡ Err store_faults.NoMemory
-            → IsAdmitted self.old (edit_order uri.now version changes.now) }
+            → IsLeftToMessage self.old (edit_order uri.now version changes.now) }
     {
         let encoding = self.agreement().encoding;
         let plan = self.store.plan(uri, version, encoding, changes)?;
@@ -176,7 +176,7 @@ impl Client {
         ensures error { IfErr result
             (IsOrderFault self.old (edit_order uri.now version changes.now)) }
         ensures memory { result ≡ Err store_faults.NoMemory
-            → IsAdmitted self.old (edit_order uri.now version changes.now) }
+            → IsLeftToMessage self.old (edit_order uri.now version changes.now) }
     {
         let encoding = self.agreement().encoding;
         let plan = self.store.plan(uri, version, encoding, changes)?;
@@ -198,7 +198,7 @@ impl Client {
             IsSent (call_result self.old (orders (closes uri.now))) frame.items self.new) }
         ensures unchanged { OnErr result (self.new ≡ self.old) }
         ensures error { IfErr result (IsFaultOf (call_result self.old (orders (closes uri.now)))) }
-        ensures memory { result ≡ Err NoMemory → MayAllocate self.old (closes uri.now) }
+        ensures memory { result ≡ Err NoMemory → OrderMayAllocate self.old (closes uri.now) }
     {
         match self.phase {
             Phase::Ready => Ok(self.send_close(uri)?),
@@ -212,7 +212,7 @@ impl Client {
         ensures unchanged { OnErr result (self.new ≡ self.old) }
         ensures error { IfErr result (IsOrderFault self.old (closes uri.now)) }
         ensures memory { result ≡ Err store_faults.NoMemory
-            → IsAdmitted self.old (closes uri.now) }
+            → IsLeftToMessage self.old (closes uri.now) }
     {
         let Some(_) = self.store.get(uri) else {
             return Err(StoreFault::NotOpen);

@@ -2,6 +2,7 @@
 pub mod BatchLemmas
 pub mod ComposeLemmas
 pub mod LawLemmas
+pub mod LocatedLemmas
 pub mod PlainLemmas
 pub mod TextBatchLemmas
 pub mod TextEditLemmas

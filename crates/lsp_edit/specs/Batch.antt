@@ -34,8 +34,8 @@ changed_in units old items characters (Some range) =
     (denoted units (text_of old items) range.stop)
 
 -- The items after a change.
-abbrev pub after_change : (ℕ → ℕ) → List ℕ → List Item → Edit → Result (List Item) Fault
-after_change units old items change = changed_in units old items change.text change.range
+abbrev pub items_after : (ℕ → ℕ) → List ℕ → List Item → Edit → Result (List Item) Fault
+items_after units old items change = changed_in units old items change.text change.range
 
 -- The items after the rest of a batch, if `number` changes came before. Or the first change that
 -- has no result, by its number, and why.
@@ -51,7 +51,7 @@ abbrev pub after_changes : (ℕ → ℕ) → List ℕ → ℕ → List Item → 
 after_changes units old number items [] = Ok items
 after_changes units old number items (change ∷ changes) =
     continue_with (λ next. after_changes units old (suc number) next changes) number
-    (after_change units old items change)
+    (items_after units old items change)
 
 -- What a batch means on an old text: the items after all its changes, or its first fault.
 abbrev pub meaning : (ℕ → ℕ) → List ℕ → List Edit → Result (List Item) (ℕ × Fault)

@@ -34,27 +34,26 @@ pub record Gap : Type 0 where
   pub high : ℕ
   pub text : List ℕ
 
--- The gaps from each of `lows` to the one of `highs` at the same index, with their texts.
-abbrev pub gaps_between : List ℕ → List ℕ → List (List ℕ) → List Gap
-gaps_between [] highs texts = []
-gaps_between (low ∷ lows) [] texts = []
-gaps_between (low ∷ lows) (high ∷ highs) [] = []
-gaps_between (low ∷ lows) (high ∷ highs) (text ∷ texts)
-    = record { low = low; high = high; text = text } ∷ gaps_between lows highs texts
+-- The gaps of items over an old text of `len` characters, from the index `low` on, where `text` is
+-- the new text so far. At the end of the items the last gap goes up to `len`. A kept character ends
+-- a gap, and the next gap begins after it, with no text. A new character is appended to the text.
+abbrev pub gaps_from : ℕ → ℕ → List ℕ → List Item → List Gap
+gaps_from low len text [] = record { low = low; high = len; text = text } ∷ []
+gaps_from low len text (Old index ∷ items)
+    = record { low = low; high = index; text = text } ∷ gaps_from (suc index) len [] items
+gaps_from low len text (New character ∷ items) = gaps_from low len (text ++ character ∷ []) items
 
--- All gaps. Each starts after a kept character, or at 0, and ends at the next kept one, or at the
--- end of the old text.
+-- All gaps.
 abbrev pub gaps : List ℕ → List Item → List Gap
-gaps old items
-    = gaps_between (0 ∷ map suc (kept items)) (kept items ++ length old ∷ []) (gap_texts items)
+gaps old items = gaps_from 0 (length old) [] items
 
 -- A gap is changed if it has an old character, or a new text.
 abbrev pub is_changed : Gap → Bool
 is_changed gap = nat_lt gap.low gap.high || nat_lt 0 (length gap.text)
 
 -- The change of a gap: its range is the exact positions of the gap's two ends in the old text.
-abbrev pub change_of : (ℕ → ℕ) → List ℕ → Gap → Edit
-change_of units old gap =
+abbrev pub gap_edit : (ℕ → ℕ) → List ℕ → Gap → Edit
+gap_edit units old gap =
     record {
       range = Some (record {
         start = exact_position units old gap.low;
@@ -65,4 +64,4 @@ change_of units old gap =
 
 -- The canonical batch of items: one change for each changed gap, from the last gap to the first.
 abbrev pub canonical : (ℕ → ℕ) → List ℕ → List Item → List Edit
-canonical units old items = reverse (map (change_of units old) (filter is_changed (gaps old items)))
+canonical units old items = reverse (map (gap_edit units old) (filter is_changed (gaps old items)))

@@ -3,7 +3,7 @@ use Rattle.std.specs.Prelude.{ℕ, ◌≡◌, ◌+◌, ◌*◌, ◌≤◌, true,
 use Rattle.std.specs.Str.{chars, is_utf8}
 use Rattle.lsp_edit.specs.declared.change.Change.{Change}
 use Rattle.lsp_edit.specs.Items.{Item, plain, text_of}
-use Rattle.lsp_edit.specs.Batch.{Edit, Fault, after_change}
+use Rattle.lsp_edit.specs.Batch.{Edit, Fault, items_after}
 use Rattle.lsp_edit.specs.Keeps.{Keeps}
 use Rattle.lsp_edit.specs.Parts.{Part, AreParts, NoneTouch, items_of, bytes_of}
 
@@ -45,7 +45,7 @@ both_counts first second = min (first + second) 18446744073709551615
 -- `next` is `edited` after a change, and counts it.
 pub record Applied (units : ℕ → ℕ) (edited : PlainData) (change : Edit) (next : PlainData) : Type
     0 where
-  pub changed : after_change units edited.before edited.items change ≡ Ok next.items
+  pub changed : items_after units edited.before edited.items change ≡ Ok next.items
   pub same : next.before ≡ edited.before
   pub counted : next.changes ≡ next_number edited.changes
 

@@ -1,11 +1,11 @@
 -- A text with its lines, under batches of changes.
-use Rattle.std.specs.Prelude.{ℕ, ◌≡◌, ◌≤◌, if◌then◌else◌, nat_lt, List, [], ◌∷◌, length, encode_utf8_all, Some, Result, Ok, Err}
+use Rattle.std.specs.Prelude.{ℕ, ◌≡◌, ◌≤◌, ◌⊎◌, if◌then◌else◌, nat_lt, List, [], ◌∷◌, length, encode_utf8_all, Some, Result, Ok, Err}
 use Rattle.std.specs.Str.{IsUtf8, chars}
 use Rattle.lsp_text.specs.declared.position.Range.{Range}
 use Rattle.lsp_edit.specs.declared.fault.EditFault.{EditFault}
 use Rattle.lsp_edit.specs.declared.fault.EditFault.TheVariants as edit
-use Rattle.lsp_edit.specs.declared.indexed.TextFault.{TextFault}
-use Rattle.lsp_edit.specs.declared.indexed.TextFault.TheVariants.{Edit as EditOf, TooLong, NoMemory}
+use Rattle.lsp_edit.specs.declared.indexed.fault.TextFault.{TextFault}
+use Rattle.lsp_edit.specs.declared.indexed.fault.TextFault.TheVariants.{Edit as EditOf, TooLong, NoMemory}
 use Rattle.lsp_edit.specs.Items.{Item, text_of}
 use Rattle.lsp_edit.specs.Batch.{Edit, Fault, meaning}
 use Rattle.lsp_edit.specs.Canonical.{canonical}
@@ -22,6 +22,11 @@ abbrev pub text_within : ℕ → List ℕ → Result (List Item) (ℕ × Fault) 
 text_within max_len before (Err fault) = Err (EditOf (fault_at fault.0 fault.1))
 text_within max_len before (Ok items) = if nat_lt max_len (length (bytes_left before items)) then
     Err TooLong else Ok (bytes_left before items)
+
+-- Out of memory, or why a batch leaves no text of at most `max_len` bytes.
+abbrev pub IsTextFaultOf : (ℕ → ℕ) → ℕ → List ℕ → List Edit → TextFault → Type 0
+IsTextFaultOf units max_len before batch fault = (fault ≡ NoMemory)
+    ⊎ (text_within max_len before (meaning units (chars before) batch) ≡ Err fault)
 
 -- A batch of one change with a range, by the bytes of its text.
 abbrev pub alone : Range → List ℕ → List Edit

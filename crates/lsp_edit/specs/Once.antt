@@ -33,9 +33,9 @@ bytes_after before (Put put) = replace_range before put.start put.stop put.new.n
 bytes_after before (Left encoding changes left) = left
 
 -- The encoding whose units the positions of a delta's batch count in.
-abbrev pub encoding_of : Delta → Encoding
-encoding_of (Put put) = put.encoding
-encoding_of (Left encoding changes left) = encoding
+abbrev pub delta_encoding : Delta → Encoding
+delta_encoding (Put put) = put.encoding
+delta_encoding (Left encoding changes left) = encoding
 
 -- The two byte offsets are those of a range's ends in that text.
 pub record IsPut (units : ℕ → ℕ) (before : List ℕ) (start stop : ℕ) (new : List ℕ) : Type 0 where
@@ -67,7 +67,7 @@ IsOn before (Left encoding changes left)
 pub record IsDeltaOf (units : ℕ → ℕ) (max_len : ℕ) (before : List ℕ) (batch : List Edit)
     (delta : Delta) : Type 0 where
   pub on : IsOn before delta
-  pub units_are : units_in (encoding_of delta) ≡ units
+  pub units_are : units_in (delta_encoding delta) ≡ units
   pub means : meaning units (chars before) batch ≡ meant_by before delta
   pub is : text_within max_len before (meaning units (chars before) batch)
       ≡ Ok (bytes_after before delta)

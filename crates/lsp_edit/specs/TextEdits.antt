@@ -1,74 +1,90 @@
 -- What a list of text edits means (LSP 3.17, TextEdit[]). All ranges count in the old text, and
--- insertions at one offset come in the order of the list.
-use Rattle.std.specs.Prelude.{ℕ, suc, ◌≡◌, ◌⊎◌, ◌<◌, ◌≤◌, if◌then◌else◌, nat_lt, List, [], ◌∷◌, ◌++◌, length, string_bytes, Ok, Err}
-use Rattle.std.specs.Ordering.{nat_cmp}
-use Rattle.std.specs.List.Sorted.{IsPermutation, IsSortedByKey, IsStableByKey}
+-- insertions at one index come in the order of the list.
+use Rattle.std.specs.Prelude.{ℕ, suc, ◌≡◌, ◌⊎◌, ◌<◌, ◌≤◌, Bool, ◌&&◌, if◌then◌else◌, nat_le, nat_lt, ◌==◌, List, [], ◌∷◌, ◌++◌, length, map, filter, flat_map, Contains, string_bytes, Result, Ok, Err}
+use Rattle.std.specs.List.{list_any}
 use Rattle.std.specs.Str.{chars}
+use Rattle.lsp_text.specs.TextLines.{numbers_from}
 use Rattle.lsp_edit.specs.declared.fault.EditFault.{EditFault}
 use Rattle.lsp_edit.specs.declared.fault.EditFault.TheVariants as edit
-use Rattle.lsp_edit.specs.declared.text_edits.Placed.{Placed}
 use Rattle.lsp_edit.specs.declared.text_edits.TextEdit.{TextEdit}
 use Rattle.lsp_edit.specs.declared.text_edits.TextEditFault.{TextEditFault}
 use Rattle.lsp_edit.specs.declared.text_edits.TextEditFault.TheVariants.{InsideCharacter, ReversedRange, Overlap, NoMemory}
-use Rattle.lsp_edit.specs.Batch.{Edit, meaning}
+use Rattle.lsp_edit.specs.Items.{Item, Old, New}
+use Rattle.lsp_edit.specs.Batch.{Edit, Fault, meaning}
 use Rattle.lsp_edit.specs.Canonical.{canonical}
-use Rattle.lsp_edit.specs.Faults.{ends_of, places_at}
-use Rattle.lsp_edit.specs.Parts.{Part, OldPart, items_of, new_parts}
+use Rattle.lsp_edit.specs.Faults.{ends_of, fault_at}
 
--- An edit with a number has these byte offsets in the old text.
-pub record IsPlaced (units : ℕ → ℕ) (old : List ℕ) (number : ℕ) (edit : TextEdit)
-    (placed : Placed) : Type 0 where
-  pub at : places_at number old (ends_of units old edit.range) ≡ Ok (placed.start, placed.stop)
-  pub number_is : placed.number ≡ number
-  pub text : placed.text.now ≡ string_bytes edit.new_text
+-- An edit of a list by indexes of the old text: its number in the list, the two ends of its range,
+-- and the characters that replace those between them.
+pub record LocatedEdit : Type 0 where
+  pub number : ℕ
+  pub start : ℕ
+  pub stop : ℕ
+  pub text : List ℕ
 
--- Each of the edits has such offsets; the edits are numbered from `number`.
-abbrev pub ArePlaced : (ℕ → ℕ) → List ℕ → ℕ → List TextEdit → List Placed → Type 0
-ArePlaced units old number [] [] = Unit {0}
-ArePlaced units old number [] (placed ∷ more) = ⊥
-ArePlaced units old number (edit ∷ edits) [] = ⊥
-ArePlaced units old number (edit ∷ edits) (placed ∷ more) =
-    IsPlaced units old number edit placed × ArePlaced units old (suc number) edits more
+-- The edit with this number and text, before the others. If its range has a fault, that fault; else
+-- the fault of the others, if they have one.
+abbrev pub located_first : ℕ → List ℕ → Result (ℕ × ℕ) Fault →
+    Result (List LocatedEdit) (ℕ × Fault) → Result (List LocatedEdit) (ℕ × Fault)
+located_first number text (Err why) others = Err (number, why)
+located_first number text (Ok ends) (Err fault) = Err fault
+located_first number text (Ok ends) (Ok others)
+    = Ok (record { number = number; start = ends.0; stop = ends.1; text = text } ∷ others)
 
--- The same edits sorted by their starts. Those with the same start keep the order of the list.
-pub record IsInOrder (placed ordered : List Placed) : Type 0 where
-  pub same : IsPermutation placed ordered
-  pub sorted : IsSortedByKey (λ edit. edit.start) nat_cmp ordered
-  pub stable : IsStableByKey (λ edit. edit.start) nat_cmp placed ordered
+-- These edits by indexes of the old text, numbered from `number`; or the first one whose range has
+-- a fault, and why.
+abbrev pub located : (ℕ → ℕ) → List ℕ → ℕ → List TextEdit →
+    Result (List LocatedEdit) (ℕ × Fault)
+located units old number [] = Ok []
+located units old number (edit ∷ edits) =
+    located_first number (chars (string_bytes edit.new_text)) (ends_of units old edit.range)
+    (located units old (suc number) edits)
 
--- No edit starts before `low`, nor before the stop of the one before it.
-abbrev pub AreApart : ℕ → List Placed → Type 0
-AreApart low [] = Unit {0}
-AreApart low (edit ∷ edits) = (low ≤ edit.start) × AreApart edit.stop edits
+-- The new characters at an index: the texts of all edits that start there, in the order of the
+-- list.
+abbrev pub new_at : List LocatedEdit → ℕ → List ℕ
+new_at edits index = flat_map (λ edit. edit.text) (filter (λ edit. edit.start == index) edits)
 
--- The old text from one byte offset to another, if it isn't empty.
-abbrev pub old_parts : ℕ → ℕ → List Part
-old_parts from to = if nat_lt from to then OldPart from to ∷ [] else []
+-- Whether an edit takes out the old character at an index: it starts there or before, and stops
+-- after it.
+abbrev pub is_taken_out : List LocatedEdit → ℕ → Bool
+is_taken_out edits index =
+    list_any (λ edit. nat_le edit.start index && nat_lt index edit.stop) edits
 
--- What edits leave of the old text from the byte offset `low` on: their texts, and the old text
--- between them.
-abbrev pub parts_left : ℕ → ℕ → List Placed → List Part
-parts_left len low [] = old_parts low len
-parts_left len low (edit ∷ edits)
-    = old_parts low edit.start ++ (new_parts edit.text.now ++ parts_left len edit.stop edits)
+-- What edits leave at an index: the new characters there, and after them the old one, unless it is
+-- taken out.
+abbrev pub left_at : List LocatedEdit → ℕ → List Item
+left_at edits index = map New (new_at edits index)
+    ++ (if is_taken_out edits index then [] else Old index ∷ [])
 
--- These parts are what edits leave of the text with the bytes `before`.
-pub record AreLeftByEdits (units : ℕ → ℕ) (before : List ℕ) (edits : List TextEdit)
-    (parts : List Part) : Type 0 where
-  pub placed : List Placed
-  pub ordered : List Placed
-  pub at : ArePlaced units (chars before) 0 edits placed
-  pub order : IsInOrder placed ordered
-  pub apart : AreApart 0 ordered
-  pub are : parts ≡ parts_left (length before) 0 ordered
+-- What edits leave of an old text of `len` characters: what they leave at each index, and the new
+-- characters at the end.
+abbrev pub items_left : List LocatedEdit → ℕ → List Item
+items_left edits len
+    = flat_map (left_at edits) (numbers_from 0 len) ++ map New (new_at edits len)
 
--- `answered` is the canonical batch of what the edits mean, and as a batch it means the same.
+-- The first edit comes before the second: it starts at a lower index, or at the same index and is
+-- earlier in the list.
+abbrev pub ComesBefore : LocatedEdit → LocatedEdit → Type 0
+ComesBefore first second = (first.start < second.start)
+    ⊎ ((first.start ≡ second.start) × (first.number < second.number))
+
+-- No edits overlap: where one comes before another, it stops at the start of the other or before.
+abbrev pub NoneOverlap : List LocatedEdit → Type 0
+NoneOverlap edits = (first second : LocatedEdit) → Contains edits first → Contains edits second
+    → ComesBefore first second → first.stop ≤ second.start
+
+-- `answered` is the canonical batch of what the edits leave, and as a batch it means the same. Each
+-- range of the edits has two ends, and none overlap.
 pub record IsBatchOfEdits (units : ℕ → ℕ) (before : List ℕ) (edits : List TextEdit)
     (answered : List Edit) : Type 0 where
-  pub parts : List Part
-  pub edited : AreLeftByEdits units before edits parts
-  pub is : answered ≡ canonical units (chars before) (items_of (chars before) parts)
-  pub means : meaning units (chars before) answered ≡ Ok (items_of (chars before) parts)
+  pub all : List LocatedEdit
+  pub at : located units (chars before) 0 edits ≡ Ok all
+  pub apart : NoneOverlap all
+  pub is : answered
+      ≡ canonical units (chars before) (items_left all (length (chars before)))
+  pub means : meaning units (chars before) answered
+      ≡ Ok (items_left all (length (chars before)))
 
 -- How a fault of a range is reported.
 abbrev pub fault_of : EditFault → TextEditFault
@@ -79,34 +95,26 @@ fault_of edit.NoMemory = NoMemory
 -- The first edit whose range has a fault, with its number, and why.
 pub record LiesNowhere (units : ℕ → ℕ) (old : List ℕ) (edits : List TextEdit)
     (fault : TextEditFault) : Type 0 where
-  pub front : List TextEdit
-  pub first : TextEdit
-  pub rest : List TextEdit
-  pub all : edits ≡ front ++ first ∷ rest
-  pub placed : List Placed
-  pub at : ArePlaced units old 0 front placed
-  pub why : EditFault
-  pub lies : places_at (length front) old (ends_of units old first.range) ≡ Err why
-  pub error : fault ≡ fault_of why
+  pub number : ℕ
+  pub why : Fault
+  pub lies : located units old 0 edits ≡ Err (number, why)
+  pub error : fault ≡ fault_of (fault_at number why)
 
--- Two neighbours in the order of their starts overlap: the second starts before the first stops.
-pub record DoOverlap (ordered : List Placed) (fault : TextEditFault) : Type 0 where
-  pub front : List Placed
-  pub first : Placed
-  pub second : Placed
-  pub rest : List Placed
-  pub all : ordered ≡ front ++ first ∷ second ∷ rest
-  pub over : second.start < first.stop
-  pub error : fault ≡ Overlap first.number second.number
-
--- The same of a list of edits, once they are sorted.
+-- Two edits overlap: the second comes after the first, with no edit between them, and starts before
+-- the first stops.
 pub record EditsOverlap (units : ℕ → ℕ) (old : List ℕ) (edits : List TextEdit)
     (fault : TextEditFault) : Type 0 where
-  pub placed : List Placed
-  pub ordered : List Placed
-  pub at : ArePlaced units old 0 edits placed
-  pub order : IsInOrder placed ordered
-  pub over : DoOverlap ordered fault
+  pub all : List LocatedEdit
+  pub at : located units old 0 edits ≡ Ok all
+  pub first : LocatedEdit
+  pub second : LocatedEdit
+  pub has_first : Contains all first
+  pub has_second : Contains all second
+  pub order : ComesBefore first second
+  pub none_between : (other : LocatedEdit) → Contains all other → ComesBefore first other →
+      ComesBefore other second → ⊥
+  pub over : second.start < first.stop
+  pub error : fault ≡ Overlap first.number second.number
 
 -- Why edits have no meaning.
 abbrev pub IsEditsFault : (ℕ → ℕ) → List ℕ → List TextEdit → TextEditFault → Type 0

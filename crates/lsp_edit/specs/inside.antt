@@ -1,6 +1,8 @@
 -- Definitions that only private contracts speak of.
+pub mod Canonical
 pub mod Gaps
 pub mod TextBatch
+pub mod TextEdits
 pub mod Faults
 pub mod Joined
 pub mod OldLines

@@ -9,10 +9,11 @@ ghost use Rattle.lsp_edit.specs.Layers.{layer_parts};
 ghost use Rattle.lsp_edit.specs.inside.Layers.{IsLayer};
 ghost use Rattle.lsp_edit.specs.Edited.{edit_of};
 ghost use Rattle.lsp_edit.specs.Items.{Item};
-ghost use Rattle.lsp_edit.specs.Once.{IsOn, IsPut, bytes_after, encoding_of, meant_by, put_items};
+ghost use Rattle.lsp_edit.specs.Once.{IsOn, IsPut, bytes_after, delta_encoding, meant_by, put_items};
 
 use crate::change::Change;
-use crate::indexed::{IndexedText, TextFault};
+use crate::indexed::IndexedText;
+use crate::indexed::fault::TextFault;
 use crate::joined::layer::Layer;
 use crate::pieces::canonical::canonical_of;
 use crate::pieces::spans::Spans;
@@ -149,7 +150,7 @@ impl<'a> Delta<'a> {
         requires on { IsOn text.now self.now }
         ensures { IfOk result (λ answered. (items : List Item) → meant_by text.now self.now
             ≡ Ok items → map edit_of answered.items
-            ≡ canonical (units_in (encoding_of self.now)) (chars text.now) items) }
+            ≡ canonical (units_in (delta_encoding self.now)) (chars text.now) items) }
     {
         match self {
             Delta::Put(put) => put.canonical(alloc, text),

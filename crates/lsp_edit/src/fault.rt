@@ -4,6 +4,7 @@ ghost use Rattle.std.specs.Prelude.{◌≡◌};
 ghost use Rattle.lsp_edit.specs.declared.fault.EditFault.TheVariants.{NoMemory};
 
 use std::alloc::AllocError;
+use std::fmt;
 use thiserror::Error;
 
 /// The end of a change's range that a fault is about.
@@ -13,6 +14,15 @@ pub enum Side {
     Stop,
 }
 
+impl fmt::Display for Side {
+    fn fmt<W: fmt::Write>(&self, f: &mut fmt::Formatter<W>) -> fmt::Result {
+        match self {
+            Side::Start => f.write_str("start"),
+            Side::Stop => f.write_str("end"),
+        }
+    }
+}
+
 /// Why a batch has no result.
 ///
 /// Changes are counted from 0, and the first faulty one decides: first by its start, then by its
@@ -20,10 +30,10 @@ pub enum Side {
 #[derive(Clone, Copy, Debug, PartialEq, Eq, Error)]
 pub enum EditFault {
     /// An end of the change's range lies inside a character.
-    #[error("change {change}: {side:?} lies inside a character")]
+    #[error("change at index {change}: the {side} of its range lies inside a character")]
     InsideCharacter { change: usize, side: Side },
     /// The change's range starts after its end.
-    #[error("change {change}: the range is reversed")]
+    #[error("change at index {change}: the range is reversed")]
     ReversedRange { change: usize },
     /// Out of memory.
     #[error("out of memory")]

@@ -1,71 +1,30 @@
 //! `IndexedText`, a text with its lines, under batches of changes.
 
-ghost use Rattle.std.specs.Prelude.{◌≡◌, ◌≢◌, ◌<◌, ◌≤◌, ◌⊎◌, ◌↔◌, ℕ, List, IsTrue, IfErr, IfOk, IfSome, IsOk, OnErr, OnOk, Err, Ok, None, length, map, string_bytes, string_len, sum_by};
+ghost use Rattle.std.specs.Prelude.{◌≡◌, ◌≢◌, ◌≤◌, ◌↔◌, ℕ, List, IsTrue, IfErr, IfOk, IfSome, IsOk, OnErr, OnOk, Err, Ok, None, length, map, string_bytes, string_len, sum_by};
 ghost use Rattle.std.specs.Str.{IsUtf8, chars};
-ghost use Rattle.lsp_text.specs.LineStarts.{Indexes};
 ghost use Rattle.lsp_text.specs.Units.{units_in};
 ghost use Rattle.lsp_text.specs.declared.position.Range.{Range};
-ghost use Rattle.lsp_edit.specs.declared.indexed.TextFault.TheVariants.{TooLong, NoMemory};
+ghost use Rattle.lsp_edit.specs.declared.indexed.fault.TextFault.TheVariants.{NoMemory};
 ghost use Rattle.lsp_edit.specs.Batch.{meaning};
-ghost use Rattle.lsp_edit.specs.Layers.{layer_parts};
 ghost use Rattle.lsp_edit.specs.Once.{IsDeltaOf, IsOn, bytes_after};
-ghost use Rattle.lsp_edit.specs.inside.Layers.{IsLayer};
-ghost use Rattle.lsp_edit.specs.Edited.{Means, edit_of, edited_bytes};
-ghost use Rattle.lsp_edit.specs.Indexed.{IsCanonicalBatch, alone, text_fault_of, text_within};
-ghost use Rattle.lsp_edit.specs.TextEdits.{IsBatchOfEdits, IsEditsFault};
+ghost use Rattle.lsp_edit.specs.Edited.{edit_of};
+ghost use Rattle.lsp_edit.specs.Indexed.{IsTextFaultOf, alone, text_within};
 
+mod canonical;
 mod draft;
+pub(crate) mod fault;
 
 use crate::change::{Change, MAX_NEW_TEXT};
-use crate::composed::{MAX_OLD_TEXT, compose_old};
+use crate::composed::MAX_OLD_TEXT;
 use crate::delta::{Delta, Put};
 use crate::ends::ends;
-use crate::fault::EditFault;
-use crate::joined::layer::Layer;
-use crate::joined::{Joined, SERIES};
+use crate::indexed::fault::TextFault;
 use crate::old_text::OldText;
-use crate::pieces::canonical::canonical_of;
-use crate::pieces::{MAX_TEXT, Pieces};
-use crate::text_edits::{TextEdit, TextEditFault, spans_of_edits};
+use crate::pieces::MAX_TEXT;
 use lsp_buffer::TextBuffer;
 use lsp_text::{Encoding, Range};
 use std::alloc::{AllocError, Global};
 use std::marker::Model;
-use thiserror::Error;
-
-/// Why a batch of changes is refused. The text is unchanged then.
-#[derive(Clone, Copy, Debug, PartialEq, Eq, Error)]
-pub enum TextFault {
-    /// A change has no result: an end of its range lies inside a character, or the range is
-    /// reversed.
-    #[error("{0}")]
-    Edit(EditFault),
-    /// The result of the batch would be longer than the caller allows.
-    #[error("the text is too long")]
-    TooLong,
-    /// Out of memory.
-    #[error("out of memory")]
-    NoMemory,
-}
-
-impl From<EditFault> for TextFault {
-    ghost from_gives = { λ fault error. error ≡ text_fault_of fault };
-
-    fn from(fault: EditFault) -> TextFault {
-        match fault {
-            EditFault::NoMemory => TextFault::NoMemory,
-            fault => TextFault::Edit(fault),
-        }
-    }
-}
-
-impl From<AllocError> for TextFault {
-    ghost from_gives = { λ _ error. error ≡ NoMemory };
-
-    fn from(_: AllocError) -> TextFault {
-        TextFault::NoMemory
-    }
-}
 
 /// A text in blocks with their lines, so that a change costs its block. Clauses see the bytes of
 /// the text.
@@ -137,54 +96,6 @@ impl IndexedText {
         Ok(IndexedText { text })
     }
 
-    /// Applies a batch to the text as pieces, if the result has at most `max_len` bytes.
-    fn composed<'a>(
-        &'a self,
-        encoding: Encoding,
-        changes: &'a [Change],
-        max_len: usize,
-    ) -> Result<Pieces<'a>, TextFault>
-        requires size { length self.now ≤ MAX_OLD_TEXT }
-        requires fits { sum_by (λ change. string_len change.text) changes.now ≤ MAX_NEW_TEXT }
-        ensures utf8 { OnOk result (IsUtf8 self.now) }
-        ensures means { IfOk result (λ pieces.
-            Means (chars self.now) (meaning (units_in encoding) (chars self.now)
-            (map edit_of changes.now)) (length changes.now) pieces.edited) }
-        ensures within { IfOk result (λ pieces. length (edited_bytes pieces.edited) ≤ max_len) }
-        ensures ok { OnOk result (IsOk (text_within max_len self.now
-            (meaning (units_in encoding) (chars self.now) (map edit_of changes.now)))) }
-        ensures error { IfErr result (λ fault. (fault ≡ NoMemory)
-            ⊎ (text_within max_len self.now
-            (meaning (units_in encoding) (chars self.now) (map edit_of changes.now)) ≡ Err fault)) }
-    {
-        let alloc = *self.allocator();
-        let pieces = compose_old(alloc, self.as_old(), encoding, changes)?;
-        may_have_len(&pieces, max_len)?;
-        Ok(pieces)
-    }
-
-    /// Applies a batch to a copy of the text, without spans, if the result has at most `max_len`
-    /// bytes.
-    fn draft(
-        &self,
-        encoding: Encoding,
-        changes: &[Change],
-        max_len: usize,
-    ) -> Result<Self, TextFault>
-        requires size { length self.now ≤ MAX_OLD_TEXT }
-        requires fits { sum_by (λ change. string_len change.text) changes.now ≤ MAX_NEW_TEXT }
-        ensures ok { IfOk result
-            (λ left. text_within max_len self.now
-            (meaning (units_in encoding) (chars self.now) (map edit_of changes.now)) ≡ Ok left) }
-        ensures error { IfErr result (λ fault. (fault ≡ NoMemory)
-            ⊎ (text_within max_len self.now
-            (meaning (units_in encoding) (chars self.now) (map edit_of changes.now)) ≡ Err fault)) }
-    {
-        let draft = self.left_by(encoding, changes)?;
-        may_be_left(&draft, max_len)?;
-        Ok(draft)
-    }
-
     /// Applies a batch to the text (LSP 3.17, DidChangeTextDocumentParams), if the result has at
     /// most `max_len` bytes. The texts between its changes may have more.
     ///
@@ -208,15 +119,14 @@ impl IndexedText {
             (meaning (units_in encoding) (chars self.old) (map edit_of changes.now))
             ≡ Ok self.new) }
         ensures unchanged { OnErr result (self.new ≡ self.old) }
-        ensures error { IfErr result (λ fault. (fault ≡ NoMemory)
-            ⊎ (text_within max_len self.old
-            (meaning (units_in encoding) (chars self.old) (map edit_of changes.now)) ≡ Err fault)) }
+        ensures error { IfErr result (IsTextFaultOf (units_in encoding) max_len self.old
+            (map edit_of changes.now)) }
         // For one change with a range, out of memory means that there is a result of that length.
         ensures memory { result ≡ Err NoMemory → (range : Range) (text : List ℕ)
             → map edit_of changes.now ≡ alone range text → IsOk (text_within max_len self.old
             (meaning (units_in encoding) (chars self.old) (map edit_of changes.now))) }
     {
-        // `?` isn't proved at a value that holds a `&str` beside a struct with a model.
+        // `?` isn't proved here.
         match self.delta(encoding, changes, max_len) {
             Ok(delta) => {
                 self.apply(delta)?;
@@ -239,9 +149,8 @@ impl IndexedText {
         requires fits { length new.now ≤ MAX_NEW_TEXT }
         ensures ok { IfOk result
             (IsDeltaOf (units_in encoding) max_len self.now (alone range new.now)) }
-        ensures error { IfErr result (λ fault. (fault ≡ NoMemory)
-            ⊎ (text_within max_len self.now
-            (meaning (units_in encoding) (chars self.now) (alone range new.now)) ≡ Err fault)) }
+        ensures error { IfErr result (IsTextFaultOf (units_in encoding) max_len self.now
+            (alone range new.now)) }
         ensures memory { result ≢ Err NoMemory }
     {
         let text = self.as_old();
@@ -269,10 +178,10 @@ impl IndexedText {
         requires fits { sum_by (λ change. string_len change.text) changes.now ≤ MAX_NEW_TEXT }
         ensures ok { IfOk result
             (IsDeltaOf (units_in encoding) max_len self.now (map edit_of changes.now)) }
-        ensures error { IfErr result (λ fault. (fault ≡ NoMemory)
-            ⊎ (text_within max_len self.now
-            (meaning (units_in encoding) (chars self.now) (map edit_of changes.now)) ≡ Err fault)) }
+        ensures error { IfErr result (IsTextFaultOf (units_in encoding) max_len self.now
+            (map edit_of changes.now)) }
     {
+        // States that the text is UTF-8.
         let _ = self.len();
         let left = self.draft(encoding, changes, max_len)?;
         Ok(Delta::Left {
@@ -297,9 +206,8 @@ impl IndexedText {
         requires fits { sum_by (λ change. string_len change.text) changes.now ≤ MAX_NEW_TEXT }
         ensures ok { IfOk result
             (IsDeltaOf (units_in encoding) max_len self.now (map edit_of changes.now)) }
-        ensures error { IfErr result (λ fault. (fault ≡ NoMemory)
-            ⊎ (text_within max_len self.now
-            (meaning (units_in encoding) (chars self.now) (map edit_of changes.now)) ≡ Err fault)) }
+        ensures error { IfErr result (IsTextFaultOf (units_in encoding) max_len self.now
+            (map edit_of changes.now)) }
         ensures memory { result ≡ Err NoMemory → (range : Range) (text : List ℕ)
             → map edit_of changes.now ≡ alone range text → ⊥ }
     {
@@ -328,84 +236,6 @@ impl IndexedText {
             }
         }
     }
-
-    /// Returns the canonical batch of what a batch means on the text. It has one change for each
-    /// changed gap between kept characters, from the last gap to the first.
-    ///
-    /// It has the errors of [`IndexedText::change`], and changes nothing. Costs what each change
-    /// costs to apply, and one exact position for each end of a changed gap. Some thousand changes
-    /// are composed in series, each of which costs some [`IndexedText::clone_in`]. If that fails
-    /// they are composed once more, to find the error.
-    pub fn canonical(
-        &self,
-        encoding: Encoding,
-        changes: &[Change],
-        max_len: usize,
-    ) -> Result<Vec<Change>, TextFault>
-        requires size { length self.now ≤ MAX_OLD_TEXT }
-        requires fits { sum_by (λ change. string_len change.text) changes.now ≤ MAX_NEW_TEXT }
-        ensures batch { IfOk result
-            (λ batch. IsCanonicalBatch (units_in encoding) max_len self.now
-            (map edit_of changes.now) (map edit_of batch.items)) }
-        ensures error { IfErr result (λ fault. (fault ≡ NoMemory)
-            ⊎ (text_within max_len self.now
-            (meaning (units_in encoding) (chars self.now) (map edit_of changes.now)) ≡ Err fault)) }
-    {
-        if changes.len() >= 2 * SERIES {
-            let alloc = *self.allocator();
-            if let Ok(joined) = Joined::of_batch(alloc, encoding, self, changes, max_len) {
-                return Ok(joined.canonical(encoding)?);
-            }
-        }
-        let pieces = self.composed(encoding, changes, max_len)?;
-        Ok(pieces.canonical(encoding)?)
-    }
-
-    /// Returns the canonical batch of what text edits mean (LSP 3.17, TextEdit[]). All their ranges
-    /// count in the current text, and insertions at one offset come in the order of the list.
-    ///
-    /// An error reports an edit with a faulty range, two edits that overlap, or out of memory.
-    /// Costs each edit's two positions, a stable sort by their starts, and one exact position for
-    /// each end of a changed gap.
-    pub fn batch_of_edits(
-        &self,
-        encoding: Encoding,
-        edits: &[TextEdit],
-    ) -> Result<Vec<Change>, TextEditFault>
-        ensures batch { IfOk result (λ batch.
-            IsBatchOfEdits (units_in encoding) self.now edits.now (map edit_of batch.items)) }
-        ensures error { IfErr result (λ fault.
-            IsEditsFault (units_in encoding) (chars self.now) edits.now fault) }
-    {
-        let alloc = *self.allocator();
-        let text = self.as_old();
-        let spans = spans_of_edits(alloc, &text, encoding, edits)?;
-        Ok(canonical_of(alloc, &text, &spans, encoding)?)
-    }
-
-    /// Returns the result of a batch in spans that own their texts. It has the errors of
-    /// [`IndexedText::change`], and changes nothing. Costs what each change costs to apply.
-    pub(crate) fn layer(
-        &self,
-        encoding: Encoding,
-        changes: &[Change],
-        max_len: usize,
-    ) -> Result<Layer, TextFault>
-        requires size { length self.now ≤ MAX_OLD_TEXT }
-        requires fits { sum_by (λ change. string_len change.text) changes.now ≤ MAX_NEW_TEXT }
-        ensures ok { IfOk result (λ delta. IsLayer
-            (meaning (units_in encoding) (chars self.now) (map edit_of changes.now)) self.now
-            (layer_parts delta)) }
-        ensures within { OnOk result (IsOk (text_within max_len self.now
-            (meaning (units_in encoding) (chars self.now) (map edit_of changes.now)))) }
-        ensures error { IfErr result (λ fault. (fault ≡ NoMemory)
-            ⊎ (text_within max_len self.now
-            (meaning (units_in encoding) (chars self.now) (map edit_of changes.now)) ≡ Err fault)) }
-    {
-        let alloc = *self.allocator();
-        let pieces = self.composed(encoding, changes, max_len)?;
-        Ok(Layer::of_spans(alloc, 0, pieces.spans())?)
-    }
 }
 
 /// Returns the range and the text of a batch of one change with a range.
@@ -425,28 +255,4 @@ fn put_of<'a>(changes: &'a [Change]) -> Option<(Range, &'a str)>
         ] => Some((*range, text)),
         _ => None,
     }
-}
-
-/// Fails if the text of pieces has more than `max_len` bytes. Takes no memory.
-fn may_have_len(pieces: &Pieces<'_>, max_len: usize) -> Result<(), TextFault>
-    ensures ok { OnOk result (length (edited_bytes pieces.now.edited) ≤ max_len) }
-    ensures error { IfErr result (λ fault. (fault ≡ TooLong)
-        × (max_len < length (edited_bytes pieces.now.edited))) }
-{
-    if pieces.text_len() > max_len {
-        return Err(TextFault::TooLong);
-    }
-    Ok(())
-}
-
-/// Fails if the text that a batch leaves has more than `max_len` bytes. Takes no memory.
-fn may_be_left(draft: &IndexedText, max_len: usize) -> Result<(), TextFault>
-    ensures ok { OnOk result (length draft.now ≤ max_len) }
-    ensures utf8 { IsUtf8 draft.now }
-    ensures error { IfErr result (λ fault. (fault ≡ TooLong) × (max_len < length draft.now)) }
-{
-    if draft.len() > max_len {
-        return Err(TextFault::TooLong);
-    }
-    Ok(())
 }

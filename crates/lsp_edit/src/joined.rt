@@ -1,13 +1,13 @@
 //! `Joined`, batches of changes on a text, one after another, as one.
 
-ghost use Rattle.std.specs.Prelude.{ℕ, ◌≡◌, ◌≤◌, ◌⊎◌, List, Err, IfErr, IfOk, IsOk, Ok, OnErr, OnOk, length, map, string_bytes, string_len, sum_by};
+ghost use Rattle.std.specs.Prelude.{ℕ, ◌≡◌, ◌≤◌, List, Err, IfErr, IfOk, IsOk, Ok, OnErr, OnOk, length, map, string_bytes, string_len, sum_by};
 ghost use Rattle.std.specs.Str.{chars};
 ghost use Rattle.lsp_text.specs.Units.{units_in};
-ghost use Rattle.lsp_edit.specs.declared.indexed.TextFault.TheVariants.{NoMemory};
+ghost use Rattle.lsp_edit.specs.declared.indexed.fault.TextFault.TheVariants.{NoMemory};
 ghost use Rattle.lsp_edit.specs.Batch.{Edit, meaning};
 ghost use Rattle.lsp_edit.specs.Canonical.{canonical};
 ghost use Rattle.lsp_edit.specs.Edited.{edit_of};
-ghost use Rattle.lsp_edit.specs.Indexed.{text_within};
+ghost use Rattle.lsp_edit.specs.Indexed.{IsTextFaultOf, text_within};
 ghost use Rattle.lsp_edit.specs.Items.{plain};
 ghost use Rattle.lsp_edit.specs.Joined.{IsJoined, IsReached};
 ghost use Rattle.lsp_edit.specs.Once.{IsOn, meant_by};
@@ -18,7 +18,8 @@ pub(crate) mod layer;
 use crate::change::{Change, MAX_NEW_TEXT};
 use crate::composed::MAX_OLD_TEXT;
 use crate::delta::Delta;
-use crate::indexed::{IndexedText, TextFault};
+use crate::indexed::IndexedText;
+use crate::indexed::fault::TextFault;
 use crate::joined::layer::Layer;
 use crate::pieces::MAX_TEXT;
 use crate::pieces::canonical::canonical_of;
@@ -179,10 +180,8 @@ impl Joined {
         ensures within { OnOk result (IsOk (text_within max_len reached.now
             (meaning (units_in encoding) (chars reached.now) (map edit_of changes.now)))) }
         ensures unchanged { OnErr result (self.new ≡ self.old) }
-        ensures error { IfErr result (λ fault. (fault ≡ NoMemory)
-            ⊎ (text_within max_len reached.now
-            (meaning (units_in encoding) (chars reached.now) (map edit_of changes.now))
-            ≡ Err fault)) }
+        ensures error { IfErr result (IsTextFaultOf (units_in encoding) max_len reached.now
+            (map edit_of changes.now)) }
     {
         let delta = reached.delta(encoding, changes, max_len)?;
         self.add_delta(reached, &delta)?;
@@ -232,10 +231,8 @@ impl Joined {
             ≡ Ok reached.new) }
         ensures unchanged { OnErr result (self.new ≡ self.old) }
         ensures reached_unchanged { OnErr result (reached.new ≡ reached.old) }
-        ensures error { IfErr result (λ fault. (fault ≡ NoMemory)
-            ⊎ (text_within max_len reached.old
-            (meaning (units_in encoding) (chars reached.old) (map edit_of changes.now))
-            ≡ Err fault)) }
+        ensures error { IfErr result (IsTextFaultOf (units_in encoding) max_len reached.old
+            (map edit_of changes.now)) }
     {
         self.join()?;
         let delta = reached.delta(encoding, changes, max_len)?;

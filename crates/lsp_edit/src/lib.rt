@@ -2,12 +2,13 @@
 //! DidChangeTextDocumentParams).
 //!
 //! - `indexed`: `IndexedText`, a text in blocks, which a server changes batch by batch. `draft`
-//!   applies a batch to a copy. `ends` has the byte offsets of a range.
+//!   applies a batch to a copy, `canonical` returns canonical batches, `fault` is why a batch is
+//!   refused. `ends` has the byte offsets of a range.
 //! - `old_text`: `OldText`, the text before any change, as one string or in blocks. `form` is which
 //!   of the two, `indexed_str` one string with its lines, `kept_lines` whose lines these are.
 //! - `pieces`: `Pieces`, what became of an old text, in spans of it and of the changes' texts. Its
-//!   parts are `spans`, `span`, `row`, `replace`, `through` and `current` (the text that later
-//!   changes meet).
+//!   parts are `apply` (a change), `spans`, `span`, `row`, `replace`, `through` and `current` (the
+//!   text that later changes meet).
 //! - `composed`: `compose`, which makes the pieces of a whole batch. `canonical` writes their
 //!   canonical batch.
 //! - `delta`: `Delta`, a batch that was resolved once on a text. Applying it, its canonical batch
@@ -39,7 +40,8 @@ pub use change::{Change, MAX_NEW_TEXT, fits};
 pub use composed::{MAX_OLD_TEXT, compose, compose_buffer, compose_over};
 pub use delta::{Delta, Put};
 pub use fault::{EditFault, Side};
-pub use indexed::{IndexedText, TextFault};
+pub use indexed::IndexedText;
+pub use indexed::fault::TextFault;
 pub use joined::Joined;
 pub use laws::batch_laws;
 pub use pieces::span::Span;

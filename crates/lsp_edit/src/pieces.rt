@@ -1,21 +1,19 @@
 //! `Pieces`, a text under changes, as spans of the old text and of the changes' texts.
 
-ghost use Rattle.std.specs.Prelude.{◌≡◌, ◌≢◌, ◌↔◌, ◌+◌, ◌*◌, ◌++◌, ◌≤◌, ℕ, IfErr, IfOk, OnErr, OnOk, Ok, Err, IsOk, IsTrue, List, map, length, string_bytes, string_len};
+ghost use Rattle.std.specs.Prelude.{◌≡◌, ◌↔◌, ◌+◌, ◌*◌, ◌++◌, ◌≤◌, ℕ, IfOk, OnOk, Ok, IsTrue, List, map, length, string_bytes, string_len};
 ghost use Rattle.std.specs.Str.{IsUtf8, chars};
 ghost use Rattle.lsp_text.specs.LineStarts.{Indexes};
 ghost use Rattle.lsp_text.specs.Units.{units_in};
-ghost use Rattle.lsp_edit.specs.declared.fault.EditFault.TheVariants.{NoMemory};
 ghost use Rattle.lsp_edit.specs.Items.{Item, plain};
 ghost use Rattle.lsp_edit.specs.Parts.{AreParts, Ascend, NoneEmpty, NoneTouch, items_of, parts_of};
 ghost use Rattle.lsp_edit.specs.Compose.{then_items};
-ghost use Rattle.lsp_edit.specs.Edited.{Applied, before_bytes, both_counts, edit_of, edited_bytes};
+ghost use Rattle.lsp_edit.specs.Edited.{before_bytes, both_counts, edit_of, edited_bytes};
 ghost use Rattle.lsp_edit.specs.Edited.{edited_text};
-ghost use Rattle.lsp_edit.specs.Faults.{IsFaultOfChange, ends_of, places_at};
-ghost use Rattle.lsp_edit.specs.inside.Faults.{IsPlaces};
-ghost use Rattle.lsp_edit.specs.Batch.{Edit, after_change, meaning};
+ghost use Rattle.lsp_edit.specs.Batch.{Edit, meaning};
 ghost use Rattle.lsp_edit.specs.Canonical.{canonical};
 ghost use Rattle.lsp_edit.specs.laws.Batches.{IsCanonical, KeepsPairs, RangesStay};
 
+mod apply;
 pub(crate) mod canonical;
 pub(crate) mod current;
 pub(crate) mod replace;
@@ -25,17 +23,15 @@ pub(crate) mod spans;
 pub(crate) mod through;
 
 use crate::change::Change;
-use crate::ends::ends;
-use crate::fault::EditFault;
 use crate::old_text::OldText;
 use crate::pieces::canonical::canonical_of;
-use crate::pieces::current::{current_or_new, ends_in, replaced, text_of_spans, text_with_lines};
+use crate::pieces::current::{text_of_spans, text_with_lines};
 use crate::pieces::row::Row;
 use crate::pieces::span::Span;
 use crate::pieces::spans::Spans;
 use crate::pieces::through::spans_through;
 use lsp_buffer::TextBuffer;
-use lsp_text::{Encoding, Lines, Range};
+use lsp_text::{Encoding, Lines};
 use std::alloc::{AllocError, Global};
 use std::marker::Model;
 
@@ -203,99 +199,6 @@ impl<'a> Pieces<'a> {
         ensures { result ≡ length (edited_bytes self.now.edited) }
     {
         self.len
-    }
-
-    /// Returns the byte offsets of a range's two ends in the current text. A fault reports the
-    /// number of the change: how many came before.
-    fn places(&mut self, encoding: Encoding, range: Range) -> Result<(usize, usize), EditFault>
-        ensures unchanged { self.new ≡ self.old }
-        ensures memory { result ≡ Err NoMemory → self.old.edited.changes ≢ 0 }
-        ensures places { IsPlaces result (places_at self.old.edited.changes
-            (edited_text self.old.edited) (ends_of (units_in encoding)
-            (edited_text self.old.edited) range)) }
-    {
-        if self.changes == 0 {
-            return ends(&self.before, encoding, range, 0);
-        }
-        let current = current_or_new(
-            self.current.take(),
-            self.alloc,
-            &self.before,
-            self.spans.as_slice(),
-            self.len,
-        )?;
-        let places = ends_in(&current, encoding, range, self.changes);
-        self.current = Some(current);
-        places
-    }
-
-    /// Replaces the whole text.
-    fn apply_to_all(&mut self, text: &'a str)
-        requires { length (edited_bytes self.old.edited) + length text.now ≤ MAX_TEXT }
-        ensures { (units : ℕ → ℕ) → Applied units self.old.edited
-            (record { range = None; text = chars text.now }) self.new.edited }
-    {
-        self.spans = Spans::all_new(self.alloc, text);
-        self.len = text.len();
-        self.current = None;
-        self.changes = self.changes.saturating_add(1);
-    }
-
-    /// Replaces a range by a new text.
-    fn apply_to_range(
-        &mut self,
-        encoding: Encoding,
-        range: Range,
-        text: &'a str,
-    ) -> Result<(), EditFault>
-        requires { length (edited_bytes self.old.edited) + length text.now ≤ MAX_TEXT }
-        ensures applied { OnOk result (Applied (units_in encoding) self.old.edited
-            (record { range = Some range; text = chars text.now }) self.new.edited) }
-        ensures unchanged { OnErr result (self.new ≡ self.old) }
-        ensures error { IfErr result (λ fault. IsFaultOfChange self.old.edited.changes
-            (after_change (units_in encoding) self.old.edited.before self.old.edited.items
-            (record { range = Some range; text = chars text.now })) fault) }
-        ensures memory { result ≡ Err NoMemory → self.old.edited.changes ≡ 0
-            → IsOk (after_change (units_in encoding) self.old.edited.before self.old.edited.items
-            (record { range = Some range; text = chars text.now })) }
-    {
-        let (start, stop) = self.places(encoding, range)?;
-        let current = match self.current.take() {
-            None => None,
-            Some(current) => Some(replaced(current, start, stop, text)?),
-        };
-        self.spans.replace(self.alloc, start, stop, text)?;
-        self.len = self.len - (stop - start) + text.len();
-        self.current = current;
-        self.changes = self.changes.saturating_add(1);
-        Ok(())
-    }
-
-    /// Applies a change to the current text (LSP 3.17, TextDocumentContentChangeEvent).
-    ///
-    /// After an error everything is unchanged, and the fault reports how many changes were applied
-    /// before. Costs a walk over the spans from the last change to this one, and one move of those
-    /// after it. From the second change with a range on, it also costs what
-    /// [`TextBuffer::replace_range`] costs in the current text. The second of them makes that text,
-    /// if it isn't there yet, by two copies.
-    pub fn apply(&mut self, encoding: Encoding, change: &'a Change) -> Result<(), EditFault>
-        requires { length (edited_bytes self.old.edited) + string_len change.now.text ≤ MAX_TEXT }
-        ensures applied { OnOk result (Applied (units_in encoding) self.old.edited
-            (edit_of change.now) self.new.edited) }
-        ensures unchanged { OnErr result (self.new ≡ self.old) }
-        ensures error { IfErr result (λ fault. IsFaultOfChange self.old.edited.changes
-            (after_change (units_in encoding) self.old.edited.before self.old.edited.items
-            (edit_of change.now)) fault) }
-        // Before the first change a range is resolved without memory.
-        ensures memory { result ≡ Err NoMemory → self.old.edited.changes ≡ 0
-            → IsOk (after_change (units_in encoding) self.old.edited.before self.old.edited.items
-            (edit_of change.now)) }
-    {
-        match change.range {
-            None => self.apply_to_all(&change.text),
-            Some(range) => self.apply_to_range(encoding, range, &change.text)?,
-        }
-        Ok(())
     }
 
     /// Returns the canonical batch of the changes. It has one change for each changed gap between

@@ -6,7 +6,7 @@ ghost use Rattle.std.specs.Prelude.{◌≡◌, ◌+◌, ◌++◌, ◌≤◌, ◌
 ghost use Rattle.std.specs.Str.{chars};
 ghost use Rattle.lsp_text.specs.Units.{units_in};
 ghost use Rattle.lsp_edit.specs.Items.{Item as SpecItem, plain as plain_items};
-ghost use Rattle.lsp_edit.specs.Batch.{Edit, after_change, changed_in, meaning};
+ghost use Rattle.lsp_edit.specs.Batch.{Edit, items_after, changed_in, meaning};
 ghost use Rattle.lsp_edit.specs.Canonical.{canonical as spec_canonical};
 ghost use Rattle.lsp_edit.specs.Compose.{then_items as spec_then_items, item_through as spec_item_through};
 ghost use Rattle.lsp_edit.specs.Edited.{Applied, Means, both_counts, edit_of, edited_bytes, edited_text};
@@ -115,7 +115,7 @@ impl<'a> Plain<'a> {
             (Applied (units_in encoding) self.old (edit_of change.now) self.new) }
         ensures unchanged { OnErr result (self.new ≡ self.old) }
         ensures error { IfErr result (λ fault. IsFaultOfChange self.old.changes
-            (after_change (units_in encoding) self.old.before self.old.items (edit_of change.now))
+            (items_after (units_in encoding) self.old.before self.old.items (edit_of change.now))
             fault) }
     {
         let text = characters(self.alloc, &change.text)?;

@@ -5,7 +5,8 @@ ghost use Rattle.std.specs.Str.{IsUtf8, chars};
 ghost use Rattle.lsp_text.specs.Units.{units_in};
 ghost use Rattle.lsp_edit.specs.declared.text_edits.TextEditFault.TheVariants.{NoMemory};
 ghost use Rattle.lsp_edit.specs.Parts.{new_parts, parts_of};
-ghost use Rattle.lsp_edit.specs.TextEdits.{AreApart, ArePlaced, DoOverlap, IsEditsFault, IsInOrder, LiesNowhere, AreLeftByEdits, fault_of, old_parts, parts_left};
+ghost use Rattle.lsp_edit.specs.TextEdits.{fault_of};
+ghost use Rattle.lsp_edit.specs.inside.TextEdits.{AreApart, ArePlaced, DoOverlap, HasNoPlace, IsInOrder, IsPlacingFault, AreLeftByEdits, old_parts, parts_left};
 
 use crate::ends::ends;
 use crate::fault::{EditFault, Side};
@@ -30,14 +31,14 @@ pub struct TextEdit {
 #[derive(Clone, Copy, Debug, PartialEq, Eq, Error)]
 pub enum TextEditFault {
     /// An end of the edit's range lies inside a character.
-    #[error("edit {edit}: {side:?} lies inside a character")]
+    #[error("edit at index {edit}: the {side} of its range lies inside a character")]
     InsideCharacter { edit: usize, side: Side },
     /// The edit's range starts after its end.
-    #[error("edit {edit}: the range is reversed")]
+    #[error("edit at index {edit}: the range is reversed")]
     ReversedRange { edit: usize },
     /// The second edit starts before the first one stops. An insertion at the start of another edit
     /// must come before it in the list.
-    #[error("edits {first} and {second} overlap")]
+    #[error("edits at index {first} and {second} overlap")]
     Overlap { first: usize, second: usize },
     /// Out of memory.
     #[error("out of memory")]
@@ -86,7 +87,7 @@ pub fn spans_of_edits<'a>(
         (parts_of spans.items)) }
     ensures utf8 { OnOk result (IsUtf8 text.now) }
     ensures error { IfErr result (λ fault.
-        IsEditsFault (units_in encoding) (chars text.now) edits.now fault) }
+        IsPlacingFault (units_in encoding) (chars text.now) edits.now fault) }
 {
     let mut placed = place_all(alloc, text, encoding, edits)?;
     put_in_order(&mut placed)?;
@@ -103,7 +104,7 @@ fn place_all<'a>(
     ensures ok { IfOk result (λ placed.
         ArePlaced (units_in encoding) (chars text.now) 0 edits.now placed.items) }
     ensures error { IfErr result (λ fault. (fault ≡ NoMemory)
-        ⊎ LiesNowhere (units_in encoding) (chars text.now) edits.now fault) }
+        ⊎ HasNoPlace (units_in encoding) (chars text.now) edits.now fault) }
 {
     let mut placed = Vec::new(alloc);
     for edit in edits {

@@ -4,7 +4,7 @@ use Rattle.std.specs.Prelude.{◌⊎◌, Result, Ok, Err}
 use Rattle.std.proofs.lemmas.Bool.{cases_lt, cases_eq}
 use Rattle.std.proofs.lemmas.List.{length-append, length-take-le}
 use Rattle.lsp_frame.specs.Header.{Line, IsLine, AreLines, IsNameByte, IsValueByte, line_bytes, lines_bytes, header_of, BeginsHeader}
-use Rattle.lsp_frame.specs.Verdict.{judge}
+use Rattle.lsp_frame.specs.Verdict.{judge_header}
 use Rattle.lsp_frame.specs.Frame.{IsFrameOf, HasNoFrame}
 use Rattle.lsp_frame.specs.laws.Frames.{BeginsFrame, DecisionLaw, AllFrames, AllFramesLaw}
 use Rattle.lsp_frame.specs.inside.Stage.{IsPartOfLine, is_over}
@@ -200,7 +200,7 @@ frame_decided max_body bytes front =
         s.short,
         ap (λ (lines : List Line). length (header_of lines)) (same frame body more s e).0,
       ))
-      | inr short ↦ judged short (judge max_body front.lines) refl
+      | inr short ↦ judged short (judge_header max_body front.lines) refl
     ]
   where
     same : (frame body more : List ℕ) (s : IsFrameOf max_body frame body) → bytes ≡ frame ++ more
@@ -209,15 +209,16 @@ frame_decided max_body bytes front =
         same_header front.lines s.lines front.rest (body ++ more) front.each s.each
         (sym front.is ∙ e ∙ ap (λ (x : List ℕ). x ++ more) s.is ∙ append_assoc (header_of s.lines) body more)
 
-    judged : length (header_of front.lines) ≤ 8192 → (verdict : Result ℕ HeaderFault) → judge max_body front.lines
-        ≡ verdict → BeginsFrame max_body bytes ⊎ HasNoFrame max_body bytes
+    judged : length (header_of front.lines) ≤ 8192 → (verdict : Result ℕ HeaderFault)
+        → judge_header max_body front.lines ≡ verdict → BeginsFrame max_body bytes ⊎ HasNoFrame max_body bytes
     judged short (Err fault) is = inr (λ frame body more s e.
-        let both : Err fault ≡ Ok (length body) = sym is ∙ ap (judge max_body) (same frame body more s e).0 ∙ s.good in
+        let both : Err fault ≡ Ok (length body) = sym is ∙ ap (judge_header max_body) (same frame body more s e).0
+        ∙ s.good in
         cc)
     judged short (Ok wanted) is =
         elim (cases_lt (length front.rest) wanted) [
           | inl few ↦ inr (λ frame body more s e.
-              let both : Ok wanted ≡ Ok (length body) = sym is ∙ ap (judge max_body) (same frame body more s e).0
+              let both : Ok wanted ≡ Ok (length body) = sym is ∙ ap (judge_header max_body) (same frame body more s e).0
               ∙ s.good in
               let len : wanted ≡ length body = cc in
               omega (arith, few, len, ap length (same frame body more s e).1, length-append body more))

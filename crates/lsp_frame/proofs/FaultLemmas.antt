@@ -4,7 +4,7 @@ use Rattle.std.specs.Prelude.{Ok, Err, ◌⊎◌}
 use Rattle.std.proofs.lemmas.List.{length-append, length-take, take-take, nil_from_length}
 use Rattle.std.proofs.Math.Seq.{take-append-add}
 use Rattle.lsp_frame.specs.Header.{Line, AreLines, header_of, BeginsHeader}
-use Rattle.lsp_frame.specs.Verdict.{judge}
+use Rattle.lsp_frame.specs.Verdict.{judge_header}
 use Rattle.lsp_frame.specs.Frame.{IsFrameOf, IsHopeless}
 use Rattle.lsp_frame.specs.Limits.{LimitsData}
 use Rattle.lsp_frame.specs.Stream.{FramerData, IsFrame, IsPart, HoldsOne, IsStreamFault, IsFeedFault}
@@ -102,13 +102,13 @@ too_long_hopeless bytes more tail k lines long each short e =
     longer (b ∷ c) is len = omega (arith, ap length is, length-append (take (k + 1) bytes) (b ∷ c), len, short)
 
 pub judged_hopeless : (max_body : ℕ) (bytes more tail : List ℕ) (k n : ℕ) (fault : HeaderFault) (lines : List Line)
-    → IsJudgedAt max_body bytes k fault → AreLines lines → judge max_body lines ≡ Ok n → bytes ++ more ≡ header_of lines
-    ++ tail → ⊥
+    → IsJudgedAt max_body bytes k fault → AreLines lines → judge_header max_body lines ≡ Ok n
+    → bytes ++ more ≡ header_of lines ++ tail → ⊥
 judged_hopeless max_body bytes more tail k n fault lines at each good e =
     let e2 : header_of at.lines ++ (drop (k + 1) bytes ++ more) ≡ header_of lines ++ tail =
     ap (λ x. x ++ (drop (k + 1) bytes ++ more)) (sym at.is) ∙ sym (cut_at bytes more (k + 1)) ∙ e in
     let s = same_header at.lines lines (drop (k + 1) bytes ++ more) tail at.each each e2 in
-    let both : Err fault ≡ Ok n = sym at.judged ∙ ap (judge max_body) s.0 ∙ good in
+    let both : Err fault ≡ Ok n = sym at.judged ∙ ap (judge_header max_body) s.0 ∙ good in
     cc
 
 -- After a decision no frame comes, whatever follows.
@@ -142,13 +142,13 @@ pub record SameBody (max_body : ℕ) (body framed tail : List ℕ) (wanted : ℕ
   pub len : wanted ≡ length framed
 
 pub same_body : (max_body : ℕ) (lines : List Line) (buffered body raw framed tail : List ℕ) (wanted : ℕ)
-    → AreLines lines → buffered ≡ header_of lines ++ body → judge max_body lines ≡ Ok wanted
+    → AreLines lines → buffered ≡ header_of lines ++ body → judge_header max_body lines ≡ Ok wanted
     → IsFrameOf max_body raw framed → buffered ≡ raw ++ tail → SameBody max_body body framed tail wanted
 same_body max_body lines buffered body raw framed tail wanted each is good s e =
     let both : header_of lines ++ body ≡ header_of s.lines ++ (framed ++ tail) = sym is ∙ e ∙ ap (λ x. x ++ tail) s.is
     ∙ append_assoc (header_of s.lines) framed tail in
     let same = same_header lines s.lines body (framed ++ tail) each s.each both in
-    let error : judge max_body lines ≡ Ok (length framed) = ap (judge max_body) same.0 ∙ s.good in
+    let error : judge_header max_body lines ≡ Ok (length framed) = ap (judge_header max_body) same.0 ∙ s.good in
     let l : wanted ≡ length framed = cc in
     record { is = same.1; len = l }
 

@@ -6,7 +6,7 @@ use Rattle.std.proofs.lemmas.Bool.{lt-ltb, ltb-false}
 use Rattle.std.proofs.lemmas.List.{length-append, take_at}
 use Rattle.lsp_frame.specs.Header.{Line, lines_bytes, header_of}
 use Rattle.lsp_frame.specs.Charset.{trimmed, has_good_charset}
-use Rattle.lsp_frame.specs.Verdict.{values_of, is_number, number, judge, judge_values, judge_single}
+use Rattle.lsp_frame.specs.Verdict.{values_of, is_number, number, judge_header, judge_values, judge_single}
 use Rattle.lsp_frame.specs.Stream.{IsFrame}
 use Rattle.lsp_frame.specs.Faults.{IsJudgedAt, IsDecidedAt}
 use Rattle.lsp_frame.specs.inside.Stage.{IsWhole, IsInBody, length_said, length_of, charset_of, notes_of}
@@ -89,8 +89,9 @@ judged_values max_body (value ∷ other ∷ values) (content ∷ []) = rw (many 
 judged_values max_body lengths (content ∷ other ∷ types) =
     rw (many content other types, or-true (nat_lt 1 (length lengths))) refl
 
-pub judge_notes_is : (max_body : ℕ) (lines : List Line) → judge_notes (notes_of max_body lines) ≡ judge max_body lines
-unfolding notes_of judge
+pub judge_notes_is : (max_body : ℕ) (lines : List Line) → judge_notes (notes_of max_body lines)
+    ≡ judge_header max_body lines
+unfolding notes_of judge_header
 judge_notes_is max_body lines =
     judged_values max_body (values_of (codes "content-length") lines) (values_of (codes "content-type") lines)
 
@@ -125,8 +126,8 @@ single_verdict max_body (value ∷ values) types =
       | false ↦ tt
     ]
 
-pub is_verdict : (max_body : ℕ) (lines : List Line) → IsVerdict max_body (judge max_body lines)
-unfolding judge
+pub is_verdict : (max_body : ℕ) (lines : List Line) → IsVerdict max_body (judge_header max_body lines)
+unfolding judge_header
 is_verdict max_body lines =
     let lengths : List (List ℕ) = values_of (codes "content-length") lines in
     let types : List (List ℕ) = values_of (codes "content-type") lines in
@@ -139,7 +140,7 @@ is_verdict max_body lines =
           (values_of (codes "content-type") lines)
     ]
 
-pub judge_within : (max_body : ℕ) (lines : List Line) (n : ℕ) → judge max_body lines ≡ Ok n → n ≤ max_body
+pub judge_within : (max_body : ℕ) (lines : List Line) (n : ℕ) → judge_header max_body lines ≡ Ok n → n ≤ max_body
 judge_within max_body lines n e = subst (IsVerdict max_body) e (is_verdict max_body lines)
 
 pub judged_decided : (max_body : ℕ) (bytes : List ℕ) (k : ℕ) (fault : HeaderFault) → IsJudgedAt max_body bytes k fault
@@ -159,7 +160,7 @@ pub whole_fault : (max_body : ℕ) (buffered rest : List ℕ) (notes : Notes) (f
     → IsWhole max_body buffered notes → Err fault ≡ judge_notes notes → IsDecidedAt max_body (buffered ++ rest)
     (length buffered - 1) fault
 whole_fault max_body buffered rest notes fault whole error =
-    let judged : judge max_body whole.lines ≡ Err fault =
+    let judged : judge_header max_body whole.lines ≡ Err fault =
     sym (error ∙ ap judge_notes whole.noted ∙ judge_notes_is max_body whole.lines) in
     let some : 0 < length buffered = omega (
       arith,
@@ -181,7 +182,7 @@ pub whole_body : (max_body : ℕ) (buffered body : List ℕ) (notes : Notes) (wa
     → IsWhole max_body buffered notes → Ok wanted ≡ judge_notes notes → length body ≤ wanted → start ≡ length buffered
     → stop_at ≡ start + wanted → IsInBody max_body (buffered ++ body) start stop_at
 whole_body max_body buffered body notes wanted start stop_at whole error within starts ends =
-    let good : judge max_body whole.lines ≡ Ok wanted =
+    let good : judge_header max_body whole.lines ≡ Ok wanted =
     sym (error ∙ ap judge_notes whole.noted ∙ judge_notes_is max_body whole.lines) in
     record {
       lines = whole.lines;

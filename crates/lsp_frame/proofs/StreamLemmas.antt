@@ -3,7 +3,7 @@ use Rattle.std.proofs.Common.{◌≡◌, ℕ, ◌+◌, ◌-◌, ◌<◌, ◌≤�
 use Rattle.std.specs.Prelude.{Result, Ok, Err, OnErr, ◌⊎◌, Option, Some, None, MatchOption, replicate}
 use Rattle.std.proofs.lemmas.List.{length-append, length-take, length-drop, take-take, take-append-le, length-replicate}
 use Rattle.lsp_frame.specs.Header.{Line, AreLines, lines_bytes, header_of, BeginsHeader, IsHeader}
-use Rattle.lsp_frame.specs.Verdict.{judge}
+use Rattle.lsp_frame.specs.Verdict.{judge_header}
 use Rattle.lsp_frame.specs.Frame.{IsFrameOf, HasNoFrame}
 use Rattle.lsp_frame.specs.Faults.{IsBadHeaderAt, IsHeaderTooLongAt, IsJudgedAt, IsDecidedAt, IsDecided, header_fault_at, place_after}
 use Rattle.lsp_frame.specs.Stream.{FramerData, IsFrame, IsPart, AreFrames, IsSound, IsRead, IsStreamFault, IsFeedFault, released}
@@ -45,8 +45,8 @@ same_frame max_body raw other body other_body x y s t e =
     let right : other ++ y ≡ header_of t.lines ++ (other_body ++ y) =
     ap (λ z. z ++ y) t.is ∙ append_assoc (header_of t.lines) other_body y in
     let h = same_header s.lines t.lines (body ++ x) (other_body ++ y) s.each t.each (sym left ∙ e ∙ right) in
-    let error : judge max_body s.lines ≡ Ok (length other_body) = ap (judge max_body) h.0 ∙ t.good in
-    let good : judge max_body s.lines ≡ Ok (length body) = s.good in
+    let error : judge_header max_body s.lines ≡ Ok (length other_body) = ap (judge_header max_body) h.0 ∙ t.good in
+    let good : judge_header max_body s.lines ≡ Ok (length body) = s.good in
     let len : length body ≡ length other_body = cc in
     let b = same_length_front body other_body x y len h.1 in
     record {
@@ -164,8 +164,8 @@ same_kind max_body bytes k kind other (inr (inr a)) (inr (inl b)) =
 same_kind max_body bytes k kind other (inr (inr a)) (inr (inr b)) =
     let e : header_of a.lines ++ [] ≡ header_of b.lines ++ [] = ap (λ z. z ++ []) (sym a.is ∙ b.is) in
     let s = same_header a.lines b.lines [] [] a.each b.each e in
-    let one : judge max_body a.lines ≡ Err other = ap (judge max_body) s.0 ∙ b.judged in
-    let two : judge max_body a.lines ≡ Err kind = a.judged in
+    let one : judge_header max_body a.lines ≡ Err other = ap (judge_header max_body) s.0 ∙ b.judged in
+    let two : judge_header max_body a.lines ≡ Err kind = a.judged in
     cc
 
 -- A fault is decided once.

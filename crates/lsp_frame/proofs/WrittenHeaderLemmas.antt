@@ -9,7 +9,7 @@ use Rattle.std.proofs.lemmas.List.Folds.{list_all_at}
 use Rattle.std.proofs.lemmas.Bool.{cases_order, leb-true, lt-ltb, le-ltb, ltb-false}
 use Rattle.lsp_frame.specs.Header.{Line, header_of}
 use Rattle.lsp_frame.specs.Charset.{trimmed}
-use Rattle.lsp_frame.specs.Verdict.{is_digit, number, judge}
+use Rattle.lsp_frame.specs.Verdict.{is_digit, number, judge_header}
 use Rattle.lsp_frame.specs.inside.Stage.{BeginsWritten, IsInBody}
 use Rattle.lsp_frame.specs.declared.written.WrittenHeader.{WrittenHeader}
 use Rattle.lsp_frame.proofs.StreamLemmas.{same_length_front}
@@ -32,8 +32,8 @@ digits_of (b ∷ bs) t =
     three false q s e = cc
 
 pub digits_judged : (max_body : ℕ) (digits : List ℕ) → AreDigits digits → 0 < length digits → number digits ≤ max_body
-    → judge max_body (digits_line digits ∷ []) ≡ Ok (number digits)
-unfolding judge
+    → judge_header max_body (digits_line digits ∷ []) ≡ Ok (number digits)
+unfolding judge_header
 digits_judged max_body digits all some within =
     let cut : trimmed (32 ∷ digits) ≡ digits = trimmed_digits digits all in
     let any : nat_lt 0 (length digits) ≡ true = lt-ltb 0 (length digits) some in

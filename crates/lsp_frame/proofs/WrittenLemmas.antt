@@ -9,7 +9,7 @@ use Rattle.std.proofs.lemmas.Fmt.{length-decimal-le, decimal_nonempty, digits_de
 use Rattle.std.proofs.lemmas.Str.Parse.{IsNumeralModel, IsDigitsTest, FoldsDigits, numerals_by_fold}
 use Rattle.lsp_frame.specs.Header.{Line, IsNameByte, IsValueByte}
 use Rattle.lsp_frame.specs.Charset.{is_blank, trimmed, trimmed_start, trimmed_end}
-use Rattle.lsp_frame.specs.Verdict.{is_digit, number, judge}
+use Rattle.lsp_frame.specs.Verdict.{is_digit, number, judge_header}
 use Rattle.lsp_frame.specs.Frame.{frame, IsFrameOf}
 use Rattle.lsp_frame.proofs.LineLemmas.{All_at}
 
@@ -92,8 +92,8 @@ name_from_test (b ∷ bs) t =
     three true false r s e = cc
     three false q r s e = cc
 
-pub written_judged : (max_body n : ℕ) → n ≤ max_body → n < 2 ^ 64 → judge max_body (length_line n ∷ []) ≡ Ok n
-unfolding judge
+pub written_judged : (max_body n : ℕ) → n ≤ max_body → n < 2 ^ 64 → judge_header max_body (length_line n ∷ []) ≡ Ok n
+unfolding judge_header
 written_judged max_body n within small =
     let all : AreDigits (decimal n) = digits_decimal numerals n small in
     let value : number (decimal n) ≡ n = digits_value-decimal numerals n small in

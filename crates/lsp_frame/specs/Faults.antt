@@ -1,7 +1,7 @@
 -- On which byte a fault of a header is decided.
 use Rattle.std.specs.Prelude.{ℕ, ◌≡◌, ◌<◌, ◌+◌, ◌-◌, ◌^◌, List, length, take, min, Err}
 use Rattle.lsp_frame.specs.Header.{Line, AreLines, header_of, IsHeader, BeginsHeader}
-use Rattle.lsp_frame.specs.Verdict.{judge}
+use Rattle.lsp_frame.specs.Verdict.{judge_header}
 use Rattle.lsp_frame.specs.declared.fault.HeaderFault.{HeaderFault}
 use Rattle.lsp_frame.specs.declared.fault.HeaderFault.TheVariants as header
 use Rattle.lsp_frame.specs.declared.fault.FrameFault.{FrameFault}
@@ -28,7 +28,7 @@ pub record IsJudgedAt (max_body : ℕ) (bytes : List ℕ) (k : ℕ) (fault : Hea
   pub is : take (k + 1) bytes ≡ header_of lines
   pub there : k < length bytes
   pub within : k < 8192
-  pub judged : judge max_body lines ≡ Err fault
+  pub judged : judge_header max_body lines ≡ Err fault
 
 -- Of a frame that begins with these bytes: the fault is decided on byte k.
 abbrev pub IsDecidedAt : ℕ → List ℕ → ℕ → HeaderFault → Type 0

@@ -1,7 +1,7 @@
 -- Frames, as they are written and as they may be read. (LSP 3.17, Base Protocol)
 use Rattle.std.specs.Prelude.{ℕ, ◌≡◌, ◌≢◌, ◌≤◌, List, ◌++◌, length, codes, decimal, Ok}
 use Rattle.lsp_frame.specs.Header.{Line, AreLines, header_of}
-use Rattle.lsp_frame.specs.Verdict.{judge}
+use Rattle.lsp_frame.specs.Verdict.{judge_header}
 
 -- The frame of a body as it is written: the header `Content-Length: N`, an empty line, and the
 -- body. N is the body's length in bytes. (LSP 3.17, Base Protocol)
@@ -15,7 +15,7 @@ pub record IsFrameOf (max_body : ℕ) (raw body : List ℕ) : Type 0 where
   pub each : AreLines lines
   pub is : raw ≡ header_of lines ++ body
   pub short : length (header_of lines) ≤ 8192
-  pub good : judge max_body lines ≡ Ok (length body)
+  pub good : judge_header max_body lines ≡ Ok (length body)
 
 -- The bytes begin with no whole frame.
 abbrev pub HasNoFrame : ℕ → List ℕ → Type 0

@@ -2,7 +2,7 @@
 use Rattle.std.specs.Prelude.{ℕ, ◌≡◌, ◌≤◌, ◌<◌, ◌⊎◌, Bool, List, [], ◌∷◌, ◌++◌, length, ◌-◌, Option, MatchOption}
 use Rattle.lsp_frame.specs.Limits.{LimitsData}
 use Rattle.lsp_frame.specs.Header.{Line, AreLines, header_of, BeginsHeader}
-use Rattle.lsp_frame.specs.Verdict.{judge}
+use Rattle.lsp_frame.specs.Verdict.{judge_header}
 use Rattle.lsp_frame.specs.Frame.{IsFrameOf, HasNoFrame}
 use Rattle.std.specs.Prelude.{Ok, true, false}
 use Rattle.lsp_frame.specs.Frame.{IsHopeless}
@@ -39,7 +39,7 @@ pub record IsBodyPart (max_body : ℕ) (bytes : List ℕ) : Type 0 where
   pub each : AreLines lines
   pub is : bytes ≡ header_of lines ++ body
   pub short : length (header_of lines) ≤ 8192
-  pub good : judge max_body lines ≡ Ok wanted
+  pub good : judge_header max_body lines ≡ Ok wanted
   pub within : length body ≤ wanted
 
 -- The bytes begin a header, and no fault was decided in them.

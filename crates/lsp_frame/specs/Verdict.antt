@@ -42,7 +42,7 @@ judge_values max_body lengths types =
     else judge_single max_body lengths types
 
 -- The length of the body after a header with these lines, or the first fault of the header.
-unfoldable pub judge : ℕ → List Line → Result ℕ HeaderFault
-judge max_body lines =
+unfoldable pub judge_header : ℕ → List Line → Result ℕ HeaderFault
+judge_header max_body lines =
     judge_values max_body (values_of (codes "content-length") lines)
     (values_of (codes "content-type") lines)

@@ -70,13 +70,13 @@ side_of (Some side) = side
 
 -- The side of the record that is coming in, its log's version, its byte offset, and whether the
 -- log's line belongs to its output.
-abbrev pub head_of : Splitter → Head
-head_of s
+abbrev pub record_head : Splitter → Head
+record_head s
     = record { side = side_of s.side; version = s.version; place = s.place; line_due = s.line_due }
 
 -- The record that is coming in, with this body.
 abbrev pub record_at : Splitter → List ℕ → Record
-record_at s body = record { head = head_of s; raw = s.framer.buffered; body = body }
+record_at s body = record { head = record_head s; raw = s.framer.buffered; body = body }
 
 -- Why the rest of the input isn't taken.
 abbrev pub IsSplitFault : ℕ → List ℕ → Log → EngineFault → Type 0

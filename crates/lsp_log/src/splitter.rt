@@ -5,7 +5,7 @@ ghost use Rattle.lsp_frame.specs.Frame.{IsFrameOf};
 ghost use Rattle.lsp_frame.specs.Stream.{IsFrame};
 ghost use Rattle.lsp_log.specs.Log.{LogRules, Record, mark_of};
 ghost use Rattle.lsp_log.specs.Splitting.{IsSplitterFault};
-ghost use Rattle.lsp_log.specs.Splitting.{IsReady, IsFed, IsAfter, IsSplitFault, IsOpen, IsSide, log_at, head_of, buffered_of, mark_part};
+ghost use Rattle.lsp_log.specs.Splitting.{IsReady, IsFed, IsAfter, IsSplitFault, IsOpen, IsSide, log_at, record_head, buffered_of, mark_part};
 
 use crate::record::{Head, Sender, Version};
 use lsp_frame::{Framer, Limits};
@@ -129,7 +129,7 @@ impl Splitter {
             IsAfter log_rules input more records self.old →
             IsAfter log_rules input more
             (records ++ (record {
-              head = head_of self.old;
+              head = record_head self.old;
               raw = self.old.framer.buffered;
               body = body;
             } ∷ [])) self.new }
@@ -164,7 +164,7 @@ impl Splitter {
 
     /// Returns what is known of the record that is coming in, beside its frame.
     pub fn head(&self) -> Head
-        ensures { result ≡ head_of self.now }
+        ensures { result ≡ record_head self.now }
     {
         Head {
             side: self.side.unwrap_or(Sender::Client),

@@ -8,7 +8,8 @@ use Rattle.serde_json.specs.Find.{get, get_member}
 use Rattle.serde_json.specs.View.{view, items_view}
 use Rattle.serde_json.specs.declared.value.Value.{Value}
 use Rattle.lsp_message.specs.Values.{text_in}
-use Rattle.lsp_message.specs.Params.{EditData, ChangeData, HasChanges, edit_in, edits_in, range_of}
+use Rattle.lsp_message.specs.Params.{EditData, ChangeData, HasChanges, edit_in, range_of}
+use Rattle.lsp_message.specs.inside.Params.{edits_in}
 
 both_there : (text : Option (List ℕ)) (range : Option (Option Range)) →
     is_some (option_and_then

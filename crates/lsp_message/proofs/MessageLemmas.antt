@@ -7,8 +7,10 @@ use Rattle.std.proofs.lemmas.Slice.Eq.{bytes_eq-Decides}
 use Rattle.serde_json.specs.Data.{Data, null, boolean, number, string, array, object, Members}
 use Rattle.serde_json.specs.Find.{as_str, as_i64}
 use Rattle.lsp_message.specs.Values.{text_in, is_null, is_missing}
-use Rattle.lsp_message.specs.Message.{IdData, whole, text, given, failed, request, response, not_a_message, message, id_in, id_found, call_of, outcome_of, answer_of, message_with, message_by, is_version_two, message_of, message_of_members}
+use Rattle.lsp_message.specs.Message.{IdData, whole, text, given, failed, request, response, not_a_message, message, id_in, id_found, is_version_two, message_of}
+use Rattle.lsp_message.specs.inside.Message.{call_of, outcome_of, answer_of, reading_with, reading_by}
 use Rattle.lsp_message.specs.laws.Messages.{NamesRequest, RefusedRows, MessageRows, IsIdOf, IdLaw, IsTwo, version_of, method_of, id_of, params_of, error_of, result_of}
+use Rattle.lsp_message.proofs.MemberLemmas.{message_of_object, message_of_other}
 
 -- ---- the version
 
@@ -25,23 +27,23 @@ not_two None other = refl
 not_two (Some s) other =
     false_of (bytes_eq s (codes "2.0")) (λ same. other (ap Some ((bytes_eq-Decides s (codes "2.0")).0 same)))
 
-other_version : (v m i p e r : Option Data) → (text_in v ≡ Some (codes "2.0") → ⊥) → message_by v m i p e r
+other_version : (v m i p e r : Option Data) → (text_in v ≡ Some (codes "2.0") → ⊥) → reading_by v m i p e r
     ≡ not_a_message (id_found i)
-other_version v m i p e r other = ap (λ b. if b then message_with m i p e r else not_a_message (id_found i))
+other_version v m i p e r other = ap (λ b. if b then reading_with m i p e r else not_a_message (id_found i))
     (not_two (text_in v) other)
 
-of_two : (v m i p e r : Option Data) → text_in v ≡ Some (codes "2.0") → message_by v m i p e r ≡ message_with m i p e r
-of_two v m i p e r is = ap (λ b. if b then message_with m i p e r else not_a_message (id_found i)) (two v is)
+of_two : (v m i p e r : Option Data) → text_in v ≡ Some (codes "2.0") → reading_by v m i p e r ≡ reading_with m i p e r
+of_two v m i p e r is = ap (λ b. if b then reading_with m i p e r else not_a_message (id_found i)) (two v is)
 
 -- ---- calls
 
-no_name : (m i p e r : Option Data) (method : Data) → m ≡ Some method → as_str method ≡ None → message_with m i p e r
+no_name : (m i p e r : Option Data) (method : Data) → m ≡ Some method → as_str method ≡ None → reading_with m i p e r
     ≡ not_a_message (id_found i)
 no_name m i p e r method is none =
-    ap (λ x. message_with x i p e r) is
+    ap (λ x. reading_with x i p e r) is
     ∙ ap (λ t. option_map_or (λ name. call_of i name p) t (not_a_message (id_found i))) none
 
-with_name : (m i p e r : Option Data) (name : List ℕ) → text_in m ≡ Some name → message_with m i p e r
+with_name : (m i p e r : Option Data) (name : List ℕ) → text_in m ≡ Some name → reading_with m i p e r
     ≡ call_of i name p
 with_name None i p e r name is = cc
 with_name (Some method) i p e r name is = ap (λ t. option_map_or (λ n. call_of i n p) t (not_a_message (id_found i))) is
@@ -59,8 +61,8 @@ called_by_none i p name d is none =
 
 -- ---- answers
 
-no_method : (m i p e r : Option Data) → m ≡ None → message_with m i p e r ≡ answer_of i e r
-no_method m i p e r is = ap (λ x. message_with x i p e r) is
+no_method : (m i p e r : Option Data) → m ≡ None → reading_with m i p e r ≡ answer_of i e r
+no_method m i p e r is = ap (λ x. reading_with x i p e r) is
 
 answer_to : (i e r : Option Data) (id : Option IdData) → NamesRequest i id → answer_of i e r ≡ outcome_of id e r
 answer_to i e r None is = ap (λ x. answer_of x e r) is
@@ -108,9 +110,10 @@ no_result id e r missing is =
 
 -- ---- the rows
 
-of_two_at : (ms : Members) → IsTwo ms → message_of (object ms) ≡ message_with (method_of ms) (id_of ms) (params_of ms)
+of_two_at : (ms : Members) → IsTwo ms → message_of (object ms) ≡ reading_with (method_of ms) (id_of ms) (params_of ms)
     (error_of ms) (result_of ms)
-of_two_at ms is = of_two (version_of ms) (method_of ms) (id_of ms) (params_of ms) (error_of ms) (result_of ms) is
+of_two_at ms is = message_of_object ms
+    ∙ of_two (version_of ms) (method_of ms) (id_of ms) (params_of ms) (error_of ms) (result_of ms) is
 
 with_name_at : (ms : Members) (name : List ℕ) → IsTwo ms → text_in (method_of ms) ≡ Some name → message_of (object ms)
     ≡ call_of (id_of ms) name (params_of ms)
@@ -128,9 +131,9 @@ outcome_at ms id is none names = answer_at ms is none ∙ answer_to (id_of ms) (
 
 pub refused_rows : RefusedRows
 refused_rows = record {
-  no_object = λ value none. ap (λ o. option_map_or message_of_members o (not_a_message None)) none;
-  version = λ ms other. other_version (version_of ms) (method_of ms) (id_of ms) (params_of ms) (error_of ms)
-      (result_of ms) other;
+  no_object = message_of_other;
+  version = λ ms other. message_of_object ms ∙ other_version (version_of ms) (method_of ms) (id_of ms) (params_of ms)
+      (error_of ms) (result_of ms) other;
   method = λ ms method is there none. of_two_at ms is ∙ no_name (method_of ms) (id_of ms) (params_of ms) (error_of ms)
       (result_of ms) method there none;
   call_id = λ ms name id is named there none. with_name_at ms name is named ∙ called_by_none (id_of ms) (params_of ms)

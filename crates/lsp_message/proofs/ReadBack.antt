@@ -21,7 +21,8 @@ use Rattle.lsp_message.specs.declared.outgoing.ErrorCode.TheVariants.{ParseError
 use Rattle.lsp_message.specs.Values.{text_in, is_null}
 use Rattle.lsp_message.specs.Agreement.{offers_of, announced_of}
 use Rattle.lsp_message.specs.Message.{IdData, whole, text, message_of, message, reading, id_in, id_found}
-use Rattle.lsp_message.specs.Params.{DocumentItem, EditData, ChangeData, open_of, change_of, close_of, within_version, version_in, position_in, range_in, edit_in, edits_in}
+use Rattle.lsp_message.specs.Params.{DocumentItem, EditData, ChangeData, open_of, change_of, close_of, within_version, version_in, position_in, range_in, edit_in}
+use Rattle.lsp_message.specs.inside.Params.{edits_in}
 use Rattle.lsp_message.specs.Outgoing as spec
 use Rattle.lsp_message.specs.Written as values
 use Rattle.lsp_message.specs.Outgoing.{OutgoingData}
@@ -51,14 +52,11 @@ id_in-id_value (whole (pos n)) h = ap (option_map whole) (as_i64-of_integer (pos
 id_in-id_value (whole (negsuc n)) h = refl
 id_in-id_value (text s) h = refl
 
-is_null-id_value : (id : IdData) → is_null (values.id_value id) ≡ false
-is_null-id_value (whole n) = refl
-is_null-id_value (text s) = refl
-
 message_of-error_reply : (id : Option IdData) (error : ErrorCode) → IfSome id IsProperId
     → message_of (values.error_reply_value id error) ≡ message (sent (spec.error_reply id error))
 message_of-error_reply None error h = refl
-message_of-error_reply (Some id) error h = rw (is_null-id_value id, id_in-id_value id h) refl
+message_of-error_reply (Some (whole n)) error h = rw (id_in-id_value (whole n) h) refl
+message_of-error_reply (Some (text s)) error h = refl
 
 message_of-value_of : (m : OutgoingData) → IsProper m → message_of (values.value_of m) ≡ message (sent m)
 message_of-value_of (spec.initialize offers) h = refl
@@ -68,8 +66,10 @@ message_of-value_of (spec.did_change p) h = refl
 message_of-value_of (spec.did_close p) h = refl
 message_of-value_of spec.shutdown h = refl
 message_of-value_of spec.exit h = refl
-message_of-value_of (spec.initialize_result id encoding kind) h = rw (is_null-id_value id, id_in-id_value id h) refl
-message_of-value_of (spec.shutdown_result id) h = rw (is_null-id_value id, id_in-id_value id h) refl
+message_of-value_of (spec.initialize_result (whole n) encoding kind) h = rw (id_in-id_value (whole n) h) refl
+message_of-value_of (spec.initialize_result (text s) encoding kind) h = refl
+message_of-value_of (spec.shutdown_result (whole n)) h = rw (id_in-id_value (whole n) h) refl
+message_of-value_of (spec.shutdown_result (text s)) h = refl
 message_of-value_of (spec.error_reply id error) h = message_of-error_reply id error h
 
 pub reading-body_of : (m : OutgoingData) → IsProper m → reading (spec.body_of m) ≡ message (sent m)

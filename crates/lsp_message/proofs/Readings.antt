@@ -15,7 +15,7 @@ use Rattle.lsp_message.specs.declared.message.ReadFault.TheVariants.{NotJson, No
 use Rattle.lsp_message.specs.Message.{Reading, message_of, not_json, message, reading}
 use Rattle.serde_json.specs.Errors.{IsMemory}
 use Rattle.serde_json.specs.declared.error.Error.{Error}
-use Rattle.lsp_message.specs.Seen.{message_view, IsReadFault, IsFaultOf}
+use Rattle.lsp_message.specs.Seen.{message_view, IsReadFault, IsFaultOfError}
 use Rattle.lsp_message.specs.inside.Seen.{Answers}
 
 -- a body whose bytes are a value is read as what that value is
@@ -43,7 +43,7 @@ err_by_reading (Err (NotAMessage id)) body found is h = is ∙ h
 err_by_reading (Err NoMemory) body found is h = absurd h
 
 -- the fault that an error of `serde_json` makes
-pub fault_by_error : (body : List ℕ) (error : Error) (fault : ReadFault) → IsFaultOf error fault
+pub fault_by_error : (body : List ℕ) (error : Error) (fault : ReadFault) → IsFaultOfError error fault
     → (¬ IsMemory error → IsUtf8 body → read body ≡ None) → (IsMemory error → 0 < length body) → slice_index body 0
     ≢ 239 → IsReadFault body fault
 fault_by_error body error NotJson is refused memory unmarked = reading_of_none body (refused is)
@@ -56,7 +56,7 @@ pub read_by : (body : List ℕ) (parsed : Result Value Error) (answer : Result M
     IfErr parsed (λ error. ¬ IsMemory error → IsUtf8 body → read body ≡ None)
     → IfErr parsed (λ error. IsMemory error → 0 < length body) →
     slice_index body 0 ≢ 239 → MatchResult parsed (λ value. Answers answer (message_of (view value)))
-    (λ error. IsErrAnd answer (IsFaultOf error)) →
+    (λ error. IsErrAnd answer (IsFaultOfError error)) →
     IfOk answer (λ m. reading body ≡ message (message_view m)) × IfErr answer (IsReadFault body)
 read_by body (Ok value) answer ok refused memory unmarked h =
     let is = reading_of_value body (view value) ok.0 ok.1 in

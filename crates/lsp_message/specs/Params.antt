@@ -1,12 +1,12 @@
 -- The typed parameters of the three document messages (LSP 3.17, DidOpen, DidChange and DidClose
 -- Text Document Notification). A member that isn't named here is ignored. Where a type is wrong, a
 -- member is missing or a number is out of range, there are no parameters.
-use Rattle.std.specs.Prelude.{ℕ, ◌≡◌, ◌^◌, ℤ, pos, negsuc, int_lt, List, [], ◌∷◌, Option, Some, None, option_map, option_and_then, codes, nat_lt, ◌||◌, if◌then◌else◌, ◌<◌, length, IsSomeAnd}
-use Rattle.serde_json.specs.Data.{Data, Items, no_items, item, Members}
+use Rattle.std.specs.Prelude.{ℕ, ◌≡◌, ◌^◌, ℤ, pos, negsuc, int_lt, List, Option, Some, None, option_map, option_and_then, codes, nat_lt, ◌||◌, if◌then◌else◌, ◌<◌, length, IsSomeAnd}
+use Rattle.serde_json.specs.Data.{Data, Items, Members}
 use Rattle.serde_json.specs.Find.{get_member, as_object}
 use Rattle.lsp_text.specs.declared.position.Position.{Position}
 use Rattle.lsp_text.specs.declared.position.Range.{Range}
-use Rattle.lsp_message.specs.Values.{◌>>=◌, member_at, text_in, members_in, items_in, whole_in, natural_in, is_missing}
+use Rattle.lsp_message.specs.Values.{◌>>=◌, member_at, text_in, members_in, array_in, each_of, whole_in, natural_in, optional}
 use Rattle.lsp_message.specs.Message.{notification, message, reading}
 
 -- An item of a document (TextDocumentItem). Its texts are bytes of UTF-8.
@@ -64,7 +64,7 @@ range_in value = do
 
 -- The range of a change. A missing range, or null, means the whole text.
 abbrev pub range_of : Option Data → Option (Option Range)
-range_of value = if is_missing value then Some None else option_map Some (range_in value)
+range_of value = optional None (λ v. option_map Some (range_in v)) value
 
 -- The change that the members of an object are.
 abbrev pub edit_by : Members → Option EditData
@@ -76,14 +76,6 @@ edit_by ms = do
 -- The change that a value is.
 abbrev pub edit_in : Data → Option EditData
 edit_in value = option_and_then edit_by (as_object value)
-
--- The changes that the items of an array are; none if one of them is no change.
-abbrev pub edits_in : Items → Option (List EditData)
-edits_in no_items = Some []
-edits_in (item d ds) = do
-  edit ← edit_in d
-  edits ← edits_in ds
-  Some (edit ∷ edits)
 
 -- The members of `textDocument`.
 abbrev pub document_in : Option Data → Option Members
@@ -108,14 +100,14 @@ abbrev pub change_by : Members → Items → Option ChangeData
 change_by document changes = do
   uri ← text_in (get_member (codes "uri") document)
   version ← version_in (get_member (codes "version") document)
-  edits ← edits_in changes
+  edits ← each_of edit_in changes
   Some (record { uri = uri; version = version; changes = edits })
 
 -- The members of `textDocument` and the items of `contentChanges`.
 abbrev pub document_and_changes : Option Data → Option (Members × Items)
 document_and_changes params = do
   document ← document_in params
-  changes ← items_in (member_at (codes "contentChanges") params)
+  changes ← array_in (member_at (codes "contentChanges") params)
   Some (document, changes)
 
 -- What params are as those of a `textDocument/didChange`; none where they are refused.
@@ -127,8 +119,8 @@ abbrev pub HasChanges : ChangeData → Type 0
 HasChanges change = 0 < length change.changes
 
 -- Reading params as those of a `textDocument/didChange` takes memory.
-abbrev pub TakesMemory : Option Data → Type 0
-TakesMemory params = IsSomeAnd (change_of params) HasChanges
+abbrev pub ParamsMayAllocate : Option Data → Type 0
+ParamsMayAllocate params = IsSomeAnd (change_of params) HasChanges
 
 -- The params of a `textDocument/didClose`, by the members of its document.
 abbrev pub close_by : Members → Option CloseData

@@ -67,8 +67,8 @@ change_data uri version changes
     = record { uri = uri; version = version; changes = map edit_view changes }
 
 -- The message `textDocument/didChange`, by its URI, version and changes.
-abbrev pub change_message : List ℕ → ℤ → List Change → out.OutgoingData
-change_message uri version changes = out.did_change (change_data uri version changes)
+abbrev pub did_change_of : List ℕ → ℤ → List Change → out.OutgoingData
+did_change_of uri version changes = out.did_change (change_data uri version changes)
 
 -- The params of a `textDocument/didClose`, with the URI as bytes.
 abbrev pub close_view : CloseParams → CloseData
@@ -95,7 +95,7 @@ IsReadFault body (NotAMessage id) = spec.reading body ≡ spec.not_a_message (op
 IsReadFault body NoMemory = (0 < length body) × (slice_index body 0 ≢ 239)
 
 -- Which fault an error of `serde_json` becomes.
-abbrev pub IsFaultOf : Error → ReadFault → Type 0
-IsFaultOf error NotJson = ¬ IsMemory error
-IsFaultOf error (NotAMessage id) = ⊥
-IsFaultOf error NoMemory = IsMemory error
+abbrev pub IsFaultOfError : Error → ReadFault → Type 0
+IsFaultOfError error NotJson = ¬ IsMemory error
+IsFaultOfError error (NotAMessage id) = ⊥
+IsFaultOfError error NoMemory = IsMemory error

@@ -1,11 +1,16 @@
 //! What a client offers and what a server announces (LSP 3.17, Initialize Request).
 
-ghost use Rattle.std.specs.Prelude.{◌≡◌, None, Some, IfOk, IfErr, Option, option_map};
+ghost use Rattle.std.specs.Prelude.{◌≡◌, None, Some, IfOk, IfErr, Option, false, option_map};
+ghost use Rattle.serde_json.specs.Data.{object};
+ghost use Rattle.serde_json.specs.Find.{as_str};
 ghost use Rattle.serde_json.specs.View.{view, items_view, members_view};
+ghost use Rattle.lsp_text.specs.declared.encoding.Encoding.TheVariants.{Utf16};
+ghost use Rattle.lsp_message.specs.declared.agreement.SyncKind.TheVariants.{Off};
 ghost use Rattle.lsp_message.specs.declared.params.ParamsFault.TheVariants.{InvalidParams};
-ghost use Rattle.lsp_message.specs.Values.{is_missing};
+ghost use Rattle.lsp_message.specs.Values.{each_of, bool_in, is_missing, optional};
 ghost use Rattle.lsp_message.specs.Outgoing.{kind_number};
-ghost use Rattle.lsp_message.specs.Agreement.{is_offered, offers_of, offers_by_capabilities, offers_by_general, offers_by_encodings, offers_named, texts_in, announced_of, announced_by, sync_of, sync_by, kind_in, kind_of, open_close_of, encoding_of};
+ghost use Rattle.lsp_message.specs.Agreement.{is_offered, offers_of, offers_named, announced_of, sync_in, kind_in, announced_encoding};
+ghost use Rattle.lsp_message.specs.inside.Agreement.{offers_by_capabilities, offers_by_general, offers_by_encodings, announced_by, sync_of};
 
 use crate::members::find;
 use crate::params::ParamsFault;
@@ -151,7 +156,7 @@ fn offers_by_encodings(value: Option<&Value>) -> Option<Offers>
 /// Returns the offers that a list of names makes; `None` if an item is no string. Unknown names are
 /// skipped.
 fn offers_named(names: &[Value]) -> Option<Offers>
-    ensures { result ≡ option_map offers_named (texts_in (items_view names.now)) }
+    ensures { result ≡ option_map offers_named (each_of as_str (items_view names.now)) }
 {
     let mut offers = Offers::new(false, false);
     for name in names {
@@ -195,7 +200,7 @@ fn sync_of(value: Option<&Value>) -> Option<(bool, SyncKind)>
 }
 
 fn sync_by(members: &Map<String, Value>) -> Option<(bool, SyncKind)>
-    ensures { result ≡ sync_by (members_view members.now.entries) }
+    ensures { result ≡ sync_in (Some (object (members_view members.now.entries))) }
 {
     let open_close = open_close_of(find(members, "openClose"))?;
     let kind = kind_of(find(members, "change"))?;
@@ -214,7 +219,7 @@ fn kind_in(value: Option<&Value>) -> Option<SyncKind>
 }
 
 fn kind_of(value: Option<&Value>) -> Option<SyncKind>
-    ensures { result ≡ kind_of (option_map (λ v. view v.now) value.entry) }
+    ensures { result ≡ optional Off kind_in (option_map (λ v. view v.now) value.entry) }
 {
     if is_missing(value) {
         return Some(SyncKind::Off);
@@ -223,7 +228,7 @@ fn kind_of(value: Option<&Value>) -> Option<SyncKind>
 }
 
 fn open_close_of(value: Option<&Value>) -> Option<bool>
-    ensures { result ≡ open_close_of (option_map (λ v. view v.now) value.entry) }
+    ensures { result ≡ optional false bool_in (option_map (λ v. view v.now) value.entry) }
 {
     if is_missing(value) {
         return Some(false);
@@ -233,7 +238,8 @@ fn open_close_of(value: Option<&Value>) -> Option<bool>
 
 /// Returns the encoding that a server announces: `Some(None)` where its name is unknown.
 fn encoding_of(value: Option<&Value>) -> Option<Option<Encoding>>
-    ensures { result ≡ encoding_of (option_map (λ v. view v.now) value.entry) }
+    ensures { result
+        ≡ optional (Some Utf16) announced_encoding (option_map (λ v. view v.now) value.entry) }
 {
     if is_missing(value) {
         return Some(Some(Encoding::Utf16));

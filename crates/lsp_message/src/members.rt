@@ -4,7 +4,7 @@ ghost use Rattle.std.specs.Prelude.{◌≡◌, ℕ, List, false, option_map, str
 ghost use Rattle.std.specs.Str.{bytes_eq};
 ghost use Rattle.serde_json.specs.Find.{get_member};
 ghost use Rattle.serde_json.specs.View.{view, items_view, members_view};
-ghost use Rattle.lsp_message.specs.Values.{member_at, text_in, members_in, items_in};
+ghost use Rattle.lsp_message.specs.Values.{member_at, text_in, members_in, array_in};
 
 use serde_json::{Map, Value};
 
@@ -41,7 +41,7 @@ pub(crate) fn object(value: Option<Value>) -> Option<Map<String, Value>>
 
 /// Returns the items of an array; `None` for any other value.
 pub(crate) fn array(value: Option<Value>) -> Option<Vec<Value>>
-    ensures { option_map (λ v. items_view v.items) result ≡ items_in (option_map view value) }
+    ensures { option_map (λ v. items_view v.items) result ≡ array_in (option_map view value) }
 {
     match value? {
         Value::Array(items) => Some(items),

@@ -3,8 +3,9 @@
 ghost use Rattle.std.specs.Prelude.{◌≡◌, ◌↔◌, Some, IfOk, IfErr, IsErrAnd, IsTrue, MatchResult, codes, option_map, slice_index, string_bytes};
 ghost use Rattle.serde_json.specs.Find.{get_member};
 ghost use Rattle.serde_json.specs.View.{view, members_view};
-ghost use Rattle.lsp_message.specs.Message.{reading, message, id_in, id_found, call_of, answer_of, outcome_of, message_by, message_of, is_version_two};
-ghost use Rattle.lsp_message.specs.Seen.{id_view, message_view, IsReadFault, IsFaultOf};
+ghost use Rattle.lsp_message.specs.Message.{reading, message, id_in, id_found, message_of, is_version_two};
+ghost use Rattle.lsp_message.specs.Seen.{id_view, message_view, IsReadFault, IsFaultOfError};
+ghost use Rattle.lsp_message.specs.inside.Message.{call_of, answer_of, outcome_of, reading_by};
 ghost use Rattle.lsp_message.specs.inside.Seen.{Answers};
 
 use crate::members::take;
@@ -67,9 +68,9 @@ pub enum ReadFault {
 }
 
 impl From<serde_json::Error> for ReadFault {
-    ghost use Rattle.lsp_message.specs.Seen.{IsFaultOf};
+    ghost use Rattle.lsp_message.specs.Seen.{IsFaultOfError};
 
-    ghost from_gives = { IsFaultOf };
+    ghost from_gives = { IsFaultOfError };
 
     fn from(error: serde_json::Error) -> ReadFault {
         if error.is_memory() {
@@ -108,7 +109,7 @@ fn begins_with_mark(body: &[u8]) -> bool
 fn message_from(parsed: Result<Value, serde_json::Error>) -> Result<Message, ReadFault>
     ensures { MatchResult parsed
         (λ value. Answers result (message_of (view value)))
-        (λ error. IsErrAnd result (IsFaultOf error)) }
+        (λ error. IsErrAnd result (IsFaultOfError error)) }
 {
     message_of(parsed?)
 }
@@ -167,7 +168,7 @@ impl Members {
 
 fn message_by(members: Members) -> Result<Message, ReadFault>
     ensures { Answers result
-        (message_by (option_map view members.version) (option_map view members.method)
+        (reading_by (option_map view members.version) (option_map view members.method)
         (option_map view members.id)
         (option_map view members.params) (option_map view members.error)
         (option_map view members.outcome)) }

@@ -6,8 +6,8 @@ ghost use Rattle.std.specs.List.{list_all};
 ghost use Rattle.serde_json.specs.View.{view, items_view, members_view};
 ghost use Rattle.serde_json.specs.Find.{get};
 ghost use Rattle.lsp_message.specs.declared.params.ParamsFault.TheVariants.{InvalidParams, NoMemory};
-ghost use Rattle.lsp_message.specs.Params.{open_of, change_of, close_of, open_by, edit_in, edits_in, document_in, document_and_changes, change_by, version_in, coordinate_in, position_in, range_in, range_of, TakesMemory};
-ghost use Rattle.lsp_message.specs.inside.Params.{TakesMemoryBy};
+ghost use Rattle.lsp_message.specs.Params.{open_of, change_of, close_of, open_by, edit_in, document_in, document_and_changes, change_by, version_in, coordinate_in, position_in, range_in, range_of, ParamsMayAllocate};
+ghost use Rattle.lsp_message.specs.inside.Params.{edits_in, MembersMayAllocate};
 ghost use Rattle.lsp_message.specs.Values.{text_in};
 ghost use Rattle.lsp_message.specs.Seen.{open_view, change_view, close_view, edit_view};
 
@@ -96,7 +96,7 @@ pub fn params_change(alloc: Global, params: Option<Value>) -> Result<ChangeParam
     ensures ok { IfOk result (λ p. change_of (option_map view params) ≡ Some (change_view p)) }
     ensures invalid { result ≡ Err ParamsFault.InvalidParams →
         change_of (option_map view params) ≡ None }
-    ensures memory { result ≡ Err ParamsFault.NoMemory → TakesMemory (option_map view params) }
+    ensures memory { result ≡ Err ParamsFault.NoMemory → ParamsMayAllocate (option_map view params) }
 {
     let (document, changes) = document_and_changes(params).ok_or(ParamsFault::InvalidParams)?;
     change_by(alloc, document, changes)
@@ -234,7 +234,7 @@ fn change_by(
     ensures invalid { result ≡ Err ParamsFault.InvalidParams
         → change_by (members_view document.entries) (items_view changes.items) ≡ None }
     ensures memory { result ≡ Err ParamsFault.NoMemory
-        → TakesMemoryBy (members_view document.entries) (items_view changes.items) }
+        → MembersMayAllocate (members_view document.entries) (items_view changes.items) }
 {
     let uri = text(take(&mut document, "uri")).ok_or(ParamsFault::InvalidParams)?;
     let version = version_in(take(&mut document, "version")).ok_or(ParamsFault::InvalidParams)?;

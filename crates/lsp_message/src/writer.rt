@@ -5,7 +5,7 @@ ghost use Rattle.lsp_frame.specs.Frame.{frame};
 ghost use Rattle.lsp_message.specs.Outgoing as spec;
 ghost use Rattle.lsp_message.specs.Written as values;
 ghost use Rattle.lsp_message.specs.laws.Sent.{IsProper, IsReadAsSent, IsReadBack};
-ghost use Rattle.lsp_message.specs.Seen.{change_message, outgoing_view};
+ghost use Rattle.lsp_message.specs.Seen.{did_change_of, outgoing_view};
 ghost use Rattle.lsp_message.specs.inside.Tokens.{Appends, tokens_of};
 
 mod documents;
@@ -57,7 +57,7 @@ pub fn push_change(
     changes: &[Change],
 ) -> Result<(), AllocError>
     ensures ok { OnOk result (bytes.new.items
-        ≡ bytes.old.items ++ spec.body_of (change_message uri.now version changes.now)) }
+        ≡ bytes.old.items ++ spec.body_of (did_change_of uri.now version changes.now)) }
     ensures unchanged { OnErr result (bytes.new.items ≡ bytes.old.items) }
     ensures read_as { (m : spec.OutgoingData) → IsProper m → IsReadAsSent m }
     ensures read_back { (m : spec.OutgoingData) → IsProper m → IsReadBack m }

@@ -14,9 +14,9 @@ ghost use Rattle.lsp_pair.specs.inside.Ends.{HoldsOfFirst, both_ends, did_of_sen
 ghost use Rattle.lsp_pair.specs.Seen.{frames};
 
 use crate::event::{Did, Happened, Heard};
-use lsp_client::{Client, Delivered};
+use lsp_client::{Client, ClientFault, Delivered};
 use lsp_frame::{Framer, Limits};
-use lsp_server::{Answer, Server};
+use lsp_server::{Answer, Server, ServerFault};
 use std::alloc::{AllocError, Global};
 use std::collections::VecDeque;
 
@@ -29,6 +29,7 @@ fn framer_of(alloc: Global, limits: Limits, bytes: &[u8]) -> Result<Framer, Allo
     let mut framer = Framer::new(alloc, limits);
     match framer.feed(bytes) {
         Ok(_) => Ok(framer),
+        // The bytes are a whole frame within the limits, so nothing else can be wrong.
         Err(_) => Err(AllocError),
     }
 }
@@ -63,7 +64,8 @@ pub(crate) fn serve_first(
     };
     let answer = match server.handle(body) {
         Ok(answer) => answer,
-        Err(_) => return Err(AllocError),
+        Err(ServerFault::NoMemory) => return Err(AllocError),
+        Err(ServerFault::AlreadyEnded) => unreachable!(),
     };
     let _ = sent.pop_front();
     Ok(Happened::Server(push_reply(replies, answer)))
@@ -119,7 +121,8 @@ pub(crate) fn hear_first(
     };
     let delivered = match client.deliver(body) {
         Ok(delivered) => delivered,
-        Err(_) => return Err(AllocError),
+        Err(ClientFault::NoMemory) => return Err(AllocError),
+        Err(ClientFault::WrongPhase { .. } | ClientFault::Store(_)) => unreachable!(),
     };
     let _ = replies.pop_front();
     Ok(Happened::Client(push_sent(sent, delivered)))

@@ -1,14 +1,14 @@
 -- A message by its parts.
-use Rattle.std.proofs.Common.{◌≡◌, ℕ, List, [], ◌∷◌, true, Option, Some, None, IfSome, refl, sym, ap, ◌∙◌}
+use Rattle.std.proofs.Common.{◌≡◌, ℕ, List, [], ◌∷◌, true, Option, Some, None, Result, Ok, Err, IfOk, IfSome, refl, sym, ap, ◌∙◌}
 use Rattle.json.specs.Token.{Token}
 use Rattle.json.specs.Lex.{tokens}
 use Rattle.json.specs.Json.{value}
 use Rattle.serde_json.specs.Data as json_data
-use Rattle.serde_json.specs.Data.{Data, Members, object}
-use Rattle.serde_json.specs.Find.{as_object}
+use Rattle.serde_json.specs.Data.{Data}
 use Rattle.serde_json.specs.Read.{read}
 use Rattle.lsp_message.specs.Values.{text_in}
-use Rattle.lsp_message.specs.Message.{is_version_two, message_by, message_with, answer_of, not_a_message, id_in, id_found, message_of}
+use Rattle.lsp_message.specs.Message.{is_version_two, not_a_message, id_in, id_found}
+use Rattle.lsp_message.specs.inside.Message.{call_of, answer_of, reading_with, reading_by}
 use Rattle.lsp_reader.specs.inside.Reading.{value_at}
 use Rattle.lsp_reader.specs.inside.Scalars.{missing, scalar_of, scalar_in, scalar_view, scalar_text}
 use Rattle.lsp_reader.specs.inside.Scalars.{is_scalar_two, scalar_id}
@@ -19,6 +19,10 @@ use Rattle.lsp_reader.proofs.Converted.{whole_read, whole_and_more, whole_refuse
 pub if_some_weaker : {A : Type 0} (o : Option A) (P Q : A → Type 0) → ((a : A) → P a → Q a) → IfSome o P → IfSome o Q
 if_some_weaker None P Q f h = tt
 if_some_weaker (Some a) P Q f h = f a h
+
+pub if_ok_weaker : {A E : Type 0} (r : Result A E) (P Q : A → Type 0) → ((a : A) → P a → Q a) → IfOk r P → IfOk r Q
+if_ok_weaker (Ok a) P Q f h = f a h
+if_ok_weaker (Err e) P Q f h = tt
 
 two_of : (d : Data) → is_scalar_two (scalar_of d) ≡ is_version_two (Some d)
 two_of json_data.null = refl
@@ -64,11 +68,11 @@ none_in None e = refl
 none_in (Some d) e = absurd (not_missing d e)
 
 -- a message without a method
-pub by_answer : (v m i p e r : Option Data) → is_version_two v ≡ true → missing ≡ scalar_in m → message_by v m i p e r
+pub by_answer : (v m i p e r : Option Data) → is_version_two v ≡ true → missing ≡ scalar_in m → reading_by v m i p e r
     ≡ answer_of i e r
 by_answer v m i p e r two none = rw (two, none_in m none) refl
 
-text_by : (v : Option Data) → scalar_text (scalar_in v) ≡ text_in v
+pub text_by : (v : Option Data) → scalar_text (scalar_in v) ≡ text_in v
 text_by None = refl
 text_by (Some json_data.null) = refl
 text_by (Some (json_data.boolean b)) = refl
@@ -77,7 +81,13 @@ text_by (Some (json_data.string s)) = refl
 text_by (Some (json_data.array ds)) = refl
 text_by (Some (json_data.object ms)) = refl
 
-with_other : (m i p e r : Option Data) → (m ≡ None → ⊥) → text_in m ≡ None → message_with m i p e r
+-- a message whose method is a text
+pub by_call : (v m i p e r : Option Data) (method : List ℕ) → is_version_two v ≡ true → text_in m ≡ Some method
+    → reading_by v m i p e r ≡ call_of i method p
+by_call v None i p e r method two named = cc
+by_call v (Some d) i p e r method two named = rw (two, named) refl
+
+with_other : (m i p e r : Option Data) → (m ≡ None → ⊥) → text_in m ≡ None → reading_with m i p e r
     ≡ not_a_message (id_found i)
 with_other None i p e r some no_text = absurd (some refl)
 with_other (Some d) i p e r some no_text = rw no_text refl
@@ -103,14 +113,10 @@ is_part_missing part.Other e = absurd (cc)
 -- a message whose method is no text
 pub by_other : (v m i p e r : Option Data) (method : Scalar) → is_version_two v ≡ true → (method ≡ part.Missing → ⊥)
     → ((s : _) → method ≡ part.Text s → ⊥) → scalar_view method ≡ scalar_in m
-    → message_by v m i p e r ≡ not_a_message (id_found i)
+    → reading_by v m i p e r ≡ not_a_message (id_found i)
 by_other v m i p e r method two some no_string is =
     rw two (with_other m i p e r (λ none. some (is_part_missing method (is ∙ ap scalar_in none)))
     (sym (text_by m) ∙ ap scalar_text (sym is) ∙ no_text method no_string))
-
--- a value that is no object
-pub no_object : (d : Data) → as_object d ≡ None → message_of d ≡ not_a_message None
-no_object d e = rw e refl
 
 -- ---- the whole text
 

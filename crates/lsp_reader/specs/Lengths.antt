@@ -2,7 +2,7 @@
 use Rattle.std.specs.Prelude.{ℕ, List, [], ◌∷◌, Option, Some, None, codes}
 use Rattle.serde_json.specs.Data.{Items, no_items, item}
 use Rattle.lsp_message.specs.Message.{Reading, message, notification}
-use Rattle.lsp_message.specs.Values.{items_in, member_at, natural_in}
+use Rattle.lsp_message.specs.Values.{array_in, member_at, natural_in}
 
 -- That of each item of `contentChanges`, if it has one.
 abbrev pub lengths_in : Items → List (Option ℕ)
@@ -17,5 +17,5 @@ lengths_found (Some items) = lengths_in items
 -- Those of a body. A body without changes has none.
 abbrev pub lengths_of : Reading → List (Option ℕ)
 lengths_of (message (notification method params))
-    = lengths_found (items_in (member_at (codes "contentChanges") params))
+    = lengths_found (array_in (member_at (codes "contentChanges") params))
 lengths_of body = []

@@ -5,7 +5,7 @@ ghost use Rattle.serde_json.specs.Data.{Data};
 ghost use Rattle.serde_json.specs.Read.{read as read_value};
 ghost use Rattle.serde_json.specs.View.{view};
 ghost use Rattle.lsp_message.specs.Message.{reading, message_of, not_json};
-ghost use Rattle.lsp_message.specs.Params.{change_of, TakesMemory};
+ghost use Rattle.lsp_message.specs.Params.{change_of, ParamsMayAllocate};
 ghost use Rattle.lsp_message.specs.Seen.{id_view, message_view, IsReadFault};
 ghost use Rattle.lsp_reader.specs.Incoming.{incoming_of, incoming_by, request_of, notification_of, did_change};
 ghost use Rattle.lsp_reader.specs.Seen.{incoming_view};
@@ -227,7 +227,7 @@ fn notification(
 fn change(alloc: Global, params: Option<Value>) -> Result<Incoming, AllocError>
     ensures ok { IfOk result (λ m. incoming_view m
         ≡ did_change (change_of (option_map view params))) }
-    ensures memory { OnErr result (TakesMemory (option_map view params)) }
+    ensures memory { OnErr result (ParamsMayAllocate (option_map view params)) }
 {
     match params_change(alloc, params) {
         Ok(params) => Ok(Incoming::DidChange(Some(params))),

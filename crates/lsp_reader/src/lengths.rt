@@ -5,7 +5,7 @@ ghost use Rattle.serde_json.specs.View.{items_view, view};
 ghost use Rattle.lsp_message.specs.Message as spec;
 ghost use Rattle.lsp_message.specs.Message.{reading};
 ghost use Rattle.lsp_message.specs.Seen.{message_view};
-ghost use Rattle.lsp_message.specs.Values.{items_in, member_at, natural_in};
+ghost use Rattle.lsp_message.specs.Values.{array_in, member_at, natural_in};
 ghost use Rattle.lsp_reader.specs.Lengths.{lengths_found, lengths_in, lengths_of};
 
 use crate::keystroke::keystroke_length;
@@ -65,7 +65,7 @@ fn lengths_in_message(alloc: Global, message: &Message) -> Result<Vec<Option<u64
 /// Returns the `rangeLength` of each change in a notification's params.
 fn lengths_found(alloc: Global, params: &Value) -> Result<Vec<Option<u64>>, AllocError>
     ensures { IfOk result (λ lengths. lengths.items ≡ lengths_found
-        (items_in (member_at (codes "contentChanges") (Some (view params.now))))) }
+        (array_in (member_at (codes "contentChanges") (Some (view params.now))))) }
 {
     let Some(changes) = params.get("contentChanges") else {
         return Ok(Vec::new(alloc));

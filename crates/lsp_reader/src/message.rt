@@ -1,9 +1,10 @@
 //! The members of a message, and what the message asks by them.
 
 ghost use Rattle.std.specs.Prelude.{◌≡◌, ◌<◌, length, option_map, Option, Some, None, Err, IfOk, IfSome, OnOk, OnErr};
-ghost use Rattle.serde_json.specs.Data.{Data, Members, no_members, put};
-ghost use Rattle.lsp_message.specs.Message.{message_of_members, call_of, answer_of, outcome_of};
+ghost use Rattle.serde_json.specs.Data.{Data, object, Members, no_members, put};
+ghost use Rattle.lsp_message.specs.Message.{message_of};
 ghost use Rattle.lsp_message.specs.Seen.{id_view};
+ghost use Rattle.lsp_message.specs.inside.Message.{call_of, answer_of, outcome_of};
 ghost use Rattle.lsp_reader.specs.Incoming.{incoming_of, request_of, notification_of};
 ghost use Rattle.lsp_reader.specs.Seen.{incoming_view};
 ghost use Rattle.lsp_reader.specs.inside.Reading.{value_at, members_at};
@@ -61,7 +62,7 @@ impl<'a> MessageMembers<'a> {
     /// Returns what the message asks; `None` where its params have to be read as a tree.
     pub(crate) fn incoming(self, alloc: Global) -> Result<Option<Incoming>, AllocError>
         ensures { IfOk result (λ r. IfSome r (λ m. (ms : Members) → IsMessageOf self.entry ms
-            → incoming_view m ≡ incoming_of (message_of_members ms))) }
+            → incoming_view m ≡ incoming_of (message_of (object ms)))) }
     {
         if !self.version.is_two() {
             return Ok(Some(Incoming::NotAMessage {

@@ -26,7 +26,7 @@ use Rattle.lsp_server.specs.declared.config.Config.{Config}
 use Rattle.lsp_server.specs.declared.config.EncodingChoice.TheVariants.{Fixed}
 use Rattle.lsp_server.specs.declared.config.ChangeForm.TheVariants.{Incremental}
 use Rattle.lsp_replay.specs.declared.commands.Settings.{Settings}
-use Rattle.lsp_replay.specs.Session.{Session, opened, Verdict, answered, recorded, bad, Judged, judge, outcome_of}
+use Rattle.lsp_replay.specs.Session.{Session, opened, Verdict, answered, recorded, bad, Judged, judge, session_outcome}
 
 -- ---- every engine judges the records by a session; most have no state but that
 
@@ -83,7 +83,7 @@ unless_bad r verdict given = given
 abbrev pub served : Session → AnswerData Sent → RecordOutput
 served s (reply m) = writes m.frame
 served s (exits status)
-    = ends [] (Ok (record (outcome_of s) { status = status }))
+    = ends [] (Ok (record (session_outcome s) { status = status }))
 served s answer = writes []
 
 -- The same by the judgement of a record. Only a client's record is answered.
@@ -97,7 +97,7 @@ serving = record {
   record_output = λ _ s r j. serve_output j.session j.verdict;
   next = λ _ s r j. tt;
   end_output = λ _ s line_due. [];
-  outcome = λ _ s. record (outcome_of s) { status = 1 };
+  outcome = λ _ s. record (session_outcome s) { status = 1 };
 }
 
 -- ---- `check`: a line for each record, its number and a word
@@ -143,7 +143,7 @@ checking = record {
       unless_bad r j.verdict (writes (check_line j.session.records j.verdict));
   next = λ _ s r j. tt;
   end_output = λ _ s line_due. [];
-  outcome = λ _ s. outcome_of s;
+  outcome = λ _ s. session_outcome s;
 }
 
 -- ---- `replay`: at the end a line for each open document, in order of opening
@@ -162,7 +162,7 @@ replaying_from index = record {
   record_output = λ _ s r j. unless_bad r j.verdict (writes []);
   next = λ _ s r j. tt;
   end_output = λ _ s line_due. report_from index s.server.table;
-  outcome = λ _ s. outcome_of s;
+  outcome = λ _ s. session_outcome s;
 }
 
 -- `replay` from the first document on.
@@ -220,7 +220,7 @@ normalising = record {
   record_output = λ _ s r j. unless_bad r j.verdict (canonical_output s r j);
   next = λ _ s r j. tt;
   end_output = λ _ s line_due. line_if line_due;
-  outcome = λ _ s. outcome_of s;
+  outcome = λ _ s. session_outcome s;
 }
 
 -- ---- `convert`: a log of version 2, with the replies in it
@@ -242,7 +242,7 @@ converting = record {
       (writes (line_before s ++ codes ">" ++ r.raw ++ reply_record j.verdict));
   next = λ _ s r j. tt;
   end_output = λ _ s line_due. line_before s;
-  outcome = λ _ s. outcome_of s;
+  outcome = λ _ s. session_outcome s;
 }
 
 -- ---- the engines, from their settings and an input's records to their output

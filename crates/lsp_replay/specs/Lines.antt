@@ -14,7 +14,7 @@ use Rattle.lsp_replay.specs.declared.notes.Note.{Note}
 use Rattle.lsp_replay.specs.Commands.{View, unless_bad, writes}
 use Rattle.lsp_replay.specs.Mentions.{Mention, is_mention, mentioned}
 use Rattle.lsp_replay.specs.Notes.{notes_of, ranged_after}
-use Rattle.lsp_replay.specs.Session.{Session, Judged, Verdict, answered, is_change, outcome_of}
+use Rattle.lsp_replay.specs.Session.{Session, Judged, Verdict, answered, is_change, session_outcome}
 
 -- The document that a record of one side is about: the URI in valid parameters of an editor's
 -- message.
@@ -80,5 +80,5 @@ lines view = record {
   record_output = λ known s r j. unless_bad r j.verdict (writes (view.line known s r j));
   next = λ known s r j. known_after known s r.head r.body j;
   end_output = λ known s line_due. view.end_lines known s;
-  outcome = λ known s. outcome_of s;
+  outcome = λ known s. session_outcome s;
 }

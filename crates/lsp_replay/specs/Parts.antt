@@ -12,7 +12,7 @@ use Rattle.lsp_replay.specs.declared.outcome.Outcome.{Outcome}
 use Rattle.lsp_replay.specs.RunOutput.{RunOutput}
 use Rattle.lsp_replay.specs.Commands.{RecordOutput, View, writes, ends, output_in, unless_bad, report_from, as_log, log_config}
 use Rattle.lsp_replay.specs.Run.{Engine}
-use Rattle.lsp_replay.specs.Session.{Session, Judged, opened, outcome_of}
+use Rattle.lsp_replay.specs.Session.{Session, Judged, opened, session_outcome}
 
 -- The part of a log that is replayed, and what is printed of it.
 pub record PartData : Type 0 where
@@ -65,7 +65,7 @@ abbrev pub part_step : PartData → Option (List ℕ) → Session → RecordOutp
 part_step part last s =
     if is_last part.at s.records then
     ends (part_bytes part.uri last s.server.table)
-    (Ok (part_outcome part.uri last (outcome_of s))) else writes []
+    (Ok (part_outcome part.uri last (session_outcome s))) else writes []
 
 -- At the end of the input, if the part has no last record. Else that record isn't in the log.
 abbrev pub part_at_end : PartData → Option (List ℕ) → Session → List ℕ
@@ -75,8 +75,8 @@ part_at_end part last s =
 -- The outcome then.
 abbrev pub end_outcome : PartData → Option (List ℕ) → Session → Outcome
 end_outcome part last s =
-    if is_some part.at then lacking missing.Record (outcome_of s)
-    else part_outcome part.uri last (outcome_of s)
+    if is_some part.at then lacking missing.Record (session_outcome s)
+    else part_outcome part.uri last (session_outcome s)
 
 -- ---- all records
 

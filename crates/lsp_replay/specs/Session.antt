@@ -188,8 +188,8 @@ opened config
     }
 
 -- The outcome of a log command: status 1 if something was refused, else 0.
-abbrev pub outcome_of : Session → Outcome
-outcome_of s = record {
+abbrev pub session_outcome : Session → Outcome
+session_outcome s = record {
   status = (if s.refusals == 0 then 0 else 1);
   messages = s.messages;
   refused = s.refusals;

@@ -15,7 +15,7 @@ use Rattle.lsp_stream.specs.declared.fault.EngineFault.{EngineFault}
 use Rattle.lsp_log.specs.Log.{Record}
 use Rattle.lsp_replay.specs.RunOutput.{RunOutput}
 use Rattle.lsp_replay.specs.Commands.{RecordOutput, View, writes, ends, output_in, front_of, change_in, normalising, line_if, log_config, canonical_log}
-use Rattle.lsp_replay.specs.Session.{Session, Verdict, answered, Judged, opened, outcome_of}
+use Rattle.lsp_replay.specs.Session.{Session, Verdict, answered, Judged, opened, session_outcome}
 
 -- ---- a series: accepted changes of one document, one after another
 
@@ -97,7 +97,7 @@ squashing = record {
       (normalising.record_output tt s r j).end;
   next = λ series s r j. series_after series (series_change s r j);
   end_output = λ series s line_due. series_written series ++ line_if line_due;
-  outcome = λ series s. outcome_of s;
+  outcome = λ series s. session_outcome s;
 }
 
 -- The output of `normalise` with squash.

@@ -14,7 +14,7 @@
 ghost use Rattle.std.specs.Prelude.{◌≡◌, ◌≢◌, ◌⊎◌, IfErr, IfOk, OnErr, OnOk, MatchOption, Some, None};
 ghost use Rattle.lsp_message.specs.Seen.{change_view, id_view};
 ghost use Rattle.lsp_server.specs.Seen.{incoming_view};
-ghost use Rattle.lsp_replay.specs.Session.{bad, counted, opened, judge_client, is_early, expected_after, outcome_of};
+ghost use Rattle.lsp_replay.specs.Session.{bad, counted, opened, judge_client, is_early, expected_after, session_outcome};
 ghost use Rattle.lsp_replay.specs.inside.Bodies.{IsReceived, body_read, body_view, canonical_read, judge_read};
 ghost use Rattle.lsp_replay.specs.inside.Session.{judge_at};
 ghost use Rattle.lsp_replay.specs.inside.Verdicts.{verdict_view};
@@ -133,7 +133,7 @@ impl Session {
 
     /// Returns the outcome of a log command at the end of the input.
     pub fn outcome(&self) -> Outcome
-        ensures { result ≡ outcome_of self.now }
+        ensures { result ≡ session_outcome self.now }
     {
         Outcome {
             status: if self.refusals == 0 { 0 } else { 1 },

@@ -23,12 +23,12 @@ use Rattle.lsp_server.specs.declared.planned.PlannedChange.TheVariants.{Accepted
 use Rattle.lsp_server.specs.Answer.{dropped, refused}
 use Rattle.lsp_server.specs.Calls.{IsStepOf}
 use Rattle.lsp_server.specs.Planned.{IsAnswered, IsPlanOfChange, IsPlannedAs, store_of}
-use Rattle.lsp_server.specs.Step.{ServerData, Step, change_command, edit_from_data, session_encoding, obeys, stays, step_in, step_on}
+use Rattle.lsp_server.specs.Step.{ServerData, Step, change_command, edit_from_data, session_encoding, command_step, unchanged_step, step_in, step_on}
 use Rattle.lsp_server.proofs.Commands.{edits_of, obeyed_as_refused}
 
 -- The step of a change in phase Running.
 pub running_step : (s : ServerData) (p : ChangeData) → s.phase ≡ Running → step_on s (did_change (Some p))
-    ≡ obeys s (change_command s p)
+    ≡ command_step s (change_command s p)
 running_step s p running = ap (λ phase. step_in phase s (did_change (Some p))) running
 
 -- The store's plan of a change is the server's.
@@ -66,7 +66,7 @@ refused_is s store p uri version encoding edits fault a store_is uri_is version_
     subst (λ (asked : Command). IsRefused store asked fault) command error in
     let same : IsRefused (store_of s) (change_command s (change_view p)) fault =
     subst (λ (of : StoreData). IsRefused of (change_command s (change_view p)) fault) store_is given in
-    let step : step_on s (did_change (Some (change_view p))) ≡ stays s (refused (Store fault)) =
+    let step : step_on s (did_change (Some (change_view p))) ≡ unchanged_step s (refused (Store fault)) =
     running_step s (change_view p) running ∙ obeyed_as_refused s (change_command s (change_view p)) fault why.0 same in
     subst (λ (b : Answer). IsAnswered s (step_on s (did_change (Some (change_view p)))) b) (sym why.1)
     (subst (λ (taken : Step). IsAnswered s taken (Refused (Store fault))) (sym step) (record {
@@ -79,7 +79,7 @@ refused_is s store p uri version encoding edits fault a store_is uri_is version_
 pub dropped_is : (s : ServerData) (p : ChangeData) → (s.phase ≡ New) ⊎ (s.phase ≡ Down)
     → IsAnswered s (step_on s (did_change (Some p))) Dropped
 dropped_is s p (inl new) =
-    let step : step_on s (did_change (Some p)) ≡ stays s dropped =
+    let step : step_on s (did_change (Some p)) ≡ unchanged_step s dropped =
     ap (λ phase. step_in phase s (did_change (Some p))) new in
     subst (λ (taken : Step). IsAnswered s taken Dropped) (sym step) (record {
       answer = refl;
@@ -87,7 +87,7 @@ dropped_is s p (inl new) =
       not_changed = λ e. cc;
     })
 dropped_is s p (inr down) =
-    let step : step_on s (did_change (Some p)) ≡ stays s dropped =
+    let step : step_on s (did_change (Some p)) ≡ unchanged_step s dropped =
     ap (λ phase. step_in phase s (did_change (Some p))) down in
     subst (λ (taken : Step). IsAnswered s taken Dropped) (sym step) (record {
       answer = refl;
@@ -105,7 +105,7 @@ pub accepted_step : {E : Type 0} (s : ServerData) (p : ChangeData) (planned : Pl
     (result : Result Answer E) (new : ServerData)
     → planned ≡ Accepted plan → s.phase ≡ Running → IsPlannedAs s p planned
     → ((q : ChangeData) → IsPlanOfChange s q plan → IsStepOf (step_on s (did_change (Some q))) result s new)
-    → IsStepOf (obeys s (change_command s p)) result s new
+    → IsStepOf (command_step s (change_command s p)) result s new
 accepted_step s p planned plan result new is running h step =
     subst (λ (taken : Step). IsStepOf taken result s new) (running_step s p running)
     (step p (accepted_on s p planned plan is h).1)
@@ -113,7 +113,7 @@ accepted_step s p planned plan result new is running h step =
 -- So is an answer that changes nothing.
 pub answered_step : {E : Type 0} (s : ServerData) (p : ChangeData) (planned : PlannedChange) (a : Answer) → planned
     ≡ Answered a → s.phase ≡ Running → IsPlannedAs s p planned
-    → IsStepOf {E = E} (obeys s (change_command s p)) (Ok a) s s
+    → IsStepOf {E = E} (command_step s (change_command s p)) (Ok a) s s
 answered_step {E} s p planned a is running h =
     let answered : IsAnswered s (step_on s (did_change (Some p))) a =
     subst (λ (x : PlannedChange). IsPlannedAs s p x) is h in

@@ -5,7 +5,7 @@ use Rattle.lsp_edit.specs.Edited as made
 use Rattle.lsp_message.specs.Seen.{edit_view}
 use Rattle.lsp_store.specs.declared.fault.StoreFault.{StoreFault}
 use Rattle.lsp_store.specs.declared.fault.StoreFault.TheVariants.{NoMemory}
-use Rattle.lsp_store.specs.Faults.{fault_of}
+use Rattle.lsp_store.specs.Faults.{refusal_fault}
 use Rattle.lsp_store.specs.Opened.{StoreData, Takes, IsRefused}
 use Rattle.lsp_store.specs.Table as table
 use Rattle.lsp_message.specs.Params.{DocumentItem}
@@ -13,8 +13,8 @@ use Rattle.lsp_store.specs.Table.{Command, unless_refused, command_refusal, tabl
 use Rattle.lsp_server.specs.declared.answer.Answer.{Answer}
 use Rattle.lsp_server.specs.declared.answer.Answer.TheVariants.{Changed, Refused}
 use Rattle.lsp_server.specs.declared.answer.Refusal.TheVariants.{Store}
-use Rattle.lsp_server.specs.Answer.{refused, IsQuiet}
-use Rattle.lsp_server.specs.Step.{ServerData, edit_from_data, stays, obeyed, obeys}
+use Rattle.lsp_server.specs.Answer.{refused, NeverAllocates}
+use Rattle.lsp_server.specs.Step.{ServerData, edit_from_data, unchanged_step, result_step, command_step}
 use Rattle.lsp_server.specs.Calls.{IsStepOf, IsRowOf}
 use Rattle.lsp_server.specs.Planned.{store_of}
 
@@ -29,14 +29,15 @@ over s store = record s { config = record s.config { limits = store.limits }; ta
 
 -- What is answered to a refused command tells the store's fault.
 refusal_answered : (s : ServerData) (refusal : Option table.Refusal) (next : List DocumentItem) (fault : StoreFault)
-    → option_map fault_of refusal ≡ Some fault → obeyed s (unless_refused refusal next)
-    ≡ stays s (refused (Store fault))
+    → option_map refusal_fault refusal ≡ Some fault → result_step s (unless_refused refusal next)
+    ≡ unchanged_step s (refused (Store fault))
 refusal_answered s None next fault e = cc
 refusal_answered s (Some refusal) next fault e =
-    let same : fault_of refusal ≡ fault = cc in ap (λ error. stays s (refused (Store error))) same
+    let same : refusal_fault refusal ≡ fault = cc in ap (λ error. unchanged_step s (refused (Store error))) same
 
 pub obeyed_as_refused : (s : ServerData) (command : Command) (fault : StoreFault)
-    → fault ≢ NoMemory → IsRefused (store_of s) command fault → obeys s command ≡ stays s (refused (Store fault))
+    → fault ≢ NoMemory → IsRefused (store_of s) command fault
+    → command_step s command ≡ unchanged_step s (refused (Store fault))
 obeyed_as_refused s command fault other (inl e) = absurd (other e)
 obeyed_as_refused s command fault other (inr e) =
     refusal_answered s (command_refusal s.config.limits s.table command) (table_after s.table command) fault e
@@ -50,9 +51,9 @@ pub obeyed_step : {E : Type 0} (s : ServerData) (given command : Command) (new :
     → OnOk outcome (result ≡ Ok Changed)
     → IfErr outcome (λ fault. IfOk result (λ a. (fault ≢ NoMemory) × (a ≡ Refused (Store fault))))
     → given ≡ command
-    → IsStepOf (obeys s command) result s (over s new)
+    → IsStepOf (command_step s command) result s (over s new)
 obeyed_step s given command new (Ok u) result takes unchanged error changed other same =
-    subst (λ r. IsStepOf (obeys s command) r s (over s new)) (sym changed)
+    subst (λ r. IsStepOf (command_step s command) r s (over s new)) (sym changed)
     (record {
       answer = rw (← same, takes.table) refl;
       state = rw (← same, takes.table, takes.limits) refl;
@@ -68,11 +69,12 @@ obeyed_step s given command new (Err fault) (Ok a) takes unchanged error changed
     }
 
 -- A step that answers for the store takes memory.
-loud : (s : ServerData) (result : Result (List DocumentItem) table.Refusal) → IsQuiet (obeyed s result).answer → ⊥
+loud : (s : ServerData) (result : Result (List DocumentItem) table.Refusal)
+    → NeverAllocates (result_step s result).answer → ⊥
 loud s (Ok next) quiet = quiet
 loud s (Err refusal) quiet = quiet
 
 pub obeyed_row : {E : Type 0} (s : ServerData) (command : Command) (result : Result Answer E) (old new : ServerData)
-    → IsStepOf (obeys s command) result old new → IsRowOf (obeys s command) result old new
+    → IsStepOf (command_step s command) result old new → IsRowOf (command_step s command) result old new
 obeyed_row s command result old new step =
     record { taken = step; quiet = λ quiet. absurd (loud s (after_command s.config.limits s.table command) quiet) }

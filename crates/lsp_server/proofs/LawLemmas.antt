@@ -16,10 +16,10 @@ use Rattle.lsp_server.specs.declared.config.EncodingChoice.TheVariants.{Negotiat
 use Rattle.lsp_server.specs.declared.phase.Phase.{Phase}
 use Rattle.lsp_server.specs.declared.phase.Phase.TheVariants.{New, Running, Down, Ended}
 use Rattle.lsp_server.specs.Answer.{AnswerData, reply, changed, exits}
-use Rattle.lsp_server.specs.Choice.{chosen, announced_kind}
+use Rattle.lsp_server.specs.Choice.{encoding_chosen, announced_kind}
 use Rattle.lsp_reader.specs.Incoming.{IncomingData, response, initialize, shutdown, other_request, exit, did_open, did_change, did_close, other_notification, request_of, notification_of}
 use Rattle.lsp_server.specs.laws.Steps.{RepliesTo, way_of, ChangesNothing}
-use Rattle.lsp_server.specs.Step.{ServerData, Step, stays, step_to, begins, obeyed, step_in}
+use Rattle.lsp_server.specs.Step.{ServerData, Step, unchanged_step, phase_step, begin_step, result_step, step_in}
 
 -- ---- requests
 
@@ -48,7 +48,7 @@ pub replied : (p : Phase) (s : ServerData) (id : IdData) (m : IncomingData) → 
 replied Ended s id m is live = absurd (live refl)
 replied New s id (initialize other None) is live = (error_reply (Some other) InvalidParams, refl, ap Some is)
 replied New s id (initialize other (Some offers)) is live =
-    (initialize_result other (chosen s.config.choice offers) (announced_kind s.config.sync), refl, ap Some is)
+    (initialize_result other (encoding_chosen s.config.choice offers) (announced_kind s.config.sync), refl, ap Some is)
 replied New s id (shutdown other) is live = (error_reply (Some other) ServerNotInitialized, refl, ap Some is)
 replied New s id (other_request other method) is live =
     (error_reply (Some other) ServerNotInitialized, refl, ap Some is)
@@ -88,7 +88,7 @@ notification_of-is method params =
     (other_notification method) tt tt tt tt tt
 
 obeyed_quietly : (s : ServerData) (result : Result (List DocumentItem) table.Refusal) (m : OutgoingData)
-    → (obeyed s result).answer ≢ reply m
+    → (result_step s result).answer ≢ reply m
 obeyed_quietly s (Ok next) m = λ e. cc
 obeyed_quietly s (Err refusal) m = λ e. cc
 
@@ -130,21 +130,22 @@ pub record Keeps (p : Phase) (s : ServerData) (next : Step) : Type 0 where
   pub documents : next.answer ≢ changed → next.state.table ≡ s.table
   pub refusal : ChangesNothing next.answer → next.state ≡ s
 
-stays_kept : (p : Phase) (s : ServerData) (answer : AnswerData OutgoingData) → s.phase ≡ p → Keeps p s (stays s answer)
+stays_kept : (p : Phase) (s : ServerData) (answer : AnswerData OutgoingData) → s.phase ≡ p
+    → Keeps p s (unchanged_step s answer)
 stays_kept p s answer e =
     record { config = refl; forward = rw e (omega arith); documents = λ _. refl; refusal = λ _. refl }
 
 goes_kept : (p q : Phase) (s : ServerData) (answer : AnswerData OutgoingData) → way_of p ≤ way_of q
-    → (ChangesNothing answer → ⊥) → Keeps p s (step_to s q answer)
+    → (ChangesNothing answer → ⊥) → Keeps p s (phase_step s q answer)
 goes_kept p q s answer on apart =
     record { config = refl; forward = on; documents = λ _. refl; refusal = λ h. absurd (apart h) }
 
-begins_kept : (s : ServerData) (id : IdData) (offers : Offers) → Keeps New s (begins s id offers)
+begins_kept : (s : ServerData) (id : IdData) (offers : Offers) → Keeps New s (begin_step s id offers)
 begins_kept s id offers =
     record { config = refl; forward = omega arith; documents = λ _. refl; refusal = λ h. absurd h }
 
 obeyed_kept : (p : Phase) (s : ServerData) (result : Result (List DocumentItem) table.Refusal) → s.phase ≡ p
-    → Keeps p s (obeyed s result)
+    → Keeps p s (result_step s result)
 obeyed_kept p s (Ok next) e =
     record {
       config = refl;
@@ -175,5 +176,6 @@ pub offered_if : (prefer : Encoding) (offers : Offers) (b : Bool) → is_offered
 offered_if prefer offers true e = e
 offered_if prefer offers false e = refl
 
-pub offered : (prefer : Encoding) (offers : Offers) → is_offered offers (chosen (Negotiated prefer) offers) ≡ true
+pub offered : (prefer : Encoding) (offers : Offers)
+    → is_offered offers (encoding_chosen (Negotiated prefer) offers) ≡ true
 offered prefer offers = offered_if prefer offers (is_offered offers prefer) refl

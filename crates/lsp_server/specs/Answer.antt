@@ -26,12 +26,12 @@ reply_code (error_reply id error) = Some error
 reply_code m = None
 
 -- A reply as it is sent.
-abbrev pub sent : OutgoingData → Sent
-sent m = record { frame = frame (body_of m); code = reply_code m }
+abbrev pub sent_reply : OutgoingData → Sent
+sent_reply m = record { frame = frame (body_of m); code = reply_code m }
 
 -- An answer, with its reply as it is sent.
 abbrev pub as_sent : AnswerData OutgoingData → AnswerData Sent
-as_sent (reply m) = reply (sent m)
+as_sent (reply m) = reply (sent_reply m)
 as_sent changed = changed
 as_sent dropped = dropped
 as_sent ignored = ignored
@@ -40,9 +40,9 @@ as_sent (refused refusal) = refused refusal
 as_sent (exits status) = exits status
 
 -- An answer that takes no memory: there is no reply, and the store isn't called.
-abbrev pub IsQuiet : {Reply : Type 0} → AnswerData Reply → Type 0
-IsQuiet dropped = ⊤
-IsQuiet ignored = ⊤
-IsQuiet (exits status) = ⊤
-IsQuiet (refused InvalidParams) = ⊤
-IsQuiet answer = ⊥
+abbrev pub NeverAllocates : {Reply : Type 0} → AnswerData Reply → Type 0
+NeverAllocates dropped = ⊤
+NeverAllocates ignored = ⊤
+NeverAllocates (exits status) = ⊤
+NeverAllocates (refused InvalidParams) = ⊤
+NeverAllocates answer = ⊥

@@ -1,7 +1,7 @@
 -- What a call returns that takes a step.
 use Rattle.std.specs.Prelude.{◌≡◌, Result, IfOk, OnOk, OnErr, IsOk}
 use Rattle.lsp_server.specs.declared.answer.Answer.{Answer}
-use Rattle.lsp_server.specs.Answer.{as_sent, IsQuiet}
+use Rattle.lsp_server.specs.Answer.{as_sent, NeverAllocates}
 use Rattle.lsp_server.specs.Seen.{answer_view}
 use Rattle.lsp_server.specs.Step.{ServerData, Step}
 
@@ -17,4 +17,4 @@ pub record IsStepOf {E : Type 0} (step : Step) (result : Result Answer E) (old n
 pub record IsRowOf {E : Type 0} (step : Step) (result : Result Answer E) (old new : ServerData) :
     Type 0 where
   pub taken : IsStepOf step result old new
-  pub quiet : IsQuiet step.answer → IsOk result
+  pub quiet : NeverAllocates step.answer → IsOk result

@@ -16,9 +16,9 @@ use Rattle.lsp_server.specs.declared.config.ChangeForm.TheVariants.{Incremental,
 
 -- The encoding of a session: a fixed one whatever is offered (LSP 3.17 allows one that was offered,
 -- or UTF-16), else the preferred one if it is offered, else UTF-16.
-abbrev pub chosen : EncodingChoice → Offers → Encoding
-chosen (Fixed encoding) offers = encoding
-chosen (Negotiated prefer) offers = if is_offered offers prefer then prefer else Utf16
+abbrev pub encoding_chosen : EncodingChoice → Offers → Encoding
+encoding_chosen (Fixed encoding) offers = encoding
+encoding_chosen (Negotiated prefer) offers = if is_offered offers prefer then prefer else Utf16
 
 -- The kind of synchronisation that a server announces.
 abbrev pub announced_kind : ChangeForm → SyncKind

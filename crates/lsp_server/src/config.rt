@@ -1,7 +1,7 @@
 //! The configuration of a server.
 
 ghost use Rattle.std.specs.Prelude.{◌≡◌};
-ghost use Rattle.lsp_server.specs.Choice.{chosen, announced_kind};
+ghost use Rattle.lsp_server.specs.Choice.{encoding_chosen, announced_kind};
 
 use lsp_frame::Limits;
 use lsp_message::{Offers, SyncKind};
@@ -48,7 +48,7 @@ pub enum EncodingChoice {
 impl EncodingChoice {
     /// Returns the encoding for a client that offers these.
     pub fn choose(self, offers: Offers) -> Encoding
-        ensures { result ≡ chosen self offers }
+        ensures { result ≡ encoding_chosen self offers }
     {
         match self {
             EncodingChoice::Fixed(encoding) => encoding,

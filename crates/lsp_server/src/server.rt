@@ -4,7 +4,7 @@ ghost use Rattle.std.specs.Prelude.{◌≡◌, ◌≢◌, ◌↔◌, IfOk, OnOk,
 ghost use Rattle.lsp_message.specs.Message.{reading};
 ghost use Rattle.lsp_server.specs.declared.phase.Phase.TheVariants.{Running, Ended};
 ghost use Rattle.lsp_server.specs.Step.{new_server, with_encoding, step, step_on};
-ghost use Rattle.lsp_server.specs.Answer.{IsQuiet, as_sent};
+ghost use Rattle.lsp_server.specs.Answer.{NeverAllocates, as_sent};
 ghost use Rattle.lsp_server.specs.Seen.{answer_view, IsRefusing};
 ghost use Rattle.lsp_server.specs.Calls.{IsRowOf};
 ghost use Rattle.lsp_reader.specs.Incoming.{incoming_of};
@@ -183,7 +183,8 @@ impl Server {
         ensures refused { IfOk result (λ a. IsRefusing a → self.new ≡ self.old) }
         ensures unchanged { OnErr result (self.new ≡ self.old) }
         // Only a reply, and a document that is opened or changed, take memory.
-        ensures quiet { IsQuiet (step_on self.old (incoming_view incoming)).answer → IsOk result }
+        ensures quiet { NeverAllocates (step_on self.old (incoming_view incoming)).answer
+            → IsOk result }
         ensures ended { IsErrOf result ServerFault.AlreadyEnded ↔ (self.old.phase ≡ Ended) }
     {
         if self.phase == Phase::Ended {

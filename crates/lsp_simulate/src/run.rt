@@ -101,7 +101,7 @@ fn perform<R: BufRead, W: Sink, E: Write>(
     match read {
         Ok(Some(setting)) => run_session(alloc, setting, input, output, errors),
         Ok(None) => USAGE,
-        Err(error) => explain(alloc, &error, output, errors),
+        Err(error) => print_error(alloc, &error, output, errors),
     }
 }
 
@@ -137,7 +137,7 @@ fn end_session<E: Write>(
 
 /// Prints the text of `clap`'s error: help to the output, and a usage fault to the errors. Returns
 /// the status.
-fn explain<W: Sink, E: Write>(
+fn print_error<W: Sink, E: Write>(
     alloc: Global,
     error: &clap::Error,
     output: &mut W,

@@ -3,23 +3,23 @@ use Rattle.std.specs.Prelude.{ℕ, ◌≡◌, ◌⊎◌, List, Option, Some, cod
 use Rattle.lsp_frame.specs.declared.written.EncodeFault.{EncodeFault}
 use Rattle.lsp_frame.specs.declared.written.EncodeFault.TheVariants as encode
 use Rattle.lsp_edit.specs.declared.fault.EditFault.TheVariants.{InsideCharacter, ReversedRange}
-use Rattle.lsp_edit.specs.declared.indexed.TextFault.{TextFault}
-use Rattle.lsp_edit.specs.declared.indexed.TextFault.TheVariants as text
+use Rattle.lsp_edit.specs.declared.indexed.fault.TextFault.{TextFault}
+use Rattle.lsp_edit.specs.declared.indexed.fault.TextFault.TheVariants as text
 use Rattle.lsp_edit.specs.Faults.{fault_at}
 use Rattle.lsp_store.specs.declared.fault.StoreFault.{StoreFault}
 use Rattle.lsp_store.specs.declared.fault.StoreFault.TheVariants.{AlreadyOpen, TooManyDocuments, TextTooLong, NotOpen, StaleVersion, TooManyChanges, Edit, BodyTooLong, NoMemory}
 use Rattle.lsp_store.specs.Table.{Refusal, already_open, too_many_documents, text_too_long, not_open, too_many_changes, stale_version, edit, body_too_long}
 
 -- The fault of a refusal.
-abbrev pub fault_of : Refusal → StoreFault
-fault_of already_open = AlreadyOpen
-fault_of too_many_documents = TooManyDocuments
-fault_of text_too_long = TextTooLong
-fault_of not_open = NotOpen
-fault_of too_many_changes = TooManyChanges
-fault_of (stale_version held) = StaleVersion held
-fault_of (edit number why) = Edit (fault_at number why)
-fault_of (body_too_long len) = BodyTooLong len
+abbrev pub refusal_fault : Refusal → StoreFault
+refusal_fault already_open = AlreadyOpen
+refusal_fault too_many_documents = TooManyDocuments
+refusal_fault text_too_long = TextTooLong
+refusal_fault not_open = NotOpen
+refusal_fault too_many_changes = TooManyChanges
+refusal_fault (stale_version held) = StaleVersion held
+refusal_fault (edit number why) = Edit (fault_at number why)
+refusal_fault (body_too_long len) = BodyTooLong len
 
 -- The code of a fault, as docs/PROTOCOL.md lists them. That of S7 is its cause.
 abbrev pub fault_code : StoreFault → List ℕ
@@ -47,4 +47,4 @@ store_fault_of_encode encode.NoMemory = NoMemory
 
 -- A fault is out of memory, or that of the refusal.
 abbrev pub IsRefusal : Option Refusal → StoreFault → Type 0
-IsRefusal refusal fault = (fault ≡ NoMemory) ⊎ (option_map fault_of refusal ≡ Some fault)
+IsRefusal refusal fault = (fault ≡ NoMemory) ⊎ (option_map refusal_fault refusal ≡ Some fault)

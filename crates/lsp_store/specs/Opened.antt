@@ -37,7 +37,8 @@ pub record Takes (old : StoreData) (command : Command) (new : StoreData) : Type 
 abbrev pub IsRefused : StoreData → Command → StoreFault → Type 0
 IsRefused old command fault = IsRefusal (command_refusal old.limits old.table command) fault
 
--- A change of the open document of this URI can be refused only for what the batch means.
-abbrev pub MayTakeMemory : StoreData → List ℕ → ℤ → List Edit → Type 0
-MayTakeMemory old uri version batch =
+-- A change may take memory only where the document of its URI is open and only what the batch
+-- means can refuse it.
+abbrev pub ChangeMayAllocate : StoreData → List ℕ → ℤ → List Edit → Type 0
+ChangeMayAllocate old uri version batch =
     IsSomeAnd (entry_at old.table uri) (λ entry. IsLeftToMeaning old.limits entry version batch)

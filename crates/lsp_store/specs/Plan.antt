@@ -10,7 +10,7 @@ use Rattle.lsp_store.specs.declared.store.plan.Plan.{Plan}
 use Rattle.lsp_store.specs.declared.fault.StoreFault.{StoreFault}
 use Rattle.lsp_store.specs.Faults.{IsRefusal}
 use Rattle.lsp_store.specs.Message.{canonical_body, canonical_frame, message_refusal}
-use Rattle.lsp_store.specs.Opened.{MayTakeMemory, StoreData}
+use Rattle.lsp_store.specs.Opened.{ChangeMayAllocate, StoreData}
 use Rattle.lsp_store.specs.Table.{after_change, change_refusal, entry_at}
 
 -- A document after a delta, under a version.
@@ -48,7 +48,7 @@ pub record IsPlanOf (store : StoreData) (uri : List ℕ) (version : ℤ) (encodi
   pub version_is : plan.version ≡ version
   pub after : after_change (units_in encoding) store.table uri version batch
       ≡ planned_table store.table plan.index plan.version plan.delta
-  pub left : MayTakeMemory store uri version batch
+  pub left : ChangeMayAllocate store uri version batch
 
 -- The frame of the canonical message of each batch that a plan is of; it is accepted.
 abbrev pub IsMessageOfPlan : StoreData → Plan → List ℕ → Type 0

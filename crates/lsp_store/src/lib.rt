@@ -2,6 +2,7 @@
 //! Document Synchronization).
 //!
 //! - `store`: the documents in order of opening, and the calls that open, change and close them.
+//!   `opening` has the first of these.
 //! - `document`: an open document as a caller reads it. `units` counts units of its whole text.
 //! - `documents`: the open documents, one after another.
 //! - `canonical`: the canonical message of an accepted batch of changes.

@@ -7,9 +7,9 @@ use Rattle.lsp_stream.specs.declared.stop.Call.{Call}
 use Rattle.lsp_stream.specs.declared.stop.Call.TheVariants.{Take, Interrupt, Fail}
 
 -- The next call of a script, or what the calls after its end do.
-abbrev pub call_of : List Call → Call → Call
-call_of [] others = others
-call_of (call ∷ rest) others = call
+abbrev pub scripted_call : List Call → Call → Call
+scripted_call [] others = others
+scripted_call (call ∷ rest) others = call
 
 -- The rest of a script after its next call.
 abbrev pub rest_of : List Call → List Call

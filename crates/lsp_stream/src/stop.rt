@@ -3,7 +3,7 @@
 ghost use Rattle.std.specs.Prelude.{◌≡◌, [], Some, min, length};
 ghost use Rattle.std.specs.Io.{ReadsAtMost, WritesAtMost};
 ghost use Rattle.std.specs.Io.KnownBytes.{ReadConsumes, WriteAppends, Keeps};
-ghost use Rattle.lsp_stream.specs.Scripts.{call_of, rest_of, IsScriptedRead, IsScriptedWrite, IsScriptedFlush};
+ghost use Rattle.lsp_stream.specs.Scripts.{scripted_call, rest_of, IsScriptedRead, IsScriptedWrite, IsScriptedFlush};
 ghost use Rattle.lsp_stream.specs.inside.Scripts.{IsStop};
 
 use std::alloc::Global;
@@ -23,7 +23,7 @@ pub enum Call {
 
 /// Returns the next call of a script, or what the calls after its end do.
 fn next_call(script: &mut &[Call], others: Call) -> Call
-    ensures call { result ≡ call_of script.old.now others }
+    ensures call { result ≡ scripted_call script.old.now others }
     ensures rest { script.new.now ≡ rest_of script.old.now }
 {
     match script.split_first() {
@@ -76,7 +76,7 @@ impl Read for StopReader<'_> {
         ensures bound { ReadsAtMost result buf.new }
         ensures bytes { ReadConsumes (Some self.old.rest.now) (Some self.new.rest.now) result
             buf.new }
-        ensures as_scripted { IsScriptedRead (call_of self.old.script.now self.old.others)
+        ensures as_scripted { IsScriptedRead (scripted_call self.old.script.now self.old.others)
             (min (length buf.old) (length self.old.rest.now)) result }
         ensures script { self.new.script.now ≡ rest_of self.old.script.now }
         ensures others { self.new.others ≡ self.old.others }
@@ -142,7 +142,7 @@ impl Write for StopWriter<'_> {
         ensures bound { WritesAtMost result buf.now }
         ensures bytes { WriteAppends (Some self.old.bytes.items) (Some self.new.bytes.items) result
             buf.now }
-        ensures as_scripted { IsScriptedWrite (call_of self.old.script.now self.old.others)
+        ensures as_scripted { IsScriptedWrite (scripted_call self.old.script.now self.old.others)
             (length buf.now) result }
         ensures script { self.new.script.now ≡ rest_of self.old.script.now }
         ensures others { self.new.others ≡ self.old.others }
@@ -160,7 +160,7 @@ impl Write for StopWriter<'_> {
 
     fn flush(&mut self) -> io::Result<()>
         ensures bytes { Keeps (Some self.old.bytes.items) (Some self.new.bytes.items) }
-        ensures as_scripted { IsScriptedFlush (call_of self.old.script.now self.old.others)
+        ensures as_scripted { IsScriptedFlush (scripted_call self.old.script.now self.old.others)
             self.old.flushes self.new.flushes result }
         ensures script { self.new.script.now ≡ rest_of self.old.script.now }
         ensures others { self.new.others ≡ self.old.others }

@@ -7,7 +7,7 @@ use Rattle.lsp_edit.specs.Items.{Item}
 use Rattle.lsp_edit.specs.Batch.{Edit, meaning}
 use Rattle.lsp_edit.specs.Canonical.{canonical}
 use Rattle.lsp_edit.specs.Edited.{edit_of}
-use Rattle.lsp_edit.specs.Once.{IsDeltaOf, bytes_after, encoding_of, meant_by}
+use Rattle.lsp_edit.specs.Once.{IsDeltaOf, bytes_after, delta_encoding, meant_by}
 use Rattle.lsp_edit.proofs.Deltas.OnceLemmas.{within_told}
 use Rattle.lsp_vectors.specs.declared.answer.Left.{Left}
 use Rattle.lsp_vectors.specs.inside.Answer.{IsLeft}
@@ -16,7 +16,7 @@ pub left_told : (units : ℕ → ℕ) (max_len : ℕ) (before : List ℕ) (batch
     → IsDeltaOf units max_len before batch delta
     → string_bytes left.text ≡ bytes_after before delta
     → ((items : List Item) → meant_by before delta ≡ Ok items → map edit_of left.canonical.items
-    ≡ canonical (units_in (encoding_of delta)) (chars before) items) → IsLeft units before batch left
+    ≡ canonical (units_in (delta_encoding delta)) (chars before) items) → IsLeft units before batch left
 left_told units max_len before batch delta left of text same =
     let left_is = within_told max_len before (meaning units (chars before) batch) (bytes_after before delta) of.is in
     record {

@@ -9,7 +9,7 @@ use Rattle.std.proofs.lemmas.List.Folds.{concat-append}
 use Rattle.std.proofs.lemmas.List.Sums.{sum_by-cons}
 use Rattle.std.proofs.lemmas.Str.{IsUtf8-from_is_utf8, IsUtf8-append, encodes-chars, length-encode, len_utf8_bounds, chars-append, chars-nil}
 use Rattle.lsp_text.specs.TextLines.{line_ends}
-use Rattle.lsp_buffer.specs.Blocks.{EndsClear, AreBlocks, ends_of}
+use Rattle.lsp_buffer.specs.Blocks.{EndsClear, AreBlocks, block_ends}
 use Rattle.lsp_buffer.specs.inside.Cuts.{AreFull}
 use Rattle.lsp_buffer.proofs.Blocks.SeamLemmas.{seam_count}
 
@@ -79,13 +79,15 @@ full_closes (b ∷ blocks) full =
     (λ (e : EndsClear (concat blocks)). inr (ends_join b (concat blocks) e))
     (full_closes blocks full.2)
 
-pub full_ends : (blocks : List (List ℕ)) → AreFull blocks → line_ends (chars (concat blocks)) ≡ sum (map ends_of blocks)
+pub full_ends : (blocks : List (List ℕ)) → AreFull blocks → line_ends (chars (concat blocks))
+    ≡ sum (map block_ends blocks)
 full_ends [] full = ap line_ends chars-nil
 full_ends (b ∷ blocks) full =
     let utf8 : IsUtf8 b = IsUtf8-from_is_utf8 b full.0 in
     ap line_ends (chars-append b (concat blocks) utf8) ∙
     (seam_count (chars b) (chars (concat blocks)) (clear_chars b utf8 full.1) ∙
-    (ap (λ n. ends_of b + n) (full_ends blocks full.2) ∙ sym (sum_by-cons (λ x. x) (ends_of b) (map ends_of blocks))))
+    (ap (λ n. block_ends b + n) (full_ends blocks full.2)
+    ∙ sym (sum_by-cons (λ x. x) (block_ends b) (map block_ends blocks))))
 
 pub full_length : (blocks : List (List ℕ)) → length (concat blocks) ≡ sum (map length blocks)
 full_length [] = refl

@@ -7,7 +7,7 @@ use Rattle.std.proofs.lemmas.List.{length-map, length-append, get_or_default, dr
 use Rattle.std.proofs.lemmas.Str.{IsUtf8-from_is_utf8}
 use Rattle.lsp_text.specs.Starts.{AreStarts, IsLineOf as IsBlockOf}
 use Rattle.lsp_text.specs.TextLines.{line_ends}
-use Rattle.lsp_buffer.specs.Blocks.{EndsClear, AreBlocks, IsBuffer, ends_of}
+use Rattle.lsp_buffer.specs.Blocks.{EndsClear, AreBlocks, IsBuffer, block_ends}
 use Rattle.lsp_buffer.proofs.Blocks.SumLemmas.{length-sums, sums_starts, sums_at, row_more}
 use Rattle.lsp_buffer.proofs.Blocks.BlockLemmas.{IsSplit, split, split_text, full_utf8, full_closes, full_ends, full_length, blocks_some, blocks_utf8}
 use Rattle.lsp_buffer.proofs.Blocks.PartLemmas.{AreThree}
@@ -23,7 +23,7 @@ module _ (blocks : List (List ℕ)) (starts lines : List ℕ) (is : IsBuffer blo
   starts_count = ap length is.starts_are ∙ (length-sums 0 (map length blocks) ∙ length-map blocks length)
 
   pub lines_count : length lines ≡ length blocks
-  lines_count = ap length is.lines_are ∙ (length-sums 0 (map ends_of blocks) ∙ length-map blocks ends_of)
+  lines_count = ap length is.lines_are ∙ (length-sums 0 (map block_ends blocks) ∙ length-map blocks block_ends)
 
   pub starts_are_starts : AreStarts starts
   starts_are_starts =
@@ -33,7 +33,7 @@ module _ (blocks : List (List ℕ)) (starts lines : List ℕ) (is : IsBuffer blo
   pub lines_are_starts : AreStarts lines
   lines_are_starts =
       subst AreStarts (sym is.lines_are)
-      (sums_starts (map ends_of blocks) (omega (arith, some, length-map blocks ends_of)))
+      (sums_starts (map block_ends blocks) (omega (arith, some, length-map blocks block_ends)))
 
   -- The sums with an index.
   pub starts_sum : (index : ℕ) → index < length blocks → slice_index starts index ≡ sum (map length (take index blocks))
@@ -42,11 +42,12 @@ module _ (blocks : List (List ℕ)) (starts lines : List ℕ) (is : IsBuffer blo
       (sums_at 0 (map length blocks) index (omega (arith, length-map blocks (length {A = ℕ}), h))
       ∙ (ap (λ xs. 0 + sum xs) (take-map length index blocks) ∙ omega arith))
 
-  pub lines_sum : (index : ℕ) → index < length blocks → slice_index lines index ≡ sum (map ends_of (take index blocks))
+  pub lines_sum : (index : ℕ) → index < length blocks → slice_index lines index
+      ≡ sum (map block_ends (take index blocks))
   lines_sum index h =
       ap (λ xs. get_or xs index 0) is.lines_are ∙
-      (sums_at 0 (map ends_of blocks) index (omega (arith, length-map blocks ends_of, h))
-      ∙ (ap (λ xs. 0 + sum xs) (take-map ends_of index blocks) ∙ omega arith))
+      (sums_at 0 (map block_ends blocks) index (omega (arith, length-map blocks block_ends, h))
+      ∙ (ap (λ xs. 0 + sum xs) (take-map block_ends index blocks) ∙ omega arith))
 
   module _ (index : ℕ) (block : List ℕ) (within : index < length blocks)
       (block_is : block ≡ get_or blocks index block) where
@@ -90,10 +91,11 @@ module _ (blocks : List (List ℕ)) (starts lines : List ℕ) (is : IsBuffer blo
         sym (row_more length 0 (slice_index starts index) (length block) index blocks block within block_is refl
         (starts_sum index within ∙ omega arith) ∙ omega arith)
 
-    pub next_line : index + 1 < length blocks → slice_index lines (index + 1) ≡ slice_index lines index + ends_of block
+    pub next_line : index + 1 < length blocks
+        → slice_index lines (index + 1) ≡ slice_index lines index + block_ends block
     next_line h =
         lines_sum (index + 1) h ∙
-        sym (row_more ends_of 0 (slice_index lines index) (ends_of block) index blocks block within block_is refl
+        sym (row_more block_ends 0 (slice_index lines index) (block_ends block) index blocks block within block_is refl
         (lines_sum index within ∙ omega arith) ∙ omega arith)
 
     pub none_after : length blocks ≤ index + 1 → concat (drop (index + 1) blocks) ≡ []

@@ -10,7 +10,7 @@ use Rattle.lsp_text.specs.declared.encoding.Encoding.{Encoding}
 use Rattle.lsp_text.specs.declared.encoding.Encoding.TheVariants.{Utf8, Utf16, Utf32}
 use Rattle.lsp_text.specs.Starts.{AreStarts, IsLineOf as IsBlockOf}
 use Rattle.lsp_text.specs.Units.{units_in}
-use Rattle.lsp_buffer.specs.Blocks.{AreBlocks, AreHeads, IsBuffer, ends_of, head_after, heads_from, sums_from}
+use Rattle.lsp_buffer.specs.Blocks.{AreBlocks, AreHeads, IsBuffer, block_ends, head_after, heads_from, sums_from}
 use Rattle.lsp_buffer.specs.inside.Seams.{WereHeads, WereSums, row_of, heads_end}
 use Rattle.lsp_buffer.proofs.Blocks.SumLemmas.{length-sums, sums_starts}
 use Rattle.lsp_buffer.proofs.Queries.HeadLemmas.{AreTexts, blocks_texts, IsLine, end_low, heads_apart, heads_at, heads_high, heads_move, heads_append, length-heads}
@@ -18,13 +18,13 @@ use Rattle.lsp_buffer.proofs.Queries.HeadLemmas.{AreTexts, blocks_texts, IsLine,
 -- The line at the end of blocks.
 abbrev pub line_end : ℕ → List (List ℕ) → ℕ
 line_end line [] = line
-line_end line (block ∷ blocks) = line_end (line + ends_of block) blocks
+line_end line (block ∷ blocks) = line_end (line + block_ends block) blocks
 
-pub lines_drop : (past line : ℕ) (blocks : List (List ℕ)) → drop past (sums_from line (map ends_of blocks))
-    ≡ sums_from (line_end line (take past blocks)) (map ends_of (drop past blocks))
+pub lines_drop : (past line : ℕ) (blocks : List (List ℕ)) → drop past (sums_from line (map block_ends blocks))
+    ≡ sums_from (line_end line (take past blocks)) (map block_ends (drop past blocks))
 lines_drop zero line blocks = refl
 lines_drop (suc past) line [] = refl
-lines_drop (suc past) line (b ∷ blocks) = lines_drop past (line + ends_of b) blocks
+lines_drop (suc past) line (b ∷ blocks) = lines_drop past (line + block_ends b) blocks
 
 module _ (units : ℕ → ℕ) where
   pub heads_drop : (past first : ℕ) (blocks : List (List ℕ)) → drop past (heads_from units first blocks)
@@ -73,11 +73,12 @@ module _ (units : ℕ → ℕ) where
 pub record IsTail (lines heads : List ℕ) (past line head : ℕ) (encoding : Encoding) (rest : List (List ℕ)) : Type
     0 where
   pub starts : AreStarts lines
-  pub lines_tail : drop past lines ≡ sums_from line (map ends_of rest)
+  pub lines_tail : drop past lines ≡ sums_from line (map block_ends rest)
   pub heads_tail : drop past heads ≡ heads_from (units_in encoding) head rest
   pub some : 0 < length rest
 
-first_sum : (line : ℕ) (rest : List (List ℕ)) → 0 < length rest → get_or (sums_from line (map ends_of rest)) 0 0 ≡ line
+first_sum : (line : ℕ) (rest : List (List ℕ)) → 0 < length rest → get_or (sums_from line (map block_ends rest)) 0 0
+    ≡ line
 first_sum line [] some = absurd (omega arith)
 first_sum line (b ∷ rest) some = refl
 
@@ -88,7 +89,7 @@ first_head units head (b ∷ rest) some = refl
 
 module _ (lines heads : List ℕ) (past line head : ℕ) (encoding : Encoding) (rest : List (List ℕ))
     (tail : IsTail lines heads past line head encoding rest) where
-  line_at : (k : ℕ) → get_or lines (past + k) 0 ≡ get_or (sums_from line (map ends_of rest)) k 0
+  line_at : (k : ℕ) → get_or lines (past + k) 0 ≡ get_or (sums_from line (map block_ends rest)) k 0
   line_at k = sym (get_or-drop past lines k 0) ∙ ap (λ xs. get_or xs k 0) tail.lines_tail
 
   line_first : get_or lines past 0 ≡ line
@@ -103,7 +104,7 @@ module _ (lines heads : List ℕ) (past line head : ℕ) (encoding : Encoding) (
 
   lines_size : length lines - past ≡ length rest
   lines_size = sym (length-drop past lines)
-      ∙ (ap length tail.lines_tail ∙ (length-sums line (map ends_of rest) ∙ length-map rest ends_of))
+      ∙ (ap length tail.lines_tail ∙ (length-sums line (map block_ends rest) ∙ length-map rest block_ends))
 
   pub heads_size : length (drop past heads) ≡ length rest
   heads_size = ap length tail.heads_tail ∙ length-heads (units_in encoding) head rest
@@ -112,7 +113,7 @@ module _ (lines heads : List ℕ) (past line head : ℕ) (encoding : Encoding) (
     is_line : IsLine (units_in encoding) line rest (count - 1)
     is_line =
         let here : past + count - 1 ≡ past + (count - 1) = omega (arith, some) in
-        let at : get_or lines (past + count - 1) 0 ≡ get_or (sums_from line (map ends_of rest)) (count - 1) 0 =
+        let at : get_or lines (past + count - 1) 0 ≡ get_or (sums_from line (map block_ends rest)) (count - 1) 0 =
         ap (λ i. get_or lines i 0) here ∙ line_at (count - 1) in
         record {
           within = omega (arith, last.within, lines_size, here);
@@ -205,11 +206,11 @@ module _ (blocks : List (List ℕ)) (index : ℕ) (lines : List ℕ) (encoding :
       ∙ length-set blocks index was.old)
 
   pub put_lines : length lines ≡ length blocks
-  put_lines = ap length was.lines_are ∙ (length-sums 0 (map ends_of blocks) ∙ length-map blocks ends_of)
+  put_lines = ap length was.lines_are ∙ (length-sums 0 (map block_ends blocks) ∙ length-map blocks block_ends)
 
   pub put_starts : AreStarts lines
   put_starts = subst AreStarts (sym was.lines_are)
-      (sums_starts (map ends_of blocks) (omega (arith, length-map blocks ends_of, was.within)))
+      (sums_starts (map block_ends blocks) (omega (arith, length-map blocks block_ends, was.within)))
 
   pub put_at : get_or heads index 0 ≡ heads_end (units_in encoding) 0 (take index blocks)
   put_at = ap (λ xs. get_or xs index 0) was.heads_were ∙ heads_set_at (units_in encoding) index 0 blocks was.old
@@ -315,18 +316,18 @@ module _ (blocks fresh : List (List ℕ)) (first past : ℕ) (lines : List ℕ) 
     (order : first < past) (within : past ≤ length blocks)
     (are : AreBlocks (take first blocks ++ (fresh ++ drop past blocks)))
     (size : length (concat (take first blocks ++ (fresh ++ drop past blocks))) ≤ 2147483648)
-    (lines_are : lines ≡ sums_from 0 (map ends_of blocks))
+    (lines_are : lines ≡ sums_from 0 (map block_ends blocks))
     (heads_are : heads ≡ heads_from (units_in encoding) 0 blocks) where
   pub splice_count : length heads ≡ length blocks
   splice_count = ap length heads_are ∙ length-heads (units_in encoding) 0 blocks
 
   pub splice_lines : length lines ≡ length blocks
-  splice_lines = ap length lines_are ∙ (length-sums 0 (map ends_of blocks) ∙ length-map blocks ends_of)
+  splice_lines = ap length lines_are ∙ (length-sums 0 (map block_ends blocks) ∙ length-map blocks block_ends)
 
   pub splice_starts : AreStarts lines
   splice_starts =
       subst AreStarts (sym lines_are)
-      (sums_starts (map ends_of blocks) (omega (arith, length-map blocks ends_of, order, within)))
+      (sums_starts (map block_ends blocks) (omega (arith, length-map blocks block_ends, order, within)))
 
   pub splice_at : get_or heads first 0 ≡ heads_end (units_in encoding) 0 (take first blocks)
   splice_at = ap (λ xs. get_or xs first 0) heads_are ∙ heads_at (units_in encoding) 0 blocks first

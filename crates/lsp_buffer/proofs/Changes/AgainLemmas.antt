@@ -7,7 +7,7 @@ use Rattle.std.proofs.lemmas.List.{length-append, length-drop, get_or_default, a
 use Rattle.std.proofs.lemmas.List.Folds.{concat-append}
 use Rattle.std.proofs.lemmas.List.Sums.{sum_by-append}
 use Rattle.lsp_text.specs.Starts.{IsLineOf as IsBlockOf}
-use Rattle.lsp_buffer.specs.Blocks.{EndsClear, AreBlocks, IsBuffer, ends_of, sums_from}
+use Rattle.lsp_buffer.specs.Blocks.{EndsClear, AreBlocks, IsBuffer, block_ends, sums_from}
 use Rattle.lsp_buffer.specs.inside.Cuts.{AreFull}
 use Rattle.lsp_buffer.proofs.Blocks.BlockLemmas.{split, full_length, joined_blocks, blocks_some}
 use Rattle.lsp_buffer.proofs.Blocks.BufferLemmas.{starts_count, next_start, starts_sum, lines_sum}
@@ -161,14 +161,14 @@ module _ (blocks : List (List ℕ)) (starts lines : List ℕ) (first last : ℕ)
           starts_sum blocks starts lines again.is first first_within,
         )
 
-    pub lines_room : slice_index lines first + sum (map ends_of fresh) + sum (map ends_of (drop (last + 1) blocks))
-        ≤ 2147483648
+    pub lines_room : slice_index lines first + sum (map block_ends fresh)
+        + sum (map block_ends (drop (last + 1) blocks)) ≤ 2147483648
     lines_room =
         omega (
           arith,
           again_size,
           blocks_ends (take first blocks ++ (fresh ++ drop (last + 1) blocks)) again_are,
-          sum_three ends_of (take first blocks) fresh (drop (last + 1) blocks),
+          sum_three block_ends (take first blocks) fresh (drop (last + 1) blocks),
           lines_sum blocks starts lines again.is first first_within,
         )
 
@@ -176,8 +176,8 @@ module _ (blocks : List (List ℕ)) (starts lines : List ℕ) (first last : ℕ)
         ++ (fresh ++ drop (last + 1) blocks) →
         next_starts ≡ take first starts ++ (sums_from (slice_index starts first) (map length fresh)
         ++ sums_from (slice_index starts first + sum (map length fresh)) (map length (drop (last + 1) blocks))) →
-        next_lines ≡ take first lines ++ (sums_from (slice_index lines first) (map ends_of fresh)
-        ++ sums_from (slice_index lines first + sum (map ends_of fresh)) (map ends_of (drop (last + 1) blocks))) →
+        next_lines ≡ take first lines ++ (sums_from (slice_index lines first) (map block_ends fresh)
+        ++ sums_from (slice_index lines first + sum (map block_ends fresh)) (map block_ends (drop (last + 1) blocks))) →
         IsBuffer next next_starts next_lines
     again_is next next_starts next_lines next_same starts_same lines_same =
         subst (λ (bs : List (List ℕ)). IsBuffer bs next_starts next_lines) (sym next_same)
@@ -186,7 +186,7 @@ module _ (blocks : List (List ℕ)) (starts lines : List ℕ) (first last : ℕ)
           starts_are = starts_same ∙ sums_three length starts blocks (take first blocks) fresh (drop (last + 1) blocks)
               first (slice_index starts first) again.is.starts_are refl (omega (arith, first_within))
               (starts_sum blocks starts lines again.is first first_within);
-          lines_are = lines_same ∙ sums_three ends_of lines blocks (take first blocks) fresh (drop (last + 1) blocks)
+          lines_are = lines_same ∙ sums_three block_ends lines blocks (take first blocks) fresh (drop (last + 1) blocks)
               first (slice_index lines first) again.is.lines_are refl (omega (arith, first_within))
               (lines_sum blocks starts lines again.is first first_within);
           size = again_size;

@@ -7,7 +7,7 @@ use Rattle.std.proofs.lemmas.List.Folds.{concat-append}
 use Rattle.std.proofs.lemmas.List.Sums.{sum_by-append, sum_by-cons}
 use Rattle.std.proofs.lemmas.Str.{IsUtf8-from_is_utf8, is_utf8-from_IsUtf8, IsUtf8-append, IsUtf8-take, IsUtf8-drop}
 use Rattle.lsp_text.specs.Starts.{IsLineOf as IsBlockOf}
-use Rattle.lsp_buffer.specs.Blocks.{EndsClear, AreBlocks, IsBuffer, ends_of, sums_from}
+use Rattle.lsp_buffer.specs.Blocks.{EndsClear, AreBlocks, IsBuffer, block_ends, sums_from}
 use Rattle.lsp_buffer.specs.inside.Cuts.{AreFull}
 use Rattle.lsp_buffer.proofs.Blocks.SumLemmas.{length-sums, sums_append, sums_put, sums_low}
 use Rattle.lsp_buffer.proofs.Blocks.BlockLemmas.{IsSplit, split, full_length, joined_blocks, blocks_some}
@@ -240,7 +240,7 @@ module _ (blocks : List (List ℕ)) (starts lines : List ℕ) (index : ℕ) (blo
   next_are = joined_blocks (take index blocks) (replace_range block (start - from) (stop - from) new ∷ [])
       (drop (index + 1) blocks) parts.full fresh_utf8 after
 
-  pub next_ends : sum (map ends_of (take index blocks ++ replace_range block (start - from) (stop - from) new
+  pub next_ends : sum (map block_ends (take index blocks ++ replace_range block (start - from) (stop - from) new
       ∷ drop (index + 1) blocks)) ≤ 2147483648
   next_ends = omega (
     arith,
@@ -265,10 +265,10 @@ module _ (blocks : List (List ℕ)) (starts lines : List ℕ) (index : ℕ) (blo
       index (length-take-le index blocks (omega (arith, within)))
 
   -- A block has no more line ends than bytes.
-  pub ends_small : ends_of block ≤ 2147483648
+  pub ends_small : block_ends block ≤ 2147483648
   ends_small = omega (arith, block_small, ends_low block block_utf8)
 
-  pub fresh_ends_small : ends_of (replace_range block (start - from) (stop - from) new) ≤ 2147483648
+  pub fresh_ends_small : block_ends (replace_range block (start - from) (stop - from) new) ≤ 2147483648
   fresh_ends_small = omega (
     arith,
     fresh_small,

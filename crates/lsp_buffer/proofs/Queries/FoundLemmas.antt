@@ -18,7 +18,7 @@ use Rattle.lsp_text.specs.Positions.{exact_position, denoted}
 use Rattle.lsp_text.proofs.TextLines.LineLemmas.{line_step}
 use Rattle.lsp_text.proofs.Positions.PlaceLemmas.{place_one}
 use Rattle.lsp_text.proofs.PlainLemmas.{units_total}
-use Rattle.lsp_buffer.specs.Blocks.{IsBuffer, IsTextBuffer, AreBlocks, carried, ends_of, head_of, head_after}
+use Rattle.lsp_buffer.specs.Blocks.{IsBuffer, IsTextBuffer, AreBlocks, carried, block_ends, head_of, head_after}
 use Rattle.lsp_buffer.specs.inside.Seams.{IsAtOrAfter, IsBefore, heads_end, mark, marks_of, position_after, position_from}
 use Rattle.lsp_buffer.proofs.Queries.HeadLemmas.{blocks_texts, length-heads, heads_at, heads_high, head_full, end_append}
 use Rattle.lsp_buffer.proofs.Queries.MarkLemmas.{marks_at, length-marks, at_or_after, before_from, before_after}
@@ -44,7 +44,7 @@ pub record IsLineFound (bytes front block rest : List ℕ) (units : ℕ → ℕ)
   pub first_is : first ≡ line_ends (chars front)
   pub head_is : head ≡ head_of units front
   pub low : IsAtOrAfter first head p
-  pub inside : (rest ≡ []) ⊎ IsBefore (ends_of block) (head_of units block) (position_after first head p)
+  pub inside : (rest ≡ []) ⊎ IsBefore (block_ends block) (head_of units block) (position_after first head p)
 
 module _ (blocks : List (List ℕ)) (starts lines bytes : List ℕ) (is : IsBuffer blocks starts lines)
     (view : concat blocks ≡ bytes) where
@@ -95,8 +95,8 @@ module _ (blocks : List (List ℕ)) (starts lines bytes : List ℕ) (is : IsBuff
           ap length (last_none blocks starts lines is index block within block_is last),
         )
 
-    pub last_lines : (first : ℕ) → index + 1 ≡ length blocks → first ≡ get_or lines index first → first + ends_of block
-        ≡ line_ends (chars bytes)
+    pub last_lines : (first : ℕ) → index + 1 ≡ length blocks → first ≡ get_or lines index first
+        → first + block_ends block ≡ line_ends (chars bytes)
     last_lines first last first_at =
         let within : index < length blocks = omega arith in
         omega (
@@ -186,22 +186,22 @@ module _ (blocks : List (List ℕ)) (starts lines : List ℕ) (heads : Encoding 
             ))
 
         next_mark : index + 1 < length blocks → get_or (marks_of lines (heads encoding)) (index + 1) 0
-            ≡ mark (first + ends_of block) (head_after (units_in encoding) head block)
+            ≡ mark (first + block_ends block) (head_after (units_in encoding) head block)
         next_mark h =
             marks_at lines (heads encoding) (index + 1) same (omega (arith, h, counts)) ∙
             (ap (λ (l : ℕ). mark l (get_or (heads encoding) (index + 1) 0)) (next_line blocks starts lines is.sums index
-            block within block_is h ∙ ap (λ l. l + ends_of block) (sym first_is)) ∙
-            ap (mark (first + ends_of block)) (next_head h ∙ ap (λ x. head_after (units_in encoding) x block)
+            block within block_is h ∙ ap (λ l. l + block_ends block) (sym first_is)) ∙
+            ap (mark (first + block_ends block)) (next_head h ∙ ap (λ x. head_after (units_in encoding) x block)
             (sym head_now)))
 
-        inside : (concat (drop (index + 1) blocks) ≡ []) ⊎ IsBefore (ends_of block) (head_of (units_in encoding) block)
-            (position_after first head p)
+        inside : (concat (drop (index + 1) blocks) ≡ [])
+            ⊎ IsBefore (block_ends block) (head_of (units_in encoding) block) (position_after first head p)
         inside =
             ⊎_elim
             (λ (h : index + 1 < length blocks).
             inr
-            (before_after first head (ends_of block) (head_of (units_in encoding) block) p after
-            (before_from (first + ends_of block) (head_after (units_in encoding) head block) p
+            (before_after first head (block_ends block) (head_of (units_in encoding) block) p after
+            (before_from (first + block_ends block) (head_after (units_in encoding) head block) p
             (omega (
               arith,
               head_small (index + 1) h,
@@ -277,11 +277,11 @@ module _ (bytes front block rest : List ℕ) where
       let low : IsAtOrAfter (line_ends (chars front)) (head_of units front) p =
       subst (λ h. IsAtOrAfter (line_ends (chars front)) h p) found.head_is
       (subst (λ l. IsAtOrAfter l head p) found.first_is found.low) in
-      let inside : (rest ≡ []) ⊎ IsBefore (ends_of block) (head_of units block)
+      let inside : (rest ≡ []) ⊎ IsBefore (block_ends block) (head_of units block)
       (position_after (line_ends (chars front)) (head_of units front) p) =
-      subst (λ h. (rest ≡ []) ⊎ IsBefore (ends_of block) (head_of units block)
+      subst (λ h. (rest ≡ []) ⊎ IsBefore (block_ends block) (head_of units block)
       (position_after (line_ends (chars front)) h p)) found.head_is
-      (subst (λ l. (rest ≡ []) ⊎ IsBefore (ends_of block) (head_of units block) (position_after l head p))
+      (subst (λ l. (rest ≡ []) ⊎ IsBefore (block_ends block) (head_of units block) (position_after l head p))
       found.first_is found.inside) in
       let inner : o ≡ option_map (place_of (chars block))
       (denoted units (chars block) (position_after (line_ends (chars front)) (head_of units front) p)) =
@@ -411,12 +411,12 @@ ends_low bytes utf8 = omega (
   ap length (encodes-chars bytes utf8),
 )
 
-pub blocks_ends : (blocks : List (List ℕ)) → AreBlocks blocks → sum (map ends_of blocks) ≤ length (concat blocks)
+pub blocks_ends : (blocks : List (List ℕ)) → AreBlocks blocks → sum (map block_ends blocks) ≤ length (concat blocks)
 blocks_ends [] are = absurd are
 blocks_ends (b ∷ []) are = omega (
   arith,
   ends_low b (IsUtf8-from_is_utf8 b are),
-  sum_by-cons (λ x. x) (ends_of b) [],
+  sum_by-cons (λ x. x) (block_ends b) [],
   length-append b [],
 )
 blocks_ends (b ∷ c ∷ blocks) are =
@@ -424,6 +424,6 @@ blocks_ends (b ∷ c ∷ blocks) are =
       arith,
       ends_low b (IsUtf8-from_is_utf8 b are.0),
       blocks_ends (c ∷ blocks) are.2,
-      sum_by-cons (λ x. x) (ends_of b) (map ends_of (c ∷ blocks)),
+      sum_by-cons (λ x. x) (block_ends b) (map block_ends (c ∷ blocks)),
       length-append b (concat (c ∷ blocks)),
     )

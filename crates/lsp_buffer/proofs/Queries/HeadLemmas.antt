@@ -8,7 +8,7 @@ use Rattle.lsp_text.specs.declared.encoding.Encoding.{Encoding}
 use Rattle.lsp_text.specs.TextLines.{line_ends, line_start}
 use Rattle.lsp_text.specs.Units.{units_in}
 use Rattle.lsp_text.proofs.PlainLemmas.{units_total}
-use Rattle.lsp_buffer.specs.Blocks.{AreBlocks, carried, ends_of, head_of, head_after, heads_from, sums_from}
+use Rattle.lsp_buffer.specs.Blocks.{AreBlocks, carried, block_ends, head_of, head_after, heads_from, sums_from}
 use Rattle.lsp_buffer.specs.inside.Cuts.{AreFull}
 use Rattle.lsp_buffer.specs.inside.Seams.{heads_end}
 use Rattle.lsp_buffer.proofs.Blocks.SumLemmas.{sums_low}
@@ -42,7 +42,7 @@ head_low encoding block utf8 =
 
 pub after_low : (encoding : Encoding) (first : ℕ) (block : List ℕ) → IsUtf8 block → head_after (units_in encoding) first
     block ≤ first + length block
-after_low encoding first block utf8 = omega (arith, head_low encoding block utf8, carried_few (ends_of block) first)
+after_low encoding first block utf8 = omega (arith, head_low encoding block utf8, carried_few (block_ends block) first)
 
 pub end_low : (encoding : Encoding) (first : ℕ) (blocks : List (List ℕ)) → AreTexts blocks
     → heads_end (units_in encoding) first blocks ≤ first + length (concat blocks)
@@ -149,27 +149,27 @@ module _ (units : ℕ → ℕ) where
   -- The blocks up to the one with this index begin in one line, and the next doesn't.
   pub record IsLine (line : ℕ) (blocks : List (List ℕ)) (n : ℕ) : Type 0 where
     pub within : n < length blocks
-    pub same : get_or (sums_from line (map ends_of blocks)) n 0 ≡ line
-    pub next : suc n < length blocks → line < get_or (sums_from line (map ends_of blocks)) (suc n) 0
+    pub same : get_or (sums_from line (map block_ends blocks)) n 0 ≡ line
+    pub next : suc n < length blocks → line < get_or (sums_from line (map block_ends blocks)) (suc n) 0
 
-  none_ends : (line n : ℕ) (b : List ℕ) (blocks : List (List ℕ)) → IsLine line (b ∷ blocks) (suc n) → ends_of b ≡ 0
+  none_ends : (line n : ℕ) (b : List ℕ) (blocks : List (List ℕ)) → IsLine line (b ∷ blocks) (suc n) → block_ends b ≡ 0
   none_ends line n b blocks is = omega (
     arith,
     is.same,
-    sums_low (line + ends_of b) (map ends_of blocks) n (omega (arith, is.within, length-map blocks ends_of)),
+    sums_low (line + block_ends b) (map block_ends blocks) n (omega (arith, is.within, length-map blocks block_ends)),
   )
 
   later_line : (line n : ℕ) (b : List ℕ) (blocks : List (List ℕ)) → IsLine line (b ∷ blocks) (suc n)
       → IsLine line blocks n
   later_line line n b blocks is =
-      let same_line : line + ends_of b ≡ line = omega (arith, none_ends line n b blocks is) in
+      let same_line : line + block_ends b ≡ line = omega (arith, none_ends line n b blocks is) in
       record {
         within = omega (arith, is.within);
-        same = sym (ap (λ l. get_or (sums_from l (map ends_of blocks)) n 0) same_line) ∙ is.same;
+        same = sym (ap (λ l. get_or (sums_from l (map block_ends blocks)) n 0) same_line) ∙ is.same;
         next = λ h. omega (
           arith,
           is.next (omega arith),
-          ap (λ l. get_or (sums_from l (map ends_of blocks)) (suc n) 0) same_line,
+          ap (λ l. get_or (sums_from l (map block_ends blocks)) (suc n) 0) same_line,
         );
       }
 
@@ -200,7 +200,7 @@ module _ (units : ℕ → ℕ) where
       ap (λ x. x ∷ []) (let e : old + first - old + new ≡ new + first = omega arith in e)
   heads_move line old new first (b ∷ c ∷ blocks) zero is =
       let here : old + first - old + new ≡ new + first = omega arith in
-      let some : ends_of b ≡ suc (ends_of b - 1) = omega (arith, is.next (omega arith)) in
+      let some : block_ends b ≡ suc (block_ends b - 1) = omega (arith, is.next (omega arith)) in
       let one : head_after units (old + first) b ≡ head_of units b =
       omega (arith, ap (λ e. carried e (old + first)) some) in
       let two : head_after units (new + first) b ≡ head_of units b =

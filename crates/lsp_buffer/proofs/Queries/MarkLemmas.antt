@@ -7,7 +7,7 @@ use Rattle.std.proofs.lemmas.Str.{IsUtf8-from_is_utf8}
 use Rattle.lsp_text.specs.declared.encoding.Encoding.{Encoding}
 use Rattle.lsp_text.specs.declared.position.Position.{Position}
 use Rattle.lsp_text.specs.Units.{units_in}
-use Rattle.lsp_buffer.specs.Blocks.{AreBlocks, IsTextBuffer, carried, ends_of, head_of, head_after, heads_from, sums_from}
+use Rattle.lsp_buffer.specs.Blocks.{AreBlocks, IsTextBuffer, carried, block_ends, head_of, head_after, heads_from, sums_from}
 use Rattle.lsp_buffer.specs.inside.Seams.{AreMarks, IsAtOrAfter, IsBefore, mark, marks_of, position_after}
 use Rattle.lsp_buffer.proofs.Blocks.SumLemmas.{length-sums}
 use Rattle.lsp_buffer.proofs.Blocks.BlockLemmas.{blocks_some}
@@ -32,7 +32,7 @@ mark_rise line (suc ends) head own few = omega arith
 
 abbrev rows : Encoding → ℕ → ℕ → List (List ℕ) → List ℕ
 rows encoding line head blocks =
-    marks_of (sums_from line (map ends_of blocks)) (heads_from (units_in encoding) head blocks)
+    marks_of (sums_from line (map block_ends blocks)) (heads_from (units_in encoding) head blocks)
 
 module _ (encoding : Encoding) where
   marks_low : (line head : ℕ) (blocks : List (List ℕ)) (k : ℕ) → AreTexts blocks → head + length (concat blocks)
@@ -42,8 +42,8 @@ module _ (encoding : Encoding) where
   marks_low line head (b ∷ blocks) (suc k) are size h =
       omega (
         arith,
-        mark_rise line (ends_of b) head (head_of (units_in encoding) b) (omega arith),
-        marks_low (line + ends_of b) (head_after (units_in encoding) head b) blocks k are.1
+        mark_rise line (block_ends b) head (head_of (units_in encoding) b) (omega arith),
+        marks_low (line + block_ends b) (head_after (units_in encoding) head b) blocks k are.1
             (omega (
               arith,
               after_low encoding head b (IsUtf8-from_is_utf8 b are.0),
@@ -59,27 +59,27 @@ module _ (encoding : Encoding) where
   marks_ascend line head (b ∷ blocks) zero k are size o h = marks_low line head (b ∷ blocks) k are size h
   marks_ascend line head (b ∷ blocks) (suc j) zero are size o h = absurd (omega arith)
   marks_ascend line head (b ∷ blocks) (suc j) (suc k) are size o h =
-      marks_ascend (line + ends_of b) (head_after (units_in encoding) head b) blocks j k are.1
+      marks_ascend (line + block_ends b) (head_after (units_in encoding) head b) blocks j k are.1
       (omega (arith, after_low encoding head b (IsUtf8-from_is_utf8 b are.0), length-append b (concat blocks), size))
       (omega arith) (omega arith)
 
-  counted : (line head : ℕ) (blocks : List (List ℕ)) → length (sums_from line (map ends_of blocks))
+  counted : (line head : ℕ) (blocks : List (List ℕ)) → length (sums_from line (map block_ends blocks))
       ≡ length (heads_from (units_in encoding) head blocks)
-  counted line head blocks = length-sums line (map ends_of blocks)
-      ∙ (length-map blocks ends_of ∙ sym (length-heads (units_in encoding) head blocks))
+  counted line head blocks = length-sums line (map block_ends blocks)
+      ∙ (length-map blocks block_ends ∙ sym (length-heads (units_in encoding) head blocks))
 
   row_count : (line head : ℕ) (blocks : List (List ℕ)) → length (rows encoding line head blocks) ≡ length blocks
   row_count line head blocks =
-      length-marks (sums_from line (map ends_of blocks)) (heads_from (units_in encoding) head blocks)
+      length-marks (sums_from line (map block_ends blocks)) (heads_from (units_in encoding) head blocks)
       (counted line head blocks) ∙
-      (length-sums line (map ends_of blocks) ∙ length-map blocks ends_of)
+      (length-sums line (map block_ends blocks) ∙ length-map blocks block_ends)
 
   first_mark : (blocks : List (List ℕ)) → AreBlocks blocks → get_or (rows encoding 0 0 blocks) 0 0 ≡ 0
   first_mark [] are = absurd are
   first_mark (b ∷ blocks) are = refl
 
   rows_are : (blocks : List (List ℕ)) → AreBlocks blocks → length (concat blocks) ≤ 2147483648
-      → AreMarks (sums_from 0 (map ends_of blocks)) (heads_from (units_in encoding) 0 blocks)
+      → AreMarks (sums_from 0 (map block_ends blocks)) (heads_from (units_in encoding) 0 blocks)
   rows_are blocks are size = record {
     counts = counted 0 0 blocks;
     starts = record {
@@ -94,7 +94,7 @@ module _ (encoding : Encoding) where
       → IsTextBuffer blocks starts lines heads → AreMarks lines (heads encoding)
   marks_are blocks starts lines heads is =
       subst (λ (xs : List ℕ). AreMarks xs (heads encoding)) (sym is.sums.lines_are)
-      (subst (λ (xs : List ℕ). AreMarks (sums_from 0 (map ends_of blocks)) xs) (sym (is.heads_are encoding))
+      (subst (λ (xs : List ℕ). AreMarks (sums_from 0 (map block_ends blocks)) xs) (sym (is.heads_are encoding))
       (rows_are blocks is.sums.are is.sums.size))
 
 -- What is found by marks, in words of lines and units.

@@ -6,7 +6,7 @@ use Rattle.lsp_text.specs.declared.encoding.Encoding.TheVariants.{Utf8, Utf16, U
 use Rattle.lsp_text.specs.declared.position.Position.{Position}
 use Rattle.lsp_text.specs.Starts.{AreStarts}
 use Rattle.lsp_text.specs.Units.{units_in}
-use Rattle.lsp_buffer.specs.Blocks.{AreBlocks, carried, ends_of, head_after, heads_from, sums_from}
+use Rattle.lsp_buffer.specs.Blocks.{AreBlocks, carried, block_ends, head_after, heads_from, sums_from}
 
 -- A text ends in this line, after so many units of it. The position is there or later.
 abbrev pub IsAtOrAfter : ℕ → ℕ → Position → Type 0
@@ -67,7 +67,7 @@ pub record WereSums (blocks : List (List ℕ)) (index : ℕ) (lines : List ℕ) 
   pub within : index < length blocks
   pub are : AreBlocks blocks
   pub size : length (concat blocks) ≤ 2147483648
-  pub lines_are : lines ≡ sums_from 0 (map ends_of blocks)
+  pub lines_are : lines ≡ sums_from 0 (map block_ends blocks)
   pub heads_were : heads ≡ heads_from (units_in encoding) 0 (set blocks index old)
 
 -- The same of the heads of each encoding.

@@ -1,7 +1,7 @@
 -- Batches, one after the other: what the second makes of what the first left.
 use Rattle.std.proofs.Common.{ℕ, suc, ◌≡◌, ◌+◌, List, [], ◌∷◌, ◌++◌, length, Result, Ok, Err, refl, ap, ◌∙◌, subst, arith}
 use Rattle.lsp_edit.specs.Items.{Item}
-use Rattle.lsp_edit.specs.Batch.{Edit, Fault, after_change, after_changes, continue_with}
+use Rattle.lsp_edit.specs.Batch.{Edit, Fault, items_after, after_changes, continue_with}
 use Rattle.lsp_edit.specs.laws.Batches.{RangesStay}
 
 module _ (units : ℕ → ℕ) (old : List ℕ) where
@@ -15,7 +15,7 @@ module _ (units : ℕ → ℕ) (old : List ℕ) where
       ap (λ (m : ℕ). after_changes units old m items second) n
       ∙ ap (λ (m : List Item). after_changes units old (number + 0) m second) e
   after_changes-append number items middle (change ∷ first) second is =
-      rest_after (after_change units old items change) (λ next. after_changes-append (suc number) next middle first
+      rest_after (items_after units old items change) (λ next. after_changes-append (suc number) next middle first
       second) is
     where
       rest_after : (made : Result (List Item) Fault)
@@ -34,7 +34,7 @@ module _ (units : ℕ → ℕ) (old : List ℕ) where
       → after_changes units old number items batch ≡ Ok last → after_changes units old other items batch ≡ Ok last
   any_number number other items last [] is = cc
   any_number number other items last (change ∷ batch) is =
-      rest_after (after_change units old items change) (λ next. any_number (suc number) (suc other) next last batch) is
+      rest_after (items_after units old items change) (λ next. any_number (suc number) (suc other) next last batch) is
     where
       rest_after : (made : Result (List Item) Fault)
           → ((next : List Item) → after_changes units old (suc number) next batch ≡ Ok last

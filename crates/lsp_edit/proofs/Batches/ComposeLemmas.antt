@@ -6,7 +6,7 @@ use Rattle.lsp_text.specs.declared.position.Range.{Range}
 use Rattle.lsp_text.specs.TextLines.{numbers_from}
 use Rattle.lsp_text.specs.Positions.{denoted}
 use Rattle.lsp_edit.specs.Items.{Item, Old, New, plain, character_of, text_of}
-use Rattle.lsp_edit.specs.Batch.{Edit, Fault, Reversed, replaced, changed_in, after_change, after_changes, continue_with, meaning}
+use Rattle.lsp_edit.specs.Batch.{Edit, Fault, Reversed, replaced, changed_in, items_after, after_changes, continue_with, meaning}
 use Rattle.lsp_edit.specs.Compose.{item_through, then_items}
 use Rattle.lsp_edit.specs.Canonical.{canonical}
 use Rattle.lsp_edit.specs.Keeps.{Keeps}
@@ -71,8 +71,8 @@ module _ (units : ℕ → ℕ) (old : List ℕ) (first : List Item) where
       map-append (item_through first) (take a items) (map New characters ++ drop b items) in
       rw (front, back, outer, inner, told_new first characters) refl
 
-  then-changed : (items next : List Item) (change : Edit) → after_change units (text_of old first) items change
-      ≡ Ok next → after_change units old (then_items first items) change ≡ Ok (then_items first next)
+  then-changed : (items next : List Item) (change : Edit) → items_after units (text_of old first) items change
+      ≡ Ok next → items_after units old (then_items first items) change ≡ Ok (then_items first next)
   then-changed items next change is = by_range change.range is
     where
       at_indexes : (start stop : Option ℕ) → replaced items change.text start stop ≡ Ok next
@@ -108,10 +108,10 @@ module _ (units : ℕ → ℕ) (old : List ℕ) (first : List Item) where
   then-changes number items last [] is = let e : items ≡ last = cc in
       ap (λ (is : List Item). Ok (then_items first is)) e
   then-changes number items last (change ∷ batch) is =
-      rest_after (after_change units (text_of old first) items change) refl
+      rest_after (items_after units (text_of old first) items change) refl
       (λ next. then-changes (suc number) next last batch) is
     where
-      rest_after : (made : Result (List Item) Fault) → after_change units (text_of old first) items change ≡ made
+      rest_after : (made : Result (List Item) Fault) → items_after units (text_of old first) items change ≡ made
           → ((next : List Item) → after_changes units (text_of old first) (suc number) next batch ≡ Ok last
           → after_changes units old (suc number) (then_items first next) batch ≡ Ok (then_items first last))
           → continue_with (λ next. after_changes units (text_of old first) (suc number) next batch) number made

@@ -15,9 +15,9 @@ use Rattle.lsp_edit.specs.declared.change.Change.{Change}
 use Rattle.lsp_edit.specs.declared.fault.EditFault.{EditFault}
 use Rattle.lsp_edit.specs.declared.plain.Item.{Item as PlainItem}
 use Rattle.lsp_edit.specs.Items.{Item, Old, New, plain, character_of, text_of}
-use Rattle.lsp_edit.specs.Batch.{Edit, after_change, after_changes, changed_in, meaning}
+use Rattle.lsp_edit.specs.Batch.{Edit, items_after, after_changes, changed_in, meaning}
 use Rattle.lsp_edit.specs.Compose.{then_items}
-use Rattle.lsp_edit.specs.Canonical.{gaps, is_changed, change_of}
+use Rattle.lsp_edit.specs.Canonical.{gaps_from, gaps, is_changed, gap_edit}
 use Rattle.lsp_edit.specs.Edited.{PlainData, both_counts, edit_of, edited_bytes, edited_text}
 use Rattle.lsp_edit.specs.Faults.{places_at, ends_of}
 use Rattle.lsp_edit.specs.Keeps.{Keeps}
@@ -27,7 +27,7 @@ use Rattle.lsp_edit.specs.inside.Plain.{gap_at, change_at}
 use Rattle.lsp_edit.proofs.Composing.AppliedLemmas.{AreEnds, ends_told}
 use Rattle.lsp_edit.proofs.Batches.ComposeLemmas.{text_of-then, then_keeps}
 use Rattle.lsp_edit.proofs.Parts.CutLemmas.{chars_front}
-use Rattle.lsp_edit.proofs.Canonical.GapLemmas.{gaps_from, gaps_are, ends_exact}
+use Rattle.lsp_edit.proofs.Canonical.GapLemmas.{ends_exact}
 use Rattle.lsp_edit.proofs.Composing.EditedLemmas.{plain_text, edited_chars, first_bytes}
 use Rattle.lsp_edit.proofs.Canonical.KeepsLemmas.{plain_keeps, after_change_keeps}
 use Rattle.lsp_edit.proofs.Canonical.RebuiltLemmas.{numbers-append}
@@ -73,15 +73,15 @@ range_made units old items characters range start stop ends =
 -- How far the changes of items were written: those of the items that are left complete them.
 pub record Writes (units : ℕ → ℕ) (old : List ℕ) (all made : List Edit) (low : ℕ) (text : List ℕ)
     (rest : List Item) : Type 0 where
-  pub error : made ++ changes_of units old (gaps_from old low text rest) ≡ all
-  pub ends : AllHaveExactEnds old (gaps_from old low text rest)
+  pub error : made ++ changes_of units old (gaps_from low (length old) text rest) ≡ all
+  pub ends : AllHaveExactEnds old (gaps_from low (length old) text rest)
   pub keeps : Keeps old low rest
 
 pub write_begins : (units : ℕ → ℕ) (old : List ℕ) (items : List Item) → Keeps old 0 items
     → Writes units old (changes_of units old (gaps old items)) [] 0 [] items
 write_begins units old items keeps = record {
-  error = ap (changes_of units old) (sym (gaps_are old items));
-  ends = subst (AllHaveExactEnds old) (gaps_are old items) (ends_exact old items keeps);
+  error = refl;
+  ends = ends_exact old items keeps;
   keeps = keeps;
 }
 
@@ -110,9 +110,9 @@ module _ (units : ℕ → ℕ) (old : List ℕ) (all made : List Edit) (low : �
         rw next_is
         (record {
           error = append_assoc made (change_at units old (gap_at low index text))
-              (changes_of units old (gaps_from old (suc index) [] more))
+              (changes_of units old (gaps_from (suc index) (length old) [] more))
               ∙ (ap (λ (es : List Edit). made ++ es)
-              (sym (changes_of-cons units old (gap_at low index text) (gaps_from old (suc index) [] more)))
+              (sym (changes_of-cons units old (gap_at low index text) (gaps_from (suc index) (length old) [] more)))
               ∙ here.error);
           ends = here.ends.1;
           keeps = here.keeps.3;
@@ -153,7 +153,7 @@ module _ (units : ℕ → ℕ) (old : List ℕ) (low high : ℕ) (text : List �
   gap_one changes change start stop some range same at_start at_stop =
       let own : chars (string_bytes change.text) ≡ text =
       sym (chars_from_encodes text (string_bytes change.text) (IsUtf8-string_bytes change.text) (sym same)) in
-      let e : edit_of change ≡ change_of units old (gap_at low high text)
+      let e : edit_of change ≡ gap_edit units old (gap_at low high text)
       = λ i. record {
         range = (range ∙ ap₂ (λ (x y : Position). Some (record { start = x; stop = y })) at_start at_stop) i;
         text = own i;
@@ -195,11 +195,11 @@ pub plain_next : (units : ℕ → ℕ) (before old : List ℕ) (items next : Lis
       items = items;
       changes = changes;
     } ≡ edited
-    → after_change units edited.before edited.items change ≡ Ok next → length (encode_utf8_all change.text) ≡ more
+    → items_after units edited.before edited.items change ≡ Ok next → length (encode_utf8_all change.text) ≡ more
     → length (edited_bytes edited) + more ≤ 2147483648 → ArePlain before old next
 plain_next units before old items next changes edited change more are view made own fits =
-    let here : after_change units (chars before) items change ≡ Ok next =
-    subst (λ (e : PlainData). after_change units e.before e.items change ≡ Ok next) (sym view) made in
+    let here : items_after units (chars before) items change ≡ Ok next =
+    subst (λ (e : PlainData). items_after units e.before e.items change ≡ Ok next) (sym view) made in
     let long : length (edited_bytes edited) ≡ length (encode_utf8_all (text_of (chars before) items)) =
     ap (λ (e : PlainData). length (edited_bytes e)) (sym view) in
     record {

@@ -13,10 +13,10 @@ use Rattle.lsp_text.proofs.Positions.PlaceLemmas.{take_place, drop_place}
 use Rattle.lsp_edit.specs.declared.change.Change.{Change}
 use Rattle.lsp_edit.specs.declared.fault.EditFault.{EditFault}
 use Rattle.lsp_edit.specs.declared.fault.EditFault.TheVariants.{NoMemory}
-use Rattle.lsp_edit.specs.declared.indexed.TextFault.{TextFault}
-use Rattle.lsp_edit.specs.declared.indexed.TextFault.TheVariants.{Edit as EditOf, TooLong, NoMemory as OutOfMemory}
+use Rattle.lsp_edit.specs.declared.indexed.fault.TextFault.{TextFault}
+use Rattle.lsp_edit.specs.declared.indexed.fault.TextFault.TheVariants.{Edit as EditOf, TooLong, NoMemory as OutOfMemory}
 use Rattle.lsp_edit.specs.Items.{Item, New, plain, character_of, text_of}
-use Rattle.lsp_edit.specs.Batch.{Edit, Fault, InsideStart, InsideStop, Reversed, replaced, changed_in, after_change, after_changes, continue_with, meaning}
+use Rattle.lsp_edit.specs.Batch.{Edit, Fault, InsideStart, InsideStop, Reversed, replaced, changed_in, items_after, after_changes, continue_with, meaning}
 use Rattle.lsp_edit.specs.inside.TextBatch.{text_replaced, text_changed, text_after_change, text_after_changes, text_continue_with, IsFaultOf, IsFaultOfBatch}
 use Rattle.lsp_edit.specs.Faults.{fault_at, in_order, ends_of, places_at}
 use Rattle.lsp_edit.specs.Edited.{edit_of}
@@ -64,7 +64,7 @@ changes_text units old number items [] = refl
 changes_text units old number items (change ∷ batch) =
     ap (text_continue_with (λ (next : List ℕ). text_after_changes units (suc number) next batch) number)
     (change_text units old items change.text change.range)
-    ∙ go_on_text (after_change units old items change) (λ next. changes_text units old (suc number) next batch)
+    ∙ go_on_text (items_after units old items change) (λ next. changes_text units old (suc number) next batch)
   where
     go_on_text : (made : Result (List Item) Fault)
         → ((next : List Item) → text_after_changes units (suc number) (text_of old next) batch

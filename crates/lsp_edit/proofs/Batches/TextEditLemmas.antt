@@ -22,7 +22,8 @@ use Rattle.lsp_edit.specs.Faults.{ends_of, places_at}
 use Rattle.lsp_edit.specs.Items.{Item, Old, New}
 use Rattle.lsp_edit.specs.Keeps.{Keeps}
 use Rattle.lsp_edit.specs.Parts.{Part, AreParts, index_of, items_of, new_parts}
-use Rattle.lsp_edit.specs.TextEdits.{IsPlaced, ArePlaced, AreApart, old_parts, parts_left, AreLeftByEdits, fault_of, LiesNowhere, DoOverlap}
+use Rattle.lsp_edit.specs.TextEdits.{fault_of}
+use Rattle.lsp_edit.specs.inside.TextEdits.{IsPlaced, ArePlaced, AreApart, old_parts, parts_left, AreLeftByEdits, HasNoPlace, DoOverlap}
 use Rattle.lsp_edit.proofs.Composing.AppliedLemmas.{AreEnds, ends_told}
 use Rattle.lsp_edit.proofs.Deltas.LayerLemmas.{are_both, items_both}
 use Rattle.lsp_edit.proofs.Composing.EditedLemmas.{index_first}
@@ -79,7 +80,7 @@ pub nowhere : (units : ℕ → ℕ) (old : List ℕ) (edits : List TextEdit) (in
     (first : TextEdit) (rest : List TextEdit) (number : ℕ) (why : EditFault) → drop index edits ≡ first ∷ rest
     → ArePlaced units old 0 (take index edits) placed
     → number ≡ length placed → Err why ≡ places_at number old (ends_of units old first.range)
-    → LiesNowhere units old edits (fault_of why)
+    → HasNoPlace units old edits (fault_of why)
 nowhere units old edits index placed first rest number why is at number_is lies =
     let n : number ≡ length (take index edits) = number_is ∙ placed_long units old 0 (take index edits) placed at in
     record {
@@ -173,7 +174,7 @@ run_keeps old low (suc count) items within k =
       run_keeps old (suc low) count items (omega arith) (subst (λ (n : ℕ). Keeps old n items) e k),
     )
 
-module _ (before : List ℕ) (utf8 : IsUtf8 before) where
+module _ (before : List ℕ) where
   lies_one : (units : ℕ → ℕ) (number : ℕ) (edit : TextEdit) (one : Placed) → IsPlaced units (chars before) number edit
       one → Lies before one
   lies_one units number edit one is =
@@ -198,7 +199,7 @@ module _ (before : List ℕ) (utf8 : IsUtf8 before) where
             (IsUtf8-string_bytes edit.new_text);
       }
 
-  lies_all : (units : ℕ → ℕ) (number : ℕ) (edits : List TextEdit) (placed : List Placed)
+  pub lies_all : (units : ℕ → ℕ) (number : ℕ) (edits : List TextEdit) (placed : List Placed)
       → ArePlaced units (chars before) number edits placed → AllByRecursion (Lies before) placed
   lies_all units number [] [] all = tt
   lies_all units number [] (p ∷ placed) all = absurd all
@@ -206,18 +207,19 @@ module _ (before : List ℕ) (utf8 : IsUtf8 before) where
   lies_all units number (e ∷ edits) (p ∷ placed) all =
       (lies_one units number e p all.0, lies_all units (suc number) edits placed all.1)
 
-  at_boundary : (place : ℕ) → IsPlace (chars before) place → IsCharBoundary before place
-  at_boundary place w = subst (IsCharBoundary before) w.3 (place_boundary before w.0 utf8 w.1)
-
-  at_index : (place : ℕ) (w : IsPlace (chars before) place) → index_of (chars before) place ≡ w.0
+  pub at_index : (place : ℕ) (w : IsPlace (chars before) place) → index_of (chars before) place ≡ w.0
   at_index place w = ap (index_of (chars before)) (sym w.3) ∙ index_of-place (chars before) w.0 w.1
 
-  at_whole : (place : ℕ) → IsPlace (chars before) place → splits_crlf (chars before) (index_of (chars before) place)
+  pub at_whole : (place : ℕ) → IsPlace (chars before) place → splits_crlf (chars before) (index_of (chars before) place)
       ≡ false
   at_whole place w = ap (splits_crlf (chars before)) (at_index place w) ∙ w.2
 
-  at_within : (place : ℕ) → IsPlace (chars before) place → index_of (chars before) place ≤ length (chars before)
+  pub at_within : (place : ℕ) → IsPlace (chars before) place → index_of (chars before) place ≤ length (chars before)
   at_within place w = omega (arith, at_index place w, w.1)
+
+module _ (before : List ℕ) (utf8 : IsUtf8 before) where
+  at_boundary : (place : ℕ) → IsPlace (chars before) place → IsCharBoundary before place
+  at_boundary place w = subst (IsCharBoundary before) w.3 (place_boundary before w.0 utf8 w.1)
 
   long : length (encode_utf8_all (chars before)) ≡ length before
   long = ap length (encodes-chars before utf8)
@@ -232,6 +234,10 @@ module _ (before : List ℕ) (utf8 : IsUtf8 before) where
     splits_none_past (chars before) (length (chars before)) (omega arith),
     place_end (chars before) ∙ long,
   )
+
+  pub end_index : index_of (chars before) (length before) ≡ length (chars before)
+  end_index = ap (index_of (chars before)) (sym (place_end (chars before) ∙ long))
+      ∙ index_of-place (chars before) (length (chars before)) (omega arith)
 
   old_are : (from to : ℕ) → IsPlace (chars before) from → IsPlace (chars before) to
       → AreParts before (old_parts from to)
@@ -250,7 +256,7 @@ module _ (before : List ℕ) (utf8 : IsUtf8 before) where
       let count : index_of (chars before) from + (index_of (chars before) to - index_of (chars before) from)
       ≡ index_of (chars before) to = omega arith in
       let within : index_of (chars before) from + (index_of (chars before) to - index_of (chars before) from)
-      ≤ length (chars before) = omega (arith, at_within to b) in
+      ≤ length (chars before) = omega (arith, at_within before to b) in
       let row : List Item =
       map Old (numbers_from (index_of (chars before) from) (index_of (chars before) to - index_of (chars before)
       from)) in
@@ -261,7 +267,7 @@ module _ (before : List ℕ) (utf8 : IsUtf8 before) where
       (run_keeps (chars before) (index_of (chars before) from) (index_of (chars before) to - index_of (chars before)
       from) items within (subst (λ (n : ℕ). Keeps (chars before) n items) (sym count) k))))
       (λ (e : nat_lt from to ≡ false). rw e (keeps_from_lower (chars before) (index_of (chars before) from)
-      (index_of (chars before) to) items rises (at_whole from a) (at_whole to b) k))
+      (index_of (chars before) to) items rises (at_whole before from a) (at_whole before to b) k))
       (cases_Bool (nat_lt from to))
 
   left_are : (low : ℕ) (edits : List Placed) → IsPlace (chars before) low → AllByRecursion (Lies before) edits
@@ -281,8 +287,8 @@ module _ (before : List ℕ) (utf8 : IsUtf8 before) where
       subst (Keeps (chars before) (index_of (chars before) low))
       (append-nil (items_of (chars before) (old_parts low (length before))))
       (old_keep low (length before) [] at at_end (at_most low at) (
-        at_within (length before) at_end,
-        at_whole (length before) at_end,
+        at_within before (length before) at_end,
+        at_whole before (length before) at_end,
       ))
   left_keeps low (e ∷ edits) at all apart =
       let rest : List Part = parts_left (length before) e.stop edits in
@@ -293,21 +299,22 @@ module _ (before : List ℕ) (utf8 : IsUtf8 before) where
       (items_both before (new_parts e.text.now) rest ∙ ap (λ (i : List Item). i ++ items_of (chars before) rest)
       (new_items before e.text.now all.0.utf8).0) in
       let start_whole : splits_crlf (chars before) (index_of (chars before) e.start) ≡ false =
-      at_whole e.start all.0.at_start in
+      at_whole before e.start all.0.at_start in
       subst (Keeps (chars before) (index_of (chars before) low)) (sym split)
       (old_keep low e.start (map New (chars e.text.now) ++ items_of (chars before) rest) at all.0.at_start apart.0
       (new_keeps (chars before) (index_of (chars before) e.start) (chars e.text.now) (items_of (chars before) rest)
       start_whole
       (keeps_from_lower (chars before) (index_of (chars before) e.start) (index_of (chars before) e.stop)
       (items_of (chars before) rest) (index_rises (chars before) e.start e.stop all.0.order) start_whole
-      (at_whole e.stop all.0.at_stop)
+      (at_whole before e.stop all.0.at_stop)
       (left_keeps e.stop edits all.0.at_stop all.1 apart.1))))
 
   module _ (units : ℕ → ℕ) (edits : List TextEdit) (parts : List Part)
       (left : AreLeftByEdits units before edits parts) where
     all_lie : AllByRecursion (Lies before) left.ordered
     all_lie = recursion_from_All (Lies before) left.ordered (All-permutation (Lies before) left.placed left.ordered
-        left.order.same (All-from_recursion (Lies before) left.placed (lies_all units 0 edits left.placed left.at)))
+        left.order.same (All-from_recursion (Lies before) left.placed
+        (lies_all before units 0 edits left.placed left.at)))
 
     at_first : IsPlace (chars before) 0
     at_first = (0, omega arith, refl, refl)

@@ -6,9 +6,9 @@ use Rattle.lsp_text.specs.declared.position.Range.{Range}
 use Rattle.lsp_text.specs.TextLines.{numbers_from}
 use Rattle.lsp_text.specs.Positions.{denoted}
 use Rattle.lsp_edit.specs.Items.{Item, Old, New, plain, text_of}
-use Rattle.lsp_edit.specs.Batch.{Edit, Fault, Reversed, replaced, changed_in, after_change, after_changes, continue_with, meaning}
-use Rattle.lsp_edit.specs.Canonical.{Gap, is_changed, change_of, gaps, canonical}
-use Rattle.lsp_edit.proofs.Canonical.GapLemmas.{gap, gaps_from, gaps_are}
+use Rattle.lsp_edit.specs.Batch.{Edit, Fault, Reversed, replaced, changed_in, items_after, after_changes, continue_with, meaning}
+use Rattle.lsp_edit.specs.Canonical.{Gap, gaps_from, gaps, is_changed, gap_edit, canonical}
+use Rattle.lsp_edit.proofs.Canonical.GapLemmas.{gap}
 
 abbrev one_if : Bool → ℕ
 one_if true = 1
@@ -113,7 +113,7 @@ module _ (size : ℕ) where
       rw (le-ltb low low (omega arith)) (omega (arith, none_at_first (suc low) count (omega arith)))
 
   module _ (units : ℕ → ℕ) (old : List ℕ) where
-    change_adds : (items next : List Item) (change : Edit) → after_change units old items change ≡ Ok next
+    change_adds : (items next : List Item) (change : Edit) → items_after units old items change ≡ Ok next
         → hunks size false 0 next ≤ suc (hunks size false 0 items)
     change_adds items next change is = by_range change.range is
       where
@@ -145,9 +145,9 @@ module _ (size : ℕ) where
         ≡ Ok last → hunks size false 0 last ≤ hunks size false 0 items + length batch
     changes_add number items last [] is = let e : items ≡ last = cc in omega (arith, ap (hunks size false 0) e)
     changes_add number items last (change ∷ batch) is =
-        rest_after (after_change units old items change) refl (λ next. changes_add (suc number) next last batch) is
+        rest_after (items_after units old items change) refl (λ next. changes_add (suc number) next last batch) is
       where
-        rest_after : (made : Result (List Item) Fault) → after_change units old items change ≡ made
+        rest_after : (made : Result (List Item) Fault) → items_after units old items change ≡ made
             → ((next : List Item) → after_changes units old (suc number) next batch ≡ Ok last → hunks size false 0 last
             ≤ hunks size false 0 next + length batch)
             → continue_with (λ next. after_changes units old (suc number) next batch) number made ≡ Ok last
@@ -159,32 +159,30 @@ one_longer : (b : Bool) (g : Gap) (gs : List Gap) → length (cond b (g ∷ gs) 
 one_longer true g gs = omega arith
 one_longer false g gs = omega arith
 
-hunks_are : (old : List ℕ) (low : ℕ) (text : List ℕ) (items : List Item)
-    → length (filter is_changed (gaps_from old low text items)) ≡ hunks (length old) (nat_lt 0 (length text)) low items
-hunks_are old low text [] = one_longer (is_changed (gap low (length old) text)) (gap low (length old) text) []
+hunks_are : (len low : ℕ) (text : List ℕ) (items : List Item)
+    → length (filter is_changed (gaps_from low len text items)) ≡ hunks len (nat_lt 0 (length text)) low items
+hunks_are len low text [] = one_longer (is_changed (gap low len text)) (gap low len text) []
     ∙ omega arith
-hunks_are old low text (Old index ∷ items) =
+hunks_are len low text (Old index ∷ items) =
     one_longer (is_changed (gap low index text)) (gap low index text)
-    (filter is_changed (gaps_from old (suc index) [] items))
-    ∙ ap (λ (n : ℕ). one_if (is_changed (gap low index text)) + n) (hunks_are old (suc index) [] items)
-hunks_are old low text (New character ∷ items) =
+    (filter is_changed (gaps_from (suc index) len [] items))
+    ∙ ap (λ (n : ℕ). one_if (is_changed (gap low index text)) + n) (hunks_are len (suc index) [] items)
+hunks_are len low text (New character ∷ items) =
     let e : nat_lt 0 (length (text ++ character ∷ [])) ≡ true =
     lt-ltb 0 (length (text ++ character ∷ [])) (simp length-append (omega arith)) in
-    hunks_are old low (text ++ character ∷ []) items ∙ ap (λ (b : Bool). hunks (length old) b low items) e
+    hunks_are len low (text ++ character ∷ []) items ∙ ap (λ (b : Bool). hunks len b low items) e
 
 pub no_more_changes : (units : ℕ → ℕ) (old : List ℕ) (batch : List Edit) (items : List Item) → meaning units old batch
     ≡ Ok items → length (canonical units old items) ≤ length batch
 no_more_changes units old batch items is =
     let r : length (canonical units old items)
-    ≡ length (map (change_of units old) (filter is_changed (gaps old items))) =
-    length-reverse (map (change_of units old) (filter is_changed (gaps old items))) in
-    let m : length (map (change_of units old) (filter is_changed (gaps old items)))
+    ≡ length (map (gap_edit units old) (filter is_changed (gaps old items))) =
+    length-reverse (map (gap_edit units old) (filter is_changed (gaps old items))) in
+    let m : length (map (gap_edit units old) (filter is_changed (gaps old items)))
     ≡ length (filter is_changed (gaps old items)) =
-    length-map (filter is_changed (gaps old items)) (change_of units old) in
-    let g : length (filter is_changed (gaps old items)) ≡ length (filter is_changed (gaps_from old 0 [] items)) =
-    ap (λ (gs : List Gap). length (filter is_changed gs)) (gaps_are old items) in
-    let h : length (filter is_changed (gaps_from old 0 [] items)) ≡ hunks (length old) false 0 items =
-    hunks_are old 0 [] items in
+    length-map (filter is_changed (gaps old items)) (gap_edit units old) in
+    let h : length (filter is_changed (gaps old items)) ≡ hunks (length old) false 0 items =
+    hunks_are (length old) 0 [] items in
     let z : hunks (length old) false 0 (plain old) ≡ 0 = none_at_first (length old) 0 (length old) (omega arith) in
     let c : hunks (length old) false 0 items ≤ hunks (length old) false 0 (plain old) + length batch =
     changes_add (length old) units old 0 (plain old) items batch is in

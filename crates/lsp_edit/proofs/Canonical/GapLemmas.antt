@@ -1,21 +1,16 @@
--- The gaps of items, told from the front, and what their ends are where the items keep each CRLF whole.
-use Rattle.std.proofs.Common.{ℕ, suc, ◌≡◌, ◌<◌, true, false, nat_lt, List, [], ◌∷◌, ◌++◌, length, map, ⊎_elim, refl, sym, ap, ap₂, ◌∙◌, subst, arith, append_assoc, append-nil, ltb-true}
+-- The gaps of items are those between kept characters; and what their ends are where the items keep each CRLF whole.
+use Rattle.std.proofs.Common.{ℕ, suc, ◌≡◌, ◌<◌, true, false, nat_lt, List, [], ◌∷◌, ◌++◌, length, map, ⊎_elim, refl, sym, ap, ap₂, ◌∙◌, arith, append_assoc, append-nil, ltb-true}
 use Rattle.std.proofs.lemmas.Bool.{or_cases}
 use Rattle.lsp_text.specs.TextLines.{splits_crlf}
 use Rattle.lsp_text.proofs.TextLines.LineLemmas.{splits_none_past}
 use Rattle.lsp_edit.specs.Items.{Item, Old, New}
-use Rattle.lsp_edit.specs.Canonical.{kept, gap_texts, put_first, Gap, gaps_between, gaps, is_changed}
+use Rattle.lsp_edit.specs.Canonical.{kept, gap_texts, put_first, Gap, gaps_from, gaps, is_changed}
 use Rattle.lsp_edit.specs.Keeps.{Keeps}
+use Rattle.lsp_edit.specs.inside.Canonical.{gaps_between, gaps_told}
 use Rattle.lsp_edit.specs.laws.Batches.{AllHaveExactEnds}
 
 abbrev pub gap : ℕ → ℕ → List ℕ → Gap
 gap low high text = record { low = low; high = high; text = text }
-
--- The gaps of items behind the old index `low`, where `text` came before them in the first gap.
-abbrev pub gaps_from : List ℕ → ℕ → List ℕ → List Item → List Gap
-gaps_from old low text [] = gap low (length old) text ∷ []
-gaps_from old low text (Old index ∷ items) = gap low index text ∷ gaps_from old (suc index) [] items
-gaps_from old low text (New character ∷ items) = gaps_from old low (text ++ character ∷ []) items
 
 put_before : List ℕ → List (List ℕ) → List (List ℕ)
 put_before text [] = []
@@ -33,30 +28,32 @@ put_one_more text character [] = refl
 put_one_more text character (first ∷ rest) =
     ap (λ (x : List ℕ). x ∷ rest) (sym (append_assoc text (character ∷ []) first))
 
-gaps_told : (old : List ℕ) (low : ℕ) (text : List ℕ) (items : List Item) → gaps_between (low ∷ map suc (kept items))
-    (kept items ++ length old ∷ []) (put_before text (gap_texts items)) ≡ gaps_from old low text items
+-- they are those between kept characters
+told_from : (len low : ℕ) (text : List ℕ) (items : List Item) → gaps_from low len text items
+    ≡ gaps_between (low ∷ map suc (kept items)) (kept items ++ len ∷ []) (put_before text (gap_texts items))
 unfolding put_before
-gaps_told old low text [] = ap (λ (t : List ℕ). gap low (length old) t ∷ []) (append-nil text)
-gaps_told old low text (Old index ∷ items) =
+told_from len low text [] = ap (λ (t : List ℕ). gap low len t ∷ []) (sym (append-nil text))
+told_from len low text (Old index ∷ items) =
     ap₂
     (λ (t : List ℕ) (rest : List Gap). gap low index t ∷ rest)
-    (append-nil text)
-    (ap (λ (ts : List (List ℕ)). gaps_between (suc index ∷ map suc (kept items)) (kept items ++ length old ∷ []) ts)
-    (sym (put_nothing (gap_texts items))) ∙ gaps_told old (suc index) [] items)
-gaps_told old low text (New character ∷ items) =
-    ap (λ (ts : List (List ℕ)). gaps_between (low ∷ map suc (kept items)) (kept items ++ length old ∷ []) ts)
-    (put_one_more text character (gap_texts items)) ∙ gaps_told old low (text ++ character ∷ []) items
+    (sym (append-nil text))
+    (told_from len (suc index) [] items
+    ∙ ap (gaps_between (suc index ∷ map suc (kept items)) (kept items ++ len ∷ [])) (put_nothing (gap_texts items)))
+told_from len low text (New character ∷ items) =
+    told_from len low (text ++ character ∷ []) items
+    ∙ ap (gaps_between (low ∷ map suc (kept items)) (kept items ++ len ∷ []))
+    (sym (put_one_more text character (gap_texts items)))
 
-pub gaps_are : (old : List ℕ) (items : List Item) → gaps old items ≡ gaps_from old 0 [] items
-unfolding put_before
+pub gaps_are : (old : List ℕ) (items : List Item) → gaps old items
+    ≡ gaps_told (length old) (kept items) (gap_texts items)
 gaps_are old items =
-    ap (λ (ts : List (List ℕ)). gaps_between (0 ∷ map suc (kept items)) (kept items ++ length old ∷ []) ts)
-    (sym (put_nothing (gap_texts items))) ∙ gaps_told old 0 [] items
+    told_from (length old) 0 [] items
+    ∙ ap (gaps_between (0 ∷ map suc (kept items)) (kept items ++ length old ∷ [])) (put_nothing (gap_texts items))
 
 -- Both ends of a changed gap split no CRLF, where the items keep each CRLF whole.
 ends_from : (old : List ℕ) (low : ℕ) (text : List ℕ) (items : List Item)
     → (0 < length text → splits_crlf old low ≡ false) → Keeps old low items
-    → AllHaveExactEnds old (gaps_from old low text items)
+    → AllHaveExactEnds old (gaps_from low (length old) text items)
 ends_from old low text [] whole keeps = (
   (λ changed. record {
     order = keeps.0;
@@ -98,5 +95,4 @@ ends_from old low text (New character ∷ items) whole keeps =
     ends_from old low (text ++ character ∷ []) items (λ h. keeps.0) keeps.1
 
 pub ends_exact : (old : List ℕ) (items : List Item) → Keeps old 0 items → AllHaveExactEnds old (gaps old items)
-ends_exact old items keeps =
-    subst (AllHaveExactEnds old) (sym (gaps_are old items)) (ends_from old 0 [] items (λ h. refl) keeps)
+ends_exact old items keeps = ends_from old 0 [] items (λ h. refl) keeps

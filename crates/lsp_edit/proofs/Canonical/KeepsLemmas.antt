@@ -8,7 +8,7 @@ use Rattle.lsp_text.specs.Positions.{denoted}
 use Rattle.lsp_text.proofs.TextLines.LineLemmas.{splits_none_past}
 use Rattle.lsp_text.proofs.Positions.PositionLemmas.{IsWhole, denoted_whole}
 use Rattle.lsp_edit.specs.Items.{Item, Old, New, plain, character_of, text_of}
-use Rattle.lsp_edit.specs.Batch.{Edit, Fault, Reversed, replaced, changed_in, after_change, after_changes, continue_with, meaning}
+use Rattle.lsp_edit.specs.Batch.{Edit, Fault, Reversed, replaced, changed_in, items_after, after_changes, continue_with, meaning}
 use Rattle.lsp_edit.specs.Keeps.{Keeps}
 
 -- The index behind the last kept character, where that before the items was `low`.
@@ -151,7 +151,7 @@ module _ (old : List ℕ) where
 
   -- A change keeps what the items before it keep.
   pub after_change_keeps : (units : ℕ → ℕ) (items next : List Item) (change : Edit) → Keeps old 0 items
-      → after_change units old items change ≡ Ok next → Keeps old 0 next
+      → items_after units old items change ≡ Ok next → Keeps old 0 next
   after_change_keeps units items next change keeps is = by_range change.range is
     where
       at_indexes : (start stop : Option ℕ) → ((k : ℕ) → start ≡ Some k → IsWhole (text_of old items) k)
@@ -186,10 +186,10 @@ module _ (old : List ℕ) where
       → Keeps old 0 items → after_changes units old number items batch ≡ Ok last → Keeps old 0 last
   after_changes_keeps units number items last [] keeps is = let e : items ≡ last = cc in subst (Keeps old 0) e keeps
   after_changes_keeps units number items last (change ∷ batch) keeps is =
-      rest_after (after_change units old items change) refl (λ next k. after_changes_keeps units (suc number) next last
+      rest_after (items_after units old items change) refl (λ next k. after_changes_keeps units (suc number) next last
       batch k) is
     where
-      rest_after : (made : Result (List Item) Fault) → after_change units old items change ≡ made
+      rest_after : (made : Result (List Item) Fault) → items_after units old items change ≡ made
           → ((next : List Item) → Keeps old 0 next → after_changes units old (suc number) next batch ≡ Ok last
           → Keeps old 0 last)
           → continue_with (λ next. after_changes units old (suc number) next batch) number made ≡ Ok last

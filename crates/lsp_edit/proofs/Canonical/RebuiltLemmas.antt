@@ -9,11 +9,11 @@ use Rattle.lsp_text.specs.Positions.{exact_position, denoted}
 use Rattle.lsp_text.proofs.Positions.PositionLemmas.{exact_denotes}
 use Rattle.lsp_text.proofs.Positions.NearLemmas.{AgreeBelow, agree_from_take, splits_near, exact_near}
 use Rattle.lsp_edit.specs.Items.{Item, Old, New, plain, character_of, text_of}
-use Rattle.lsp_edit.specs.Batch.{Edit, replaced, after_change}
-use Rattle.lsp_edit.specs.Canonical.{Gap, is_changed, change_of, canonical}
+use Rattle.lsp_edit.specs.Batch.{Edit, replaced, items_after}
+use Rattle.lsp_edit.specs.Canonical.{Gap, gaps_from, is_changed, gap_edit, canonical}
 use Rattle.lsp_edit.specs.Keeps.{Keeps}
 use Rattle.lsp_edit.specs.laws.Batches.{HasExactEnds, AllHaveExactEnds}
-use Rattle.lsp_edit.proofs.Canonical.GapLemmas.{gap, gaps_from, gaps_are, ends_exact}
+use Rattle.lsp_edit.proofs.Canonical.GapLemmas.{gap, ends_exact}
 use Rattle.lsp_edit.proofs.Batches.BatchLemmas.{Makes, makes_nothing, makes_joined}
 
 -- the old characters before an index, as items
@@ -113,14 +113,14 @@ module _ (old : List ℕ) where
     -- The change of a gap, on items that are old up to the gap's end, puts the gap's text in its place.
     gap_changed : (low high : ℕ) (text : List ℕ) (rest : List Item) → HasExactEnds old (gap low high text)
         → slice_index (text_of old rest) 0 ≡ slice_index old high → Makes units old (plain_to high ++ rest)
-        (change_of units old (gap low high text) ∷ []) (plain_to low ++ (map New text ++ rest))
+        (gap_edit units old (gap low high text) ∷ []) (plain_to low ++ (map New text ++ rest))
     gap_changed low high text rest ends first =
         let is : IsMet (text_of old (plain_to high ++ rest)) high = is_met high rest ends.within first in
         let low_met : denoted units (text_of old (plain_to high ++ rest)) (exact_position units old low) ≡ Some low =
         index_met (text_of old (plain_to high ++ rest)) high low is ends.order ends.low_whole in
         let high_met : denoted units (text_of old (plain_to high ++ rest)) (exact_position units old high) ≡ Some high =
         index_met (text_of old (plain_to high ++ rest)) high high is (omega arith) ends.high_whole in
-        let made : after_change units old (plain_to high ++ rest) (change_of units old (gap low high text))
+        let made : items_after units old (plain_to high ++ rest) (gap_edit units old (gap low high text))
         ≡ Ok (plain_to low ++ (map New text ++ rest)) = rw (low_met, high_met) replaced_here in
         record {
           leaves = λ number. rw made refl;
@@ -155,18 +155,18 @@ module _ (old : List ℕ) where
 
 -- the batch of a row of gaps
 abbrev pub batch_of : (ℕ → ℕ) → List ℕ → List Gap → List Edit
-batch_of units old gs = reverse (map (change_of units old) (filter is_changed gs))
+batch_of units old gs = reverse (map (gap_edit units old) (filter is_changed gs))
 
 -- the change of a gap, if it is changed
 abbrev pub change_if : (ℕ → ℕ) → List ℕ → Gap → List Edit
-change_if units old g = cond (is_changed g) (change_of units old g ∷ []) []
+change_if units old g = cond (is_changed g) (gap_edit units old g ∷ []) []
 
 pub batch_of-cons : (units : ℕ → ℕ) (old : List ℕ) (g : Gap) (gs : List Gap) → batch_of units old (g ∷ gs)
     ≡ batch_of units old gs ++ change_if units old g
 batch_of-cons units old g gs =
     ⊎_elim
     (λ (e : is_changed g ≡ true). rw e
-    (reverse-append (change_of units old g ∷ []) (map (change_of units old) (filter is_changed gs))))
+    (reverse-append (gap_edit units old g ∷ []) (map (gap_edit units old) (filter is_changed gs))))
     (λ (e : is_changed g ≡ false). rw e (sym (append-nil (batch_of units old gs))))
     (cases_Bool (is_changed g))
 
@@ -197,8 +197,8 @@ module _ (units : ℕ → ℕ) (some : (c : ℕ) → 1 ≤ units c) (old : List 
   -- The changes of the gaps from an old index on, made from the last to the first, leave the items behind the old text
   -- before it.
   pub rebuilt : (low : ℕ) (text : List ℕ) (items : List Item) → Keeps old low items
-      → AllHaveExactEnds old (gaps_from old low text items)
-      → Makes units old (plain old) (batch_of units old (gaps_from old low text items))
+      → AllHaveExactEnds old (gaps_from low (length old) text items)
+      → Makes units old (plain old) (batch_of units old (gaps_from low (length old) text items))
       (plain_to low ++ (map New text ++ items))
   rebuilt low text [] keeps ends =
       rw (batch_of-cons units old (gap low (length old) text) [])
@@ -206,13 +206,13 @@ module _ (units : ℕ → ℕ) (some : (c : ℕ) → 1 ≤ units c) (old : List 
       (plain_to low ++ (map New text ++ []))) (append-nil (plain old))
       (gap_made low (length old) text [] keeps.0 ends.0 (sym (get_or_past old (length old) 0 (omega arith)))))
   rebuilt low text (Old index ∷ items) keeps ends =
-      rw (batch_of-cons units old (gap low index text) (gaps_from old (suc index) [] items))
+      rw (batch_of-cons units old (gap low index text) (gaps_from (suc index) (length old) [] items))
       (makes_joined units old (plain old) (plain_to index ++ (Old index ∷ items))
       (plain_to low ++ (map New text ++ (Old index ∷ items)))
-      (batch_of units old (gaps_from old (suc index) [] items))
+      (batch_of units old (gaps_from (suc index) (length old) [] items))
       (change_if units old (gap low index text))
       (subst (λ (made : List Item). Makes units old (plain old)
-      (batch_of units old (gaps_from old (suc index) [] items)) made) (plain_to_next index items)
+      (batch_of units old (gaps_from (suc index) (length old) [] items)) made) (plain_to_next index items)
       (rebuilt (suc index) [] items keeps.3 ends.1))
       (gap_made low index text (Old index ∷ items) keeps.0 ends.0 refl))
   rebuilt low text (New character ∷ items) keeps ends =
@@ -220,11 +220,9 @@ module _ (units : ℕ → ℕ) (some : (c : ℕ) → 1 ≤ units c) (old : List 
       ap (λ (new : List Item). new ++ items) (map-append New text (character ∷ [])) ∙ append_assoc (map New text)
       (New character ∷ []) items in
       subst (λ (rest : List Item). Makes units old (plain old)
-      (batch_of units old (gaps_from old low (text ++ character ∷ []) items)) (plain_to low ++ rest)) e
+      (batch_of units old (gaps_from low (length old) (text ++ character ∷ []) items)) (plain_to low ++ rest)) e
       (rebuilt low (text ++ character ∷ []) items keeps.1 ends)
 
   pub canonical_makes : (items : List Item) → Keeps old 0 items
       → Makes units old (plain old) (canonical units old items) items
-  canonical_makes items keeps =
-      subst (λ (gs : List Gap). Makes units old (plain old) (batch_of units old gs) items) (sym (gaps_are old items))
-      (rebuilt 0 [] items keeps (subst (AllHaveExactEnds old) (gaps_are old items) (ends_exact old items keeps)))
+  canonical_makes items keeps = rebuilt 0 [] items keeps (ends_exact old items keeps)

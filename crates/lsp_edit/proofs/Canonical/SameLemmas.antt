@@ -1,8 +1,10 @@
 -- Two batches have equal canonical batches exactly if they do the same, and the canonical batch is its own.
-use Rattle.std.proofs.Common.{ℕ, suc, ◌≡◌, ◌≤◌, ◌↔◌, List, [], ◌∷◌, ◌++◌, length, map, reverse, filter, Result, Ok, ap, ap₂}
+use Rattle.std.proofs.Common.{ℕ, ◌≡◌, ◌≤◌, ◌↔◌, List, length, map, reverse, filter, Result, Ok, sym, ap, ap₂, ◌∙◌}
 use Rattle.lsp_edit.specs.Items.{Item}
 use Rattle.lsp_edit.specs.Batch.{Edit, Fault, meaning}
-use Rattle.lsp_edit.specs.Canonical.{kept, gap_texts, DoTheSame, gaps_between, is_changed, change_of, canonical}
+use Rattle.lsp_edit.specs.Canonical.{kept, gap_texts, DoTheSame, Gap, is_changed, gap_edit, canonical}
+use Rattle.lsp_edit.specs.inside.Canonical.{gaps_told}
+use Rattle.lsp_edit.proofs.Canonical.GapLemmas.{gaps_are}
 use Rattle.lsp_edit.proofs.Canonical.KeepsLemmas.{meaning_keeps}
 use Rattle.lsp_edit.proofs.Canonical.RebuiltLemmas.{canonical_makes}
 
@@ -26,11 +28,10 @@ module _ (units : ℕ → ℕ) (some : (c : ℕ) → 1 ≤ units c) (old : List 
         let e : items ≡ others = cc in
         record { same_kept = ap kept e; same_texts = ap gap_texts e },
     λ same.
-        ap₂
-        (λ (k : List ℕ) (texts : List (List ℕ)). reverse
-        (map (change_of units old) (filter is_changed (gaps_between (0 ∷ map suc k) (k ++ length old ∷ []) texts))))
-        same.same_kept
-        same.same_texts,
+        ap
+        (λ (gs : List Gap). reverse (map (gap_edit units old) (filter is_changed gs)))
+        (gaps_are old items
+        ∙ (ap₂ (gaps_told (length old)) same.same_kept same.same_texts ∙ sym (gaps_are old others))),
   )
 
   -- the canonical batch of the canonical batch is itself

@@ -14,53 +14,57 @@ use Rattle.lsp_edit.specs.declared.change.Change.{Change}
 use Rattle.lsp_edit.specs.Edited.{edit_of}
 use Rattle.lsp_edit.specs.Items.{Item, Old, New}
 use Rattle.lsp_edit.specs.Batch.{Edit}
-use Rattle.lsp_edit.specs.Canonical.{Gap, gaps, is_changed, change_of}
+use Rattle.lsp_edit.specs.Canonical.{Gap, gaps_from, gaps, is_changed, gap_edit}
 use Rattle.lsp_edit.specs.inside.Gaps.{gap_between, gap_change}
 use Rattle.lsp_edit.specs.laws.Batches.{HasExactEnds, AllHaveExactEnds}
 use Rattle.lsp_edit.specs.Parts.{Part, OldPart, NewPart, index_of, part_of, parts_of, items_in, items_of, IsPartOf, AreParts}
 use Rattle.lsp_edit.specs.declared.pieces.span.Span.{Span}
-use Rattle.lsp_edit.proofs.Canonical.GapLemmas.{gap, gaps_from, gaps_are}
+use Rattle.lsp_edit.proofs.Canonical.GapLemmas.{gap}
 use Rattle.lsp_edit.proofs.Composing.EditedLemmas.{index_first}
 use Rattle.lsp_edit.proofs.Parts.IndexLemmas.{index_of-place, index_rises, indexes_less}
 
 -- the changes of gaps, from the first to the last
 abbrev pub changes_of : (ℕ → ℕ) → List ℕ → List Gap → List Edit
-changes_of units old gs = map (change_of units old) (filter is_changed gs)
+changes_of units old gs = map (gap_edit units old) (filter is_changed gs)
 
 pub changes_of-cons : (units : ℕ → ℕ) (old : List ℕ) (g : Gap) (gs : List Gap) → changes_of units old (g ∷ gs)
-    ≡ cond (is_changed g) (change_of units old g ∷ []) [] ++ changes_of units old gs
+    ≡ cond (is_changed g) (gap_edit units old g ∷ []) [] ++ changes_of units old gs
 changes_of-cons units old g gs =
     ⊎_elim
     (λ (e : is_changed g ≡ true). rw e refl)
     (λ (e : is_changed g ≡ false). rw e refl)
     (cases_Bool (is_changed g))
 
+-- the gaps of items over an old text, from an index on
+abbrev gaps_on : List ℕ → ℕ → List ℕ → List Item → List Gap
+gaps_on old low text items = gaps_from low (length old) text items
+
 -- Gaps inside a row of kept characters aren't changed.
 row_gaps : (units : ℕ → ℕ) (old : List ℕ) (low count : ℕ) (rest : List Item)
-    → changes_of units old (gaps_from old low [] (map Old (numbers_from low count) ++ rest))
-    ≡ changes_of units old (gaps_from old (low + count) [] rest)
+    → changes_of units old (gaps_on old low [] (map Old (numbers_from low count) ++ rest))
+    ≡ changes_of units old (gaps_on old (low + count) [] rest)
 row_gaps units old low zero rest = let e : low + 0 ≡ low = omega arith in rw e refl
 row_gaps units old low (suc count) rest =
     let none : nat_lt low low ≡ false = le-ltb low low (omega arith) in
     let e : suc low + count ≡ low + suc count = omega arith in
-    let ih : changes_of units old (gaps_from old (suc low) [] (map Old (numbers_from (suc low) count) ++ rest))
-    ≡ changes_of units old (gaps_from old (suc low + count) [] rest) = row_gaps units old (suc low) count rest in
-    rw none (ih ∙ ap (λ (n : ℕ). changes_of units old (gaps_from old n [] rest)) e)
+    let ih : changes_of units old (gaps_on old (suc low) [] (map Old (numbers_from (suc low) count) ++ rest))
+    ≡ changes_of units old (gaps_on old (suc low + count) [] rest) = row_gaps units old (suc low) count rest in
+    rw none (ih ∙ ap (λ (n : ℕ). changes_of units old (gaps_on old n [] rest)) e)
 
 row_ends : (old : List ℕ) (low count : ℕ) (rest : List Item)
-    → AllHaveExactEnds old (gaps_from old low [] (map Old (numbers_from low count) ++ rest))
-    → AllHaveExactEnds old (gaps_from old (low + count) [] rest)
+    → AllHaveExactEnds old (gaps_on old low [] (map Old (numbers_from low count) ++ rest))
+    → AllHaveExactEnds old (gaps_on old (low + count) [] rest)
 row_ends old low zero rest ends = let e : low ≡ low + 0 = omega arith in
-    subst (λ (n : ℕ). AllHaveExactEnds old (gaps_from old n [] rest)) e ends
+    subst (λ (n : ℕ). AllHaveExactEnds old (gaps_on old n [] rest)) e ends
 row_ends old low (suc count) rest ends =
     let e : suc low + count ≡ low + suc count = omega arith in
-    subst (λ (n : ℕ). AllHaveExactEnds old (gaps_from old n [] rest)) e (row_ends old (suc low) count rest ends.1)
+    subst (λ (n : ℕ). AllHaveExactEnds old (gaps_on old n [] rest)) e (row_ends old (suc low) count rest ends.1)
 
 new_gaps : (old : List ℕ) (low : ℕ) (text characters : List ℕ) (rest : List Item)
-    → gaps_from old low text (map New characters ++ rest) ≡ gaps_from old low (text ++ characters) rest
-new_gaps old low text [] rest = ap (λ (t : List ℕ). gaps_from old low t rest) (sym (append-nil text))
+    → gaps_on old low text (map New characters ++ rest) ≡ gaps_on old low (text ++ characters) rest
+new_gaps old low text [] rest = ap (λ (t : List ℕ). gaps_on old low t rest) (sym (append-nil text))
 new_gaps old low text (c ∷ characters) rest = new_gaps old low (text ++ c ∷ []) characters rest
-    ∙ ap (λ (t : List ℕ). gaps_from old low t rest) (append_assoc text (c ∷ []) characters)
+    ∙ ap (λ (t : List ℕ). gaps_on old low t rest) (append_assoc text (c ∷ []) characters)
 
 -- A gap that isn't changed adds nothing.
 gap_unchanged : (before : List ℕ) (low high : ℕ) (text : List ℕ) → high ≤ low → length text ≡ 0
@@ -126,7 +130,7 @@ module _ (before : List ℕ) (utf8 : IsUtf8 before) where
       position_exact units low start at_low low_exact in
       let t : stop ≡ exact_position units (chars before) (index_of (chars before) high) =
       position_exact units high stop at_high high_exact in
-      let e : edit_of change ≡ change_of units (chars before) (gap_between before low high (string_bytes change.text))
+      let e : edit_of change ≡ gap_edit units (chars before) (gap_between before low high (string_bytes change.text))
       = λ i. record {
         range = (range ∙ ap₂ (λ (x y : Position). Some (record { start = x; stop = y })) s t) i;
         text = chars (string_bytes change.text);
@@ -150,9 +154,9 @@ text_none text e = sym text.bytes.ok.0 ∙ eqb-true (string_len text) 0 (sym e)
 -- How far the changes of parts were written: those of the parts that are left complete them.
 pub record Walks (units : ℕ → ℕ) (before : List ℕ) (all made : List Edit) (low : ℕ) (text : List ℕ)
     (parts : List Part) : Type 0 where
-  pub error : made ++ changes_of units (chars before) (gaps_from (chars before) (index_of (chars before) low)
+  pub error : made ++ changes_of units (chars before) (gaps_on (chars before) (index_of (chars before) low)
       (chars text) (items_of (chars before) parts)) ≡ all
-  pub ends : AllHaveExactEnds (chars before) (gaps_from (chars before) (index_of (chars before) low) (chars text)
+  pub ends : AllHaveExactEnds (chars before) (gaps_on (chars before) (index_of (chars before) low) (chars text)
       (items_of (chars before) parts))
   pub at : IsCharBoundary before low
   pub are : AreParts before parts
@@ -182,12 +186,12 @@ module _ (units : ℕ → ℕ) (before : List ℕ) (utf8 : IsUtf8 before) where
     walk_new bytes more is =
         let w : Walks units before all made low text (NewPart bytes ∷ more) =
         subst (Walks units before all made low text) is walks in
-        let gs : gaps_from (chars before) (index_of (chars before) low) (chars text)
-        (map New (chars bytes) ++ items_of (chars before) more) ≡ gaps_from (chars before) (index_of (chars before) low)
+        let gs : gaps_on (chars before) (index_of (chars before) low) (chars text)
+        (map New (chars bytes) ++ items_of (chars before) more) ≡ gaps_on (chars before) (index_of (chars before) low)
         (chars (text ++ bytes)) (items_of (chars before) more)
         = new_gaps (chars before) (index_of (chars before) low) (chars text) (chars bytes)
         (items_of (chars before) more)
-        ∙ ap (λ (t : List ℕ). gaps_from (chars before) (index_of (chars before) low) t (items_of (chars before) more))
+        ∙ ap (λ (t : List ℕ). gaps_on (chars before) (index_of (chars before) low) t (items_of (chars before) more))
         (sym (chars-append text bytes text_utf8)) in
         record {
           error = ap (λ (g : List Gap). made ++ changes_of units (chars before) g) (sym gs) ∙ w.error;
@@ -222,50 +226,50 @@ module _ (units : ℕ → ℕ) (before : List ℕ) (utf8 : IsUtf8 before) where
       after_row = let less : index_of (chars before) from < index_of (chars before) to =
           indexes_less before utf8 from to part.1 part.2 part.0 in omega arith
 
-      first_gap : gaps_from (chars before) (index_of (chars before) low) (chars text)
+      first_gap : gaps_on (chars before) (index_of (chars before) low) (chars text)
           (items_of (chars before) (OldPart from to ∷ more))
-          ≡ gap_between before low from text ∷ gaps_from (chars before) (suc (index_of (chars before) from)) []
+          ≡ gap_between before low from text ∷ gaps_on (chars before) (suc (index_of (chars before) from)) []
           (map Old (numbers_from (suc (index_of (chars before) from)) count) ++ items_of (chars before) more)
-      first_gap = ap (λ (i : List Item). gaps_from (chars before) (index_of (chars before) low) (chars text)
+      first_gap = ap (λ (i : List Item). gaps_on (chars before) (index_of (chars before) low) (chars text)
           (i ++ items_of (chars before) more)) row
 
-      empty_chars : gaps_from (chars before) (suc (index_of (chars before) from) + count) []
-          (items_of (chars before) more) ≡ gaps_from (chars before) (index_of (chars before) to) (chars [])
+      empty_chars : gaps_on (chars before) (suc (index_of (chars before) from) + count) []
+          (items_of (chars before) more) ≡ gaps_on (chars before) (index_of (chars before) to) (chars [])
           (items_of (chars before) more)
-      empty_chars = ap₂ (λ (n : ℕ) (t : List ℕ). gaps_from (chars before) n t (items_of (chars before) more)) after_row
+      empty_chars = ap₂ (λ (n : ℕ) (t : List ℕ). gaps_on (chars before) n t (items_of (chars before) more)) after_row
           (sym chars-nil)
 
-      here_ends : AllHaveExactEnds (chars before) (gap_between before low from text ∷ gaps_from (chars before)
+      here_ends : AllHaveExactEnds (chars before) (gap_between before low from text ∷ gaps_on (chars before)
           (suc (index_of (chars before) from)) [] (map Old (numbers_from (suc (index_of (chars before) from)) count)
           ++ items_of (chars before) more))
       here_ends = subst (AllHaveExactEnds (chars before)) first_gap here.ends
 
       pub walk_old : Walks units before all (made ++ gap_change units before low from text) to [] more
       walk_old =
-          let rows : changes_of units (chars before) (gaps_from (chars before) (suc (index_of (chars before) from)) []
+          let rows : changes_of units (chars before) (gaps_on (chars before) (suc (index_of (chars before) from)) []
           (map Old (numbers_from (suc (index_of (chars before) from)) count) ++ items_of (chars before) more))
-          ≡ changes_of units (chars before) (gaps_from (chars before) (suc (index_of (chars before) from) + count) []
+          ≡ changes_of units (chars before) (gaps_on (chars before) (suc (index_of (chars before) from) + count) []
           (items_of (chars before) more))
           = row_gaps units (chars before) (suc (index_of (chars before) from)) count (items_of (chars before) more) in
-          let cons : changes_of units (chars before) (gap_between before low from text ∷ gaps_from (chars before)
+          let cons : changes_of units (chars before) (gap_between before low from text ∷ gaps_on (chars before)
           (suc (index_of (chars before) from)) [] (map Old (numbers_from (suc (index_of (chars before) from)) count)
           ++ items_of (chars before) more))
           ≡ gap_change units before low from text ++ changes_of units (chars before)
-          (gaps_from (chars before) (suc (index_of (chars before) from)) []
+          (gaps_on (chars before) (suc (index_of (chars before) from)) []
           (map Old (numbers_from (suc (index_of (chars before) from)) count) ++ items_of (chars before) more))
           = changes_of-cons units (chars before) (gap_between before low from text)
-          (gaps_from (chars before) (suc (index_of (chars before) from)) []
+          (gaps_on (chars before) (suc (index_of (chars before) from)) []
           (map Old (numbers_from (suc (index_of (chars before) from)) count) ++ items_of (chars before) more)) in
-          let both : changes_of units (chars before) (gaps_from (chars before) (index_of (chars before) low)
+          let both : changes_of units (chars before) (gaps_on (chars before) (index_of (chars before) low)
           (chars text) (items_of (chars before) (OldPart from to ∷ more)))
           ≡ gap_change units before low from text ++ changes_of units (chars before)
-          (gaps_from (chars before) (index_of (chars before) to) (chars []) (items_of (chars before) more))
+          (gaps_on (chars before) (index_of (chars before) to) (chars []) (items_of (chars before) more))
           = ap (changes_of units (chars before)) first_gap
           ∙ (cons ∙ ap (λ (es : List Edit). gap_change units before low from text ++ es)
           (rows ∙ ap (changes_of units (chars before)) empty_chars)) in
           record {
             error = append_assoc made (gap_change units before low from text)
-                (changes_of units (chars before) (gaps_from (chars before) (index_of (chars before) to) (chars [])
+                (changes_of units (chars before) (gaps_on (chars before) (index_of (chars before) to) (chars [])
                 (items_of (chars before) more)))
                 ∙ (ap (λ (es : List Edit). made ++ es) (sym both) ∙ here.error);
             ends = subst (AllHaveExactEnds (chars before)) empty_chars
@@ -318,10 +322,9 @@ pub walk_begins : (units : ℕ → ℕ) (before : List ℕ) → IsUtf8 before �
     → Walks units before (changes_of units (chars before) (gaps (chars before) (items_of (chars before) parts))) [] 0 []
     parts
 walk_begins units before utf8 parts are ends =
-    let e : gaps (chars before) (items_of (chars before) parts) ≡ gaps_from (chars before) (index_of (chars before) 0)
+    let e : gaps (chars before) (items_of (chars before) parts) ≡ gaps_on (chars before) (index_of (chars before) 0)
     (chars []) (items_of (chars before) parts)
-    = gaps_are (chars before) (items_of (chars before) parts)
-    ∙ ap₂ (λ (n : ℕ) (t : List ℕ). gaps_from (chars before) n t (items_of (chars before) parts))
+    = ap₂ (λ (n : ℕ) (t : List ℕ). gaps_on (chars before) n t (items_of (chars before) parts))
     (sym (index_first (chars before))) (sym chars-nil) in
     record {
       error = ap (changes_of units (chars before)) (sym e);

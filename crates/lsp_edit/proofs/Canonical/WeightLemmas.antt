@@ -7,8 +7,8 @@ use Rattle.std.proofs.lemmas.List.{reverse-append, nil_from_length}
 use Rattle.std.proofs.lemmas.List.Sums.{sum_by-cons, sum_by-append}
 use Rattle.lsp_edit.specs.Items.{Item, Old, New, character_of, text_of}
 use Rattle.lsp_edit.specs.Batch.{Edit}
-use Rattle.lsp_edit.specs.Canonical.{Gap, gaps, is_changed, change_of, canonical}
-use Rattle.lsp_edit.proofs.Canonical.GapLemmas.{gap, gaps_from, gaps_are}
+use Rattle.lsp_edit.specs.Canonical.{Gap, gaps_from, gaps, is_changed, gap_edit, canonical}
+use Rattle.lsp_edit.proofs.Canonical.GapLemmas.{gap}
 
 sum_by-reverse : {X : Type 0} (f : X → ℕ) (xs : List X) → sum_by f (reverse xs) ≡ sum_by f xs
 sum_by-reverse f [] = refl
@@ -35,13 +35,13 @@ module _ (weight : ℕ → ℕ) where
   new_weight (New character ∷ items) = weight character + new_weight items
 
   gaps_weigh : (old : List ℕ) (low : ℕ) (text : List ℕ) (items : List Item)
-      → sum_by gap_weight (gaps_from old low text items) ≡ sum_by weight text + new_weight items
+      → sum_by gap_weight (gaps_from low (length old) text items) ≡ sum_by weight text + new_weight items
   gaps_weigh old low text [] = sum_by-cons gap_weight (gap low (length old) text) []
   gaps_weigh old low text (Old index ∷ items) =
       let none : sum_by weight [] ≡ 0 = refl in
       omega (
         arith,
-        sum_by-cons gap_weight (gap low index text) (gaps_from old (suc index) [] items),
+        sum_by-cons gap_weight (gap low index text) (gaps_from (suc index) (length old) [] items),
         gaps_weigh old (suc index) [] items,
       )
   gaps_weigh old low text (New character ∷ items) =
@@ -72,13 +72,13 @@ module _ (weight : ℕ → ℕ) where
           let empty : g.text ≡ [] = nil_from_length g.text (omega arith) in
           ap (sum_by weight) empty
 
-  changes_weigh : (units : ℕ → ℕ) (old : List ℕ) (gs : List Gap) → sum_by change_weight (map (change_of units old) gs)
+  changes_weigh : (units : ℕ → ℕ) (old : List ℕ) (gs : List Gap) → sum_by change_weight (map (gap_edit units old) gs)
       ≡ sum_by gap_weight gs
   changes_weigh units old [] = refl
   changes_weigh units old (g ∷ gs) =
       omega (
         arith,
-        sum_by-cons change_weight (change_of units old g) (map (change_of units old) gs),
+        sum_by-cons change_weight (gap_edit units old g) (map (gap_edit units old) gs),
         sum_by-cons gap_weight g gs,
         changes_weigh units old gs,
       )
@@ -97,15 +97,12 @@ module _ (weight : ℕ → ℕ) where
       (canonical units old items) ≤ sum_by weight (text_of old items)
   no_longer units old items =
       let turned : sum_by change_weight (canonical units old items)
-      ≡ sum_by change_weight (map (change_of units old) (filter is_changed (gaps old items))) =
-      sum_by-reverse change_weight (map (change_of units old) (filter is_changed (gaps old items))) in
-      let error : sum_by gap_weight (gaps old items) ≡ sum_by gap_weight (gaps_from old 0 [] items) =
-      ap (sum_by gap_weight) (gaps_are old items) in
+      ≡ sum_by change_weight (map (gap_edit units old) (filter is_changed (gaps old items))) =
+      sum_by-reverse change_weight (map (gap_edit units old) (filter is_changed (gaps old items))) in
       let none : sum_by weight [] ≡ 0 = refl in
       omega (
         arith,
         turned,
-        error,
         changes_weigh units old (filter is_changed (gaps old items)),
         changed_weigh (gaps old items),
         gaps_weigh old 0 [] items,

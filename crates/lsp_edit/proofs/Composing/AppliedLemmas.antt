@@ -14,7 +14,7 @@ use Rattle.lsp_edit.specs.declared.change.Change.{Change}
 use Rattle.lsp_edit.specs.declared.fault.EditFault.{EditFault}
 use Rattle.lsp_edit.specs.declared.fault.EditFault.TheVariants.{NoMemory}
 use Rattle.lsp_edit.specs.Items.{Item, New, character_of, text_of}
-use Rattle.lsp_edit.specs.Batch.{Edit, InsideStart, InsideStop, Reversed, replaced, after_change}
+use Rattle.lsp_edit.specs.Batch.{Edit, InsideStart, InsideStop, Reversed, replaced, items_after}
 use Rattle.lsp_edit.specs.Faults.{fault_at, IsFaultOfChange, in_order, ends_of, places_at}
 use Rattle.lsp_edit.specs.inside.Faults.{IsPlaces}
 use Rattle.lsp_edit.specs.Keeps.{Keeps}
@@ -72,7 +72,7 @@ ends_told units text range number start stop is =
 pub fault_told : (units : ℕ → ℕ) (old : List ℕ) (items : List Item) (characters : List ℕ) (range : Range) (number : ℕ)
     (fault : EditFault)
     → IsPlaces (Err fault) (places_at number (text_of old items) (ends_of units (text_of old items) range))
-    → IsFaultOfChange number (after_change units old items (record { range = Some range; text = characters })) fault
+    → IsFaultOfChange number (items_after units old items (record { range = Some range; text = characters })) fault
 fault_told units old items characters range number fault error =
     ⊎_elim
     (λ (e : Err fault ≡ Err NoMemory). inl (cc))
@@ -112,7 +112,7 @@ seen before parts changes = record { before = chars before; items = items_of (ch
 -- The fields after a change.
 pub record IsNext (units : ℕ → ℕ) (before : List ℕ) (parts : List Part) (changes : ℕ) (change : Edit) (next : List Part)
     (len : ℕ) : Type 0 where
-  pub made : after_change units (chars before) (items_of (chars before) parts) change
+  pub made : items_after units (chars before) (items_of (chars before) parts) change
       ≡ Ok (items_of (chars before) next)
   pub are : ArePieces before next len (next_number changes)
 
@@ -123,7 +123,7 @@ module _ (units : ℕ → ℕ) (before : List ℕ) (parts : List Part) (len chan
   now_long = are.long ∙ ap length (parts_bytes before (IsUtf8-from_is_utf8 before are.utf8) parts are.are)
 
   next_of : (change : Edit) (next : List Part) (next_len : ℕ)
-      → after_change units (chars before) (items_of (chars before) parts) change ≡ Ok (items_of (chars before) next)
+      → items_after units (chars before) (items_of (chars before) parts) change ≡ Ok (items_of (chars before) next)
       → AreParts before next → NoneTouch next
       → next_len ≡ length (bytes_of before next) → next_len ≤ 2147483648 → length next ≤ length parts + 2
       → length next < 18446744073709551616 → IsNext units before parts changes change next next_len

@@ -10,7 +10,7 @@ use Rattle.lsp_text.specs.Positions.{denoted}
 use Rattle.lsp_edit.specs.declared.change.Change.{Change}
 use Rattle.lsp_edit.specs.declared.fault.EditFault.{EditFault}
 use Rattle.lsp_edit.specs.Items.{Item, New, character_of, text_of}
-use Rattle.lsp_edit.specs.Batch.{Edit, Fault, Reversed, replaced, changed_in, after_change, after_changes, continue_with}
+use Rattle.lsp_edit.specs.Batch.{Edit, Fault, Reversed, replaced, changed_in, items_after, after_changes, continue_with}
 use Rattle.lsp_edit.specs.Faults.{IsFaultOfChange, IsFaultOfChanges, fault_at}
 use Rattle.lsp_edit.specs.Edited.{Applied, PlainData, edit_of, edited_bytes}
 use Rattle.lsp_edit.proofs.Parts.CutLemmas.{text_of-new}
@@ -38,7 +38,7 @@ replaced_longer text characters a b order =
     omega (arith, ap (λ (cs : List ℕ). length (encode_utf8_all cs)) back)
 
 pub change_longer : (units : ℕ → ℕ) (old : List ℕ) (items next : List Item) (change : Edit)
-    → after_change units old items change ≡ Ok next → length (encode_utf8_all (text_of old next))
+    → items_after units old items change ≡ Ok next → length (encode_utf8_all (text_of old next))
     ≤ length (encode_utf8_all (text_of old items)) + length (encode_utf8_all change.text)
 change_longer units old items next change is = by_range change.range is
   where
@@ -91,7 +91,7 @@ module _ (units : ℕ → ℕ) (before : List ℕ) (meant : Result (List Item) (
     (rest more : List Change) (edited : PlainData) (is : rest ≡ change ∷ more)
     (applying : Applying units before meant done rest edited) where
   left_here : continue_with (λ next. after_changes units before (suc edited.changes) next (map edit_of more))
-      edited.changes (after_change units before edited.items (edit_of change)) ≡ meant
+      edited.changes (items_after units before edited.items (edit_of change)) ≡ meant
   left_here = rw is at applying.left
 
   pub room_here : length (edited_bytes edited) + string_len change.text ≤ 2147483648
@@ -100,8 +100,8 @@ module _ (units : ℕ → ℕ) (before : List ℕ) (meant : Result (List Item) (
   pub applying_on : (next : PlainData) → done < 18446744073709551615 → Applied units edited (edit_of change) next
       → Applying units before meant (done + 1) more next
   applying_on next small applied =
-      let made : after_change units before edited.items (edit_of change) ≡ Ok next.items =
-      ap (λ (b : List ℕ). after_change units b edited.items (edit_of change)) (sym applying.same) ∙ applied.changed in
+      let made : items_after units before edited.items (edit_of change) ≡ Ok next.items =
+      ap (λ (b : List ℕ). items_after units b edited.items (edit_of change)) (sym applying.same) ∙ applied.changed in
       let l : after_changes units before (suc edited.changes) next.items (map edit_of more) ≡ meant =
       rw made at left_here in
       let n : next.changes ≡ suc edited.changes = applied.counted ∙ omega (arith, applying.counted) in
@@ -128,15 +128,15 @@ module _ (units : ℕ → ℕ) (before : List ℕ) (meant : Result (List Item) (
       }
 
   pub faulted : (fault : EditFault)
-      → IsFaultOfChange edited.changes (after_change units edited.before edited.items (edit_of change)) fault
+      → IsFaultOfChange edited.changes (items_after units edited.before edited.items (edit_of change)) fault
       → IsFaultOfChanges meant fault
   faulted fault error =
       ⊎_elim
       (λ (memory : fault ≡ EditFault.NoMemory). inl memory)
-      (λ (t : (why : Fault) × (after_change units edited.before edited.items (edit_of change) ≡ Err why)
+      (λ (t : (why : Fault) × (items_after units edited.before edited.items (edit_of change) ≡ Err why)
       × (fault ≡ fault_at edited.changes why)).
-      let made : after_change units before edited.items (edit_of change) ≡ Err t.0 =
-      ap (λ (b : List ℕ). after_change units b edited.items (edit_of change)) (sym applying.same) ∙ t.1 in
+      let made : items_after units before edited.items (edit_of change) ≡ Err t.0 =
+      ap (λ (b : List ℕ). items_after units b edited.items (edit_of change)) (sym applying.same) ∙ t.1 in
       let l : Err (edited.changes, t.0) ≡ meant = rw made at left_here in
       inr (edited.changes, t.0, sym l, t.2))
       error

@@ -10,10 +10,10 @@ use Rattle.lsp_text.specs.Text.{place_of}
 use Rattle.lsp_text.proofs.Positions.PlaceLemmas.{take_place, drop_place, place_boundary, place_rises}
 use Rattle.lsp_edit.specs.declared.fault.EditFault.{EditFault}
 use Rattle.lsp_edit.specs.declared.fault.EditFault.TheVariants as edit
-use Rattle.lsp_edit.specs.declared.indexed.TextFault.{TextFault}
-use Rattle.lsp_edit.specs.declared.indexed.TextFault.TheVariants.{Edit as EditOf, TooLong, NoMemory}
+use Rattle.lsp_edit.specs.declared.indexed.fault.TextFault.{TextFault}
+use Rattle.lsp_edit.specs.declared.indexed.fault.TextFault.TheVariants.{Edit as EditOf, TooLong, NoMemory}
 use Rattle.lsp_edit.specs.Items.{Item, New, plain, character_of, text_of}
-use Rattle.lsp_edit.specs.Batch.{Fault, InsideStart, InsideStop, Reversed, after_change, meaning}
+use Rattle.lsp_edit.specs.Batch.{Fault, InsideStart, InsideStop, Reversed, items_after, meaning}
 use Rattle.lsp_edit.specs.Faults.{fault_at, ends_of, places_at}
 use Rattle.lsp_edit.specs.Indexed.{alone, bytes_left, text_within, text_fault_of}
 use Rattle.lsp_edit.specs.Once.{put_items}
@@ -137,7 +137,7 @@ module _ (units : ℕ → ℕ) (before : List ℕ) (utf8 : IsUtf8 before) (range
       ⊎_elim
       (λ (e : fault ≡ edit.NoMemory). inl (ap text_fault_of e))
       (λ (why : (w : Fault)
-      × (after_change units (chars before) (plain (chars before)) (record { range = Some range; text = chars new })
+      × (items_after units (chars before) (plain (chars before)) (record { range = Some range; text = chars new })
       ≡ Err w) × (fault ≡ fault_at 0 w)).
       inr (rw (why.1, why.2) (ap (λ (f : TextFault). Err f) (fault_edit 0 why.0))))
       (fault_told units (chars before) (plain (chars before)) (chars new) range 0 fault

@@ -8,8 +8,8 @@ use Rattle.std.proofs.lemmas.Str.{encodes-chars, chars_from_encodes, chars-appen
 use Rattle.lsp_edit.specs.declared.joined.layer.Layer.{Layer}
 use Rattle.lsp_edit.specs.declared.joined.layer.OwnedSpan.{OwnedSpan}
 use Rattle.lsp_edit.specs.declared.joined.layer.OwnedSpan.TheVariants.{Old as OldSpan}
-use Rattle.lsp_edit.specs.declared.indexed.TextFault.{TextFault}
-use Rattle.lsp_edit.specs.declared.indexed.TextFault.TheVariants.{TooLong}
+use Rattle.lsp_edit.specs.declared.indexed.fault.TextFault.{TextFault}
+use Rattle.lsp_edit.specs.declared.indexed.fault.TextFault.TheVariants.{TooLong}
 use Rattle.lsp_edit.specs.Items.{Item, New, plain, text_of}
 use Rattle.lsp_edit.specs.Batch.{Edit, Fault, meaning}
 use Rattle.lsp_edit.specs.Compose.{then_items}

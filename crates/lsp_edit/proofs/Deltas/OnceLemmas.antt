@@ -3,9 +3,9 @@ use Rattle.std.proofs.Common.{ℕ, ◌≡◌, ◌+◌, ◌-◌, ◌≤◌, true,
 use Rattle.std.proofs.lemmas.Bool.{cases_Bool}
 use Rattle.std.specs.List.{replace_range}
 use Rattle.std.specs.Str.{IsCharBoundary, chars}
-use Rattle.lsp_edit.specs.declared.indexed.TextFault.TheVariants.{TooLong}
+use Rattle.lsp_edit.specs.declared.indexed.fault.TextFault.TheVariants.{TooLong}
 use Rattle.lsp_edit.specs.Items.{Item, plain, text_of}
-use Rattle.lsp_edit.specs.Batch.{Edit, Fault, after_change, continue_with, meaning}
+use Rattle.lsp_edit.specs.Batch.{Edit, Fault, items_after, continue_with, meaning}
 use Rattle.lsp_edit.specs.Canonical.{gaps}
 use Rattle.lsp_edit.specs.Edited.{ArePieces, edit_of}
 use Rattle.lsp_edit.specs.Indexed.{alone, bytes_left, text_within}
@@ -99,13 +99,13 @@ module _ (units : ℕ → ℕ) (before : List ℕ) (start stop : ℕ) (new : Lis
   pub put_items_are : items_of (chars before) (replaced_parts (whole_parts before) start stop new)
       ≡ put_items before start stop new
   put_items_are =
-      let made : after_change units (chars before) (plain (chars before)) (record {
+      let made : items_after units (chars before) (plain (chars before)) (record {
         range = Some p.range;
         text = chars new;
       }) ≡ Ok (items_of (chars before) (replaced_parts (whole_parts before) start stop new))
       =
       subst
-      (λ (i : List Item). after_change units (chars before) i (record { range = Some p.range; text = chars new })
+      (λ (i : List Item). items_after units (chars before) i (record { range = Some p.range; text = chars new })
       ≡ Ok (items_of (chars before) (replaced_parts (whole_parts before) start stop new)))
       (whole_is before p.utf8).items
       next.made in

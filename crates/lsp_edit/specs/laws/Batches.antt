@@ -4,7 +4,7 @@ use Rattle.lsp_text.specs.declared.position.Range.{Range}
 use Rattle.lsp_text.specs.TextLines.{splits_crlf}
 use Rattle.lsp_text.specs.Positions.{denoted}
 use Rattle.lsp_edit.specs.Items.{Item, Old, plain, text_of}
-use Rattle.lsp_edit.specs.Batch.{Edit, after_change, meaning}
+use Rattle.lsp_edit.specs.Batch.{Edit, items_after, meaning}
 use Rattle.lsp_edit.specs.Canonical.{DoTheSame, Gap, gaps, is_changed, canonical}
 use Rattle.lsp_edit.specs.Compose.{then_items}
 
@@ -44,7 +44,7 @@ abbrev pub RangesStay : (ℕ → ℕ) → List ℕ → List Item → List Edit �
 RangesStay units old items [] = Unit {0}
 RangesStay units old items (change ∷ batch) =
     DenotesAlike units old (text_of old items) change.range
-    × ((next : List Item) → after_change units old items change ≡ Ok next →
+    × ((next : List Item) → items_after units old items change ≡ Ok next →
     RangesStay units old next batch)
 
 -- What is true of the items that a batch means, and of their canonical batch. That batch means the

@@ -1,6 +1,6 @@
--- Examples of batches in UTF-16: the text that a batch leaves and its canonical batch, or its
--- fault.
-use Rattle.std.specs.Prelude.{◌≡◌, ℕ, List, [], ◌∷◌, codes, Some, None, Result, Ok, Err}
+-- Examples of batches and text edits in UTF-16: the text that they leave and its canonical batch,
+-- or their fault.
+use Rattle.std.specs.Prelude.{◌≡◌, ℕ, List, [], ◌∷◌, length, codes, Some, None, Result, Ok, Err}
 use Rattle.lsp_text.specs.declared.encoding.Encoding.TheVariants.{Utf16}
 use Rattle.lsp_text.specs.Units.{units_in}
 use Rattle.lsp_text.specs.Positions.{denoted}
@@ -8,6 +8,7 @@ use Rattle.lsp_edit.specs.Items.{Item, text_of}
 use Rattle.lsp_edit.specs.Batch.{Edit, Fault, InsideStart, InsideStop, Reversed, meaning}
 use Rattle.lsp_edit.specs.Canonical.{canonical}
 use Rattle.lsp_edit.specs.Compose.{then_items}
+use Rattle.lsp_edit.specs.TextEdits.{LocatedEdit, items_left}
 
 -- A change from one line and character to another.
 abbrev pub change : ℕ → ℕ → ℕ → ℕ → List ℕ → Edit
@@ -49,6 +50,15 @@ abbrev pub through : List ℕ → List ℕ → Result (List Item) (ℕ × Fault)
 through old middle (Ok first) (Ok second) = left_of old (Ok (then_items first second))
 through old middle (Ok first) (Err fault) = Err fault
 through old middle (Err fault) second = Err fault
+
+-- A text edit from one index to another.
+abbrev pub edit_at : ℕ → ℕ → ℕ → List ℕ → LocatedEdit
+edit_at number start stop text
+    = record { number = number; start = start; stop = stop; text = text }
+
+-- What text edits leave of a text.
+abbrev pub edits_leave : List ℕ → List LocatedEdit → Result Left (ℕ × Fault)
+edits_leave old edits = left_of old (Ok (items_left edits (length old)))
 
 -- What the definitions say of the examples.
 pub record HoldsOnExamples : Type 0 where
@@ -109,3 +119,16 @@ pub record HoldsOnExamples : Type 0 where
       (meaning (units_in Utf16) (97 ∷ 10 ∷ []) (change 7 3 7 3 (codes "b") ∷ []))
       (meaning (units_in Utf16) (97 ∷ 10 ∷ 98 ∷ []) (change 1 1 1 1 (codes "c") ∷ []))
       ≡ left (97 ∷ 10 ∷ 98 ∷ 99 ∷ []) (change 1 0 1 0 (codes "bc") ∷ [])
+  -- Text edits count in the old text, in whatever order they come.
+  pub two_edits : edits_leave (codes "abcdef")
+      (edit_at 0 0 2 [] ∷ edit_at 1 3 4 (codes "XYZ") ∷ [])
+      ≡ left (codes "cXYZef") (change 0 3 0 4 (codes "XYZ") ∷ change 0 0 0 2 [] ∷ [])
+  pub the_last_edit_first : edits_leave (codes "abcdef")
+      (edit_at 0 3 4 (codes "XYZ") ∷ edit_at 1 0 2 [] ∷ [])
+      ≡ left (codes "cXYZef") (change 0 3 0 4 (codes "XYZ") ∷ change 0 0 0 2 [] ∷ [])
+  -- Those that start at one index come in the order of the list.
+  pub at_one_index : edits_leave (codes "abc")
+      (edit_at 0 1 1 (codes "X") ∷ edit_at 1 1 1 (codes "Y") ∷ edit_at 2 1 2 (codes "Z") ∷ [])
+      ≡ left (codes "aXYZc") (change 0 1 0 2 (codes "XYZ") ∷ [])
+  pub at_the_end : edits_leave (codes "ab") (edit_at 0 2 2 (codes "X") ∷ [])
+      ≡ left (codes "abX") (change 0 2 0 2 (codes "X") ∷ [])

@@ -1,9 +1,12 @@
 //! The text that a batch leaves, which is made in a copy.
 
-ghost use Rattle.std.specs.Prelude.{◌≡◌, ◌+◌, ◌≤◌, ℕ, IfErr, IfOk, Ok, Some, length, map, string_len, sum_by};
-ghost use Rattle.std.specs.Str.{chars};
+ghost use Rattle.std.specs.Prelude.{◌≡◌, ◌+◌, ◌<◌, ◌≤◌, ℕ, IfErr, IfOk, OnOk, Err, Ok, Some, length, map, string_len, sum_by};
+ghost use Rattle.std.specs.Str.{IsUtf8, chars};
 ghost use Rattle.lsp_text.specs.Units.{units_in};
+ghost use Rattle.lsp_edit.specs.declared.indexed.fault.TextFault.TheVariants.{TooLong, NoMemory};
+ghost use Rattle.lsp_edit.specs.Batch.{meaning};
 ghost use Rattle.lsp_edit.specs.Edited.{edit_of};
+ghost use Rattle.lsp_edit.specs.Indexed.{IsTextFaultOf, text_within};
 ghost use Rattle.lsp_edit.specs.inside.TextBatch.{IsFaultOf, IsFaultOfBatch, text_after_change, text_after_changes};
 
 use crate::change::{Change, MAX_NEW_TEXT};
@@ -11,6 +14,7 @@ use crate::composed::MAX_OLD_TEXT;
 use crate::ends::ends;
 use crate::fault::EditFault;
 use crate::indexed::IndexedText;
+use crate::indexed::fault::TextFault;
 use crate::pieces::MAX_TEXT;
 use lsp_text::{Encoding, Range};
 use std::alloc::{AllocError, Global};
@@ -116,4 +120,37 @@ impl IndexedText {
         let draft = self.begun(changes)?;
         draft.after_all(encoding, changes)
     }
+
+    /// Applies a batch to a copy of the text, without spans, if the result has at most `max_len`
+    /// bytes.
+    pub(super) fn draft(
+        &self,
+        encoding: Encoding,
+        changes: &[Change],
+        max_len: usize,
+    ) -> Result<Self, TextFault>
+        requires size { length self.now ≤ MAX_OLD_TEXT }
+        requires fits { sum_by (λ change. string_len change.text) changes.now ≤ MAX_NEW_TEXT }
+        ensures ok { IfOk result
+            (λ left. text_within max_len self.now
+            (meaning (units_in encoding) (chars self.now) (map edit_of changes.now)) ≡ Ok left) }
+        ensures error { IfErr result (IsTextFaultOf (units_in encoding) max_len self.now
+            (map edit_of changes.now)) }
+    {
+        let draft = self.left_by(encoding, changes)?;
+        may_be_left(&draft, max_len)?;
+        Ok(draft)
+    }
+}
+
+/// Fails if the text that a batch leaves has more than `max_len` bytes. Takes no memory.
+fn may_be_left(draft: &IndexedText, max_len: usize) -> Result<(), TextFault>
+    ensures ok { OnOk result (length draft.now ≤ max_len) }
+    ensures utf8 { IsUtf8 draft.now }
+    ensures error { IfErr result (λ fault. (fault ≡ TooLong) × (max_len < length draft.now)) }
+{
+    if draft.len() > max_len {
+        return Err(TextFault::TooLong);
+    }
+    Ok(())
 }

@@ -11,18 +11,18 @@ static EDIT_FAULTS: [(EditFault, &str); 4] = [
             change: 0,
             side: Side::Start,
         },
-        "change 0: Start lies inside a character",
+        "change at index 0: the start of its range lies inside a character",
     ),
     (
         EditFault::InsideCharacter {
             change: 7,
             side: Side::Stop,
         },
-        "change 7: Stop lies inside a character",
+        "change at index 7: the end of its range lies inside a character",
     ),
     (
         EditFault::ReversedRange { change: 1 },
-        "change 1: the range is reversed",
+        "change at index 1: the range is reversed",
     ),
     (EditFault::NoMemory, "out of memory"),
 ];
@@ -30,7 +30,7 @@ static EDIT_FAULTS: [(EditFault, &str); 4] = [
 static TEXT_FAULTS: [(TextFault, &str); 3] = [
     (
         TextFault::Edit(EditFault::ReversedRange { change: 2 }),
-        "change 2: the range is reversed",
+        "change at index 2: the range is reversed",
     ),
     (TextFault::TooLong, "the text is too long"),
     (TextFault::NoMemory, "out of memory"),

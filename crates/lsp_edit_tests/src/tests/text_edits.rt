@@ -158,18 +158,18 @@ static TEXTS: [(TextEditFault, &str); 4] = [
             edit: 3,
             side: Side::Stop,
         },
-        "edit 3: Stop lies inside a character",
+        "edit at index 3: the end of its range lies inside a character",
     ),
     (
         TextEditFault::ReversedRange { edit: 1 },
-        "edit 1: the range is reversed",
+        "edit at index 1: the range is reversed",
     ),
     (
         TextEditFault::Overlap {
             first: 4,
             second: 2,
         },
-        "edits 4 and 2 overlap",
+        "edits at index 4 and 2 overlap",
     ),
     (TextEditFault::NoMemory, "out of memory"),
 ];

@@ -3,7 +3,7 @@ use Rattle.std.specs.Prelude.{ℕ, ◌≡◌, ◌+◌, ◌≤◌, ◌<◌, Bool,
 use Rattle.std.specs.List.{AllByRecursion, list_all}
 use Rattle.lsp_frame.specs.Header.{Line, IsLine, AreLines, IsNameByte, lines_bytes, header_of, line_bytes}
 use Rattle.lsp_frame.specs.Charset.{trimmed, is_text, has_good_charset}
-use Rattle.lsp_frame.specs.Verdict.{values_of, is_digit, is_number, number, judge}
+use Rattle.lsp_frame.specs.Verdict.{values_of, is_digit, is_number, number, judge_header}
 use Rattle.lsp_frame.specs.declared.framer.shape.Shape.{Shape}
 use Rattle.lsp_frame.specs.declared.framer.shape.Shape.TheVariants as shape
 use Rattle.lsp_frame.specs.declared.framer.notes.Length.{Length}
@@ -140,7 +140,7 @@ pub record IsInBody (max_body : ℕ) (buffered : List ℕ) (start stop_at : ℕ)
   pub is : buffered ≡ header_of lines ++ body
   pub starts : start ≡ length (header_of lines)
   pub short : start ≤ 8192
-  pub good : judge max_body lines ≡ Ok wanted
+  pub good : judge_header max_body lines ≡ Ok wanted
   pub ends : stop_at ≡ start + wanted
   pub within : length buffered ≤ stop_at
   pub small : wanted ≤ max_body

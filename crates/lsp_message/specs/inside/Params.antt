@@ -1,8 +1,13 @@
 -- What only proofs and private contracts use of `Params`.
-use Rattle.std.specs.Prelude.{IsSomeAnd}
+use Rattle.std.specs.Prelude.{List, Option, IsSomeAnd}
 use Rattle.serde_json.specs.Data.{Items, Members}
-use Rattle.lsp_message.specs.Params.{change_by, HasChanges}
+use Rattle.lsp_message.specs.Values.{each_of}
+use Rattle.lsp_message.specs.Params.{EditData, edit_in, change_by, HasChanges}
 
--- Reading these members and items takes memory.
-abbrev pub TakesMemoryBy : Members → Items → Type 0
-TakesMemoryBy document changes = IsSomeAnd (change_by document changes) HasChanges
+-- The changes that the items of an array are; none if one of them is no change.
+abbrev pub edits_in : Items → Option (List EditData)
+edits_in items = each_of edit_in items
+
+-- Reading these members and items may take memory.
+abbrev pub MembersMayAllocate : Members → Items → Type 0
+MembersMayAllocate document changes = IsSomeAnd (change_by document changes) HasChanges

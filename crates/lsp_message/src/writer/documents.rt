@@ -5,7 +5,7 @@ ghost use Rattle.serde_json.specs.Data.{array};
 ghost use Rattle.serde_json.specs.View.{items_of};
 ghost use Rattle.lsp_message.specs.Outgoing as spec;
 ghost use Rattle.lsp_message.specs.Written as values;
-ghost use Rattle.lsp_message.specs.Seen.{open_view, edit_view, change_data, change_message, close_view};
+ghost use Rattle.lsp_message.specs.Seen.{open_view, edit_view, change_data, did_change_of, close_view};
 ghost use Rattle.lsp_message.specs.inside.Tokens.{Appends, tokens_of, range_tokens};
 
 use crate::params::{CloseParams, OpenParams};
@@ -68,7 +68,7 @@ pub fn write_change(
     changes: &[Change],
 ) -> Result<(), AllocError>
     ensures tokens { OnOk result (Appends writer.old writer.new
-        (tokens_of (values.value_of (change_message uri.now version changes.now)))) }
+        (tokens_of (values.value_of (did_change_of uri.now version changes.now)))) }
     ensures before { writer.new.before ≡ writer.old.before }
 {
     writer.begin_object()?;

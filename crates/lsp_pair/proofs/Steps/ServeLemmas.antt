@@ -76,13 +76,13 @@ serve_is c s new limits items rest back next first body buffered given result ou
 
 -- ---- a delivery to the client
 
-heard_same : (d : client.DeliveredData OutgoingData) → heard_of (seen.as_sent d) ≡ heard_of d
+heard_same : (d : client.DeliveredData OutgoingData) → heard_of (seen.as_frame d) ≡ heard_of d
 heard_same (client.sends m) = refl
 heard_same client.noted = refl
 heard_same client.ignored = refl
 heard_same (client.bad_server reason) = refl
 
-bytes_same : (d : client.DeliveredData OutgoingData) → frames_in_delivery (seen.as_sent d)
+bytes_same : (d : client.DeliveredData OutgoingData) → frames_in_delivery (seen.as_frame d)
     ≡ map message_frame (messages_in d)
 bytes_same (client.sends m) = refl
 bytes_same client.noted = refl
@@ -92,7 +92,7 @@ bytes_same (client.bad_server reason) = refl
 listening : (b : Bool) → b ≡ true → (s : client.ClientData) (body : List ℕ) (given : client.DeliveredData (List ℕ))
     (new : client.ClientData) → seen.IsDelivered
     (if b then Ok (client.delivery_of s (reading body)) else Err (WrongPhase s.phase)) given new
-    → (given ≡ seen.as_sent (client.delivery_of s (reading body)).delivered)
+    → (given ≡ seen.as_frame (client.delivery_of s (reading body)).delivered)
     × (new ≡ (client.delivery_of s (reading body)).state)
 listening true e s body given new h = h
 listening false e s body given new h = absurd h

@@ -18,7 +18,7 @@ use Rattle.lsp_server.specs.declared.phase.Phase.TheVariants.{New, Running, Down
 use Rattle.lsp_server.specs.Answer as answer
 use Rattle.lsp_server.specs.Incoming as incoming
 use Rattle.lsp_server.specs.Step as server
-use Rattle.lsp_server.specs.Step.{ServerData, Step, step_on, step_in, step, begins}
+use Rattle.lsp_server.specs.Step.{ServerData, Step, step_on, step_in, step, begin_step}
 use Rattle.lsp_client.specs.Step.{sent_body}
 use Rattle.lsp_pair.specs.declared.event.Happened.TheVariants.{Server}
 use Rattle.lsp_pair.specs.Events.{Setting, did_of, replies_in}
@@ -97,7 +97,7 @@ life_written : (s : ServerData) (m : OutgoingData) → IsProper m → step s (re
 life_written s m proper = ap (step s) (reading-body_of m proper)
 
 begins_given : (s : ServerData) (offers : Offers)
-    → step_in New s (incoming_of_message (lifecycle (outgoing.initialize offers))) ≡ begins s (whole (pos 1)) offers
+    → step_in New s (incoming_of_message (lifecycle (outgoing.initialize offers))) ≡ begin_step s (whole (pos 1)) offers
 begins_given s offers =
     ap (λ o. step_in New s (incoming.initialize (whole (pos 1)) o)) (is_read_back (outgoing.initialize offers) tt)
 
@@ -159,7 +159,7 @@ module _ (setting : Setting) (sound : IsFitting setting) (w : World) where
   busy_arrives shape next (lifecycle outgoing.initialized) rest at is first running counts busy client agreed phase
       encoding there here =
       let e : waiting_out w ≡ lifecycle outgoing.initialized ∷ rest = at.there ∙ first in
-      let step_is : Step = server.stays (server_of setting w) answer.ignored in
+      let step_is : Step = server.unchanged_step (server_of setting w) answer.ignored in
       let given : step_on (server_of setting w) (incoming_of_message (lifecycle outgoing.initialized)) ≡ step_is =
       ap (λ (p : Phase). step_in p (server_of setting w) (incoming_of_message (lifecycle outgoing.initialized)))
       (at.server_is ∙ running) in
@@ -180,7 +180,7 @@ module _ (setting : Setting) (sound : IsFitting setting) (w : World) where
   asking_arrives : AtShape setting w asking → Arrives setting w (lifecycle (outgoing.initialize setting.offers)) []
   asking_arrives at =
       let e : waiting_out w ≡ lifecycle (outgoing.initialize setting.offers) ∷ [] = at.there in
-      let step_is : Step = begins (server_of setting w) (whole (pos 1)) setting.offers in
+      let step_is : Step = begin_step (server_of setting w) (whole (pos 1)) setting.offers in
       let given : step_on (server_of setting w) (incoming_of_message (lifecycle (outgoing.initialize setting.offers)))
       ≡ step_is =
       ap (λ (p : Phase). step_in p (server_of setting w)
@@ -200,7 +200,7 @@ module _ (setting : Setting) (sound : IsFitting setting) (w : World) where
   shutdown_arrives : AtShape setting w (closing []) → Arrives setting w (lifecycle outgoing.shutdown) []
   shutdown_arrives at =
       let e : waiting_out w ≡ lifecycle outgoing.shutdown ∷ [] = at.there in
-      let step_is : Step = server.step_to (server_of setting w) Down (answer.reply last_result) in
+      let step_is : Step = server.phase_step (server_of setting w) Down (answer.reply last_result) in
       let given : step_on (server_of setting w) (incoming_of_message (lifecycle outgoing.shutdown)) ≡ step_is =
       ap (λ (p : Phase). step_in p (server_of setting w) (incoming_of_message (lifecycle outgoing.shutdown)))
       at.server_is in
@@ -218,7 +218,7 @@ module _ (setting : Setting) (sound : IsFitting setting) (w : World) where
   exit_arrives : AtShape setting w leaving → Arrives setting w (lifecycle outgoing.exit) []
   exit_arrives at =
       let e : waiting_out w ≡ lifecycle outgoing.exit ∷ [] = at.there in
-      let step_is : Step = server.step_to (server_of setting w) Ended (answer.exits 0) in
+      let step_is : Step = server.phase_step (server_of setting w) Ended (answer.exits 0) in
       let given : step_on (server_of setting w) (incoming_of_message (lifecycle outgoing.exit)) ≡ step_is =
       ap (λ (p : Phase). step_in p (server_of setting w) (incoming_of_message (lifecycle outgoing.exit)))
       at.server_is in

@@ -14,7 +14,7 @@ use Rattle.lsp_client.specs.declared.agreed.Agreed.{Agreed}
 use Rattle.lsp_client.specs.declared.phase.Phase.{Phase}
 use Rattle.lsp_client.specs.declared.phase.Phase.TheVariants.{Asked, Closing, Done}
 use Rattle.lsp_client.specs.Step as client
-use Rattle.lsp_client.specs.Step.{Sending, Order, Call, opens, edits, closes, starts, shuts_down, exits, orders, call_result, call_result_in, command_result, command_of, message_of, sending_unless, agreement}
+use Rattle.lsp_client.specs.Step.{Sending, Order, Call, opens, edits, closes, starts, shuts_down, exits, orders, call_result, call_result_in, command_result, command_of, sent_message, sending_unless, agreement}
 use Rattle.lsp_client.specs.inside.Orders.{order_refusal, order_result}
 use Rattle.lsp_pair.specs.Events.{Setting, calls}
 use Rattle.lsp_pair.specs.Pair.{message_frame}
@@ -82,7 +82,7 @@ module _ (setting : Setting) (w : World) where
           (client_of setting w).table command ≡ refusal
           → CallResult setting w (λ m. commands command)
           (sending_unless refusal (record {
-            message = message_of (the_kind setting) (client_of setting w).table command;
+            message = sent_message (the_kind setting) (client_of setting w).table command;
             state = record (client_of setting w) { table = table_after (client_of setting w).table command };
           }))
       by (Some refusal) is = tt
@@ -93,7 +93,7 @@ module _ (setting : Setting) (w : World) where
             next =
                 push setting w (working busy) (working (busy ++ commands command ∷ [])) (commands command)
                 (record {
-                  message = message_of (the_kind setting) (client_of setting w).table command;
+                  message = sent_message (the_kind setting) (client_of setting w).table command;
                   state = record (client_of setting w) { table = table_after (client_of setting w).table command };
                 })
                 at (busy_last busy (commands command) at.busy tt) refl refl at.client_is at.agreed_is refl refl

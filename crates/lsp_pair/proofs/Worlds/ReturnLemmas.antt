@@ -16,7 +16,7 @@ use Rattle.lsp_server.specs.declared.config.EncodingChoice.{EncodingChoice}
 use Rattle.lsp_server.specs.declared.config.EncodingChoice.TheVariants.{Fixed, Negotiated}
 use Rattle.lsp_server.specs.declared.config.ChangeForm.{ChangeForm}
 use Rattle.lsp_server.specs.declared.config.ChangeForm.TheVariants.{Incremental, Full}
-use Rattle.lsp_server.specs.Choice.{chosen, announced_kind}
+use Rattle.lsp_server.specs.Choice.{encoding_chosen, announced_kind}
 use Rattle.lsp_server.proofs.LawLemmas.{offered_if}
 use Rattle.lsp_client.specs.declared.phase.Phase.{Phase}
 use Rattle.lsp_client.specs.declared.phase.Phase.TheVariants.{Closed}
@@ -81,7 +81,7 @@ return setting w shape next m rest delivery at e busy server encoding phase agre
 -- ---- what is announced
 
 pub offered_is : (choice : EncodingChoice) (offers : Offers) → is_utf16 choice ≡ true
-    → is_offered offers (chosen choice offers) ≡ true
+    → is_offered offers (encoding_chosen choice offers) ≡ true
 offered_is (Fixed Utf8) offers e = absurd (let bad : false ≡ true = e in cc)
 offered_is (Fixed Utf16) offers e = refl
 offered_is (Fixed Utf32) offers e = absurd (let bad : false ≡ true = e in cc)

@@ -31,7 +31,7 @@ use Rattle.lsp_server.specs.declared.phase.Phase.{Phase}
 use Rattle.lsp_server.specs.declared.phase.Phase.TheVariants.{Running}
 use Rattle.lsp_server.specs.Answer as answer
 use Rattle.lsp_server.specs.Incoming as incoming
-use Rattle.lsp_server.specs.Step.{ServerData, Step, edit_from_data, obeyed, obeys, step_on, step, step_in, session_encoding}
+use Rattle.lsp_server.specs.Step.{ServerData, Step, edit_from_data, result_step, command_step, step_on, step, step_in, session_encoding}
 use Rattle.lsp_server.proofs.EditLemmas.{edits_back}
 use Rattle.lsp_client.specs.Step.{sent_batch, sent_body}
 use Rattle.lsp_client.specs.inside.Orders.{order_refusal}
@@ -171,19 +171,20 @@ abbrev pub done_by : ServerData → List DocumentItem → Step
 done_by s next = record { answer = answer.changed; state = record s { table = next } }
 
 obeys_done : (s : ServerData) (command : Command) → command_refusal s.config.limits s.table command ≡ None
-    → obeys s command ≡ done_by s (table_after s.table command)
-obeys_done s command may = ap (λ (r : Option Refusal). obeyed s (unless_refused r (table_after s.table command))) may
+    → command_step s command ≡ done_by s (table_after s.table command)
+obeys_done s command may =
+    ap (λ (r : Option Refusal). result_step s (unless_refused r (table_after s.table command))) may
 
 run_open : (s : ServerData) (p : DocumentItem) → s.phase ≡ Running → step_on s (incoming.did_open (Some p))
-    ≡ obeys s (opens p)
+    ≡ command_step s (opens p)
 run_open s p running = ap (λ (phase : Phase). step_in phase s (incoming.did_open (Some p))) running
 
 run_change : (s : ServerData) (p : ChangeData) → s.phase ≡ Running → step_on s (incoming.did_change (Some p))
-    ≡ obeys s (changes p.uri p.version (session_encoding s) (map edit_from_data p.changes))
+    ≡ command_step s (changes p.uri p.version (session_encoding s) (map edit_from_data p.changes))
 run_change s p running = ap (λ (phase : Phase). step_in phase s (incoming.did_change (Some p))) running
 
 run_close : (s : ServerData) (p : CloseData) → s.phase ≡ Running → step_on s (incoming.did_close (Some p))
-    ≡ obeys s (closes p.uri)
+    ≡ command_step s (closes p.uri)
 run_close s p running = ap (λ (phase : Phase). step_in phase s (incoming.did_close (Some p))) running
 
 -- ---- what is read
@@ -250,8 +251,8 @@ module _ (small great : LimitsData) (encoding : Encoding) (kind : SyncKind) (s :
       ≡ done_by s (after_change (units_in encoding) s.table uri version batch)
   change_done uri version batch other texts is =
       run_change s (record { uri = uri; version = version; changes = map written_edit other }) running
-      ∙ (ap (λ (b : List Edit). obeys s (changes uri version (session_encoding s) b)) (edits_back other texts)
-      ∙ (ap (λ (e : Encoding). obeys s (changes uri version e other)) encoding_is
+      ∙ (ap (λ (b : List Edit). command_step s (changes uri version (session_encoding s) b)) (edits_back other texts)
+      ∙ (ap (λ (e : Encoding). command_step s (changes uri version e other)) encoding_is
       ∙ (obeys_done s (changes uri version encoding other) (accepted_here (changes uri version encoding other)
       is.accepted)
       ∙ ap (done_by s) is.leaves)))

@@ -12,7 +12,7 @@ use Rattle.lsp_store.specs.laws.Tables.{AllWithin, HasTexts}
 use Rattle.lsp_store.proofs.LawLemmas.{within_law}
 use Rattle.lsp_server.specs.declared.phase.Phase as server_phase
 use Rattle.lsp_server.specs.declared.phase.Phase.TheVariants as server_phases
-use Rattle.lsp_server.specs.Choice.{chosen, announced_kind}
+use Rattle.lsp_server.specs.Choice.{encoding_chosen, announced_kind}
 use Rattle.lsp_client.specs.declared.agreed.Agreed.{Agreed}
 use Rattle.lsp_client.specs.declared.phase.Phase as client_phase
 use Rattle.lsp_client.specs.declared.phase.Phase.TheVariants as client_phases
@@ -27,7 +27,7 @@ use Rattle.lsp_pair.proofs.Worlds.ListLemmas.{table_after_all}
 -- ---- what was said
 
 abbrev pub the_encoding : Setting → Encoding
-the_encoding setting = chosen setting.config.choice setting.offers
+the_encoding setting = encoding_chosen setting.config.choice setting.offers
 
 abbrev pub the_kind : Setting → SyncKind
 the_kind setting = announced_kind setting.config.sync

@@ -13,7 +13,7 @@ use Rattle.lsp_pair.specs.laws.World.{ClientMessage, commands, lifecycle, World,
 
 -- The frame of a message, where the client had this table when it sent it.
 abbrev pub frame_of : SyncKind → List DocumentItem → ClientMessage → List ℕ
-frame_of kind table (commands command) = message_frame (client.message_of kind table command)
+frame_of kind table (commands command) = message_frame (client.sent_message kind table command)
 frame_of kind table (lifecycle m) = message_frame m
 
 -- The table after a message.

@@ -2,7 +2,7 @@
 use Rattle.std.specs.Prelude.{◌≡◌, Bool, true, false, slice_get, MatchOption, Some, None, ⊤}
 use Rattle.lsp_message.specs.Outgoing as outgoing
 use Rattle.lsp_message.specs.Outgoing.{OutgoingData}
-use Rattle.lsp_server.specs.Choice.{chosen, announced_kind}
+use Rattle.lsp_server.specs.Choice.{encoding_chosen, announced_kind}
 use Rattle.lsp_client.specs.declared.agreed.Agreed.{Agreed}
 use Rattle.lsp_client.specs.declared.phase.Phase.{Phase}
 use Rattle.lsp_client.specs.declared.phase.Phase.TheVariants.{New, Asked, Failed}
@@ -47,7 +47,7 @@ IsUsualTurn w to_client happened =
 abbrev pub agreed_of : Setting → Agreed
 agreed_of setting =
     record {
-      encoding = chosen setting.config.choice setting.offers;
+      encoding = encoding_chosen setting.config.choice setting.offers;
       kind = announced_kind setting.config.sync;
     }
 

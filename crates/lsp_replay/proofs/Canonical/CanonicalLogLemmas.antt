@@ -11,14 +11,14 @@ use Rattle.lsp_message.specs.Seen.{edit_view}
 use Rattle.lsp_edit.specs.declared.change.Change.{Change}
 use Rattle.lsp_store.specs.declared.fault.StoreFault.{StoreFault}
 use Rattle.lsp_store.specs.declared.fault.StoreFault.TheVariants.{BodyTooLong, NoMemory}
-use Rattle.lsp_store.specs.Faults.{IsRefusal, fault_of}
+use Rattle.lsp_store.specs.Faults.{IsRefusal, refusal_fault}
 use Rattle.lsp_store.specs.Message.{body_refusal, else_refused}
 use Rattle.lsp_store.specs.Table.{Refusal, body_too_long, change_refusal, unless_refused, command_refusal, table_after}
 use Rattle.lsp_server.specs.declared.phase.Phase.{Phase}
 use Rattle.lsp_server.specs.declared.phase.Phase.TheVariants.{New, Running, Down, Ended}
 use Rattle.lsp_server.specs.Answer.{AnswerData, Sent, changed, as_sent}
 use Rattle.lsp_server.specs.Incoming.{did_change}
-use Rattle.lsp_server.specs.Step.{ServerData, edit_from_data, session_encoding, obeyed, change_command, step_in}
+use Rattle.lsp_server.specs.Step.{ServerData, edit_from_data, session_encoding, result_step, change_command, step_in}
 use Rattle.lsp_replay.specs.Session.{Session, Verdict, answered, recorded, bad, Judged, judged, judge_client, judge_server}
 use Rattle.lsp_replay.specs.Commands.{canonical_if, written, writes, ends}
 use Rattle.lsp_log.specs.declared.record.Version.{Version}
@@ -52,7 +52,7 @@ heard_has_none server change s announced = none_unless_answered server change (j
 -- ---- a change that is answered by `changed` was not refused
 
 obeyed_changed : (s : ServerData) (refusal : Option Refusal) (next : List DocumentItem)
-    → as_sent (obeyed s (unless_refused refusal next)).answer ≡ changed → refusal ≡ None
+    → as_sent (result_step s (unless_refused refusal next)).answer ≡ changed → refusal ≡ None
 obeyed_changed s None next e = refl
 obeyed_changed s (Some refusal) next e = cc
 
@@ -121,7 +121,7 @@ over_none true len e = cc
 over_none false len e = refl
 
 over_some : (over : Bool) (len : ℕ) (fault : StoreFault)
-    → option_map fault_of (if over then Some (body_too_long len) else None) ≡ Some fault
+    → option_map refusal_fault (if over then Some (body_too_long len) else None) ≡ Some fault
     → (over ≡ true) × (fault ≡ BodyTooLong len)
 over_some true len fault e = (refl, cc)
 over_some false len fault e = cc

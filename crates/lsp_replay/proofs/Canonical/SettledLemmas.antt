@@ -25,7 +25,7 @@ use Rattle.lsp_store.proofs.LawLemmas.{within_at}
 use Rattle.lsp_server.specs.declared.phase.Phase.{Phase}
 use Rattle.lsp_server.specs.declared.phase.Phase.TheVariants.{New, Running, Down, Ended}
 use Rattle.lsp_server.specs.Incoming.{did_change, incoming_of}
-use Rattle.lsp_server.specs.Step.{ServerData, step_in, step_on, obeyed, edit_from_data, session_encoding}
+use Rattle.lsp_server.specs.Step.{ServerData, step_in, step_on, result_step, edit_from_data, session_encoding}
 use Rattle.lsp_server.proofs.EditLemmas.{edits_back}
 use Rattle.lsp_replay.specs.Commands.{canonical_change_body}
 use Rattle.lsp_replay.proofs.Canonical.CanonicalLogLemmas.{within}
@@ -73,11 +73,11 @@ same_change server p again New may also same = refl
 same_change server p again Down may also same = refl
 same_change server p again Ended may also same = refl
 same_change server p again Running may also same =
-    ap (λ r. obeyed server
+    ap (λ r. result_step server
     (unless_refused r (after_change (units_in (session_encoding server)) server.table again.uri again.version
     (map edit_from_data again.changes)))) also
-    ∙ ap (λ t. obeyed server (unless_refused None t)) same
-    ∙ sym (ap (λ r. obeyed server
+    ∙ ap (λ t. result_step server (unless_refused None t)) same
+    ∙ sym (ap (λ r. result_step server
     (unless_refused r (after_change (units_in (session_encoding server)) server.table p.uri p.version
     (map edit_from_data p.changes)))) may)
 

@@ -16,9 +16,9 @@ use Rattle.lsp_text.specs.declared.encoding.Encoding.{Encoding}
 use Rattle.lsp_server.specs.declared.phase.Phase.{Phase}
 use Rattle.lsp_server.specs.declared.phase.Phase.TheVariants.{New, Running, Down, Ended}
 use Rattle.lsp_server.specs.Answer.{AnswerData, Sent, reply, changed, dropped, ignored, already_ended, refused, exits, as_sent}
-use Rattle.lsp_server.specs.Choice.{chosen, announced_kind}
+use Rattle.lsp_server.specs.Choice.{encoding_chosen, announced_kind}
 use Rattle.lsp_server.specs.Incoming.{IncomingData, not_json, not_a_message, response, initialize, shutdown, other_request, exit, did_open, did_change, did_close, other_notification}
-use Rattle.lsp_server.specs.Step.{ServerData, step_in, step_on, begins, with_encoding}
+use Rattle.lsp_server.specs.Step.{ServerData, step_in, step_on, begin_step, with_encoding}
 use Rattle.lsp_log.specs.declared.record.Version.{Version}
 use Rattle.lsp_log.specs.declared.record.Version.TheVariants.{One, Two}
 use Rattle.lsp_stream.specs.Ports.{one_more}
@@ -127,8 +127,9 @@ FollowsStep s n phase server m =
 begun : (s : Session) (n : ℕ) (server : ServerData) (id : IdData) (offers : Offers) → IsProperId id
     → FollowsStep s n New server (initialize id (Some offers))
 begun s n server id offers proper =
-    hears_result (rest_after s n (begins server id offers).state (as_sent (begins server id offers).answer) (Some id))
-    id (chosen server.config.choice offers) (announced_kind server.config.sync) proper
+    hears_result
+    (rest_after s n (begin_step server id offers).state (as_sent (begin_step server id offers).answer) (Some id))
+    id (encoding_chosen server.config.choice offers) (announced_kind server.config.sync) proper
 
 pub follows_step : (s : Session) (n : ℕ) (phase : Phase) (server : ServerData) (m : IncomingData) → IsProperIncoming m
     → FollowsStep s n phase server m

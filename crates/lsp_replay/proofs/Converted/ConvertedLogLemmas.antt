@@ -8,7 +8,7 @@ use Rattle.lsp_frame.specs.Limits.{LimitsData, AreInRange}
 use Rattle.lsp_frame.proofs.WrittenLemmas.{written_is_frame}
 use Rattle.lsp_message.specs.Message.{IdData, reading}
 use Rattle.lsp_message.specs.Outgoing.{OutgoingData, body_of}
-use Rattle.lsp_server.specs.Answer.{AnswerData, Sent, reply, changed, dropped, ignored, already_ended, refused, exits, as_sent, sent}
+use Rattle.lsp_server.specs.Answer.{AnswerData, Sent, reply, changed, dropped, ignored, already_ended, refused, exits, as_sent, sent_reply}
 use Rattle.lsp_server.specs.Incoming.{incoming_of}
 use Rattle.lsp_server.specs.Step.{ServerData, step_on}
 use Rattle.lsp_stream.specs.declared.fault.EngineFault.TheVariants.{BadLog}
@@ -135,16 +135,17 @@ module _ (limits : LimitsData) (ranges : AreInRange limits) where
         }
 
     replied : (server : ServerData) (o : OutgoingData) (e : Option IdData) → length (body_of o) ≤ limits.max_body
-        → judge s r ≡ judged (answered (reply (sent o))) (next_of s server (reply (sent o)))
-        → judge t (client_at at due r) ≡ judged (answered (reply (sent o))) (rest_after s n server (reply (sent o)) e)
-        → Follows (rest_after s n server (reply (sent o)) e) (reply o)
-        → ((later m : ℕ) → AreConverted later false (next_of s server (reply (sent o)))
-        (twin (next_of s server (reply (sent o))) m) rs) → AreConverted at due s t (r ∷ rs)
+        → judge s r ≡ judged (answered (reply (sent_reply o))) (next_of s server (reply (sent_reply o)))
+        → judge t (client_at at due r)
+        ≡ judged (answered (reply (sent_reply o))) (rest_after s n server (reply (sent_reply o)) e)
+        → Follows (rest_after s n server (reply (sent_reply o)) e) (reply o)
+        → ((later m : ℕ) → AreConverted later false (next_of s server (reply (sent_reply o)))
+        (twin (next_of s server (reply (sent_reply o))) m) rs) → AreConverted at due s t (r ∷ rs)
     unfolding client_at server_at
     replied server o e fits one two follows more =
         let q = client_at at due r in
         let place = at + length (record_bytes Two q) in
-        let answer = reply (sent o) in
+        let answer = reply (sent_reply o) in
         let p = server_at place o in
         let m = more (place + length (record_bytes Two p)) (one_more (one_more n)) in
         let error : run_output_in replaying s (r ∷ rs)

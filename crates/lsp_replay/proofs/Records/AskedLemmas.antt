@@ -1,5 +1,5 @@
 -- What a body asks is as the types hold it: its texts are UTF-8, and its numbers fit.
-use Rattle.std.proofs.Common.{◌≡◌, ℕ, ℤ, pos, negsuc, ◌<◌, ◌^◌, Bool, true, false, ◌||◌, List, [], ◌∷◌, map, Option, Some, None, option_map, FitsSigned, IsUtf8, bytes_eq, codes, refl, arith}
+use Rattle.std.proofs.Common.{◌≡◌, ℕ, ℤ, pos, negsuc, ◌<◌, ◌^◌, Bool, true, false, ◌||◌, List, [], ◌∷◌, map, Option, Some, None, option_map, option_and_then, FitsSigned, IsUtf8, bytes_eq, codes, refl, arith}
 use Rattle.std.specs.Prelude.{⊤, if◌then◌else◌, nat_lt, int_lt}
 use Rattle.std.specs.Int.{w32}
 use Rattle.std.specs.Option.{option_map_or}
@@ -13,10 +13,10 @@ use Rattle.std.proofs.lemmas.Str.{IsUtf8-from_is_utf8, scalars-chars}
 use Rattle.serde_json.specs.Data.{Num, unsigned, negative, float, Data, null, boolean, number, string, array, object, Items, no_items, item, Members, no_members, member}
 use Rattle.serde_json.specs.Find.{get_member, get, as_object, as_str, as_array, as_i64}
 use Rattle.serde_json.specs.Read.{read}
-use Rattle.lsp_message.specs.Values.{member_at, text_in, items_in, is_null, whole_in}
+use Rattle.lsp_message.specs.Values.{member_at, text_in, array_in, each_of, whole_in}
 use Rattle.lsp_message.specs.Message as msg
-use Rattle.lsp_message.specs.Message.{IdData, whole, text, Reading, MessageData, id_in, value_of, message_of, call_of, answer_of, outcome_of, message_with, message_by, is_version_two, reading}
-use Rattle.lsp_message.specs.Params.{DocumentItem, EditData, ChangeData, open_of, open_by, change_of, change_by, document_in, document_and_changes, edit_by, edit_in, edits_in, range_of, version_in, within_version}
+use Rattle.lsp_message.specs.Message.{IdData, whole, text, OutcomeData, Reading, MessageData, id_in, json_of, message_of, reading}
+use Rattle.lsp_message.specs.Params.{DocumentItem, EditData, ChangeData, open_of, open_by, change_of, change_by, document_in, document_and_changes, edit_by, edit_in, range_of, version_in, within_version}
 use Rattle.lsp_message.specs.laws.Sent.{IsProperId}
 use Rattle.lsp_server.specs.Incoming.{IncomingData, not_json, not_a_message, response, initialize, shutdown, other_request, exit, did_open, did_change, did_close, other_notification, incoming_by, incoming_of}
 use Rattle.lsp_server.specs.Step.{edit_from_data}
@@ -107,10 +107,6 @@ IsProperReading msg.not_json = ⊤
 IsProperReading (msg.not_a_message id) = ⊤
 IsProperReading (msg.message m) = IsProperMessage m
 
-either : (b : Bool) (x y : Reading) → IsProperReading x → IsProperReading y → IsProperReading (if b then x else y)
-either true x y p q = p
-either false x y p q = q
-
 found_or : {A : Type 0} (P : A → Type 0) (f : A → Reading) (o : Option A) (d : Reading)
     → ((a : A) → P a → IsProperReading (f a)) → OnSome P o → IsProperReading d → IsProperReading (option_map_or f o d)
 found_or P f None d all has rest = rest
@@ -120,50 +116,48 @@ any : {A : Type 0} (o : Option A) → OnSome (λ (a : A). ⊤) o
 any None = tt
 any (Some a) = tt
 
-outcome_proper : (id : Option IdData) (error result : Option Data) → IsProperReading (outcome_of id error result)
-outcome_proper id error result =
-    either _ (msg.message (msg.response id msg.failed))
-    (option_map_or (λ r. msg.message (msg.response id (msg.given r))) result (msg.not_a_message id)) tt
-    (found_or (λ r. ⊤) (λ r. msg.message (msg.response id (msg.given r))) result (msg.not_a_message id) (λ r h. tt)
-    (any result) tt)
+response_proper : (id : Option IdData) (outcome : Option OutcomeData)
+    → OnSome IsProperMessage (option_map (msg.response id) outcome)
+response_proper id None = tt
+response_proper id (Some outcome) = tt
 
-answer_proper : (id error result : Option Data) → IsProperReading (answer_of id error result)
-answer_proper None error result = tt
-answer_proper (Some id) error result =
-    either (is_null id) (outcome_of None error result) (option_map_or (λ i. outcome_of (Some i) error result) (id_in id)
-    (msg.not_a_message None)) (outcome_proper None error result)
-    (found_or (λ i. ⊤) (λ i. outcome_of (Some i) error result) (id_in id) (msg.not_a_message None)
-    (λ i h. outcome_proper (Some i) error result) (any (id_in id)) tt)
+named_proper : (id : Data) (outcome : Option OutcomeData)
+    → OnSome IsProperMessage (option_and_then (λ i. option_map (msg.response (Some i)) outcome) (id_in id))
+named_proper id outcome = on_then (λ i. ⊤) IsProperMessage _ (λ i h. response_proper (Some i) outcome) (id_in id)
+    (any (id_in id))
 
-call_proper : (id : Option Data) (method : List ℕ) (params : Option Data) → OnSome IsHeld id → OnSome IsHeld params
-    → IsProperReading (call_of id method params)
-call_proper None method params is received = received
-call_proper (Some id) method params is received =
-    found_or IsProperId (λ i. msg.message (msg.request i method params)) (id_in id) (msg.not_a_message None)
-    (λ i p. (p, received)) (id_held id is) tt
+row_proper : (method id : Option Data) (value : Data) → OnSome IsHeld id → OnSome IsHeld (get (codes "params") value)
+    → OnSome IsProperMessage (msg.message_by method id value)
+row_proper (Some (string s)) None value is received = received
+row_proper (Some (string s)) (Some id) value is received =
+    on_then IsProperId IsProperMessage _ (λ i p. (p, received)) (id_in id) (id_held id is)
+row_proper None None value is received = tt
+row_proper None (Some null) value is received = response_proper None (msg.outcome_in value)
+row_proper None (Some (boolean b)) value is received = tt
+row_proper None (Some (number n)) value is received = named_proper (number n) (msg.outcome_in value)
+row_proper None (Some (string s)) value is received = named_proper (string s) (msg.outcome_in value)
+row_proper None (Some (array ds)) value is received = tt
+row_proper None (Some (object ms)) value is received = tt
+row_proper (Some null) id value is received = tt
+row_proper (Some (boolean b)) id value is received = tt
+row_proper (Some (number n)) id value is received = tt
+row_proper (Some (array ds)) id value is received = tt
+row_proper (Some (object ms)) id value is received = tt
 
-with_proper : (method id params error result : Option Data) → OnSome IsHeld id → OnSome IsHeld params
-    → IsProperReading (message_with method id params error result)
-with_proper None id params error result is received = answer_proper id error result
-with_proper (Some method) id params error result is received =
-    found_or (λ m. ⊤) (λ m. call_of id m params) (text_in (Some method)) (msg.not_a_message (msg.id_found id))
-    (λ m h. call_proper id m params is received) (any (text_in (Some method))) tt
-
-by_proper : (version method id params error result : Option Data) → OnSome IsHeld id → OnSome IsHeld params
-    → IsProperReading (message_by version method id params error result)
-by_proper version method id params error result is received =
-    either (is_version_two version) (message_with method id params error result) (msg.not_a_message (msg.id_found id))
-    (with_proper method id params error result is received) tt
+version_proper : (two : Bool) (found : Option MessageData) → OnSome IsProperMessage found
+    → OnSome IsProperMessage (if two then found else None)
+version_proper true found has = has
+version_proper false found has = tt
 
 value_proper : (d : Data) → IsHeld d → IsProperReading (message_of d)
 value_proper d received =
-    found_or MembersAreHeld msg.message_of_members (as_object d) (msg.not_a_message None)
-    (λ ms h. by_proper (get_member (codes "jsonrpc") ms) (get_member (codes "method") ms) (get_member (codes "id") ms)
-    (get_member (codes "params") ms) (get_member (codes "error") ms) (get_member (codes "result") ms)
-    (held_member (codes "id") ms h) (held_member (codes "params") ms h))
-    (object_held d received) tt
+    found_or IsProperMessage msg.message (msg.message_in d) (msg.not_a_message (msg.id_found (get (codes "id") d)))
+    (λ m h. h)
+    (version_proper (msg.is_version_two (get (codes "jsonrpc") d)) _
+    (row_proper (get (codes "method") d) (get (codes "id") d) d (held_get (codes "id") d received)
+    (held_get (codes "params") d received))) tt
 
-value_held : (body : List ℕ) → OnSome IsHeld (value_of body)
+value_held : (body : List ℕ) → OnSome IsHeld (json_of body)
 value_held body = by (is_utf8 body) refl
   where
     on_read : (found : Option Data) → IsUtf8 body → read body ≡ found → OnSome IsHeld found
@@ -175,7 +169,7 @@ value_held body = by (is_utf8 body) refl
     by false e = tt
 
 reading_proper : (body : List ℕ) → IsProperReading (reading body)
-reading_proper body = found_or IsHeld message_of (value_of body) msg.not_json value_proper (value_held body) tt
+reading_proper body = found_or IsHeld message_of (json_of body) msg.not_json value_proper (value_held body) tt
 
 -- ---- parameters
 
@@ -224,11 +218,12 @@ edit_held d received =
     (held_text (get_member (codes "text") ms) (held_member (codes "text") ms h)))
     (as_object d) (object_held d received)
 
-edits_held : (ds : Items) → ItemsAreHeld ds → OnSome AreEditsHeld (edits_in ds)
+edits_held : (ds : Items) → ItemsAreHeld ds → OnSome AreEditsHeld (each_of edit_in ds)
 edits_held no_items received = tt
 edits_held (item d ds) received =
-    on_then IsEditHeld AreEditsHeld _ (λ e u. on_then AreEditsHeld AreEditsHeld _ (λ es us. (u, us)) (edits_in ds)
-    (edits_held ds received.1)) (edit_in d) (edit_held d received.0)
+    on_then IsEditHeld AreEditsHeld _
+    (λ e u. on_then AreEditsHeld AreEditsHeld _ (λ es us. (u, us)) (each_of edit_in ds) (edits_held ds received.1))
+    (edit_in d) (edit_held d received.0)
 
 texts_of_edits : (es : List EditData) → AreEditsHeld es → AreTexts (map edit_from_data es)
 texts_of_edits [] received = tt
@@ -252,7 +247,7 @@ change_held ms ds received also =
       uri = u;
       version = fits;
       texts = texts_of_edits es us;
-    }) (edits_in ds) (edits_held ds also))
+    }) (each_of edit_in ds) (edits_held ds also))
     (version_in (get_member (codes "version") ms)) (version_fits (get_member (codes "version") ms)))
     (text_in (get_member (codes "uri") ms))
     (held_text (get_member (codes "uri") ms) (held_member (codes "uri") ms received))
@@ -263,7 +258,7 @@ AreBothHeld p = MembersAreHeld p.0 × ItemsAreHeld p.1
 both_held : (params : Option Data) → OnSome IsHeld params → OnSome AreBothHeld (document_and_changes params)
 both_held params received =
     on_then MembersAreHeld AreBothHeld _
-    (λ ms h. on_then ItemsAreHeld AreBothHeld _ (λ ds i. (h, i)) (items_in (member_at (codes "contentChanges") params))
+    (λ ms h. on_then ItemsAreHeld AreBothHeld _ (λ ds i. (h, i)) (array_in (member_at (codes "contentChanges") params))
     (on_then IsHeld ItemsAreHeld as_array array_held (member_at (codes "contentChanges") params)
     (held_at (codes "contentChanges") params received)))
     (document_in params) (document_held params received)

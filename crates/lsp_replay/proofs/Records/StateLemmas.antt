@@ -11,7 +11,7 @@ use Rattle.lsp_store.proofs.LawLemmas.{within_end, within_change, within_close}
 use Rattle.lsp_server.specs.declared.phase.Phase.{Phase}
 use Rattle.lsp_server.specs.declared.phase.Phase.TheVariants.{New, Running, Down, Ended}
 use Rattle.lsp_server.specs.Incoming.{IncomingData, not_json, not_a_message, response, initialize, shutdown, other_request, exit, did_open, did_change, did_close, other_notification}
-use Rattle.lsp_server.specs.Step.{ServerData, step_in, step_on, obeyed, edit_from_data, session_encoding}
+use Rattle.lsp_server.specs.Step.{ServerData, step_in, step_on, result_step, edit_from_data, session_encoding}
 use Rattle.lsp_replay.proofs.Records.ReadLemmas.{OnSome}
 use Rattle.lsp_replay.proofs.Records.AskedLemmas.{IsProperAsked, IsTextOpened, IsProperIncoming}
 
@@ -40,7 +40,7 @@ pub record IsHeldState (limits : LimitsData) (s : ServerData) : Type 0 where
 
 obeyed_held : (limits : LimitsData) (s : ServerData) (refusal : Option Refusal) (next : List DocumentItem)
     → IsHeldState limits s → (refusal ≡ None → AllWithin limits next)
-    → IsHeldState limits (obeyed s (unless_refused refusal next)).state
+    → IsHeldState limits (result_step s (unless_refused refusal next)).state
 obeyed_held limits s None next received buffer = record { limit = received.limit; table = buffer refl }
 obeyed_held limits s (Some refusal) next received buffer = received
 

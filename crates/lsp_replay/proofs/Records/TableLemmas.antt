@@ -11,7 +11,7 @@ use Rattle.lsp_server.specs.Answer.{as_sent}
 use Rattle.lsp_server.specs.declared.phase.Phase.{Phase}
 use Rattle.lsp_server.specs.declared.phase.Phase.TheVariants.{New, Running, Down, Ended}
 use Rattle.lsp_server.specs.Incoming.{IncomingData, incoming_of, not_json, not_a_message, response, initialize, shutdown, other_request, exit, did_open, did_change, did_close, other_notification}
-use Rattle.lsp_server.specs.Step.{ServerData, Step, step_in, step_on, obeyed, edit_from_data, session_encoding}
+use Rattle.lsp_server.specs.Step.{ServerData, Step, step_in, step_on, result_step, edit_from_data, session_encoding}
 use Rattle.lsp_log.specs.declared.record.Sender.{Sender}
 use Rattle.lsp_log.specs.declared.record.Sender.TheVariants.{Client, Server}
 use Rattle.lsp_log.specs.declared.record.Version.{Version}
@@ -75,7 +75,7 @@ Keeps uri s m step = Touches uri Client m step ≡ false → entry_at step.state
 
 obeyed_keeps : (uri : List ℕ) (s : ServerData) (m : IncomingData) (refusal : Option Refusal) (next : List DocumentItem)
     → (is_document uri (uri_of Client m) ≡ false → entry_at next uri ≡ entry_at s.table uri)
-    → Keeps uri s m (obeyed s (unless_refused refusal next))
+    → Keeps uri s m (result_step s (unless_refused refusal next))
 obeyed_keeps uri s m None next keeps other = keeps other
 obeyed_keeps uri s m (Some refusal) next keeps other = refl
 

@@ -9,7 +9,7 @@ use Rattle.lsp_message.specs.Params.{ChangeData, DocumentItem}
 use Rattle.lsp_store.specs.declared.fault.StoreFault.{StoreFault}
 use Rattle.lsp_store.specs.declared.fault.StoreFault.TheVariants.{NoMemory}
 use Rattle.lsp_store.specs.declared.store.plan.Plan.{Plan}
-use Rattle.lsp_store.specs.Faults.{fault_of}
+use Rattle.lsp_store.specs.Faults.{refusal_fault}
 use Rattle.lsp_store.specs.Opened.{StoreData}
 use Rattle.lsp_store.specs.Plan.{IsBodyOfPlan, IsMessageFault, IsMessageOfPlan, IsPlanOf, IsPlanOn}
 use Rattle.lsp_store.specs.Message.{canonical_body}
@@ -52,7 +52,7 @@ step_accepted server p running may = rw (running, may) refl
 
 step_refused : (server : ServerData) (p : ChangeData) → server.phase ≡ Running → (refusal : Refusal)
     → refusal_of server p ≡ Some refusal → (step_on server (did_change (Some p))).answer
-    ≡ refused (Store (fault_of refusal))
+    ≡ refused (Store (refusal_fault refusal))
 step_refused server p running refusal is = rw (running, is) refl
 
 is_changed : (a : Answer) → answer_view a ≡ changed → a ≡ Changed
@@ -114,7 +114,7 @@ module _ (s : Session) (p : ChangeData) (running : s.server.phase ≡ Running) (
 
   -- A change that is refused is counted.
   refused_by : (version : Version) (refusal : Refusal) → refusal_of s.server p ≡ Some refusal
-      → judge_client s version (did_change (Some p)) ≡ judged (answered (refused (Store (fault_of refusal))))
+      → judge_client s version (did_change (Some p)) ≡ judged (answered (refused (Store (refusal_fault refusal))))
       (record s { messages = one_more s.messages; refusals = one_more s.refusals })
   refused_by version refusal is = rw (running, known, is) refl
 
@@ -124,7 +124,7 @@ module _ (s : Session) (p : ChangeData) (running : s.server.phase ≡ Running) (
       → IsChangeTaken s p (answered (answer_view a)) new
   refused_for a why None is new new_is = absurd (answered_some s.server p running a why is)
   refused_for a why (Some refusal) is new new_is =
-      let seen : answer_view a ≡ refused (Store (fault_of refusal)) =
+      let seen : answer_view a ≡ refused (Store (refusal_fault refusal)) =
       why.answer ∙ ap as_sent (step_refused s.server p running refusal is) in
       record {
         judged = λ version. ap answered seen ∙ sym (ap (λ (j : Judged). j.verdict) (refused_by version refusal is));

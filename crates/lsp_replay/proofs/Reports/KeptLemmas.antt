@@ -12,7 +12,7 @@ use Rattle.lsp_server.specs.Answer.{as_sent}
 use Rattle.lsp_server.specs.declared.phase.Phase.{Phase}
 use Rattle.lsp_server.specs.declared.phase.Phase.TheVariants.{New, Running, Down, Ended}
 use Rattle.lsp_server.specs.Incoming.{IncomingData, not_json, not_a_message, response, initialize, shutdown, other_request, exit, did_open, did_change, did_close, other_notification}
-use Rattle.lsp_server.specs.Step.{ServerData, step_in, step_on, obeyed, edit_from_data, session_encoding}
+use Rattle.lsp_server.specs.Step.{ServerData, step_in, step_on, result_step, edit_from_data, session_encoding}
 use Rattle.lsp_log.specs.declared.record.Version.{Version}
 use Rattle.lsp_replay.specs.Session.{Session, bad, judged, counted, handled, is_ended, is_early, judge_client, judge_server, encoding_for}
 use Rattle.lsp_replay.specs.Parts.{last_text, last_text_in}
@@ -93,7 +93,7 @@ stays_open table entry uri = by (bytes_eq entry.uri uri) refl
     by false differ e = stays_closed table entry.uri uri differ (stays_last (after_close table entry.uri) entry uri e)
 
 obeyed_stays : (s : ServerData) (refusal : Option Refusal) (next : List DocumentItem) (uri : List ℕ)
-    → Stays s.table next uri → Stays s.table (obeyed s (unless_refused refusal next)).state.table uri
+    → Stays s.table next uri → Stays s.table (result_step s (unless_refused refusal next)).state.table uri
 obeyed_stays s None next uri stays e = stays e
 obeyed_stays s (Some refusal) next uri stays e = e
 

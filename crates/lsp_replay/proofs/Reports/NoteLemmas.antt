@@ -20,8 +20,8 @@ use Rattle.lsp_edit.specs.Edited.{edit_of}
 use Rattle.lsp_edit.specs.Faults.{ends_of, fault_at, places_at}
 use Rattle.lsp_edit.specs.Indexed.{alone, text_fault_of, text_within}
 use Rattle.lsp_edit.specs.declared.fault.EditFault.{EditFault}
-use Rattle.lsp_edit.specs.declared.indexed.TextFault.{TextFault}
-use Rattle.lsp_edit.specs.declared.indexed.TextFault.TheVariants.{NoMemory}
+use Rattle.lsp_edit.specs.declared.indexed.fault.TextFault.{TextFault}
+use Rattle.lsp_edit.specs.declared.indexed.fault.TextFault.TheVariants.{NoMemory}
 use Rattle.lsp_edit.proofs.Composing.AppliedLemmas.{ends_told}
 use Rattle.lsp_edit.proofs.Deltas.InPlaceLemmas.{range_fault, range_too_long, range_within, replaced_len}
 use Rattle.lsp_edit.proofs.Parts.CutLemmas.{text_of-new}

@@ -4,7 +4,7 @@ use Rattle.std.specs.Prelude.{Ok, if◌then◌else◌}
 use Rattle.lsp_replay.specs.declared.outcome.Outcome.{Outcome}
 use Rattle.lsp_log.specs.Log.{Record}
 use Rattle.lsp_replay.specs.RunOutput.{RunOutput, written_first, stopped}
-use Rattle.lsp_replay.specs.Session.{Session, Verdict, answered, recorded, bad, judge, outcome_of}
+use Rattle.lsp_replay.specs.Session.{Session, Verdict, answered, recorded, bad, judge, session_outcome}
 use Rattle.lsp_replay.specs.Commands.{RecordOutput, writes, ends, followed_by, unless_bad}
 use Rattle.lsp_replay.specs.Parts.{PartData, last_text_in, part_bytes, part_outcome, part_step, next_text, is_last}
 use Rattle.lsp_replay.specs.inside.Parts.{replayed_in}
@@ -41,15 +41,15 @@ module _ (part : PartData) (old : Option (List ℕ)) (s : Session) (r : Record) 
   part_continues bytes empty other more =
       goes more
       ∙ ap (λ (b : Bool). step_with (if b then ends (part_bytes part.uri last t.server.table)
-      (Ok (part_outcome part.uri last (outcome_of t))) else writes []) last t more) other
+      (Ok (part_outcome part.uri last (session_outcome t))) else writes []) last t more) other
       ∙ ap (λ (b : List ℕ). written_first b (replayed_in part last t more)) (sym empty)
 
   pub part_ends : (bytes : List ℕ) (outcome : Outcome) → is_last part.at t.records ≡ true
-      → bytes ≡ part_bytes part.uri last t.server.table → outcome ≡ part_outcome part.uri last (outcome_of t)
+      → bytes ≡ part_bytes part.uri last t.server.table → outcome ≡ part_outcome part.uri last (session_outcome t)
       → (more : List Record) → replayed_in part old s (r ∷ more) ≡ stopped bytes (Ok outcome)
   part_ends bytes outcome here bytes_are outcome_is more =
       goes more
       ∙ ap (λ (b : Bool). step_with (if b then ends (part_bytes part.uri last t.server.table)
-      (Ok (part_outcome part.uri last (outcome_of t))) else writes []) last t more) here
+      (Ok (part_outcome part.uri last (session_outcome t))) else writes []) last t more) here
       ∙ ap (λ (o : Outcome). stopped (part_bytes part.uri last t.server.table) (Ok o)) (sym outcome_is)
       ∙ ap (λ (b : List ℕ). stopped b (Ok outcome)) (sym bytes_are)

@@ -13,7 +13,7 @@ use Rattle.lsp_log.specs.declared.record.Head.{Head}
 use Rattle.lsp_log.specs.declared.splitter.Splitter.{Splitter}
 use Rattle.lsp_stream.specs.Turns.{AppendsFront, AppendsShort}
 use Rattle.lsp_log.specs.Log.{LogRules, Record, Log, IsReadAs, HasNoRecord, IsCut, IsUndecided, mark_of, is_line_due}
-use Rattle.lsp_log.specs.Splitting.{IsFed, IsReady, IsAfter, IsSplitFault, log_at, head_of, buffered_of, record_at}
+use Rattle.lsp_log.specs.Splitting.{IsFed, IsReady, IsAfter, IsSplitFault, log_at, record_head, buffered_of, record_at}
 use Rattle.lsp_log.specs.Opening.{IsUnfinished}
 use Rattle.lsp_log.specs.laws.Logs.{BufferedLaw, RestLaw}
 use Rattle.lsp_log.proofs.SplitLemmas.{frame_len}
@@ -161,7 +161,7 @@ module _ (log_rules : LogRules) (run_output : List Record → RunOutput) (receiv
       inr (went_so_far more s now received_now received_new _ w quiet nothing why)
 
   -- The record that is held was handled.
-  held_record : (s : Splitter) (head : Head) (raw body : List ℕ) → head ≡ head_of s → raw ≡ s.framer.buffered
+  held_record : (s : Splitter) (head : Head) (raw body : List ℕ) → head ≡ record_head s → raw ≡ s.framer.buffered
       → record_at s body ≡ (record { head = head; raw = raw; body = body })
   held_record s head raw body e f = ap (λ (h : Head). record { head = h; raw = s.framer.buffered; body = body }) (sym e)
       ∙ ap (λ z. record { head = head; raw = z; body = body }) (sym f)
@@ -174,7 +174,7 @@ module _ (log_rules : LogRules) (run_output : List Record → RunOutput) (receiv
 
   pub taken_fault : (unflushed : Bool) → BufferedLaw → (more : List ℕ) (s : Splitter) (now : List Record → RunOutput)
       (received_now received_new : Option (List ℕ)) (head : Head) (raw body : List ℕ) (fault : EngineFault) → IsFed s
-      → head ≡ head_of s → raw ≡ s.framer.buffered → IsFrameOf s.framer.limits.max_body s.framer.buffered body
+      → head ≡ record_head s → raw ≡ s.framer.buffered → IsFrameOf s.framer.limits.max_body s.framer.buffered body
       → IsQuiet now
       → IsHandleFault now unflushed received_now received_new (record { head = head; raw = raw; body = body }) fault
       → IsProgress log_rules run_output received input more s now received_now
@@ -201,7 +201,7 @@ module _ (log_rules : LogRules) (run_output : List Record → RunOutput) (receiv
 
   pub taken_went : (more : List ℕ) (s n : Splitter) (now new : List Record → RunOutput)
       (received_now received_new : Option (List ℕ)) (head : Head) (raw body : List ℕ) (answer : Option Outcome)
-      → head ≡ head_of s → raw ≡ s.framer.buffered → IsFrameOf s.framer.limits.max_body s.framer.buffered body
+      → head ≡ record_head s → raw ≡ s.framer.buffered → IsFrameOf s.framer.limits.max_body s.framer.buffered body
       → ((records : List Record) → IsFrameOf log_rules.max_body s.framer.buffered body
       → IsAfter log_rules input more records s → IsAfter log_rules input more (records ++ record_at s body ∷ []) n)
       → IsHandled now new received_now received_new (record { head = head; raw = raw; body = body }) answer

@@ -12,7 +12,7 @@ use Rattle.lsp_edit.specs.Items.{Item}
 use Rattle.lsp_message.specs.Message.{IdData}
 use Rattle.lsp_message.specs.Params.{DocumentItem, ChangeData}
 use Rattle.lsp_store.specs.declared.fault.StoreFault.TheVariants.{BodyTooLong}
-use Rattle.lsp_store.specs.Faults.{IsRefusal, fault_of}
+use Rattle.lsp_store.specs.Faults.{IsRefusal, refusal_fault}
 use Rattle.lsp_store.specs.Message.{else_refused}
 use Rattle.lsp_store.specs.Squash.{SquashData, HasReached, IsSquashAfter, squash_of}
 use Rattle.lsp_store.specs.Table.{Refusal, already_open, too_many_documents, not_open, stale_version, edit, body_too_long, text_too_long, too_many_changes, batch_bytes, greatest_batch, change_refusal, is_stale, changed as changed_entry, entry_at, entry_refusal, meaning_refusal, refusal_on}
@@ -63,7 +63,7 @@ refused_not None body len not error = refl
 refused_not (Some refusal) body len not (inl e) = absurd (cc)
 refused_not (Some refusal) body len not (inr e) = absurd (other refusal not e)
   where
-    other : (r : Refusal) → IsNotTooLong (Some r) → Some (fault_of r) ≡ Some (BodyTooLong len) → ⊥
+    other : (r : Refusal) → IsNotTooLong (Some r) → Some (refusal_fault r) ≡ Some (BodyTooLong len) → ⊥
     other (body_too_long other_len) not e = not
     other already_open not e = cc
     other too_many_documents not e = cc

@@ -16,7 +16,7 @@ use Rattle.lsp_stream.specs.declared.fault.EngineFault.TheVariants.{BodyTooLong}
 use Rattle.lsp_log.specs.Log.{Record}
 use Rattle.lsp_replay.specs.RunOutput.{RunOutput, written_first}
 use Rattle.lsp_replay.specs.Commands.{RecordOutput, canonical_change_body, canonical_if, change_in, followed_by, ends, front_of, line_if, log_config, output_in, unless_bad, written, writes}
-use Rattle.lsp_replay.specs.Session.{Session, Verdict, answered, recorded, bad, judge, opened, outcome_of}
+use Rattle.lsp_replay.specs.Session.{Session, Verdict, answered, recorded, bad, judge, opened, session_outcome}
 use Rattle.lsp_replay.specs.Squashed.{SeriesChange, change_if, change_on, joined, series_after, series_written, squash_output, squashed, squashing}
 use Rattle.lsp_replay.specs.inside.Squashed as kept
 use Rattle.lsp_replay.specs.inside.Squashed.{OpenSeries, Step, begun_on, end_bytes, faulty, joined_by, longer, open_bytes, squashed_in, squashed_steps, step_if}
@@ -240,7 +240,13 @@ module _ (s : Session) (r : Record) (t : Session) (rs : List Record)
 -- ---- all records
 
 abbrev ended : Session → List ℕ → RunOutput
-ended s bytes = record { out = []; stop = None; last = λ line_due. bytes ++ line_if line_due; outcome = outcome_of s }
+ended s bytes
+    = record {
+      out = [];
+      stop = None;
+      last = λ line_due. bytes ++ line_if line_due;
+      outcome = session_outcome s;
+    }
 
 series_are : (s : Session) (series : List SeriesChange) (rs : List Record) → output_in squashing series s rs
     ≡ squashed_in s (kept_of series) rs

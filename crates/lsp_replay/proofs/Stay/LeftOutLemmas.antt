@@ -11,7 +11,7 @@ use Rattle.lsp_server.specs.declared.phase.Phase.{Phase}
 use Rattle.lsp_server.specs.declared.phase.Phase.TheVariants.{New, Running, Down, Ended}
 use Rattle.lsp_server.specs.Answer.{AnswerData, reply, dropped, ignored, as_sent}
 use Rattle.lsp_server.specs.Incoming.{IncomingData, not_json, not_a_message, response, initialize, shutdown, other_request, exit, did_open, did_change, did_close, other_notification, incoming_of}
-use Rattle.lsp_server.specs.Step.{ServerData, Step, stays, step_in, step_on}
+use Rattle.lsp_server.specs.Step.{ServerData, Step, unchanged_step, step_in, step_on}
 use Rattle.lsp_stream.specs.Ports.{one_more}
 use Rattle.lsp_log.specs.declared.record.Version.{Version}
 use Rattle.lsp_log.specs.declared.record.Version.TheVariants.{One, Two}
@@ -35,7 +35,7 @@ pub record IsHarmless (s : Session) (change : Option ChangeData) (j : Judged) : 
 record IsIdle (phase : Phase) (server : ServerData) (m : IncomingData) : Type 0 where
   goes_on : is_ended phase ≡ false
   answer : AnswerData OutgoingData
-  step : step_in phase server m ≡ stays server answer
+  step : step_in phase server m ≡ unchanged_step server answer
   accepted : is_refused (as_sent answer) ≡ false
   no_change : is_change m ≡ false
   nothing : change_in m ≡ None
@@ -58,7 +58,7 @@ module _ (server : ServerData) where
   expects_notification method Two expected = refl
 
   idle_response : (phase : Phase) (id : Option IdData) → is_ended phase ≡ false → step_in phase server (response id)
-      ≡ stays server ignored → IsIdle phase server (response id)
+      ≡ unchanged_step server ignored → IsIdle phase server (response id)
   idle_response phase id goes step = record {
     goes_on = goes;
     answer = ignored;
@@ -70,7 +70,8 @@ module _ (server : ServerData) where
   }
 
   idle_notification : (phase : Phase) (method : List ℕ) (answer : AnswerData OutgoingData) → is_ended phase ≡ false
-      → step_in phase server (other_notification method) ≡ stays server answer → is_refused (as_sent answer) ≡ false
+      → step_in phase server (other_notification method) ≡ unchanged_step server answer
+      → is_refused (as_sent answer) ≡ false
       → IsIdle phase server (other_notification method)
   idle_notification phase method answer goes step accepted = record {
     goes_on = goes;

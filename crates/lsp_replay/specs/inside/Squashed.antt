@@ -18,7 +18,7 @@ use Rattle.lsp_stream.specs.declared.fault.EngineFault.TheVariants.{BadLog, Body
 use Rattle.lsp_log.specs.Log.{Record}
 use Rattle.lsp_replay.specs.RunOutput.{RunOutput}
 use Rattle.lsp_replay.specs.Commands.{View, output_in, front_of, change_in, canonical_change_body, line_if, log_config}
-use Rattle.lsp_replay.specs.Session.{Session, Verdict, answered, bad, Judged, judge, opened, outcome_of}
+use Rattle.lsp_replay.specs.Session.{Session, Verdict, answered, bad, Judged, judge, opened, session_outcome}
 
 -- ---- a series, by the bytes that the code keeps of it
 
@@ -129,7 +129,7 @@ squash_view = record {
       record { out = (squash_step s series r j).out; end = (squash_step s series r j).end };
   next = λ series s r j. (squash_step s series r j).series;
   end_output = λ series s line_due. end_bytes series ++ line_if line_due;
-  outcome = λ series s. outcome_of s;
+  outcome = λ series s. session_outcome s;
 }
 
 -- ---- what only proofs and private contracts use

@@ -5,7 +5,7 @@ ghost use Rattle.lsp_message.specs.Params.{DocumentItem};
 ghost use Rattle.lsp_store.specs.Table.{entry_at};
 ghost use Rattle.lsp_log.specs.Log.{Record};
 ghost use Rattle.lsp_replay.specs.RunOutput.{RunOutput};
-ghost use Rattle.lsp_replay.specs.Session.{opened, outcome_of};
+ghost use Rattle.lsp_replay.specs.Session.{opened, session_outcome};
 ghost use Rattle.lsp_replay.specs.Commands.{report_from};
 ghost use Rattle.lsp_replay.specs.Parts.{is_last, last_text, part_bytes, part_data, part_outcome};
 ghost use Rattle.lsp_replay.specs.inside.Parts.{last_text_now, replayed_in};
@@ -76,7 +76,7 @@ impl ReplayPart {
             self.now.session.server.table) }
         ensures outcome { IfOk result (λ outcome. outcome
             ≡ part_outcome (part_data self.now.part).uri (last_text_now self.now)
-            (outcome_of self.now.session)) }
+            (session_outcome self.now.session)) }
     {
         let outcome = self.session.outcome();
         let Some(uri) = &self.part.uri else {

@@ -1,7 +1,7 @@
 //! `serve`: runs a server's end between a reader and a writer.
 
 ghost use Rattle.std.specs.Prelude.{◌≡◌, [], Ok, option_map, refl, true};
-ghost use Rattle.lsp_replay.specs.Session.{opened, outcome_of};
+ghost use Rattle.lsp_replay.specs.Session.{opened, session_outcome};
 ghost use Rattle.lsp_replay.specs.Session as spec;
 ghost use Rattle.lsp_replay.specs.Commands.{serving, serve_output};
 ghost use Rattle.lsp_replay.specs.inside.Commands.{run_output_in};
@@ -31,7 +31,7 @@ impl Serve {
     }
 
     fn outcome(&self, status: u8) -> Outcome
-        ensures { result ≡ record (outcome_of self.now.session) { status = status } }
+        ensures { result ≡ record (session_outcome self.now.session) { status = status } }
     {
         Outcome {
             status,
@@ -41,7 +41,7 @@ impl Serve {
 
     /// Returns the outcome of an input that ends without `exit`.
     fn without_exit(&self) -> Outcome
-        ensures { result ≡ record (outcome_of self.now.session) { status = 1 } }
+        ensures { result ≡ record (session_outcome self.now.session) { status = 1 } }
     {
         self.outcome(1)
     }

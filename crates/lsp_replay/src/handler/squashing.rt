@@ -2,7 +2,7 @@
 //! message.
 
 ghost use Rattle.std.specs.Prelude.{◌≡◌, ◌++◌, ◌⊎◌, ℕ, List, [], refl, IfOk, IfErr, OnOk, None, Some, false};
-ghost use Rattle.lsp_replay.specs.Session.{opened, outcome_of};
+ghost use Rattle.lsp_replay.specs.Session.{opened, session_outcome};
 ghost use Rattle.lsp_replay.specs.Commands.{front_of};
 ghost use Rattle.lsp_replay.specs.inside.Reads.{IsReadOf, IsSelection};
 ghost use Rattle.lsp_replay.specs.inside.RunOutput.{IsRecordFault};
@@ -193,7 +193,7 @@ impl Squashing {
 
     /// Returns the outcome at the end of the input.
     pub(super) fn outcome(&self) -> Outcome
-        ensures { result ≡ outcome_of self.now.session }
+        ensures { result ≡ session_outcome self.now.session }
     {
         self.session.outcome()
     }

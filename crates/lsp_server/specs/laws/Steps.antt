@@ -10,7 +10,7 @@ use Rattle.lsp_server.specs.declared.config.EncodingChoice.TheVariants.{Negotiat
 use Rattle.lsp_server.specs.declared.phase.Phase.{Phase}
 use Rattle.lsp_server.specs.declared.phase.Phase.TheVariants.{New, Running, Down, Ended}
 use Rattle.lsp_server.specs.Answer.{AnswerData, reply, changed, dropped, ignored, already_ended, refused, exits}
-use Rattle.lsp_server.specs.Choice.{chosen}
+use Rattle.lsp_server.specs.Choice.{encoding_chosen}
 use Rattle.lsp_server.specs.Step.{ServerData, step}
 
 -- The id of a reply.
@@ -82,4 +82,4 @@ RefusalLaw = (s : ServerData) (body : Reading) → ChangesNothing (step s body).
 -- An encoding that is negotiated was offered (PositionEncodingKind).
 abbrev pub OfferedLaw : Type 0
 OfferedLaw = (prefer : Encoding) (offers : Offers) →
-    is_offered offers (chosen (Negotiated prefer) offers) ≡ true
+    is_offered offers (encoding_chosen (Negotiated prefer) offers) ≡ true

@@ -18,10 +18,10 @@ impl Server {
     ghost use Rattle.lsp_reader.specs.Incoming.{did_open, did_change, did_close};
     ghost use Rattle.lsp_edit.specs.Edited.{edit_of};
     ghost use Rattle.lsp_message.specs.Params.{ChangeData};
-    ghost use Rattle.lsp_store.specs.Opened.{MayTakeMemory};
+    ghost use Rattle.lsp_store.specs.Opened.{ChangeMayAllocate};
     ghost use Rattle.lsp_store.specs.Table.{opens};
     ghost use Rattle.lsp_server.specs.declared.phase.Phase.TheVariants.{Running, Ended};
-    ghost use Rattle.lsp_server.specs.Step.{step_on, obeys, change_command, close_command};
+    ghost use Rattle.lsp_server.specs.Step.{step_on, command_step, change_command, close_command};
     ghost use Rattle.lsp_server.specs.Calls.{IsStepOf, IsRowOf};
     ghost use Rattle.lsp_server.specs.Planned.{IsCommittable, IsPlanOfChange, IsPlannedAs, after_commit, store_of};
 
@@ -52,7 +52,7 @@ impl Server {
     }
 
     fn open(&mut self, params: OpenParams) -> Result<Answer, AllocError>
-        ensures { IsStepOf (obeys self.old (opens (open_view params))) result
+        ensures { IsStepOf (command_step self.old (opens (open_view params))) result
             self.old self.new }
     {
         let OpenParams {
@@ -100,7 +100,7 @@ impl Server {
         // Memory is taken only in phase Running, once nothing but what the batch means can refuse
         // it.
         ensures memory { result ≡ Err ServerFault.NoMemory → (self.now.phase ≡ Running)
-            × MayTakeMemory (store_of self.now) (string_bytes params.now.uri) params.now.version
+            × ChangeMayAllocate (store_of self.now) (string_bytes params.now.uri) params.now.version
             (map edit_of params.now.changes.items) }
     {
         match self.phase {
@@ -115,7 +115,7 @@ impl Server {
     pub fn plan<'a>(&self, params: &'a ChangeParams) -> Result<PlannedChange<'a>, AllocError>
         requires { self.now.phase ≡ Running }
         ensures planned { IfOk result (IsPlannedAs self.now (change_view params.now)) }
-        ensures memory { OnErr result (MayTakeMemory (store_of self.now)
+        ensures memory { OnErr result (ChangeMayAllocate (store_of self.now)
             (string_bytes params.now.uri) params.now.version
             (map edit_of params.now.changes.items)) }
     {
@@ -148,7 +148,7 @@ impl Server {
     /// Makes a change of a running session.
     fn change(&mut self, params: &ChangeParams) -> Result<Answer, AllocError>
         requires { self.old.phase ≡ Running }
-        ensures { IsStepOf (obeys self.old (change_command self.old (change_view params.now)))
+        ensures { IsStepOf (command_step self.old (change_command self.old (change_view params.now)))
             result self.old self.new }
     {
         match self.plan(params)? {
@@ -170,7 +170,7 @@ impl Server {
     }
 
     fn close(&mut self, params: CloseParams) -> Result<Answer, AllocError>
-        ensures { IsStepOf (obeys self.old (close_command (close_view params))) result
+        ensures { IsStepOf (command_step self.old (close_command (close_view params))) result
             self.old self.new }
     {
         answer_of(self.store.close(&params.uri))

@@ -13,12 +13,12 @@ impl Server {
     ghost use Rattle.lsp_server.specs.declared.phase.Phase.TheVariants.{Ended};
     ghost use Rattle.lsp_server.specs.Answer.{as_sent};
     ghost use Rattle.lsp_server.specs.Seen.{answer_view};
-    ghost use Rattle.lsp_server.specs.Step.{fails, begins, step_on};
+    ghost use Rattle.lsp_server.specs.Step.{error_step, begin_step, step_on};
     ghost use Rattle.lsp_server.specs.Calls.{IsStepOf, IsRowOf};
 
     /// Returns an error response, and changes nothing.
     pub(crate) fn fail(&self, id: Option<Id>, error: ErrorCode) -> Result<Answer, AllocError>
-        ensures { IsStepOf (fails self.now (option_map id_view id) error) result
+        ensures { IsStepOf (error_step self.now (option_map id_view id) error) result
             self.now self.now }
     {
         let frame = message_frame(self.alloc, &Outgoing::ErrorReply { id, error })?;
@@ -47,7 +47,7 @@ impl Server {
     }
 
     fn begin(&mut self, id: Id, offers: Offers) -> Result<Answer, AllocError>
-        ensures { IsStepOf (begins self.old (id_view id) offers) result self.old self.new }
+        ensures { IsStepOf (begin_step self.old (id_view id) offers) result self.old self.new }
     {
         let encoding = self.choice.choose(offers);
         let accepted = Outgoing::InitializeResult {

@@ -54,13 +54,13 @@ body_written uri given version error changes same is = rw (same, is, written_sam
 
 -- what is appended, and what is written into an empty buffer
 pub body_pushed : (old new uri : List ℕ) (version error : ℤ) (changes : List Change)
-    → new ≡ old ++ body_of (seen.change_message uri error changes) → error ≡ version
+    → new ≡ old ++ body_of (seen.did_change_of uri error changes) → error ≡ version
     → new ≡ old ++ change_body uri version (map edit_of changes)
 body_pushed old new uri version error changes is same =
     is ∙ ap (λ body. old ++ body) (body_written uri uri version error changes refl same)
 
 pub body_begun : (old new uri : List ℕ) (version error : ℤ) (changes : List Change) → old ≡ []
-    → new ≡ old ++ body_of (seen.change_message uri error changes) → error ≡ version
+    → new ≡ old ++ body_of (seen.did_change_of uri error changes) → error ≡ version
     → new ≡ change_body uri version (map edit_of changes)
 body_begun old new uri version error changes none is same =
     body_pushed old new uri version error changes is same

@@ -9,7 +9,7 @@ use Rattle.lsp_text.specs.TextLines.{numbers_from}
 use Rattle.lsp_text.specs.declared.position.Range.{Range}
 use Rattle.lsp_text.specs.Positions.{denoted}
 use Rattle.lsp_edit.specs.Items.{Item, Old, New, plain, text_of}
-use Rattle.lsp_edit.specs.Batch.{Edit, Fault, InsideStart, InsideStop, Reversed, replaced, changed_in, after_change, after_changes, continue_with, meaning}
+use Rattle.lsp_edit.specs.Batch.{Edit, Fault, InsideStart, InsideStop, Reversed, replaced, changed_in, items_after, after_changes, continue_with, meaning}
 use Rattle.lsp_edit.specs.Canonical.{canonical}
 use Rattle.lsp_edit.specs.laws.Batches.{IsCanonical}
 use Rattle.lsp_store.specs.Message.{AreTexts}
@@ -84,11 +84,11 @@ scalar-changes units old number items [] next p texts e =
     rw (← is) p
 scalar-changes units old number items (change ∷ batch) next p texts e =
     by (λ (made : List Item) (q : NewAreScalar made) (f : after_changes units old (suc number) made batch ≡ Ok next).
-    scalar-changes units old (suc number) made batch next q texts.1 f) (after_change units old items change) refl e
+    scalar-changes units old (suc number) made batch next q texts.1 f) (items_after units old items change) refl e
   where
     by : ((made : List Item) → NewAreScalar made → after_changes units old (suc number) made batch ≡ Ok next
         → NewAreScalar next)
-        → (r : Result (List Item) Fault) → after_change units old items change ≡ r
+        → (r : Result (List Item) Fault) → items_after units old items change ≡ r
         → continue_with (λ made. after_changes units old (suc number) made batch) number r ≡ Ok next → NewAreScalar next
     by rest (Ok made) is e = rest made (scalar-changed units old items change.text change.range made p texts.0 is) e
     by rest (Err fault) is e = let bad : ◌≡◌ {A = Result (List Item) (ℕ × Fault)} (Err (number, fault)) (Ok next) = e in

@@ -15,7 +15,7 @@ use Rattle.lsp_edit.specs.declared.delta.Delta.{Delta}
 use Rattle.lsp_edit.specs.Items.{Item}
 use Rattle.lsp_edit.specs.Batch.{Edit, meaning}
 use Rattle.lsp_edit.specs.Canonical.{canonical}
-use Rattle.lsp_edit.specs.Once.{IsDeltaOf, IsOn, bytes_after, encoding_of, meant_by}
+use Rattle.lsp_edit.specs.Once.{IsDeltaOf, IsOn, bytes_after, delta_encoding, meant_by}
 use Rattle.lsp_edit.proofs.Deltas.OnceLemmas.{IsWithin, within_told}
 use Rattle.lsp_message.specs.Params.{DocumentItem}
 use Rattle.lsp_store.specs.declared.store.plan.Plan.{Plan}
@@ -259,7 +259,7 @@ module _ (kept : StoreData) (uri : List ℕ) (version : ℤ) (encoding : Encodin
 
   module _ (text : List ℕ) (same : q.on.entry.text ≡ text) (answered : List Edit)
       (is : (items : List Item) → meant_by text plan.delta ≡ Ok items → answered
-      ≡ canonical (units_in (encoding_of plan.delta)) (chars text) items) where
+      ≡ canonical (units_in (delta_encoding plan.delta)) (chars text) items) where
     meant : meant_by text plan.delta ≡ Ok within.items
     meant = subst (λ (t : List ℕ). meant_by t plan.delta ≡ Ok within.items) same (sym q.delta.means ∙ within.means)
 

@@ -7,15 +7,15 @@ use Rattle.std.proofs.lemmas.Str.{IsUtf8-string_bytes, encodes-chars}
 use Rattle.std.specs.Str.{chars}
 use Rattle.lsp_frame.specs.Limits.{LimitsData}
 use Rattle.lsp_edit.specs.declared.change.Change.{Change}
-use Rattle.lsp_edit.specs.declared.indexed.TextFault.{TextFault}
-use Rattle.lsp_edit.specs.declared.indexed.TextFault.TheVariants as text
+use Rattle.lsp_edit.specs.declared.indexed.fault.TextFault.{TextFault}
+use Rattle.lsp_edit.specs.declared.indexed.fault.TextFault.TheVariants as text
 use Rattle.lsp_edit.specs.Items.{Item}
 use Rattle.lsp_edit.specs.Faults.{fault_at}
 use Rattle.lsp_edit.specs.Indexed.{bytes_left, text_within}
 use Rattle.lsp_edit.specs.Batch.{Edit, Fault, meaning}
 use Rattle.lsp_edit.specs.Edited.{edit_of}
 use Rattle.lsp_store.specs.declared.fault.StoreFault.TheVariants.{StaleVersion, TooManyChanges}
-use Rattle.lsp_store.specs.Faults.{fault_of, store_fault_of, IsRefusal}
+use Rattle.lsp_store.specs.Faults.{refusal_fault, store_fault_of, IsRefusal}
 use Rattle.lsp_message.specs.Params.{DocumentItem}
 use Rattle.lsp_store.specs.Table.{too_many_changes, batch_bytes, greatest_batch, is_stale, entry_refusal, meaning_refusal, meant_text}
 
@@ -43,7 +43,7 @@ module _ (limits : LimitsData) (units : ℕ → ℕ) (entry : DocumentItem) (ver
 
 pub stale_refused : (limits : LimitsData) (units : ℕ → ℕ) (entry : DocumentItem) (version given held : ℤ)
     (batch : List Edit) → given ≡ version → held ≡ entry.version → is_stale limits given entry.version ≡ true
-    → option_map fault_of (entry_refusal limits units entry version batch) ≡ Some (StaleVersion held)
+    → option_map refusal_fault (entry_refusal limits units entry version batch) ≡ Some (StaleVersion held)
 stale_refused limits units entry version given held batch same current stale = rw (rw same at stale, current) refl
 
 -- ---- the same, of the changes that a call was given
@@ -72,9 +72,10 @@ module _ (limits : LimitsData) (changes : List Change) where
   module _ (units : ℕ → ℕ) (entry : DocumentItem) (version given stored : ℤ) (given_is : given ≡ version)
       (held_is : stored ≡ entry.version) (newer : is_stale limits given stored ≡ false) where
     pub many_refused : limits.max_changes < length changes
-        → option_map fault_of (entry_refusal limits units entry version (map edit_of changes)) ≡ Some TooManyChanges
+        → option_map refusal_fault (entry_refusal limits units entry version (map edit_of changes))
+        ≡ Some TooManyChanges
     many_refused many =
-        ap (option_map fault_of) (refused_many limits units entry version (map edit_of changes)
+        ap (option_map refusal_fault) (refused_many limits units entry version (map edit_of changes)
         (rw (given_is, held_is) at newer) (many_told many))
 
     over : (fits : Bool) → (IsTrue fits ↔ (sum_by (λ change. string_len change.text) changes ≤ 1073741824))
@@ -86,10 +87,10 @@ module _ (limits : LimitsData) (changes : List Change) where
         (cases_lt 1073741824 (sum_by (λ change. string_len change.text) changes))
 
     pub long_refused : (fits : Bool) → (IsTrue fits ↔ (sum_by (λ change. string_len change.text) changes ≤ 1073741824))
-        → fits ≡ false → option_map fault_of (entry_refusal limits units entry version (map edit_of changes))
+        → fits ≡ false → option_map refusal_fault (entry_refusal limits units entry version (map edit_of changes))
         ≡ Some TooManyChanges
     long_refused fits is not =
-        ap (option_map fault_of) (refused_many limits units entry version (map edit_of changes)
+        ap (option_map refusal_fault) (refused_many limits units entry version (map edit_of changes)
         (rw (given_is, held_is) at newer) (long_told (over fits is not)))
 
     pub fit_accepted : length changes ≤ limits.max_changes → sum_by (λ change. string_len change.text) changes
@@ -133,8 +134,8 @@ module _ (limits : LimitsData) (before : List ℕ) where
       (cases_Bool (nat_lt limits.max_text (length (bytes_left before items))))
 
   pub meaning_told : (meant : Result (List Item) (ℕ × Fault)) (fault : TextFault)
-      → text_within limits.max_text before meant ≡ Err fault → option_map fault_of (meaning_refusal limits before meant)
-      ≡ Some (store_fault_of fault)
+      → text_within limits.max_text before meant ≡ Err fault
+      → option_map refusal_fault (meaning_refusal limits before meant) ≡ Some (store_fault_of fault)
   meaning_told (Err cause) fault is =
       let same : ◌≡◌ {A = Result (List ℕ) TextFault} (Err (text.Edit (fault_at cause.0 cause.1))) (Err fault) = is in
       let error : text.Edit (fault_at cause.0 cause.1) ≡ fault = cc in

@@ -12,10 +12,10 @@ use Rattle.lsp_edit.specs.Batch.{Edit}
 use Rattle.lsp_store.specs.declared.fault.StoreFault.{StoreFault}
 use Rattle.lsp_store.specs.declared.fault.StoreFault.TheVariants.{AlreadyOpen, TooManyDocuments, TextTooLong, NotOpen}
 use Rattle.lsp_store.specs.declared.store.stored.Stored.{Stored}
-use Rattle.lsp_store.specs.Faults.{fault_of, IsRefusal}
+use Rattle.lsp_store.specs.Faults.{refusal_fault, IsRefusal}
 use Rattle.lsp_message.specs.Params.{DocumentItem}
 use Rattle.lsp_store.specs.Table.{IsLeftToMeaning, Refusal, entry_at, is_taken, open_refusal, entry_refusal, change_refusal, changed, after_close, after_open, unless_refused, opens, changes, closes}
-use Rattle.lsp_store.specs.Opened.{MayTakeMemory, StoreData, Takes, IsRefused, entry_under, entry_of}
+use Rattle.lsp_store.specs.Opened.{ChangeMayAllocate, StoreData, Takes, IsRefused, entry_under, entry_of}
 use Rattle.lsp_store.proofs.Tables.TableLemmas.{at_uri, entry_at-lookup, is_some-entry_at, entry_found, table-opened, others_all, others_but_one, table-set_value, set_value-found, table-remove_entry}
 
 -- what callers see of the fields
@@ -25,18 +25,18 @@ seen limits es = record { limits = limits; table = map entry_of es }
 -- ---- whether a document may be opened
 
 module _ (limits : LimitsData) (table : List DocumentItem) (entry : DocumentItem) where
-  pub taken_refused : is_taken limits table entry.uri ≡ true → option_map fault_of (open_refusal limits table entry)
-      ≡ Some AlreadyOpen
+  pub taken_refused : is_taken limits table entry.uri ≡ true
+      → option_map refusal_fault (open_refusal limits table entry) ≡ Some AlreadyOpen
   taken_refused taken = rw taken refl
 
   module _ (free : is_taken limits table entry.uri ≡ false) where
     pub many_refused : limits.max_docs ≤ length (after_close table entry.uri)
-        → option_map fault_of (open_refusal limits table entry) ≡ Some TooManyDocuments
+        → option_map refusal_fault (open_refusal limits table entry) ≡ Some TooManyDocuments
     many_refused many = rw (free, le-leb limits.max_docs (length (after_close table entry.uri)) many) refl
 
     module _ (few : length (after_close table entry.uri) < limits.max_docs) where
-      pub long_refused : limits.max_text < length entry.text → option_map fault_of (open_refusal limits table entry)
-          ≡ Some TextTooLong
+      pub long_refused : limits.max_text < length entry.text
+          → option_map refusal_fault (open_refusal limits table entry) ≡ Some TextTooLong
       long_refused long = rw (
         free,
         lt-leb limits.max_docs (length (after_close table entry.uri)) few,
@@ -195,5 +195,5 @@ module _ (limits : LimitsData) (es : List (String Global × Stored)) (kept : Sto
 -- An open document, on which nothing but its meaning refuses a batch.
 pub may_take : (kept : StoreData) (uri : List ℕ) (version : ℤ) (batch : List Edit) (entry : DocumentItem)
     → entry_at kept.table uri ≡ Some entry
-    → IsLeftToMeaning kept.limits entry version batch → MayTakeMemory kept uri version batch
+    → IsLeftToMeaning kept.limits entry version batch → ChangeMayAllocate kept uri version batch
 may_take kept uri version batch entry is_open left = rw is_open left

@@ -9,7 +9,7 @@ ghost use Rattle.lsp_message.specs.Outgoing.{OutgoingData, body_of};
 ghost use Rattle.lsp_message.specs.laws.Sent.{IsProper, IsReadAsSent, IsReadBack};
 ghost use Rattle.lsp_store.specs.declared.fault.StoreFault.TheVariants.{BodyTooLong, NoMemory, TooManyChanges};
 ghost use Rattle.lsp_store.specs.Faults.{IsRefusal};
-ghost use Rattle.lsp_store.specs.Opened.{MayTakeMemory};
+ghost use Rattle.lsp_store.specs.Opened.{ChangeMayAllocate};
 ghost use Rattle.lsp_edit.specs.Once.{bytes_after};
 ghost use Rattle.lsp_store.specs.Plan.{IsBodyOfPlan, IsMessageFault, IsMessageOfPlan, IsPlanOf, IsPlanOn};
 ghost use Rattle.lsp_store.specs.Table.{change_refusal, too_many_changes};
@@ -167,7 +167,7 @@ impl Store {
         // Memory is taken only once nothing but what the batch means, or its message's length, can
         // refuse it.
         ensures memory { result ≡ Err NoMemory
-            → MayTakeMemory self.now uri.now version (map edit_of changes.now) }
+            → ChangeMayAllocate self.now uri.now version (map edit_of changes.now) }
         // The canonical batch is that of what the batch means; `batch_laws` has what holds of it.
         ensures canonical { OnOk result
             (IsCanonicalOn (units_in encoding) self.now.table uri.now (map edit_of changes.now)) }
@@ -225,7 +225,7 @@ impl Store {
             self.now.table uri.now version (map edit_of changes.now))) }
         ensures unchanged { OnErr result (bytes.new.items ≡ bytes.old.items) }
         ensures memory { result ≡ Err NoMemory
-            → MayTakeMemory self.now uri.now version (map edit_of changes.now) }
+            → ChangeMayAllocate self.now uri.now version (map edit_of changes.now) }
     {
         let Some(stored) = self.documents.get(uri) else {
             return Err(StoreFault::NotOpen);

@@ -26,7 +26,7 @@ impl Stored {
     ghost use Rattle.lsp_store.specs.Plan.{planned};
     ghost use Rattle.lsp_store.specs.declared.fault.StoreFault.TheVariants.{NoMemory};
     ghost use Rattle.lsp_store.specs.Table.{IsLeftToMeaning, entry_refusal, is_stale};
-    ghost use Rattle.lsp_store.specs.Faults.{fault_of, IsRefusal};
+    ghost use Rattle.lsp_store.specs.Faults.{refusal_fault, IsRefusal};
     ghost use Rattle.lsp_store.specs.Opened.{entry_under};
 
     /// Opens a document. The texts are moved in. Costs a search through the text for its lines.
@@ -73,7 +73,7 @@ impl Stored {
             → IsLeftToMeaning limits.now (entry_under uri self.now) version
             (map edit_of changes.now)) }
         ensures error { IfErr result (λ fault. (units : ℕ → ℕ) (uri : List ℕ) →
-            option_map fault_of
+            option_map refusal_fault
             (entry_refusal limits.now units (entry_under uri self.now) version
             (map edit_of changes.now)) ≡ Some fault) }
         ensures fits { OnOk result
@@ -114,7 +114,7 @@ impl Stored {
     {
         let max_len = limits.max_text();
         self.may_change(limits, version, changes)?;
-        // `?` isn't proved at a value that holds a `&str` beside a struct with a model.
+        // `?` isn't proved here.
         match self.text.delta(encoding, changes, max_len) {
             Ok(delta) => Ok(delta),
             Err(fault) => Err(StoreFault::from(fault)),

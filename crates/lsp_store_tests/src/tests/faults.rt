@@ -34,12 +34,12 @@ static FAULTS: [(StoreFault, &str, &str); 10] = [
             side: Side::Stop,
         }),
         "E1",
-        "change 2: Stop lies inside a character",
+        "change at index 2: the end of its range lies inside a character",
     ),
     (
         StoreFault::Edit(EditFault::ReversedRange { change: 1 }),
         "E2",
-        "change 1: the range is reversed",
+        "change at index 1: the range is reversed",
     ),
     (
         StoreFault::BodyTooLong { len: 4_214 },

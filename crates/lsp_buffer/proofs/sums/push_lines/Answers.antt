@@ -1,5 +1,5 @@
 use Rattle.std.proofs.Common.{arith, ◌∙◌}
-use Rattle.lsp_buffer.specs.Blocks.{ends_of}
+use Rattle.lsp_buffer.specs.Blocks.{block_ends}
 use Rattle.lsp_buffer.proofs.Blocks.SumLemmas.{row_more, row_low, sums_more}
 use Rattle.lsp_buffer.proofs.sums.push_lines.Goals as goal
 
@@ -7,7 +7,8 @@ pub overflow_cast-next : goal.overflow_cast-next
 overflow_cast-next c = omega (
   arith,
   c.ends.ensures,
-  row_low ends_of c.loop-block.block-index c.args.blocks.now c.block-item.result c.loop-block-test.true c.block-item.is,
+  row_low block_ends c.loop-block.block-index c.args.blocks.now c.block-item.result
+      c.loop-block-test.true c.block-item.is,
   c.requires,
 )
 
@@ -15,16 +16,17 @@ pub overflow_add-next : goal.overflow_add-next
 overflow_add-next c = omega (
   arith,
   c.ends.ensures,
-  row_low ends_of c.loop-block.block-index c.args.blocks.now c.block-item.result c.loop-block-test.true c.block-item.is,
+  row_low block_ends c.loop-block.block-index c.args.blocks.now c.block-item.result
+      c.loop-block-test.true c.block-item.is,
   c.requires,
   c.loop-block.invariant.next,
 )
 
 pub loop-block-preserved : goal.loop-block-preserved
 loop-block-preserved c = record {
-  next = row_more ends_of c.args.first c.loop-block.next c.ends.result c.loop-block.block-index c.args.blocks.now
+  next = row_more block_ends c.args.first c.loop-block.next c.ends.result c.loop-block.block-index c.args.blocks.now
       c.block-item.result c.loop-block-test.true c.block-item.is c.ends.ensures c.loop-block.invariant.next;
-  lines = c.in_ok-push.ensures.items ∙ sums_more ends_of c.args.first c.loop-block.next c.loop-block.block-index
+  lines = c.in_ok-push.ensures.items ∙ sums_more block_ends c.args.first c.loop-block.next c.loop-block.block-index
       c.args.blocks.now c.block-item.result c.loop-block.lines.items c.args.lines.now.items c.loop-block-test.true
       c.block-item.is c.loop-block.invariant.next c.loop-block.invariant.lines;
 }

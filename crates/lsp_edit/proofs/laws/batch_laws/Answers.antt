@@ -31,5 +31,9 @@ returns c = record {
     a_deletion_and_an_end = refl;
     after_the_last_line_end = refl;
     two_batches = refl;
+    two_edits = refl;
+    the_last_edit_first = refl;
+    at_one_index = refl;
+    at_the_end = refl;
   };
 }

@@ -1,7 +1,9 @@
 use Rattle.std.proofs.Common.{◌≡◌, ◌||◌, drop, option_map}
+use Rattle.serde_json.specs.Find.{as_str}
 use Rattle.serde_json.specs.View.{items_view}
 use Rattle.lsp_message.specs.declared.agreement.Offers.{Offers}
-use Rattle.lsp_message.specs.Agreement.{offers_named, texts_in}
+use Rattle.lsp_message.specs.Values.{each_of}
+use Rattle.lsp_message.specs.Agreement.{offers_named}
 use Rattle.lsp_message.proofs.agreement.offers_named.Given as goal
 
 -- the offers so far, and those of the rest
@@ -10,5 +12,5 @@ invariant-loop-name l =
     option_map (λ rest. let more = offers_named rest in let both : Offers = record {
       utf8 = l.offers.utf8 || more.utf8;
       utf32 = l.offers.utf32 || more.utf32;
-    } in both) (texts_in (items_view (drop l.name-index l.names)))
-    ≡ option_map offers_named (texts_in (items_view l.names))
+    } in both) (each_of as_str (items_view (drop l.name-index l.names)))
+    ≡ option_map offers_named (each_of as_str (items_view l.names))

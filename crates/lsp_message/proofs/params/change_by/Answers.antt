@@ -3,7 +3,8 @@ use Rattle.std.specs.Prelude.{IsSome}
 use Rattle.serde_json.specs.Find.{get_member}
 use Rattle.serde_json.specs.View.{members_view, items_view}
 use Rattle.lsp_message.specs.Values.{text_in}
-use Rattle.lsp_message.specs.Params.{version_in, edits_in}
+use Rattle.lsp_message.specs.Params.{version_in}
+use Rattle.lsp_message.specs.inside.Params.{edits_in}
 use Rattle.lsp_message.proofs.Memory.{has_edits, has_changes}
 use Rattle.lsp_message.proofs.params.change_by.Goals as goal
 

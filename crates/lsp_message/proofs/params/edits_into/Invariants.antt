@@ -1,7 +1,7 @@
 use Rattle.std.proofs.Common.{◌≡◌, ◌≤◌, ◌++◌, ◌+◌, length, map, option_map, vec_len, vec_capacity}
 use Rattle.std.specs.Vec.Iter.{into_iter_items}
 use Rattle.serde_json.specs.View.{items_view}
-use Rattle.lsp_message.specs.Params.{edits_in}
+use Rattle.lsp_message.specs.inside.Params.{edits_in}
 use Rattle.lsp_message.specs.Seen.{edit_view}
 use Rattle.lsp_message.proofs.params.edits_into.Given as goal
 

@@ -4,7 +4,7 @@ use Rattle.std.proofs.lemmas.Result.{on_ok_weaker}
 use Rattle.json.specs.Print.{print}
 use Rattle.serde_json.proofs.Texts.{print-outline}
 use Rattle.lsp_message.specs.Written.{value_of}
-use Rattle.lsp_message.specs.Seen.{change_message}
+use Rattle.lsp_message.specs.Seen.{did_change_of}
 use Rattle.lsp_message.specs.inside.Tokens.{tokens_of}
 use Rattle.lsp_message.proofs.BodyLemmas.{body_is}
 use Rattle.lsp_message.proofs.ReadBack.{reading-body_of, is_read_back, body_of-unique}
@@ -14,7 +14,7 @@ pub returns-else-is_err-clause-ok : goal.returns-else-is_err-clause-ok
 returns-else-is_err-clause-ok c =
     let number = c.args.version in
     let version : to_z w32 (of_z w32 number) ≡ number = to_z-of_z w32 number (search rules) in
-    let value = value_of (change_message c.args.uri.now number c.args.changes.now) in
+    let value = value_of (did_change_of c.args.uri.now number c.args.changes.now) in
     on_ok_weaker c.write_change-written.result
     (λ appended.
     let before : c.write_change-written.new.writer.before ≡ c.args.bytes.now.items =
@@ -23,7 +23,7 @@ returns-else-is_err-clause-ok c =
     appended.tokens ∙ ap (λ ts. ts ++ tokens_of value) c.new-writer.ensures.tokens in
     c.into_inner.ensures.items ∙ ap₂ (λ bytes ts. bytes ++ print ts) before tokens
     ∙ ap (λ text. c.args.bytes.now.items ++ text) (print-outline value
-    ∙ sym (body_is (change_message c.args.uri.now number c.args.changes.now))))
+    ∙ sym (body_is (did_change_of c.args.uri.now number c.args.changes.now))))
     (rw version at c.write_change-written.ensures.tokens)
 
 pub returns-then-is_err-clause-read_as : goal.returns-then-is_err-clause-read_as

@@ -5,7 +5,7 @@ use Rattle.lsp_message.specs.Params.{edit_in}
 use Rattle.lsp_message.specs.Seen.{edit_view}
 use Rattle.lsp_reader.specs.inside.Reading.{items_at}
 use Rattle.lsp_reader.proofs.Grammar.{items_at-more, items_at-refused, items_at-end}
-use Rattle.lsp_reader.proofs.Growing.{items_before, edits_in-items_before, one_more_item, with_edit, without_edit, map_push}
+use Rattle.lsp_reader.proofs.Growing.{items_before, each_of-items_before, one_more_item, with_edit, without_edit, map_push}
 use Rattle.lsp_reader.proofs.changes.read_items.Goals as goal
 
 pub returns-in_err-change-clause-error : goal.returns-in_err-change-clause-error
@@ -72,7 +72,7 @@ returns-then-all_changes-clause-ok c =
     let so_far = rw c.if-all_changes.true at l.invariant.5 in (
       items_before before no_items,
       l.invariant.3 ∙ ap (parse_map (items_before before)) ends,
-      so_far ∙ sym (edits_in-items_before before),
+      so_far ∙ sym (each_of-items_before before),
     )
 
 pub returns-else-all_changes-clause-ok : goal.returns-else-all_changes-clause-ok
@@ -83,5 +83,5 @@ returns-else-all_changes-clause-ok c =
     let so_far = rw c.if-all_changes.false at l.invariant.5 in (
       items_before before no_items,
       l.invariant.3 ∙ ap (parse_map (items_before before)) ends,
-      so_far ∙ sym (edits_in-items_before before),
+      so_far ∙ sym (each_of-items_before before),
     )

@@ -1,8 +1,10 @@
-use Rattle.std.proofs.Common.{◌≡◌, [], ◌∷◌, Some, refl, sym, ap, ◌∙◌, arith}
+use Rattle.std.proofs.Common.{◌≡◌, [], ◌∷◌, Some, sym, ap, ◌∙◌, arith}
 use Rattle.json.specs.Lex.{tokens}
 use Rattle.json.specs.Json.{parse_map}
 use Rattle.json.specs.Reads.{token_of}
 use Rattle.serde_json.specs.Data.{object}
+use Rattle.lsp_message.proofs.MemberLemmas.{message_of_other}
+use Rattle.lsp_reader.specs.Incoming.{incoming_of}
 use Rattle.lsp_reader.specs.inside.Reading.{value_at}
 use Rattle.lsp_reader.proofs.Openings.{opened_object, opened_otherwise}
 use Rattle.lsp_reader.proofs.Messages.{if_some_weaker, text_read, text_and_more, text_refused}
@@ -16,7 +18,7 @@ returns-in-None-clause-ok c =
     let none : c.open_object.new.reader ≡ [] = c.in-None.ensures.value.0 in (
       is.0,
       text_read c.args.text.now is.0 (ap (value_at 127) (sym start) ∙ is.1 ∙ ap (λ r. Some (is.0, r)) none),
-      rw is.2 refl,
+      sym (ap incoming_of (message_of_other is.0 is.2)),
     )
 
 pub returns-in_err-found-clause-error : goal.returns-in_err-found-clause-error

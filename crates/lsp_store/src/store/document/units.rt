@@ -78,7 +78,8 @@ fn passed_by(encoding: Encoding, text: &str, count: usize) -> (usize, usize)
     (offset, left)
 }
 
-/// Does the same in a text in blocks.
+/// Passes the characters of a text in blocks that have at most `count` units together. Returns the
+/// same.
 fn passed_in(encoding: Encoding, text: &TextBuffer, count: usize) -> (usize, usize)
     ensures { IsPassed (units_in encoding) (chars text.now) count result.0 result.1 }
 {

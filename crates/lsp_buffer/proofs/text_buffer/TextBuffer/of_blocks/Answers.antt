@@ -1,5 +1,5 @@
 use Rattle.std.proofs.Common.{ℕ, List, length, map, sum, arith, ap}
-use Rattle.lsp_buffer.specs.Blocks.{ends_of}
+use Rattle.lsp_buffer.specs.Blocks.{block_ends}
 use Rattle.lsp_buffer.proofs.Blocks.BlockLemmas.{full_length}
 use Rattle.lsp_buffer.proofs.Queries.FoundLemmas.{blocks_ends}
 use Rattle.lsp_buffer.proofs.text_buffer.TextBuffer.of_blocks.Goals as goal
@@ -17,7 +17,7 @@ pub push_lines-requires : goal.push_lines-requires
 push_lines-requires c =
     omega (
       arith,
-      ap (λ (bs : List (List ℕ)). sum (map ends_of bs)) c.deref-2.ensures.value,
+      ap (λ (bs : List (List ℕ)). sum (map block_ends bs)) c.deref-2.ensures.value,
       blocks_ends c.args.blocks.items c.requires.are,
       c.requires.size,
     )

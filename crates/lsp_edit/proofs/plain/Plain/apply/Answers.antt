@@ -2,7 +2,7 @@ use Rattle.std.proofs.Common.{ℕ, List, ◌≡◌, length, map, Some, Ok, ap, �
 use Rattle.std.specs.Str.{chars}
 use Rattle.std.proofs.lemmas.Str.{encodes-chars, IsUtf8-string_bytes}
 use Rattle.lsp_text.specs.Units.{units_in}
-use Rattle.lsp_edit.specs.Batch.{after_change, changed_in}
+use Rattle.lsp_edit.specs.Batch.{items_after, changed_in}
 use Rattle.lsp_edit.specs.Edited.{edit_of}
 use Rattle.lsp_edit.specs.Items.{Item, New}
 use Rattle.lsp_edit.specs.Plain.{items_in_order}
@@ -12,7 +12,7 @@ use Rattle.lsp_edit.proofs.plain.Plain.apply.Goals.{in-None+in_ok-items-in-None,
 
 pub invariant_of-self : goal.invariant_of-self
 invariant_of-self c =
-    let made : after_change (units_in c.args.encoding) c.args.self.now.before c.args.self.now.items
+    let made : items_after (units_in c.args.encoding) c.args.self.now.before c.args.self.now.items
     (edit_of c.args.change.now) ≡ Ok (items_in_order c.match-change.items.items)
     = elim c.match-change.branch [
       | in-None+in_ok-items-in-None w ↦

@@ -4,7 +4,7 @@ use Rattle.lsp_buffer.specs.Blocks.{heads_from}
 use Rattle.lsp_buffer.specs.inside.Seams.{WereHeads, row_of}
 use Rattle.lsp_buffer.proofs.Blocks.BufferLemmas.{starts_count}
 use Rattle.lsp_buffer.proofs.Blocks.TailLemmas.{were_heads}
-use Rattle.lsp_buffer.proofs.text_buffer.change.replace_inside.Goals as goal
+use Rattle.lsp_buffer.proofs.text_buffer.change.inside.replace_inside.Goals as goal
 
 pub put_inside-requires-clause-are : goal.put_inside-requires-clause-are
 put_inside-requires-clause-are c = c.requires.are.sums

@@ -4,7 +4,7 @@ use Rattle.lsp_text.specs.Starts.{AreStarts}
 use Rattle.lsp_buffer.proofs.Blocks.BufferLemmas.{starts_count, starts_are_starts}
 use Rattle.lsp_buffer.proofs.Queries.FoundLemmas.{found_place, chunk_boundary}
 use Rattle.lsp_buffer.proofs.Changes.JoinLemmas.{IsJoin, joined_same, next_boundary, next_later}
-use Rattle.lsp_buffer.proofs.text_buffer.change.replace_joined.Goals as goal
+use Rattle.lsp_buffer.proofs.text_buffer.change.across.replace_joined.Goals as goal
 
 pub split_at-requires : goal.split_at-requires
 split_at-requires c =

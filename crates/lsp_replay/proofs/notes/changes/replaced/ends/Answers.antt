@@ -3,7 +3,7 @@ use Rattle.lsp_text.specs.Units.{units_in}
 use Rattle.lsp_edit.specs.declared.fault.EditFault.TheVariants.{ReversedRange}
 use Rattle.lsp_edit.proofs.Composing.EndLemmas.{places_in_order, places_reversed}
 use Rattle.lsp_replay.proofs.Reports.NoteLemmas.{no_part}
-use Rattle.lsp_replay.proofs.notes.changes.ends.Goals as goal
+use Rattle.lsp_replay.proofs.notes.changes.replaced.ends.Goals as goal
 
 -- `lsp_edit`'s function of this name, on a text with its lines.
 pub returns-then-start-stop-clause-none : goal.returns-then-start-stop-clause-none

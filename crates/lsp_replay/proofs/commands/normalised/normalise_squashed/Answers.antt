@@ -5,7 +5,7 @@ use Rattle.lsp_replay.specs.Commands.{log_config}
 use Rattle.lsp_replay.specs.inside.Squashed.{squash_view}
 use Rattle.lsp_replay.proofs.Runs.RunReportLemmas.{run_of}
 use Rattle.lsp_replay.proofs.Runs.WroteLemmas.{squash_run, wrote_steps}
-use Rattle.lsp_replay.proofs.commands.normalise_squashed.Goals as goal
+use Rattle.lsp_replay.proofs.commands.normalised.normalise_squashed.Goals as goal
 
 pub returns-clause-run : goal.returns-clause-run
 returns-clause-run g c =

@@ -3,7 +3,7 @@ use Rattle.lsp_replay.specs.Session.{opened}
 use Rattle.lsp_replay.specs.Commands.{log_config, normalising}
 use Rattle.lsp_replay.proofs.Runs.RunReportLemmas.{run_of}
 use Rattle.lsp_replay.proofs.Runs.WroteLemmas.{wrote_normal}
-use Rattle.lsp_replay.proofs.commands.normalise_each.Goals as goal
+use Rattle.lsp_replay.proofs.commands.normalised.normalise_each.Goals as goal
 
 pub returns-clause-run : goal.returns-clause-run
 returns-clause-run g c =

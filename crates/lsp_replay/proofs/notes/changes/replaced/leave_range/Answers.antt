@@ -1,7 +1,7 @@
 use Rattle.std.proofs.Common.{Some, sym, ap, ◌∙◌, arith}
 use Rattle.lsp_text.specs.Units.{units_in}
 use Rattle.lsp_replay.proofs.Reports.NoteLemmas.{no_range_left, range_long, range_put}
-use Rattle.lsp_replay.proofs.notes.changes.leave_range.Goals as goal
+use Rattle.lsp_replay.proofs.notes.changes.replaced.leave_range.Goals as goal
 
 pub returns-in_default-clause-left : goal.returns-in_default-clause-left
 returns-in_default-clause-left c =

@@ -1,6 +1,6 @@
 use Rattle.std.proofs.Common.{ap, ◌∙◌, ◌++◌, take, drop}
 use Rattle.lsp_buffer.proofs.Blocks.DrainLemmas.{drained_blocks}
-use Rattle.lsp_buffer.proofs.text_buffer.change.replace_blocks.Goals as goal
+use Rattle.lsp_buffer.proofs.text_buffer.change.across.replace_blocks.Goals as goal
 
 pub returns-clause-ok : goal.returns-clause-ok
 returns-clause-ok c =

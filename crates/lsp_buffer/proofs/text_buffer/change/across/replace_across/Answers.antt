@@ -1,10 +1,10 @@
 use Rattle.std.proofs.Common.{◌≡◌, ◌+◌, ◌-◌, ◌++◌, ◌∙◌, ℕ, List, take, drop, map, sum, length, slice_index, arith, sym, ap, subst}
 use Rattle.std.specs.List.{concat}
 use Rattle.lsp_text.specs.Units.{units_in}
-use Rattle.lsp_buffer.specs.Blocks.{AreBlocks, ends_of, heads_from, sums_from}
+use Rattle.lsp_buffer.specs.Blocks.{AreBlocks, block_ends, heads_from, sums_from}
 use Rattle.lsp_buffer.proofs.Blocks.BufferLemmas.{starts_count, lines_count}
 use Rattle.lsp_buffer.proofs.Changes.AgainLemmas.{IsAgain, again_are, again_size, again_start, again_stop, again_text, again_is, first_last, last_within, text_small, starts_room, lines_room}
-use Rattle.lsp_buffer.proofs.text_buffer.change.replace_across.Goals as goal
+use Rattle.lsp_buffer.proofs.text_buffer.change.across.replace_across.Goals as goal
 
 -- What was made of slices, said of what they were lent from.
 made_of : (f : List ℕ → ℕ) (made shown_sums sums : List ℕ) (shown blocks shown_fresh fresh : List (List ℕ))
@@ -221,8 +221,8 @@ lines_of-requires-clause-room c =
           c.args.new.now again c.deref.result.now c.in_ok-fresh.fresh.items text_is c.in_ok-fresh.ensures.text
           c.in_ok-fresh.ensures.blocks c.in_ok-fresh.ensures.full,
       ap (λ (xs : List ℕ). slice_index xs c.args.range.first) c.as_slice-4.ensures.value,
-      ap (λ (bs : List (List ℕ)). sum (map ends_of bs)) c.as_slice-2.ensures.value,
-      ap (λ (bs : List (List ℕ)). sum (map ends_of (drop (c.args.range.last + 1) bs))) c.as_slice.ensures.value,
+      ap (λ (bs : List (List ℕ)). sum (map block_ends bs)) c.as_slice-2.ensures.value,
+      ap (λ (bs : List (List ℕ)). sum (map block_ends (drop (c.args.range.last + 1) bs))) c.as_slice.ensures.value,
     )
 
 pub replace_blocks-requires-clause-within : goal.replace_blocks-requires-clause-within
@@ -373,7 +373,7 @@ spliced-requires-clause-size c =
 pub spliced-requires-clause-lines_are : goal.spliced-requires-clause-lines_are
 spliced-requires-clause-lines_are c =
     c.as_slice-5.ensures.value
-    ∙ (c.requires.are.sums.lines_are ∙ ap (λ (bs : List (List ℕ)). sums_from 0 (map ends_of bs))
+    ∙ (c.requires.are.sums.lines_are ∙ ap (λ (bs : List (List ℕ)). sums_from 0 (map block_ends bs))
     (sym c.as_slice.ensures.value))
 
 pub spliced-requires-clause-heads_are : goal.spliced-requires-clause-heads_are
@@ -414,10 +414,11 @@ returns-clause-are c =
     (c.args.range.last + 1) c.as_slice-3.ensures.value c.as_slice.ensures.value c.as_slice-2.ensures.value
     c.in_ok-next_starts.ensures in
     let lines : c.in_ok-next_lines.next_lines.items ≡ take c.args.range.first c.args.lines.now.items
-    ++ (sums_from (slice_index c.args.lines.now.items c.args.range.first) (map ends_of c.in_ok-fresh.fresh.items)
-    ++ sums_from (slice_index c.args.lines.now.items c.args.range.first + sum (map ends_of c.in_ok-fresh.fresh.items))
-    (map ends_of (drop (c.args.range.last + 1) c.args.blocks.now.items))) =
-    made_of ends_of c.in_ok-next_lines.next_lines.items c.as_slice-4.result.now c.args.lines.now.items
+    ++ (sums_from (slice_index c.args.lines.now.items c.args.range.first) (map block_ends c.in_ok-fresh.fresh.items)
+    ++ sums_from (slice_index c.args.lines.now.items c.args.range.first
+    + sum (map block_ends c.in_ok-fresh.fresh.items))
+    (map block_ends (drop (c.args.range.last + 1) c.args.blocks.now.items))) =
+    made_of block_ends c.in_ok-next_lines.next_lines.items c.as_slice-4.result.now c.args.lines.now.items
     c.as_slice.result.now c.args.blocks.now.items c.as_slice-2.result.now c.in_ok-fresh.fresh.items c.args.range.first
     (c.args.range.last + 1) c.as_slice-4.ensures.value c.as_slice.ensures.value c.as_slice-2.ensures.value
     c.in_ok-next_lines.ensures in

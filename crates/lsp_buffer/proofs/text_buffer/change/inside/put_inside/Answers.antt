@@ -2,10 +2,10 @@ use Rattle.std.proofs.Common.{refl, ◌≡◌, ◌+◌, ◌-◌, ◌^◌, ◌<�
 use Rattle.std.specs.Vec.{with_items}
 use Rattle.std.proofs.lemmas.List.{with_items_is}
 use Rattle.std.specs.List.{concat, replace_range}
-use Rattle.lsp_buffer.specs.Blocks.{IsBuffer, ends_of, sums_from}
+use Rattle.lsp_buffer.specs.Blocks.{IsBuffer, block_ends, sums_from}
 use Rattle.lsp_buffer.proofs.Blocks.BufferLemmas.{starts_count, lines_count}
 use Rattle.lsp_buffer.proofs.Changes.PutLemmas.{IsPut, put_start, put_stop, put_text, put_size, fresh_small, block_small, block_whole, next_are, next_ends, next_lengths, set_is, sums_after, sums_room, sums_moved, sums_same, ends_small, fresh_ends_small}
-use Rattle.lsp_buffer.proofs.text_buffer.change.put_inside.Goals as goal
+use Rattle.lsp_buffer.proofs.text_buffer.change.inside.put_inside.Goals as goal
 
 pub index_mut-requires : goal.index_mut-requires
 index_mut-requires c = omega (
@@ -235,7 +235,7 @@ overflow_cast-sizes-then-sizes-2 c =
     }) in omega (
       arith,
       c.in_ok-sizes.ensures.ends,
-      ap ends_of c.in_ok-sizes.ensures.changed,
+      ap block_ends c.in_ok-sizes.ensures.changed,
       fresh_ends_small c.args.blocks.now.items c.args.starts.now.items c.args.lines.now.items c.args.range.first
           c.index_mut.result.now c.index.result.now c.args.range.start c.args.range.end c.args.new.now put,
     )
@@ -273,7 +273,7 @@ move_from-requires-then-sizes-clause-after c =
     (λ k h. omega (
       arith,
       c.in_ok-sizes.ensures.old_ends,
-      sums_after ends_of c.args.lines.now.items c.args.blocks.now.items c.args.range.first c.index_mut.result.now
+      sums_after block_ends c.args.lines.now.items c.args.blocks.now.items c.args.range.first c.index_mut.result.now
           (replace_range c.index_mut.result.now (c.args.range.start - c.index.result.now) (c.args.range.end -
           c.index.result.now)
           c.args.new.now) c.requires.are.lines_are (omega (
@@ -301,9 +301,9 @@ move_from-requires-then-sizes-clause-room c =
       room = c.requires.room;
     }) in
     let ends : c.in_ok-sizes.sizes.ends
-    ≡ ends_of (replace_range c.index_mut.result.now (c.args.range.start - c.index.result.now)
+    ≡ block_ends (replace_range c.index_mut.result.now (c.args.range.start - c.index.result.now)
     (c.args.range.end - c.index.result.now) c.args.new.now) =
-    c.in_ok-sizes.ensures.ends ∙ ap ends_of c.in_ok-sizes.ensures.changed in
+    c.in_ok-sizes.ensures.ends ∙ ap block_ends c.in_ok-sizes.ensures.changed in
     subst (λ (ss : List ℕ). (k : ℕ) → k < length (drop (c.args.range.first + 1) ss) →
     slice_index (drop (c.args.range.first + 1) ss) k - c.in_ok-sizes.sizes.old_ends + c.in_ok-sizes.sizes.ends < 2 ^
     32) (sym c.deref_mut-then-sizes.ensures.value)
@@ -311,7 +311,7 @@ move_from-requires-then-sizes-clause-room c =
       arith,
       c.in_ok-sizes.ensures.old_ends,
       ends,
-      sums_room ends_of c.args.lines.now.items c.args.blocks.now.items c.args.range.first c.index_mut.result.now
+      sums_room block_ends c.args.lines.now.items c.args.blocks.now.items c.args.range.first c.index_mut.result.now
           (replace_range c.index_mut.result.now (c.args.range.start - c.index.result.now) (c.args.range.end -
           c.index.result.now)
           c.args.new.now) c.requires.are.lines_are (omega (
@@ -385,12 +385,12 @@ returns-then-sizes-clause-are c =
     c.args.range.start
     c.args.range.end c.args.new.now put in
     let ends : c.in_ok-sizes.sizes.ends
-    ≡ ends_of (replace_range c.index_mut.result.now (c.args.range.start - c.index.result.now)
+    ≡ block_ends (replace_range c.index_mut.result.now (c.args.range.start - c.index.result.now)
     (c.args.range.end - c.index.result.now) c.args.new.now) =
-    c.in_ok-sizes.ensures.ends ∙ ap ends_of c.in_ok-sizes.ensures.changed in
+    c.in_ok-sizes.ensures.ends ∙ ap block_ends c.in_ok-sizes.ensures.changed in
     let lines : (with_items c.args.lines.now c.move_from-then-sizes.new.sums).items
     ≡ sums_from 0
-    (map ends_of (take c.args.range.first c.args.blocks.now.items
+    (map block_ends (take c.args.range.first c.args.blocks.now.items
     ++ (replace_range c.index_mut.result.now (c.args.range.start - c.index.result.now) (c.args.range.end -
     c.index.result.now)
     c.args.new.now) ∷ drop (c.args.range.first + 1) c.args.blocks.now.items)) =
@@ -406,9 +406,9 @@ returns-then-sizes-clause-are c =
     ∙ (ap (λ (o : ℕ). take (c.args.range.first + 1) c.args.lines.now.items
     ++ map (λ (s : ℕ). s - o + c.in_ok-sizes.sizes.ends) (drop (c.args.range.first + 1) c.args.lines.now.items))
     c.in_ok-sizes.ensures.old_ends ∙
-    (ap (λ (n : ℕ). take (c.args.range.first + 1) c.args.lines.now.items ++ map (λ (s : ℕ). s - ends_of
+    (ap (λ (n : ℕ). take (c.args.range.first + 1) c.args.lines.now.items ++ map (λ (s : ℕ). s - block_ends
     c.index_mut.result.now
-    + n) (drop (c.args.range.first + 1) c.args.lines.now.items)) ends ∙ sums_moved ends_of c.args.lines.now.items
+    + n) (drop (c.args.range.first + 1) c.args.lines.now.items)) ends ∙ sums_moved block_ends c.args.lines.now.items
     c.args.blocks.now.items c.args.range.first c.index_mut.result.now
     (replace_range c.index_mut.result.now (c.args.range.start - c.index.result.now) (c.args.range.end -
     c.index.result.now)
@@ -518,18 +518,18 @@ returns-else-sizes-clause-are c =
     c.args.starts.now.items c.args.lines.now.items c.args.range.first c.index_mut.result.now c.index.result.now
     c.args.range.start
     c.args.range.end c.args.new.now put in
-    let same : ends_of c.index_mut.result.now
-    ≡ ends_of (replace_range c.index_mut.result.now (c.args.range.start - c.index.result.now)
+    let same : block_ends c.index_mut.result.now
+    ≡ block_ends (replace_range c.index_mut.result.now (c.args.range.start - c.index.result.now)
     (c.args.range.end - c.index.result.now) c.args.new.now) =
     sym c.in_ok-sizes.ensures.old_ends
-    ∙ (sym c.if-sizes.false ∙ (c.in_ok-sizes.ensures.ends ∙ ap ends_of c.in_ok-sizes.ensures.changed)) in
+    ∙ (sym c.if-sizes.false ∙ (c.in_ok-sizes.ensures.ends ∙ ap block_ends c.in_ok-sizes.ensures.changed)) in
     let lines : c.args.lines.now.items
     ≡ sums_from 0
-    (map ends_of (take c.args.range.first c.args.blocks.now.items
+    (map block_ends (take c.args.range.first c.args.blocks.now.items
     ++ (replace_range c.index_mut.result.now (c.args.range.start - c.index.result.now) (c.args.range.end -
     c.index.result.now)
     c.args.new.now) ∷ drop (c.args.range.first + 1) c.args.blocks.now.items)) =
-    sums_same ends_of c.args.lines.now.items c.args.blocks.now.items c.args.range.first c.index_mut.result.now
+    sums_same block_ends c.args.lines.now.items c.args.blocks.now.items c.args.range.first c.index_mut.result.now
     (replace_range c.index_mut.result.now (c.args.range.start - c.index.result.now) (c.args.range.end -
     c.index.result.now)
     c.args.new.now) c.requires.are.lines_are (omega (
