@@ -46,7 +46,7 @@ header_fault_at header.BadLength place = BadLength place
 header_fault_at header.BodyTooLong place = BodyTooLong place
 header_fault_at header.BadCharset place = BadCharset place
 
--- The offset that is n bytes after another; it is at most the greatest value of a u64.
+-- The offset that is n bytes after another. It saturates at `u64::MAX`.
 abbrev pub place_after : ℕ → ℕ → ℕ
 place_after place n = min (place + n) (2 ^ 64 - 1)
 

@@ -20,7 +20,7 @@ pub enum HeaderFault {
 /// Why no more of a stream can be taken (LSP 3.17, Base Protocol, Header Part).
 ///
 /// F1 to F7 name the byte on which the fault was decided, by its offset from the start of the
-/// stream. An offset that doesn't fit a `u64` is given as the greatest value of a `u64`.
+/// stream. The offset saturates at `u64::MAX`.
 #[derive(Clone, Copy, Debug, PartialEq, Eq, Error)]
 pub enum FrameFault {
     /// F1: the first byte with which no header can continue.

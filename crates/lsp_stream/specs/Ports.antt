@@ -65,7 +65,7 @@ abbrev pub IsEnd : List ℕ → Result ℕ Error → Type 0
 IsEnd room (Ok n) = (0 < length room) × (n ≡ 0)
 IsEnd room (Err e) = ⊥
 
--- One call more. A count stays at the greatest value of a `u64`.
+-- One call more. A count saturates at `u64::MAX`.
 abbrev pub one_more : ℕ → ℕ
 one_more n = max n (min (n + 1) (2 ^ 64 - 1))
 

@@ -8,8 +8,7 @@ use lsp_frame::FrameFault;
 use std::alloc::AllocError;
 use thiserror::Error;
 
-/// Why a run ended early. A `place` is a byte offset in the input. It stays at the greatest value
-/// of a `u64`.
+/// Why a run ended early. A `place` is a byte offset in the input, which saturates at `u64::MAX`.
 #[derive(Clone, Copy, Debug, PartialEq, Eq, Error)]
 pub enum EngineFault {
     /// P1: a read failed.

@@ -127,7 +127,7 @@ impl<'a> StopWriter<'a> {
         &self.bytes
     }
 
-    /// Returns how many flushes succeeded. It stays at the greatest value of a `usize`.
+    /// Returns how many flushes succeeded. It saturates at `usize::MAX`.
     pub fn flushes(&self) -> usize
         ensures { result ≡ self.now.flushes }
     {
