@@ -123,7 +123,7 @@ fn digits_len(bytes: &[u8]) -> usize
     ensures last { result < length bytes.now → is_digit (slice_index bytes.now result) ≡ false }
 {
     for (i, b) in bytes.iter().enumerate() {
-        if *b < b'0' || *b > b'9' {
+        if !b.is_ascii_digit() {
             return i;
         }
     }
