@@ -12,7 +12,7 @@ starts_between text low high = filter (starts_line text) (numbers_from (suc low)
 abbrev pub line_starts : List ℕ → List ℕ
 line_starts text = 0 ∷ starts_between text 0 (length text)
 
--- Their byte offsets.
+-- The byte offsets of the line starts.
 abbrev pub start_places : List ℕ → List ℕ
 start_places text = map (place_of text) (line_starts text)
 
