@@ -33,8 +33,8 @@ sums_from first (number ∷ numbers) = first ∷ sums_from (first + number) numb
 abbrev pub head_of : (ℕ → ℕ) → List ℕ → ℕ
 head_of units block = (exact_position units (chars block) (length (chars block))).character
 
--- Of a line of a text that begins inside a longer line: the units before the text in that line. They
--- count for the text's line 0 alone.
+-- Of a line of a text that begins inside a longer line: the units before the text in that line.
+-- They count for the text's line 0 alone.
 abbrev pub carried : ℕ → ℕ → ℕ
 carried zero head = head
 carried (suc line) head = 0
@@ -57,8 +57,8 @@ pub record IsBuffer (blocks : List (List ℕ)) (starts lines : List ℕ) : Type 
   pub lines_are : lines ≡ sums_from 0 (map block_ends blocks)
   pub size : length (concat blocks) ≤ 2147483648
 
--- The heads of some blocks, in each encoding: the units before each block in the line that it begins
--- in.
+-- The heads of some blocks, in each encoding: the units before each block in the line that it
+-- begins in.
 abbrev pub AreHeads : List (List ℕ) → (Encoding → List ℕ) → Type 0
 AreHeads blocks heads =
     (encoding : Encoding) → heads encoding ≡ heads_from (units_in encoding) 0 blocks

@@ -50,8 +50,8 @@ abbrev pub IsFlushFailure : Result (Unit {0}) Error → Type 0
 IsFlushFailure (Ok _) = ⊥
 IsFlushFailure (Err e) = error_kind e ≢ Interrupted
 
--- Whether all that was taken is flushed after a write: if all was flushed before, and the write took
--- no byte.
+-- Whether all that was taken is flushed after a write: if all was flushed before, and the write
+-- took no byte.
 abbrev pub flushed_after_write : Bool → Result ℕ Error → Bool
 flushed_after_write flushed (Ok n) = flushed && n == 0
 flushed_after_write flushed (Err e) = flushed
