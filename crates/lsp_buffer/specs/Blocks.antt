@@ -24,7 +24,7 @@ AreBlocks (block ∷ next ∷ blocks) =
 abbrev pub block_ends : List ℕ → ℕ
 block_ends block = line_ends (chars block)
 
--- The sums before each of these numbers, from a first one on.
+-- For each number the sum of those before it and of `first`.
 abbrev pub sums_from : ℕ → List ℕ → List ℕ
 sums_from first [] = []
 sums_from first (number ∷ numbers) = first ∷ sums_from (first + number) numbers
@@ -33,35 +33,37 @@ sums_from first (number ∷ numbers) = first ∷ sums_from (first + number) numb
 abbrev pub head_of : (ℕ → ℕ) → List ℕ → ℕ
 head_of units block = (exact_position units (chars block) (length (chars block))).character
 
--- A number for the line that a text begins in, none for its later lines.
+-- Of a line of a text that begins inside a longer line: the units before the text in that line.
+-- They count for the text's line 0 alone.
 abbrev pub carried : ℕ → ℕ → ℕ
 carried zero head = head
 carried (suc line) head = 0
 
--- The units from the start of the line that is at the end of a block to that end, if so many are
--- before the block in its line.
+-- The units before a block's end in the line that the block ends in, if `head` are before the block
+-- in the line that it begins in.
 abbrev pub head_after : (ℕ → ℕ) → ℕ → List ℕ → ℕ
 head_after units head block = carried (block_ends block) head + head_of units block
 
--- The units before each of these blocks in its line, if so many are before the first.
+-- For each block the units before it in the line that it begins in, if `head` are before the first.
 abbrev pub heads_from : (ℕ → ℕ) → ℕ → List (List ℕ) → List ℕ
 heads_from units head [] = []
 heads_from units head (block ∷ blocks)
     = head ∷ heads_from units (head_after units head block) blocks
 
--- Blocks, with the first byte and the first line of each.
+-- Blocks, with the byte offset and the number of the line at which each begins.
 pub record IsBuffer (blocks : List (List ℕ)) (starts lines : List ℕ) : Type 0 where
   pub are : AreBlocks blocks
   pub starts_are : starts ≡ sums_from 0 (map length blocks)
   pub lines_are : lines ≡ sums_from 0 (map block_ends blocks)
   pub size : length (concat blocks) ≤ 2147483648
 
--- The units before each block in its line, for each encoding.
+-- The heads of some blocks, in each encoding: the units before each block in the line that it
+-- begins in.
 abbrev pub AreHeads : List (List ℕ) → (Encoding → List ℕ) → Type 0
 AreHeads blocks heads =
     (encoding : Encoding) → heads encoding ≡ heads_from (units_in encoding) 0 blocks
 
--- Blocks, with all that comes before each.
+-- Blocks, with the byte offset, the line and the units at which each begins.
 pub record IsTextBuffer (blocks : List (List ℕ)) (starts lines : List ℕ)
     (heads : Encoding → List ℕ) : Type 0 where
   pub sums : IsBuffer blocks starts lines

@@ -5,7 +5,7 @@ ghost use Rattle.std.specs.Result.{result_ok};
 ghost use Rattle.std.specs.Str.{IsCharBoundary, IsUtf8, chars};
 ghost use Rattle.lsp_text.specs.Text.{place_of};
 ghost use Rattle.lsp_text.specs.TextLines.{line_ends};
-ghost use Rattle.lsp_text.specs.LineStarts.{Indexes, IsPlace};
+ghost use Rattle.lsp_text.specs.LineStarts.{AreLinesOf, IsPlace};
 ghost use Rattle.lsp_text.specs.Units.{units_in};
 ghost use Rattle.lsp_text.specs.Positions.{exact_position, denoted};
 ghost use Rattle.lsp_buffer.specs.Blocks.{head_of, head_after};
@@ -34,7 +34,7 @@ impl Model for Block {
 }
 
 impl Block {
-    /// Takes a text and finds its lines. Fails only if it is out of memory.
+    /// Takes a text and finds its lines. Fails only where memory runs out.
     pub fn new(alloc: Global, text: String) -> Result<Self, AllocError>
         requires { string_len text ≤ 2147483648 }
         ensures { IfOk result (λ block. block ≡ string_bytes text) }
@@ -43,7 +43,7 @@ impl Block {
         Ok(Block { shared })
     }
 
-    /// Copies a text and finds its lines. Fails only if it is out of memory.
+    /// Copies a text and finds its lines. Fails only where memory runs out.
     pub fn from_str(alloc: Global, text: &str) -> Result<Self, AllocError>
         requires { length text.now ≤ 2147483648 }
         ensures { IfOk result (λ block. block ≡ text.now) }
@@ -51,8 +51,8 @@ impl Block {
         Block::new(alloc, String::from_str(alloc, text)?)
     }
 
-    /// Returns the same block, which both share. Costs nothing of its text. Fails only if it is
-    /// shared by some 2^63 blocks, which counts as out of memory.
+    /// Returns another reference to the same text, which both blocks then share. Costs the same for
+    /// each text. Fails only where some 2^63 blocks share it, which counts as out of memory.
     pub fn share(&self) -> Result<Self, AllocError>
         ensures { IfOk result (λ block. block ≡ self.now) }
     {
@@ -60,28 +60,28 @@ impl Block {
         Ok(Block { shared })
     }
 
-    /// Returns the text.
+    /// Returns the block's text.
     pub fn text(&self) -> &str
         ensures { result.now ≡ self.now }
     {
         self.shared.text()
     }
 
-    /// Returns its lines.
+    /// Returns the lines of the block's text.
     fn lines(&self) -> &Lines
-        ensures { Indexes result.now self.now }
+        ensures { AreLinesOf result.now self.now }
     {
         self.shared.lines()
     }
 
-    /// Returns how many bytes it has.
+    /// Returns how many bytes the block has.
     pub fn len(&self) -> usize
         ensures { result ≡ length self.now }
     {
         self.text().len()
     }
 
-    /// Returns how many line ends it has.
+    /// Returns how many line ends the block has.
     pub fn ends(&self) -> usize
         ensures { result ≡ line_ends (chars self.now) }
     {
@@ -105,7 +105,7 @@ impl Block {
         self.lines().position(self.text(), encoding, offset)
     }
 
-    /// Returns the units from the start of its last line to its end.
+    /// Returns the units from the start of the block's last line to the block's end.
     fn head(&self, encoding: Encoding) -> u32
         ensures head { result ≡ head_of (units_in encoding) self.now }
         ensures few { result ≤ length self.now }
@@ -118,9 +118,9 @@ impl Block {
         self.position(encoding, end).character
     }
 
-    /// Returns the units from the start of the line at its end to that end, if `first` are before
-    /// it in the line that it begins in. Costs that line's text in the block, at the most; in UTF-8
-    /// a binary search.
+    /// Returns the units before the block's end in the line that it ends in, if `first` are before
+    /// the block in the line that it begins in. Costs the last line's text in the block, at the
+    /// most; in UTF-8 a binary search.
     pub fn head_after(&self, encoding: Encoding, first: u32) -> u32
         requires { first + length self.now ≤ 2147483648 }
         ensures head { result ≡ head_after (units_in encoding) first self.now }
@@ -169,7 +169,8 @@ pub struct BlockSplice<'a> {
     pub fresh: &'a [Block],
 }
 
-/// Returns the same blocks, which both share. Fails only if it is out of memory.
+/// Returns another reference to each block: both lists then share the blocks' texts. Fails only
+/// where memory runs out.
 pub fn shared_blocks(alloc: Global, blocks: &[Block]) -> Result<Vec<Block>, AllocError>
     ensures { IfOk result (λ shared. shared.items ≡ blocks.now) }
 {
@@ -180,7 +181,7 @@ pub fn shared_blocks(alloc: Global, blocks: &[Block]) -> Result<Vec<Block>, Allo
     Ok(shared)
 }
 
-/// Returns the bytes after some others, if these come first.
+/// Returns the bytes after `front`, if they begin with it.
 fn rest_after<'a>(bytes: &'a [u8], front: &[u8]) -> Option<&'a [u8]>
     ensures some { IfSome result (λ rest. bytes.now ≡ front.now ++ rest.now) }
     ensures none { IfNone result ((rest : List ℕ) → bytes.now ≢ front.now ++ rest) }

@@ -33,7 +33,7 @@ impl Model for Heads {
 }
 
 impl Heads {
-    /// Counts the units before some blocks, the first of which begins a text.
+    /// Counts the units before each of some blocks in its line. The first block begins a text.
     pub fn new(alloc: Global, blocks: &[Block]) -> Result<Self, AllocError>
         requires { length (concat blocks.now) ≤ 2147483648 }
         ensures { IfOk result (λ heads. AreHeads blocks.now (row_of heads)) }
@@ -44,7 +44,7 @@ impl Heads {
         Ok(Heads { utf8, utf16, utf32 })
     }
 
-    /// Returns a copy. Fails only if it is out of memory.
+    /// Returns a copy. Fails only where memory runs out.
     pub fn clone_in(&self, alloc: Global) -> Result<Self, AllocError>
         ensures { IfOk result (λ copy. copy ≡ self.now) }
     {
@@ -54,7 +54,7 @@ impl Heads {
         Ok(Heads { utf8, utf16, utf32 })
     }
 
-    /// Returns those of one encoding.
+    /// Returns the units before each block in its line, in one encoding.
     pub fn of(&self, encoding: Encoding) -> &[u32]
         ensures { result.now ≡ row_of self.now encoding }
     {
@@ -75,7 +75,7 @@ impl Heads {
         put_block(&mut self.utf32, Encoding::Utf32, lines, blocks, index);
     }
 
-    /// Returns those of the blocks after a change.
+    /// Returns the units before each block in its line, after a change of some blocks.
     pub fn spliced(
         &self,
         alloc: Global,
@@ -101,8 +101,8 @@ impl Heads {
     }
 }
 
-/// Appends the units before each of some blocks, if `first` are before the first of them. Returns
-/// those after the last.
+/// Appends the units before each of some blocks, if `first` are before the first block. Returns the
+/// units that are before a block after the last one.
 fn push_heads(
     heads: &mut Vec<u32>,
     encoding: Encoding,

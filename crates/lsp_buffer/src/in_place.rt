@@ -3,7 +3,7 @@
 ghost use Rattle.std.specs.Prelude.{◌≡◌, ◌+◌, ◌-◌, ◌≤◌, OnErr, OnOk, length, string_bytes, string_capacity, string_len};
 ghost use Rattle.std.specs.List.{replace_range};
 ghost use Rattle.std.specs.Str.{IsCharBoundary};
-ghost use Rattle.lsp_text.specs.LineStarts.{Indexes};
+ghost use Rattle.lsp_text.specs.LineStarts.{AreLinesOf};
 
 use lsp_text::Lines;
 use std::alloc::AllocError;
@@ -38,7 +38,7 @@ pub fn put_in_place(
     end: usize,
     new: &str,
 ) -> Result<(), AllocError>
-    requires indexed { Indexes lines.old (string_bytes text.old) }
+    requires indexed { AreLinesOf lines.old (string_bytes text.old) }
     requires order { start ≤ end }
     requires at_start { IsCharBoundary (string_bytes text.old) start }
     requires at_end { IsCharBoundary (string_bytes text.old) end }
@@ -46,7 +46,7 @@ pub fn put_in_place(
     ensures bytes { OnOk result
         (string_bytes text.new ≡ replace_range (string_bytes text.old) start end new.now) }
     ensures unchanged { OnErr result (string_bytes text.new ≡ string_bytes text.old) }
-    ensures indexed { Indexes lines.new (string_bytes text.new) }
+    ensures indexed { AreLinesOf lines.new (string_bytes text.new) }
 {
     let removed = String::from_str(*text.allocator(), &text[start..end])?;
     text.reserve(new.len())?;

@@ -1,5 +1,16 @@
 //! `TextBuffer`, a text in blocks, in which a change costs what its block costs. Copies share blocks.
 //!
+//! ```text
+//! let mut buffer = TextBuffer::from_str(alloc, "one\ntwo\n")?;
+//! let position = Position { line: 1, character: 0 };
+//! let start = buffer.resolve(Encoding::Utf16, position)?;
+//! // the text is "one\n2 two\n" then; out of memory changes nothing
+//! buffer.replace_range(start, start, "2 ")?;
+//! let line = buffer.line(1);
+//! ```
+//!
+//! [`TextBuffer::line`] returns the byte offsets of a line's content, here `Some(4..9)`.
+//!
 //! - `text_buffer`: `TextBuffer`, the blocks and, beside them, the first byte and the first line of
 //!   each. `reading` has its lines, chunks and copies. `change` replaces bytes: `inside` a block, or
 //!   `across` several, which are cut again.

@@ -13,7 +13,7 @@ fn mark(line: u32, units: u32) -> usize
     ((line as usize) << 32) + units as usize
 }
 
-/// Returns that of the block with an index.
+/// Returns the number (as [`mark`] has it) for the line and the units at which a block begins.
 fn mark_at(lines: &[u32], heads: &[u32], index: usize) -> usize
     requires line { index < length lines.now }
     requires head { index < length heads.now }
@@ -81,7 +81,8 @@ pub fn position_after(line: u32, head: u32, position: Position) -> Position
     }
 }
 
-/// Returns the position that is this one from such a block on.
+/// Returns the position in the text of a position that is counted from a block on. The block begins
+/// in this line, after so many units of it.
 pub fn position_from(line: u32, head: u32, position: Position) -> Position
     requires line { line + position.line < 2 ^ 32 }
     requires character { carried position.line head + position.character < 2 ^ 32 }

@@ -2,7 +2,7 @@
 ghost use Rattle.std.specs.Prelude.{◌≡◌, ◌≤◌, IfOk, OnOk, OnErr, length, string_bytes, string_len};
 ghost use Rattle.std.specs.List.{replace_range};
 ghost use Rattle.std.specs.Str.{IsCharBoundary};
-ghost use Rattle.lsp_text.specs.LineStarts.{Indexes};
+ghost use Rattle.lsp_text.specs.LineStarts.{AreLinesOf};
 
 use crate::in_place::put_in_place;
 use lsp_text::Lines;
@@ -19,17 +19,17 @@ pub struct SharedText {
 
 impl Model for SharedText {
     ghost use Rattle.std.specs.Prelude.{ℕ, List, string_bytes};
-    ghost use Rattle.lsp_text.specs.LineStarts.{Indexes};
+    ghost use Rattle.lsp_text.specs.LineStarts.{AreLinesOf};
 
     ghost Value = { List ℕ };
 
     ghost view = { λ shared. string_bytes shared.text };
 
-    ghost invariant = { λ shared. Indexes shared.lines (string_bytes shared.text) };
+    ghost invariant = { λ shared. AreLinesOf shared.lines (string_bytes shared.text) };
 }
 
 impl SharedText {
-    /// Takes a text and finds its lines. Fails only if it is out of memory.
+    /// Takes a text and finds its lines. Fails only where memory runs out.
     pub fn new(alloc: Global, text: String) -> Result<Self, AllocError>
         requires { string_len text ≤ 2147483648 }
         ensures { IfOk result (λ shared. shared ≡ string_bytes text) }
@@ -38,16 +38,16 @@ impl SharedText {
         Ok(SharedText { text, lines })
     }
 
-    /// Returns the text.
+    /// Returns the shared text.
     pub fn text(&self) -> &str
         ensures { result.now ≡ self.now }
     {
         &self.text
     }
 
-    /// Returns its lines.
+    /// Returns the lines of the shared text.
     pub fn lines(&self) -> &Lines
-        ensures { Indexes result.now self.now }
+        ensures { AreLinesOf result.now self.now }
     {
         &self.lines
     }

@@ -81,7 +81,7 @@ pub fn move_part(sums: &mut [u32], first: usize, count: usize, old: u32, new: u3
     move_all(&mut sums[first..first + count], old, new);
 }
 
-/// Returns how many blocks, from one on, begin in the line that it begins in.
+/// Returns how many of the blocks from `first` on begin in the line that block `first` begins in.
 pub fn line_blocks(lines: &[u32], first: usize) -> usize
     requires starts { AreStarts lines.now }
     requires within { first < length lines.now }

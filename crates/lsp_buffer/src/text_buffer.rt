@@ -60,8 +60,8 @@ impl Model for TextBuffer {
 }
 
 impl TextBuffer {
-    /// Takes a text of at most 2,147,483,648 bytes, without a copy. Fails only if it is out of
-    /// memory. Linear in the text, which is one block until its first change.
+    /// Takes a text of at most 2,147,483,648 bytes, without a copy. Fails only where memory runs
+    /// out. Linear in the text, which is one block until its first change.
     pub fn new(alloc: Global, text: String) -> Result<Self, AllocError>
         requires { string_len text ≤ 2147483648 }
         ensures { IfOk result (λ buffer. buffer ≡ string_bytes text) }
@@ -71,7 +71,7 @@ impl TextBuffer {
         TextBuffer::of_blocks(alloc, blocks)
     }
 
-    /// Copies a text of at most 2,147,483,648 bytes. Fails only if it is out of memory. Linear in
+    /// Copies a text of at most 2,147,483,648 bytes. Fails only where memory runs out. Linear in
     /// the text, which is cut into blocks at once.
     pub fn from_str(alloc: Global, text: &str) -> Result<Self, AllocError>
         requires { length text.now ≤ 2147483648 }
@@ -100,7 +100,7 @@ impl TextBuffer {
         })
     }
 
-    /// Returns a copy, which shares its blocks with this text. Fails only if it is out of memory.
+    /// Returns a copy, which shares its blocks with this text. Fails only where memory runs out.
     /// Costs a step for each block: a block is copied once one of both changes it.
     pub fn clone_in(&self, alloc: Global) -> Result<Self, AllocError>
         ensures copy { IfOk result (λ copy. copy ≡ self.now) }
@@ -118,7 +118,7 @@ impl TextBuffer {
         })
     }
 
-    /// Returns what the text takes its memory of.
+    /// Returns the text's allocator.
     pub fn allocator(&self) -> &Global {
         self.blocks.allocator()
     }
@@ -172,8 +172,11 @@ impl TextBuffer {
         Ok(self.starts[index] as usize + offset)
     }
 
-    /// Returns the exact position of a byte offset (LSP 3.17, Position). Costs a binary search over
-    /// the blocks, one over a block's lines, and the line's text in the block up to the offset.
+    /// Returns the exact position of a byte offset (LSP 3.17, Position). The offset is one that a
+    /// position can denote ([`TextBuffer::is_place`]).
+    ///
+    /// Costs a binary search over the blocks, one over a block's lines, and the line's text in the
+    /// block up to the offset.
     pub fn position(&self, encoding: Encoding, offset: usize) -> Position
         requires { IsPlace (chars self.now) offset }
         ensures exact { (k : ℕ) → k ≤ length (chars self.now) → place_of (chars self.now) k ≡ offset
@@ -211,6 +214,9 @@ impl TextBuffer {
     }
 
     /// Replaces the bytes from `start` to `end` by another text. Out of memory changes nothing.
+    ///
+    /// `start` is at most `end`, and both are character boundaries
+    /// ([`TextBuffer::is_char_boundary`]). The changed text has at most 2,147,483,648 bytes.
     ///
     /// Costs the new text, the blocks of the two ends, and an addition for each later block. Blocks
     /// are cut again if the ends are in two of them, or if one gets too long, and one that gets

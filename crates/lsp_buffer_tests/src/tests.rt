@@ -1,7 +1,7 @@
 //! A text in blocks beside the same text in one string, after the same changes.
 
 ghost use Rattle.std.specs.Prelude.{string_bytes};
-ghost use Rattle.lsp_text.specs.LineStarts.{Indexes};
+ghost use Rattle.lsp_text.specs.LineStarts.{AreLinesOf};
 
 mod changes;
 mod copies;
@@ -74,14 +74,14 @@ fn same_chunks(buffer: &TextBuffer, plain: &str) -> bool {
 
 /// Returns the offset that a position denotes in the string.
 fn plain_offset(lines: &Lines, plain: &str, encoding: Encoding, position: Position) -> Option<usize>
-    requires { Indexes lines.now plain.now }
+    requires { AreLinesOf lines.now plain.now }
 {
     lines.resolve(plain, encoding, position).ok()
 }
 
 /// Returns whether a position denotes the same in both.
 fn same_offsets(buffer: &TextBuffer, lines: &Lines, plain: &str, position: Position) -> bool
-    requires { Indexes lines.now plain.now }
+    requires { AreLinesOf lines.now plain.now }
 {
     for encoding in &ENCODINGS {
         let offset = buffer.resolve(*encoding, position).ok();
@@ -94,7 +94,7 @@ fn same_offsets(buffer: &TextBuffer, lines: &Lines, plain: &str, position: Posit
 
 /// Returns whether an offset has the same positions in both, or none in either.
 fn same_positions(buffer: &TextBuffer, lines: &Lines, plain: &str, offset: usize) -> bool
-    requires { Indexes lines.now plain.now }
+    requires { AreLinesOf lines.now plain.now }
 {
     if buffer.is_char_boundary(offset) != plain.is_char_boundary(offset) {
         return false;
@@ -113,7 +113,7 @@ fn same_positions(buffer: &TextBuffer, lines: &Lines, plain: &str, offset: usize
 
 /// Returns whether a line's content is where the two positions at its ends are.
 fn same_line(buffer: &TextBuffer, lines: &Lines, plain: &str, line: u32) -> bool
-    requires { Indexes lines.now plain.now }
+    requires { AreLinesOf lines.now plain.now }
 {
     let Some(content) = buffer.line(line) else {
         return line as usize >= lines.count();
@@ -131,7 +131,7 @@ fn same_line(buffer: &TextBuffer, lines: &Lines, plain: &str, line: u32) -> bool
 /// Returns whether both are alike at some lines and offsets, which begin with these and are so far
 /// apart.
 fn same_reads(pair: &Pair, lines: &Lines, first: usize, step: usize) -> bool
-    requires { Indexes lines.now (string_bytes pair.now.plain) }
+    requires { AreLinesOf lines.now (string_bytes pair.now.plain) }
 {
     let (buffer, plain) = (&pair.buffer, &pair.plain);
     let mut offset = first;

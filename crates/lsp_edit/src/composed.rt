@@ -2,7 +2,7 @@
 
 ghost use Rattle.std.specs.Prelude.{◌≡◌, ◌+◌, ◌≤◌, ℕ, IfOk, Ok, OnOk, MatchResult, length, map, string_len, sum_by};
 ghost use Rattle.std.specs.Str.{IsUtf8, chars};
-ghost use Rattle.lsp_text.specs.LineStarts.{Indexes};
+ghost use Rattle.lsp_text.specs.LineStarts.{AreLinesOf};
 ghost use Rattle.lsp_text.specs.Units.{units_in};
 ghost use Rattle.lsp_edit.specs.Batch.{after_changes, meaning};
 ghost use Rattle.lsp_edit.specs.Edited.{Means, edit_of, edited_bytes};
@@ -96,7 +96,7 @@ pub fn compose_over<'a>(
     encoding: Encoding,
     changes: &'a [Change],
 ) -> Result<Pieces<'a>, EditFault>
-    requires indexed { Indexes lines.now before.now }
+    requires indexed { AreLinesOf lines.now before.now }
     requires size { length before.now ≤ MAX_OLD_TEXT }
     requires fits { sum_by (λ change. string_len change.text) changes.now ≤ MAX_NEW_TEXT }
     ensures { MatchResult result

@@ -4,7 +4,7 @@ ghost use Rattle.std.specs.Prelude.{◌≡◌, ◌++◌, ◌≤◌, ℕ, IfOk, O
 ghost use Rattle.std.specs.List.{replace_range, slice_range};
 ghost use Rattle.std.specs.Result.{result_ok};
 ghost use Rattle.std.specs.Str.{IsCharBoundary, IsUtf8, chars};
-ghost use Rattle.lsp_text.specs.LineStarts.{Indexes, IsPlace};
+ghost use Rattle.lsp_text.specs.LineStarts.{AreLinesOf, IsPlace};
 ghost use Rattle.lsp_text.specs.Positions.{denoted, exact_position};
 ghost use Rattle.lsp_text.specs.Text.{place_of};
 ghost use Rattle.lsp_text.specs.Units.{units_in};
@@ -51,7 +51,7 @@ impl<'a> OldText<'a> {
 
     /// Takes one string, whose lines the caller has.
     pub fn with_lines(text: &'a str, lines: &'a Lines) -> Self
-        requires { Indexes lines.now text.now }
+        requires { AreLinesOf lines.now text.now }
         ensures { result ≡ text.now }
     {
         let lines = KeptLines::Borrowed(lines);

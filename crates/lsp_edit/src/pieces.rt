@@ -2,7 +2,7 @@
 
 ghost use Rattle.std.specs.Prelude.{◌≡◌, ◌↔◌, ◌+◌, ◌*◌, ◌++◌, ◌≤◌, ℕ, IfOk, OnOk, Ok, IsTrue, List, map, length, string_bytes, string_len};
 ghost use Rattle.std.specs.Str.{IsUtf8, chars};
-ghost use Rattle.lsp_text.specs.LineStarts.{Indexes};
+ghost use Rattle.lsp_text.specs.LineStarts.{AreLinesOf};
 ghost use Rattle.lsp_text.specs.Units.{units_in};
 ghost use Rattle.lsp_edit.specs.Items.{Item, plain};
 ghost use Rattle.lsp_edit.specs.Parts.{AreParts, Ascend, NoneEmpty, NoneTouch, items_of, parts_of};
@@ -137,7 +137,7 @@ impl<'a> Pieces<'a> {
     /// Makes pieces of a text before any change, whose lines the caller has. Takes no memory, and
     /// constant time.
     pub fn over(alloc: Global, before: &'a str, lines: &'a Lines) -> Self
-        requires { Indexes lines.now before.now }
+        requires { AreLinesOf lines.now before.now }
         ensures { result.edited ≡ record {
           before = chars before.now;
           items = plain (chars before.now);
@@ -253,7 +253,7 @@ impl<'a> Pieces<'a> {
     /// and a search through it for its lines.
     pub fn into_text(self) -> Result<(String, Lines), AllocError>
         ensures { IfOk result (λ indexed. (string_bytes indexed.0 ≡ edited_bytes self.entry.edited)
-            × Indexes indexed.1 (string_bytes indexed.0)) }
+            × AreLinesOf indexed.1 (string_bytes indexed.0)) }
     {
         let Pieces {
             alloc,

@@ -37,7 +37,7 @@ unquoted bs = if is_quoted bs then drop 1 (take (length bs - 1) bs) else bs
 abbrev pub is_equals : ℕ → Bool
 is_equals b = b == 61
 
--- Whether the bytes are a name of UTF-8.
+-- Whether the bytes are a name of UTF-8. (LSP 3.17 recommends that `utf8` is taken for `utf-8`.)
 abbrev pub is_utf8_name : List ℕ → Bool
 is_utf8_name bs = is_text (codes "utf-8") bs || is_text (codes "utf8") bs
 
@@ -51,7 +51,7 @@ is_good_trimmed part =
     else true
     else true
 
--- The same of a parameter with blanks around it.
+-- A parameter, maybe with blanks around it, is good if it is without them.
 abbrev pub is_good_parameter : List ℕ → Bool
 is_good_parameter part = is_good_trimmed (trimmed part)
 
@@ -60,6 +60,7 @@ abbrev pub is_semicolon : ℕ → Bool
 is_semicolon b = b == 59
 
 -- A Content-Type is good if each of its parts is good. It is cut at each `;`, and the first part,
--- the MIME type, is ignored.
+-- the MIME type, is ignored. (In LSP 3.17 a receiver should answer another charset by an error.
+-- Here it is a fault, which ends the stream without an answer.)
 abbrev pub has_good_charset : List ℕ → Bool
 has_good_charset value = list_all is_good_parameter (drop 1 (slice_split is_semicolon value))

@@ -1,11 +1,11 @@
--- On which byte a fault of a header is decided.
-use Rattle.std.specs.Prelude.{ℕ, ◌≡◌, ◌<◌, ◌+◌, ◌-◌, ◌^◌, List, length, take, min, Err}
+-- On which byte a fault of a header is decided, and the codes of faults.
+use Rattle.std.specs.Prelude.{ℕ, ◌≡◌, ◌<◌, ◌+◌, ◌-◌, ◌^◌, List, length, take, min, Err, codes}
 use Rattle.lsp_frame.specs.Header.{Line, AreLines, header_of, IsHeader, BeginsHeader}
 use Rattle.lsp_frame.specs.Verdict.{judge_header}
 use Rattle.lsp_frame.specs.declared.fault.HeaderFault.{HeaderFault}
 use Rattle.lsp_frame.specs.declared.fault.HeaderFault.TheVariants as header
 use Rattle.lsp_frame.specs.declared.fault.FrameFault.{FrameFault}
-use Rattle.lsp_frame.specs.declared.fault.FrameFault.TheVariants.{BadHeader, HeaderTooLong, MissingLength, RepeatedHeader, BadLength, BodyTooLong, BadCharset}
+use Rattle.lsp_frame.specs.declared.fault.FrameFault.TheVariants.{BadHeader, HeaderTooLong, MissingLength, RepeatedHeader, BadLength, BodyTooLong, BadCharset, Failed, NoMemory}
 
 -- The bytes before byte k begin some header, and with byte k they begin none.
 pub record IsBadHeaderAt (bytes : List ℕ) (k : ℕ) : Type 0 where
@@ -46,7 +46,19 @@ header_fault_at header.BadLength place = BadLength place
 header_fault_at header.BodyTooLong place = BodyTooLong place
 header_fault_at header.BadCharset place = BadCharset place
 
--- The offset that is n bytes after another; it is at most the greatest value of a u64.
+-- The code of a fault, as docs/PROTOCOL.md lists them.
+abbrev pub frame_fault_code : FrameFault → List ℕ
+frame_fault_code (BadHeader place) = codes "F1"
+frame_fault_code (HeaderTooLong place) = codes "F2"
+frame_fault_code (MissingLength place) = codes "F3"
+frame_fault_code (RepeatedHeader place) = codes "F4"
+frame_fault_code (BadLength place) = codes "F5"
+frame_fault_code (BodyTooLong place) = codes "F6"
+frame_fault_code (BadCharset place) = codes "F7"
+frame_fault_code Failed = codes "F8"
+frame_fault_code NoMemory = codes "F9"
+
+-- The offset that is n bytes after another. It saturates at `u64::MAX`.
 abbrev pub place_after : ℕ → ℕ → ℕ
 place_after place n = min (place + n) (2 ^ 64 - 1)
 

@@ -1,4 +1,5 @@
--- The header of a frame, as it may be read. (LSP 3.17, Base Protocol, Header Part)
+-- The header of a frame, as it may be read. (LSP 3.17, Base Protocol, Header Part: it states no
+-- greatest length, and nothing of a field that comes twice. Those rules are this project's.)
 use Rattle.std.specs.Prelude.{ℕ, ◌≡◌, ◌≢◌, ◌≤◌, ◌<◌, ◌⊎◌, List, [], ◌∷◌, ◌++◌, length}
 use Rattle.std.specs.List.{AllByRecursion}
 
@@ -25,7 +26,8 @@ pub record IsLine (line : Line) : Type 0 where
 abbrev pub AreLines : List Line → Type 0
 AreLines lines = AllByRecursion IsLine lines
 
--- The bytes of a line in a header: the name, `:`, the value, CR and LF.
+-- The bytes of a line in a header: the name, `:`, the value, CR and LF. (LSP 3.17 writes a blank
+-- after the `:`. Here it is a part of the value, and may be missing.)
 abbrev pub line_bytes : Line → List ℕ
 line_bytes line = line.name ++ (58 ∷ (line.value ++ (13 ∷ 10 ∷ [])))
 

@@ -35,7 +35,8 @@ judge_single max_body (value ∷ values) types =
     else if not (list_all has_good_charset types) then Err BadCharset
     else Ok (number digits)
 
--- The same of any values: more than one of either is a fault.
+-- The length of the body, or the first fault, of any values of Content-Length and Content-Type.
+-- More than one of either is a fault.
 abbrev pub judge_values : ℕ → List (List ℕ) → List (List ℕ) → Result ℕ HeaderFault
 judge_values max_body lengths types =
     if nat_lt 1 (length lengths) || nat_lt 1 (length types) then Err RepeatedHeader

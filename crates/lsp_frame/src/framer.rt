@@ -156,8 +156,8 @@ impl Framer {
 
     /// Returns whether no byte of a frame is buffered and no fault was found.
     ///
-    /// Its clauses also say what is true of every framer: it never has more bytes than a frame may
-    /// have. Nor has it ever a frame and more.
+    /// Its clauses also say what is true of every framer: it buffers at most one frame, and no byte
+    /// after it.
     pub fn at_rest(&self) -> bool
         ensures bound { length self.now.buffered ≤ 8192 + self.now.limits.max_body }
         ensures one { self.now.failed ≡ false →
@@ -169,6 +169,7 @@ impl Framer {
     }
 
     /// Skips `n` bytes of the stream that belong to no frame, so that later offsets include them.
+    /// The framer is at rest ([`Framer::at_rest`]).
     pub fn skip(&mut self, n: u64)
         requires nothing_buffered { self.old.buffered ≡ [] }
         requires sound { self.old.failed ≡ false }

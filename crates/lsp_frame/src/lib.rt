@@ -1,6 +1,18 @@
 //! Reads and writes the frames of the base protocol of LSP 3.17: a header that states a length, and
 //! a body of so many bytes.
 //!
+//! ```text
+//! let mut framer = Framer::new(alloc, Limits::default());
+//! // for each piece of the stream, until `feed` has taken all of it:
+//! let taken = framer.feed(&piece[at..])?;
+//! at += taken;
+//! if let Some(body) = framer.body() {
+//!     // `answer` is yours, and returns a body; `frame` puts a header before it
+//!     output.write_all(&frame(alloc, &answer(body)?)?)?;
+//!     framer.next();
+//! }
+//! ```
+//!
 //! - `framer`: `Framer` takes a stream apart into its frames, in whatever pieces the stream comes.
 //!   It is built on `stage`, `written`, `header`, `shape`, `notes` and `words`.
 //! - `written`: the one form in which frames are written. A header in this form is read at once.

@@ -119,16 +119,16 @@ impl Limits {
             MatchResult result (λ limits. (limits ≡ given) × (first_out_of_range given ≡ None))
             (λ bad. first_out_of_range given ≡ Some bad.which) }
     {
-        if max_body < Self::LEAST_BODY || max_body > Self::GREATEST_BODY {
+        if !(Self::LEAST_BODY..=Self::GREATEST_BODY).contains(&max_body) {
             return Err(BadLimits { which: 1 });
         }
         if max_text > Self::GREATEST_TEXT {
             return Err(BadLimits { which: 2 });
         }
-        if max_docs < 1 || max_docs > Self::GREATEST_DOCS {
+        if !(1..=Self::GREATEST_DOCS).contains(&max_docs) {
             return Err(BadLimits { which: 3 });
         }
-        if max_changes < 1 || max_changes > Self::GREATEST_CHANGES {
+        if !(1..=Self::GREATEST_CHANGES).contains(&max_changes) {
             return Err(BadLimits { which: 4 });
         }
         Ok(Limits {

@@ -24,7 +24,7 @@ pub struct Frames {
 /// Reads the frames of a stream that comes in these pieces, up to a fault (LSP 3.17, Base
 /// Protocol).
 ///
-/// Fails only if it is out of memory. Linear in the stream.
+/// Fails only where memory runs out. Linear in the stream.
 pub fn read_frames(alloc: Global, limits: Limits, pieces: &[Vec<u8>]) -> Result<Frames, AllocError>
     // The frames and the fault are those of the pieces put together.
     ensures read { IfOk result (λ frames.

@@ -19,7 +19,7 @@ use thiserror::Error;
 /// Returns the frame of a body: `Content-Length: N`, an empty line and the body (LSP 3.17, Base
 /// Protocol). The body may have any length.
 ///
-/// Fails only if it is out of memory. Linear in the body, which is copied once.
+/// Fails only where memory runs out. Linear in the body, which is copied once.
 pub fn frame(alloc: Global, body: &[u8]) -> Result<Vec<u8>, AllocError>
     ensures framed { IfOk result (λ bytes. bytes.items ≡ frame body.now) }
     // Each limit that allows the body lets a reader take this frame.
@@ -53,8 +53,8 @@ pub const MOST_HEADER: usize = 40;
 /// Makes a frame of the body that starts at index `body` of a buffer, and returns the index where
 /// the frame starts.
 ///
-/// It writes the header right before the body, over the bytes there. It takes no memory, and
-/// doesn't move the body.
+/// It writes the header right before the body, over the bytes there: `body` is at least
+/// [`MOST_HEADER`] and at most the buffer's length. It takes no memory, and doesn't move the body.
 #[tactic(auto, unfolding(crate::specs::Frame::frame))]
 pub fn put_header(bytes: &mut [u8], body: usize) -> usize
     requires room { MOST_HEADER ≤ body }
@@ -73,7 +73,8 @@ pub fn put_header(bytes: &mut [u8], body: usize) -> usize
 
 /// Writes bytes right before an index, over those there. Returns the index where they start.
 ///
-/// It takes no memory, and moves no other byte.
+/// There is room for them: `index` is at least `new.len()`, and at most `bytes.len()`. It takes no
+/// memory, and moves no other byte.
 pub fn put_before(bytes: &mut [u8], index: usize, new: &[u8]) -> usize
     requires room { length new.now ≤ index }
     requires within { index ≤ length bytes.old }
@@ -122,7 +123,7 @@ fn digits_len(bytes: &[u8]) -> usize
     ensures last { result < length bytes.now → is_digit (slice_index bytes.now result) ≡ false }
 {
     for (i, b) in bytes.iter().enumerate() {
-        if *b < b'0' || *b > b'9' {
+        if !b.is_ascii_digit() {
             return i;
         }
     }
@@ -150,7 +151,7 @@ impl From<AllocError> for EncodeFault {
 
 /// Returns the frame of a body that is no longer than `max_body` (LSP 3.17, Base Protocol).
 ///
-/// Fails if the body is longer, or if it is out of memory. Linear in the body.
+/// Fails if the body is longer, or where memory runs out. Linear in the body.
 pub fn encode(alloc: Global, limits: &Limits, body: &[u8]) -> Result<Vec<u8>, EncodeFault>
     ensures framed { IfOk result (λ bytes. bytes.items ≡ frame body.now) }
     ensures is_frame_of { IfOk result

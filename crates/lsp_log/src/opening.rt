@@ -10,7 +10,7 @@ use crate::record::{VERSION_LINE, Version};
 use lsp_stream::{EngineFault, Source, Turns, read_piece};
 
 /// The first bytes of an input: its version, how many bytes were read, and whether the end came.
-#[derive(Clone, Copy)]
+#[derive(Clone, Copy, Debug)]
 pub struct Opening {
     pub version: Version,
     pub len: usize,

@@ -61,7 +61,7 @@ pub struct Head {
     /// The version of the log that it is in.
     pub version: Version,
     /// The byte offset of the record in the input: of its mark in version 2, else of its frame. It
-    /// stays at the greatest value of a `u64`.
+    /// saturates at `u64::MAX`.
     pub place: u64,
     /// Whether it is the first record of a version 2 log, to whose output the log's line belongs.
     pub line_due: bool,

@@ -14,7 +14,7 @@ use std::alloc::Global;
 
 /// Splits a log into its records, in whatever pieces it comes. It begins after the line of the
 /// log's version, and buffers at most one record.
-#[derive(Drop)]
+#[derive(Debug, Drop)]
 pub struct Splitter {
     framer: Framer,
     version: Version,

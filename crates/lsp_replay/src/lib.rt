@@ -30,5 +30,5 @@ pub use commands::{
     replay_part, serve, serve_on, trace,
 };
 pub use laws::{documents_laws, log_laws};
-pub use lsp_stream::{Call, Duplex, EngineFault, Sink, Source, StopReader, StopWriter, Told};
+pub use lsp_stream::{CallEnd, Duplex, EngineFault, Sink, Source, StopReader, StopWriter, Told};
 pub use outcome::{Missing, Outcome};

@@ -17,7 +17,7 @@ mod words;
 
 use lsp_frame::{Limits, frame};
 use lsp_replay::{
-    Call, Details, EngineFault, Outcome, Part, Settings, Sink, Source, StopReader, StopWriter,
+    CallEnd, Details, EngineFault, Outcome, Part, Settings, Sink, Source, StopReader, StopWriter,
     Told, check, convert, explain, normalise, normalise_documents, replay, replay_part, serve,
     trace,
 };
@@ -167,28 +167,28 @@ impl Bytes {
 /// How reader and writer behave, and how many calls are allowed.
 #[derive(Clone, Copy)]
 struct Calls<'a> {
-    reads: &'a [Call],
-    other_reads: Call,
-    writes: &'a [Call],
-    other_writes: Call,
+    reads: &'a [CallEnd],
+    other_reads: CallEnd,
+    writes: &'a [CallEnd],
+    other_writes: CallEnd,
     turns: u64,
 }
 
 /// Each call moves all that it can.
 const SMOOTH: Calls<'static> = Calls {
     reads: &[],
-    other_reads: Call::Take(usize::MAX),
+    other_reads: CallEnd::Take(usize::MAX),
     writes: &[],
-    other_writes: Call::Take(usize::MAX),
+    other_writes: CallEnd::Take(usize::MAX),
     turns: u64::MAX,
 };
 
 /// Each call moves one byte.
 const SINGLE: Calls<'static> = Calls {
     reads: &[],
-    other_reads: Call::Take(1),
+    other_reads: CallEnd::Take(1),
     writes: &[],
-    other_writes: Call::Take(1),
+    other_writes: CallEnd::Take(1),
     turns: u64::MAX,
 };
 

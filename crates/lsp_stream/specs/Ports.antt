@@ -50,12 +50,14 @@ abbrev pub IsFlushFailure : Result (Unit {0}) Error → Type 0
 IsFlushFailure (Ok _) = ⊥
 IsFlushFailure (Err e) = error_kind e ≢ Interrupted
 
--- Whether all that was taken is flushed after a write: if all was before, and it took no byte.
+-- Whether all that was taken is flushed after a write: if all was flushed before, and the write
+-- took no byte.
 abbrev pub flushed_after_write : Bool → Result ℕ Error → Bool
 flushed_after_write flushed (Ok n) = flushed && n == 0
 flushed_after_write flushed (Err e) = flushed
 
--- The same after a flush. One that failed or was interrupted changes nothing.
+-- Whether all that was taken is flushed after a flush. One that failed or was interrupted changes
+-- nothing.
 abbrev pub flushed_after_flush : Bool → Result (Unit {0}) Error → Bool
 flushed_after_flush flushed (Ok _) = true
 flushed_after_flush flushed (Err e) = flushed
@@ -65,7 +67,7 @@ abbrev pub IsEnd : List ℕ → Result ℕ Error → Type 0
 IsEnd room (Ok n) = (0 < length room) × (n ≡ 0)
 IsEnd room (Err e) = ⊥
 
--- One call more. A count stays at the greatest value of a `u64`.
+-- One call more. A count saturates at `u64::MAX`.
 abbrev pub one_more : ℕ → ℕ
 one_more n = max n (min (n + 1) (2 ^ 64 - 1))
 

@@ -12,7 +12,7 @@ use crate::port::{Sink, Source};
 ///
 /// While one end is borrowed the other can't be used. So nothing is written between
 /// [`reader`](Duplex::reader) and the reads that are made through its result.
-#[derive(Drop)]
+#[derive(Debug, Drop)]
 pub struct Duplex<'a, R, W> {
     reader: &'a mut R,
     writer: &'a mut W,

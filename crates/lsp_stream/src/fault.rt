@@ -2,14 +2,13 @@
 
 ghost use Rattle.std.specs.Prelude.{◌≡◌};
 ghost use Rattle.lsp_stream.specs.declared.fault.EngineFault.TheVariants.{NoMemory};
-ghost use Rattle.lsp_stream.specs.Faults.{engine_fault};
+ghost use Rattle.lsp_stream.specs.Faults.{engine_fault, engine_fault_code};
 
 use lsp_frame::FrameFault;
 use std::alloc::AllocError;
 use thiserror::Error;
 
-/// Why a run ended early. A `place` is a byte offset in the input. It stays at the greatest value
-/// of a `u64`.
+/// Why a run ended early. A `place` is a byte offset in the input, which saturates at `u64::MAX`.
 #[derive(Clone, Copy, Debug, PartialEq, Eq, Error)]
 pub enum EngineFault {
     /// P1: a read failed.
@@ -37,6 +36,24 @@ pub enum EngineFault {
     /// P8: the log has a byte or a record that it can't have. `place` is the record's first byte.
     #[error("bad log at {place}")]
     BadLog { place: u64 },
+}
+
+impl EngineFault {
+    /// Returns the code of the fault: P1 to P8, and for P3 its cause, one of F1 to F7.
+    pub fn code(self) -> &'static str
+        ensures { result.now ≡ engine_fault_code self }
+    {
+        match self {
+            EngineFault::Read => "P1",
+            EngineFault::Write => "P2",
+            EngineFault::Frame(fault) => fault.code(),
+            EngineFault::Truncated { .. } => "P4",
+            EngineFault::BodyTooLong { .. } => "P5",
+            EngineFault::NoMemory => "P6",
+            EngineFault::TooManyTurns => "P7",
+            EngineFault::BadLog { .. } => "P8",
+        }
+    }
 }
 
 impl From<AllocError> for EngineFault {

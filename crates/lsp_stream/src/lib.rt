@@ -20,7 +20,7 @@ pub use adapter::Told;
 pub use duplex::Duplex;
 pub use fault::EngineFault;
 pub use port::{Sink, Source};
-pub use stop::{Call, StopReader, StopWriter};
+pub use stop::{CallEnd, StopReader, StopWriter};
 pub use turns::{Turns, flush_out, read_piece, write_given};
 
 #[cfg(test)]

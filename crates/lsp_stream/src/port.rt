@@ -26,7 +26,7 @@ pub trait Source {
     fn failed(&self) -> bool
         ensures { result ≡ (seen self.now).failed };
 
-    /// Returns how many reads were made. It stays at the greatest value of a `u64`.
+    /// Returns how many reads were made. It saturates at `u64::MAX`.
     fn calls(&self) -> u64
         ensures { result ≡ (seen self.now).calls };
 
@@ -64,7 +64,7 @@ pub trait Sink {
     fn failed(&self) -> bool
         ensures { result ≡ (seen self.now).failed };
 
-    /// Returns how many writes and flushes were made. It stays at the greatest value of a `u64`.
+    /// Returns how many writes and flushes were made. It saturates at `u64::MAX`.
     fn calls(&self) -> u64
         ensures { result ≡ (seen self.now).calls };
 

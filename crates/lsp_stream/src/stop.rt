@@ -11,7 +11,7 @@ use std::io::{self, ErrorKind, Read, Write};
 
 /// How a call ends.
 #[derive(Clone, Copy, Debug, PartialEq, Eq)]
-pub enum Call {
+pub enum CallEnd {
     /// It moves so many bytes, or fewer if there are fewer. A read moves at least one, a flush
     /// succeeds.
     Take(usize),
@@ -22,7 +22,7 @@ pub enum Call {
 }
 
 /// Returns the next call of a script, or what the calls after its end do.
-fn next_call(script: &mut &[Call], others: Call) -> Call
+fn next_call(script: &mut &[CallEnd], others: CallEnd) -> CallEnd
     ensures call { result ≡ scripted_call script.old.now others }
     ensures rest { script.new.now ≡ rest_of script.old.now }
 {
@@ -36,11 +36,11 @@ fn next_call(script: &mut &[Call], others: Call) -> Call
 }
 
 /// Returns the error of a call that moves no byte.
-fn stopped(call: Call) -> io::Error
+fn stopped(call: CallEnd) -> io::Error
     ensures { IsStop call result }
 {
     match call {
-        Call::Interrupt => io::Error::from(ErrorKind::Interrupted),
+        CallEnd::Interrupt => io::Error::from(ErrorKind::Interrupted),
         _ => io::Error::other("a call that was to fail"),
     }
 }
@@ -50,13 +50,13 @@ fn stopped(call: Call) -> io::Error
 #[derive(Debug, Drop)]
 pub struct StopReader<'a> {
     rest: &'a [u8],
-    script: &'a [Call],
-    others: Call,
+    script: &'a [CallEnd],
+    others: CallEnd,
 }
 
 impl<'a> StopReader<'a> {
     /// Makes a reader of these bytes.
-    pub fn new(bytes: &'a [u8], script: &'a [Call], others: Call) -> StopReader<'a>
+    pub fn new(bytes: &'a [u8], script: &'a [CallEnd], others: CallEnd) -> StopReader<'a>
         ensures bytes { result.rest.now ≡ bytes.now }
         ensures script { result.script.now ≡ script.now }
         ensures others { result.others ≡ others }
@@ -82,7 +82,7 @@ impl Read for StopReader<'_> {
         ensures others { self.new.others ≡ self.old.others }
     {
         match next_call(&mut self.script, self.others) {
-            Call::Take(most) => {
+            CallEnd::Take(most) => {
                 let n = most.max(1).min(buf.len()).min(self.rest.len());
                 let (front, rest) = self.rest.split_at(n);
                 buf[..n].copy_from_slice(front);
@@ -100,13 +100,13 @@ impl Read for StopReader<'_> {
 pub struct StopWriter<'a> {
     bytes: Vec<u8>,
     flushes: usize,
-    script: &'a [Call],
-    others: Call,
+    script: &'a [CallEnd],
+    others: CallEnd,
 }
 
 impl<'a> StopWriter<'a> {
     /// Makes a writer without bytes.
-    pub fn new(alloc: Global, script: &'a [Call], others: Call) -> StopWriter<'a>
+    pub fn new(alloc: Global, script: &'a [CallEnd], others: CallEnd) -> StopWriter<'a>
         ensures bytes { result.bytes.items ≡ [] }
         ensures flushes { result.flushes ≡ 0 }
         ensures script { result.script.now ≡ script.now }
@@ -127,7 +127,7 @@ impl<'a> StopWriter<'a> {
         &self.bytes
     }
 
-    /// Returns how many flushes succeeded. It stays at the greatest value of a `usize`.
+    /// Returns how many flushes succeeded. It saturates at `usize::MAX`.
     pub fn flushes(&self) -> usize
         ensures { result ≡ self.now.flushes }
     {
@@ -149,7 +149,7 @@ impl Write for StopWriter<'_> {
         ensures flushes { self.new.flushes ≡ self.old.flushes }
     {
         match next_call(&mut self.script, self.others) {
-            Call::Take(most) => {
+            CallEnd::Take(most) => {
                 let n = most.min(buf.len());
                 self.bytes.extend_from_slice(&buf[..n])?;
                 Ok(n)
@@ -166,7 +166,7 @@ impl Write for StopWriter<'_> {
         ensures others { self.new.others ≡ self.old.others }
     {
         match next_call(&mut self.script, self.others) {
-            Call::Take(_) => {
+            CallEnd::Take(_) => {
                 self.flushes = self.flushes.saturating_add(1);
                 Ok(())
             }

@@ -10,7 +10,7 @@ use crate::fault::EngineFault;
 use crate::port::{Sink, Source};
 
 /// How many reads, writes and flushes may still be made.
-#[derive(Drop)]
+#[derive(Debug, Drop)]
 pub struct Turns {
     left: u64,
 }

@@ -8,6 +8,7 @@ abbrev pub lead_units_utf16 : ℕ → ℕ
 lead_units_utf16 byte = if nat_lt byte 128 then 1 else if nat_lt byte 192 then 0 else
     if nat_lt byte 240 then 1 else 2
 
--- The same in UTF-32.
+-- The units of the character whose UTF-8 begins with this byte, in UTF-32; 0 for a byte inside a
+-- character.
 abbrev pub lead_units_utf32 : ℕ → ℕ
 lead_units_utf32 byte = if nat_lt byte 128 then 1 else if nat_lt byte 192 then 0 else 1

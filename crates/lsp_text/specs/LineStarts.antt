@@ -12,12 +12,12 @@ starts_between text low high = filter (starts_line text) (numbers_from (suc low)
 abbrev pub line_starts : List ℕ → List ℕ
 line_starts text = 0 ∷ starts_between text 0 (length text)
 
--- Their byte offsets.
+-- The byte offsets of the line starts.
 abbrev pub start_places : List ℕ → List ℕ
 start_places text = map (place_of text) (line_starts text)
 
 -- The lines are those of the text with these bytes, and there are at most 2,147,483,648 bytes.
-pub record Indexes (lines bytes : List ℕ) : Type 0 where
+pub record AreLinesOf (lines bytes : List ℕ) : Type 0 where
   pub starts : lines ≡ start_places (chars bytes)
   pub size : length bytes ≤ 2147483648
 

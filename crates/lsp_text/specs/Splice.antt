@@ -1,7 +1,7 @@
 -- A text after an edit, beside the lines of the text before it.
 use Rattle.std.specs.Prelude.{ℕ, ◌≡◌, ◌+◌, ◌≤◌, List, length, take, drop}
 use Rattle.std.specs.Str.{IsUtf8}
-use Rattle.lsp_text.specs.LineStarts.{Indexes}
+use Rattle.lsp_text.specs.LineStarts.{AreLinesOf}
 
 -- `bytes` is `old` with the bytes from `from` to `to` replaced by `len` others.
 pub record IsReplaced (old bytes : List ℕ) (from to len : ℕ) : Type 0 where
@@ -15,5 +15,5 @@ pub record IsReplaced (old bytes : List ℕ) (from to len : ℕ) : Type 0 where
 pub record IsSpliced (lines bytes : List ℕ) (from to len : ℕ) : Type 0 where
   pub old : List ℕ
   pub utf8 : IsUtf8 old
-  pub indexed : Indexes lines old
+  pub indexed : AreLinesOf lines old
   pub replaced : IsReplaced old bytes from to len

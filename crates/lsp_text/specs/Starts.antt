@@ -7,7 +7,7 @@ pub record AreStarts (starts : List ℕ) : Type 0 where
   pub first : slice_index starts 0 ≡ 0
   pub ascend : (j k : ℕ) → j ≤ k → k < length starts → slice_index starts j ≤ slice_index starts k
 
--- `line` is the greatest index whose start is at most the byte offset.
+-- `line` is the last line whose start is at most the byte offset.
 pub record IsLineOf (starts : List ℕ) (place line : ℕ) : Type 0 where
   pub within : line < length starts
   pub at_most : slice_index starts line ≤ place

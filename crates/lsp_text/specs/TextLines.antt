@@ -55,10 +55,11 @@ is_in_content text line k = (line_at text k == line) && not (splits_crlf text k)
 abbrev pub line_content : List ℕ → ℕ → List ℕ
 line_content text line = filter (is_in_content text line) (numbers_from 0 (suc (length text)))
 
--- The first index of a line's content.
+-- The first index of a line's content (0 if the text has no such line).
 abbrev pub line_start : List ℕ → ℕ → ℕ
 line_start text line = first_or 0 (line_content text line)
 
--- The last index of a line's content, which is before the line end.
+-- The last index of a line's content, which is before the line end (0 if the text has no such
+-- line).
 abbrev pub line_stop : List ℕ → ℕ → ℕ
 line_stop text line = last_or 0 (line_content text line)

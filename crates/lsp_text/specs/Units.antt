@@ -1,4 +1,4 @@
--- What the characters of a line count (LSP 3.17, PositionEncodingKind).
+-- How many units a character has (LSP 3.17, PositionEncodingKind).
 use Rattle.std.specs.Prelude.{ℕ, ◌-◌, if◌then◌else◌, nat_lt, List, codes, take, drop, sum_by, Option, Some, None}
 use Rattle.std.specs.Char.{len_utf8}
 use Rattle.std.specs.Str.{bytes_eq}

@@ -4,7 +4,7 @@ ghost use Rattle.std.specs.Result.{result_ok};
 ghost use Rattle.std.specs.Str.{IsCharBoundary, chars};
 ghost use Rattle.lsp_text.specs.Text.{place_of};
 ghost use Rattle.lsp_text.specs.TextLines.{line_ends};
-ghost use Rattle.lsp_text.specs.LineStarts.{Indexes, IsPlace};
+ghost use Rattle.lsp_text.specs.LineStarts.{AreLinesOf, IsPlace};
 ghost use Rattle.lsp_text.specs.Splice.{IsSpliced};
 ghost use Rattle.lsp_text.specs.Units.{units_in};
 ghost use Rattle.lsp_text.specs.Positions.{exact_position, denoted};
@@ -43,11 +43,11 @@ impl Model for Lines {
 }
 
 impl Lines {
-    /// Finds the lines of a text of at most 2,147,483,648 bytes. Fails only if it is out of memory.
+    /// Finds the lines of a text of at most 2,147,483,648 bytes. Fails only where memory runs out.
     /// Linear in the text.
     pub fn new(alloc: Global, text: &str) -> Result<Self, AllocError>
         requires { length text.now ≤ 2147483648 }
-        ensures { IfOk result (λ lines. Indexes lines text.now) }
+        ensures { IfOk result (λ lines. AreLinesOf lines text.now) }
     {
         let bytes = text.as_bytes();
         let mut starts = Vec::new(alloc);
@@ -56,7 +56,7 @@ impl Lines {
         Ok(Lines { starts })
     }
 
-    /// Returns a copy, or fails if it is out of memory. Costs four bytes for each line.
+    /// Returns a copy. Fails only where memory runs out. Costs four bytes for each line.
     pub fn clone_in(&self, alloc: Global) -> Result<Self, AllocError>
         ensures { IfOk result (λ lines. lines ≡ self.now) }
     {
@@ -69,7 +69,7 @@ impl Lines {
     /// time.
     pub fn count(&self) -> usize
         ensures count { result ≡ length self.now }
-        ensures line_ends { (text : List ℕ) → Indexes self.now text →
+        ensures line_ends { (text : List ℕ) → AreLinesOf self.now text →
             result ≡ line_ends (chars text) + 1 }
     {
         self.starts.len()
@@ -93,8 +93,8 @@ impl Lines {
         text.is_char_boundary(place) && !is_inside_crlf(text.as_bytes(), place)
     }
 
-    /// Returns the byte offset that a position denotes in the text that these lines index (LSP
-    /// 3.17, Position).
+    /// Returns the byte offset that a position denotes in the text whose lines these are (LSP 3.17,
+    /// Position).
     ///
     /// A position past the last line denotes the end of the text, one past a line's content the end
     /// of that content. A position inside a character is an error. Costs the line's text up to the
@@ -105,7 +105,7 @@ impl Lines {
         encoding: Encoding,
         position: Position,
     ) -> Result<usize, InsideCharacter>
-        requires { Indexes self.now text.now }
+        requires { AreLinesOf self.now text.now }
         ensures value { result_ok result
             ≡ option_map (place_of (chars text.now))
             (denoted (units_in encoding) (chars text.now) position) }
@@ -120,11 +120,13 @@ impl Lines {
         }
     }
 
-    /// Returns the exact position of a byte offset in the text that these lines index (LSP 3.17,
-    /// Position). Costs a binary search over the lines, and the line's text up to the offset; in
-    /// UTF-8 only the search.
+    /// Returns the exact position of a byte offset in the text whose lines these are (LSP 3.17,
+    /// Position). The offset is one that a position can denote ([`Lines::is_place`]).
+    ///
+    /// Costs a binary search over the lines, and the line's text up to the offset; in UTF-8 only
+    /// the search.
     pub fn position(&self, text: &str, encoding: Encoding, place: usize) -> Position
-        requires indexed { Indexes self.now text.now }
+        requires indexed { AreLinesOf self.now text.now }
         requires place { IsPlace (chars text.now) place }
         ensures exact { (k : ℕ) → k ≤ length (chars text.now) → place_of (chars text.now) k ≡ place
             → result ≡ exact_position (units_in encoding) (chars text.now) k }
@@ -139,8 +141,8 @@ impl Lines {
         }
     }
 
-    /// Updates the lines after an edit: `text` is the indexed text with the bytes from `from` to
-    /// `to` replaced by `len` others.
+    /// Updates the lines after an edit: `text` is the text whose lines these are, with the bytes
+    /// from `from` to `to` replaced by `len` others. It has at most 2,147,483,648 bytes.
     ///
     /// Out of memory changes nothing. Costs two binary searches, a search of the `len` bytes for
     /// line ends, and an addition for each later start. If the number of lines changes, the later
@@ -154,7 +156,7 @@ impl Lines {
     ) -> Result<(), AllocError>
         requires spliced { IsSpliced self.old text.now from to len }
         requires size { length text.now ≤ 2147483648 }
-        ensures ok { OnOk result (Indexes self.new text.now) }
+        ensures ok { OnOk result (AreLinesOf self.new text.now) }
         ensures unchanged { OnErr result (self.new ≡ self.old) }
     {
         splice_starts(&mut self.starts, text.as_bytes(), from, to, len)

@@ -73,7 +73,7 @@ pub fn is_in_content(text: &[char], line: usize, index: usize) -> bool
 pub fn line_start(text: &[char], line: usize) -> usize
     ensures { result ≡ spec_line_start text.now line }
 {
-    for index in 0..text.len() + 1 {
+    for index in 0..=text.len() {
         if is_in_content(text, line, index) {
             return index;
         }
@@ -87,7 +87,7 @@ pub fn line_stop(text: &[char], line: usize) -> usize
     ensures within { result ≤ length text.now }
 {
     let mut stop = 0;
-    for index in 0..text.len() + 1 {
+    for index in 0..=text.len() {
         if is_in_content(text, line, index) {
             stop = index;
         }
@@ -156,7 +156,7 @@ pub fn denoted(text: &[char], encoding: Encoding, position: Position) -> Option<
     if units_between(text, encoding, start, stop) <= character {
         return Some(stop);
     }
-    for index in 0..text.len() + 1 {
+    for index in 0..=text.len() {
         if is_in_content(text, line, index)
             && units_between(text, encoding, start, index) == character
         {

@@ -1,7 +1,7 @@
 //! Positions of small texts in the three encodings. Lines after an edit are compared with those of
 //! the new text.
 ghost use Rattle.std.specs.Prelude.{◌≤◌, ◌+◌, IfOk, length, string_bytes};
-ghost use Rattle.lsp_text.specs.LineStarts.{Indexes};
+ghost use Rattle.lsp_text.specs.LineStarts.{AreLinesOf};
 ghost use Rattle.lsp_text.specs.Splice.{IsReplaced};
 
 mod faults;
@@ -360,7 +360,7 @@ static TURNS: [u32; 6] = [0, 1, 3, 7, 49999, 50000];
 /// Returns whether the byte offset after so many turns has so many units before it, by `resolve`
 /// and by `position`.
 fn is_counted(lines: &Lines, text: &str, encoding: Encoding, units: u32, turns: u32) -> bool
-    requires indexed { Indexes lines.now text.now }
+    requires indexed { AreLinesOf lines.now text.now }
     requires size { length text.now ≤ 2147483648 }
 {
     let position = Position {
@@ -375,7 +375,7 @@ fn is_counted(lines: &Lines, text: &str, encoding: Encoding, units: u32, turns: 
 
 /// Returns the first encoding and turns that are counted wrongly.
 fn wrong_count(lines: &Lines, text: &str) -> Option<(Encoding, u32)>
-    requires indexed { Indexes lines.now text.now }
+    requires indexed { AreLinesOf lines.now text.now }
     requires size { length text.now ≤ 2147483648 }
 {
     for (encoding, units) in &BLOCKS {

@@ -6,7 +6,7 @@
 
 ghost use Rattle.std.specs.Prelude.{◌≡◌, ◌≤◌, IfOk, length, map, string_len, sum_by};
 ghost use Rattle.std.specs.Prelude.{encode_utf8_all};
-ghost use Rattle.lsp_text.specs.LineStarts.{Indexes};
+ghost use Rattle.lsp_text.specs.LineStarts.{AreLinesOf};
 ghost use Rattle.lsp_text.specs.Units.{units_in};
 ghost use Rattle.lsp_edit.specs.Edited.{edit_of};
 ghost use Rattle.lsp_vectors.specs.inside.Answer.{IsLeft, alike};
@@ -107,7 +107,7 @@ pub fn positions_alike(
 
 /// Compares what positions denote, and returns how many were compared if none differs.
 fn resolved_alike(lines: &Lines, text: &str, characters: &[char], encoding: Encoding) -> Option<u64>
-    requires lines { Indexes lines.now text.now }
+    requires lines { AreLinesOf lines.now text.now }
     requires size { length (encode_utf8_all characters.now) ≤ MAX_OLD_TEXT }
 {
     let mut compared = 0u64;
@@ -127,7 +127,7 @@ fn resolved_alike(lines: &Lines, text: &str, characters: &[char], encoding: Enco
 
 /// Compares the exact positions of characters, and returns how many were compared if none differs.
 fn found_alike(lines: &Lines, text: &str, characters: &[char], encoding: Encoding) -> Option<u64>
-    requires lines { Indexes lines.now text.now }
+    requires lines { AreLinesOf lines.now text.now }
     requires size { length (encode_utf8_all characters.now) ≤ MAX_OLD_TEXT }
 {
     let mut compared = 0u64;

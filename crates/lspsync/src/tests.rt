@@ -11,7 +11,7 @@ mod streams;
 mod traces;
 
 use crate::run::run;
-use lsp_replay::{Call, StopReader, StopWriter, Told};
+use lsp_replay::{CallEnd, StopReader, StopWriter, Told};
 use std::alloc::{AllocError, Global};
 
 /// The result of one run of the program.
@@ -65,10 +65,10 @@ fn stopped(
     alloc: Global,
     words: &[&str],
     input: &[u8],
-    reads: &[Call],
-    writes: &[Call],
+    reads: &[CallEnd],
+    writes: &[CallEnd],
 ) -> Result<Answer, AllocError> {
-    let all = Call::Take(usize::MAX);
+    let all = CallEnd::Take(usize::MAX);
     let mut reader = Told::new(StopReader::new(input, reads, all));
     let mut writer = Told::new(StopWriter::new(alloc, writes, all));
     let mut errors = Vec::new(alloc);

@@ -10,7 +10,8 @@ module _ (V : RattleType) (ordered : MutBor (Entries V.Denot)) (index : ℕ) whe
   lends_value reference
       = Lends (the_row V) V ordered reference (with_value_at ordered.now index)
 
-  -- The same where there is a reference; at `None` the map stays as it is.
+  -- Where there is a reference, the index has the last value written through it once the borrow
+  -- ends; at `None` the map stays as it is.
   abbrev pub lends_get : Option (MutBor V.Denot) → Fml
   lends_get reference
       = LendsIf (the_row V) V ordered reference (with_value_at ordered.now index) ordered.now

@@ -172,8 +172,8 @@ impl<V> OrderedMap<V> {
 }
 
 impl<V: Drop> OrderedMap<V> {
-    /// Inserts an entry after all others, in place of an entry of its key. Fails only if it is out
-    /// of memory, and then changes nothing. The key is copied once. Costs a few hash look-ups.
+    /// Inserts an entry after all others, in place of an entry of its key. Fails only where memory
+    /// runs out, and then changes nothing. The key is copied once. Costs a few hash look-ups.
     pub fn insert_last(&mut self, key: String, value: V) -> Result<(), AllocError>
         ensures inserted { OnOk result (self.new.entries
             ≡ remove_entry (is_key (string_bytes key)) self.old.entries ++ (key, value) ∷ []) }

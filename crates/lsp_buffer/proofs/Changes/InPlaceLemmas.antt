@@ -5,7 +5,7 @@ use Rattle.std.proofs.lemmas.Str.{IsCharBoundary-at_seam, IsUtf8-append, IsUtf8-
 use Rattle.std.specs.List.{slice_range, replace_range}
 use Rattle.std.specs.String.Boundary.{IsSplitPoint}
 use Rattle.std.specs.Str.{IsCharBoundary, IsUtf8}
-use Rattle.lsp_text.specs.LineStarts.{Indexes}
+use Rattle.lsp_text.specs.LineStarts.{AreLinesOf}
 use Rattle.lsp_text.specs.Splice.{IsSpliced}
 
 assoc : (a b c : List ℕ) → a ++ b ++ c ≡ a ++ (b ++ c)
@@ -57,8 +57,8 @@ module _ (old : List ℕ) (utf8 : IsUtf8 old) (start stop : ℕ) (new : List ℕ
       (IsCharBoundary-at_seam (replace_range old start stop new) (take start old ++ new) (drop stop old) refl
       rest_utf8))
 
-  pub is_spliced : (lines : List ℕ) → Indexes lines old → IsSpliced lines (replace_range old start stop new) start stop
-      (length new)
+  pub is_spliced : (lines : List ℕ) → AreLinesOf lines old →
+      IsSpliced lines (replace_range old start stop new) start stop (length new)
   is_spliced lines indexed = record {
     old = old;
     utf8 = utf8;

@@ -8,21 +8,22 @@ use Rattle.lsp_text.specs.Starts.{AreStarts}
 use Rattle.lsp_text.specs.Units.{units_in}
 use Rattle.lsp_buffer.specs.Blocks.{AreBlocks, carried, block_ends, head_after, heads_from, sums_from}
 
--- A text ends in this line, after so many units of it. The position is there or later.
+-- A position is in this line after `head` units of it, or later.
 abbrev pub IsAtOrAfter : ℕ → ℕ → Position → Type 0
 IsAtOrAfter line head p = (line < p.line) ⊎ ((p.line ≡ line) × (head ≤ p.character))
 
--- The position is before the end of such a text.
+-- A position is before the one in this line after `head` units of it.
 abbrev pub IsBefore : ℕ → ℕ → Position → Type 0
 IsBefore line head p = (p.line < line) ⊎ ((p.line ≡ line) × (p.character < head))
 
--- A position of a whole text, counted from the end of its front on, which is in this line after so
--- many units.
+-- A position of a whole text, as it is counted from a block on that begins in this line, after
+-- `head` units of it.
 abbrev pub position_after : ℕ → ℕ → Position → Position
 position_after line head p =
     record { line = p.line - line; character = p.character - carried (p.line - line) head }
 
--- A position that is counted so, as one of the whole text.
+-- A position that is counted from a block on, as one of the whole text. The block begins in this
+-- line, after `head` units of it.
 abbrev pub position_from : ℕ → ℕ → Position → Position
 position_from line head p =
     record { line = line + p.line; character = carried p.line head + p.character }
@@ -37,7 +38,8 @@ marks_of [] heads = []
 marks_of (line ∷ lines) [] = []
 marks_of (line ∷ lines) (head ∷ heads) = mark line head ∷ marks_of lines heads
 
--- They can be searched: there are as many lines as heads, and the marks ascend from 0.
+-- The marks of blocks can be searched: there are as many lines as heads, and the marks ascend from
+-- 0.
 pub record AreMarks (lines heads : List ℕ) : Type 0 where
   pub counts : length lines ≡ length heads
   pub starts : AreStarts (marks_of lines heads)
@@ -48,19 +50,20 @@ pub record Rows : Type 0 where
   pub utf16 : List ℕ
   pub utf32 : List ℕ
 
--- The list of one encoding.
+-- The list of numbers for one encoding.
 abbrev pub row_of : Rows → Encoding → List ℕ
 row_of rows Utf8 = rows.utf8
 row_of rows Utf16 = rows.utf16
 row_of rows Utf32 = rows.utf32
 
--- The units of the line at the end of blocks, if so many are before the first block.
+-- The units before the end of blocks in the line that they end in, if `head` are before the first
+-- block in the line that it begins in.
 abbrev pub heads_end : (ℕ → ℕ) → ℕ → List (List ℕ) → ℕ
 heads_end units head [] = head
 heads_end units head (block ∷ blocks) = heads_end units (head_after units head block) blocks
 
--- The block with this index was another one before a change. The heads are those of the blocks with
--- that, the lines those of the blocks as they are.
+-- The block with this index was another one before a change. The heads, in one encoding, are those
+-- of the blocks before it, the lines those of the blocks as they are.
 pub record WereSums (blocks : List (List ℕ)) (index : ℕ) (lines : List ℕ) (encoding : Encoding)
     (heads : List ℕ) : Type 0 where
   pub old : List ℕ
@@ -70,7 +73,8 @@ pub record WereSums (blocks : List (List ℕ)) (index : ℕ) (lines : List ℕ) 
   pub lines_are : lines ≡ sums_from 0 (map block_ends blocks)
   pub heads_were : heads ≡ heads_from (units_in encoding) 0 (set blocks index old)
 
--- The same of the heads of each encoding.
+-- The block with this index was another one before a change. The heads of each encoding are those
+-- of the blocks before it, the lines those of the blocks as they are.
 abbrev pub WereHeads : List (List ℕ) → ℕ → List ℕ → (Encoding → List ℕ) → Type 0
 WereHeads blocks index lines heads =
     (encoding : Encoding) → WereSums blocks index lines encoding (heads encoding)

@@ -19,7 +19,7 @@ pub struct BlockRange {
     pub end: usize,
 }
 
-/// Returns whether a block is short enough to take a new text in.
+/// Returns whether the block at an index is short enough to take a new text in.
 pub fn fits(blocks: &[Block], index: usize, new: &str) -> bool
     requires { index < length blocks.now }
 {

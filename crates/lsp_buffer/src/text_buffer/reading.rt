@@ -54,9 +54,9 @@ impl TextBuffer {
     }
 
     /// Returns the text from an offset on, up to the end of its block. It is empty only at the end
-    /// of the text. Costs a binary search over the blocks.
+    /// of the text. The offset is a character boundary ([`TextBuffer::is_char_boundary`]).
     ///
-    /// The next chunk begins at `offset + chunk.len()`.
+    /// The next chunk begins at `offset + chunk.len()`. Costs a binary search over the blocks.
     pub fn chunk_from(&self, offset: usize) -> &str
         requires { IsCharBoundary self.now offset }
         ensures part { result.now ≡ take (length result.now) (drop offset self.now) }
@@ -69,7 +69,8 @@ impl TextBuffer {
     }
 
     /// Returns the part of the text from `offset` to `end`, or to the end of its block if that is
-    /// nearer.
+    /// nearer. `offset` is at most `end`, and both are character boundaries
+    /// ([`TextBuffer::is_char_boundary`]).
     pub fn chunk_to(&self, offset: usize, end: usize) -> &str
         requires order { offset ≤ end }
         requires at_offset { IsCharBoundary self.now offset }
@@ -88,8 +89,11 @@ impl TextBuffer {
         }
     }
 
-    /// Copies the bytes from `start` to `end`. Fails only if it is out of memory. Costs a binary
-    /// search for each block of the range, and its bytes.
+    /// Copies the bytes from `start` to `end`. `start` is at most `end`, and both are character
+    /// boundaries ([`TextBuffer::is_char_boundary`]).
+    ///
+    /// Fails only where memory runs out. Costs a binary search for each block of the range, and its
+    /// bytes.
     pub fn slice(&self, alloc: Global, start: usize, end: usize) -> Result<String, AllocError>
         requires order { start ≤ end }
         requires at_start { IsCharBoundary self.now start }
@@ -101,8 +105,11 @@ impl TextBuffer {
         Ok(text)
     }
 
-    /// Appends the bytes from `start` to `end` to a string. Fails only if it is out of memory.
-    /// Costs a binary search for each block of the range, and its bytes.
+    /// Appends the bytes from `start` to `end` to a string. `start` is at most `end`, and both are
+    /// character boundaries ([`TextBuffer::is_char_boundary`]).
+    ///
+    /// Fails only where memory runs out. Costs a binary search for each block of the range, and its
+    /// bytes.
     pub fn push_range(&self, out: &mut String, start: usize, end: usize) -> Result<(), AllocError>
         requires order { start ≤ end }
         requires at_start { IsCharBoundary self.now start }
@@ -150,8 +157,10 @@ impl TextBuffer {
         rest
     }
 
-    /// Copies the bytes from `start` on, as many as `out` has room for, and returns how many. Costs
-    /// a binary search for each block of these bytes, and the copy.
+    /// Copies the bytes from `start` on, as many as `out` has room for, and returns how many.
+    /// `start` is at most the text's length.
+    ///
+    /// Costs a binary search for each block of these bytes, and the copy.
     pub fn copy_to(&self, start: usize, out: &mut [u8]) -> usize
         requires { start ≤ length self.now }
         ensures count { result ≡ min (length (drop start self.now)) (length out.old) }
@@ -166,7 +175,7 @@ impl TextBuffer {
         copied
     }
 
-    /// Copies the text into one string. Fails only if it is out of memory. Linear in the text.
+    /// Copies the text into one string. Fails only where memory runs out. Linear in the text.
     pub fn to_string(&self, alloc: Global) -> Result<String, AllocError>
         ensures { IfOk result (λ text. string_bytes text ≡ self.now) }
     {

@@ -1,6 +1,6 @@
 //! Lines that are longer than a block, so that seams are inside them.
 
-ghost use Rattle.lsp_text.specs.LineStarts.{Indexes};
+ghost use Rattle.lsp_text.specs.LineStarts.{AreLinesOf};
 
 use super::reads::seamed;
 use super::{MOST, Pair, both_of, change, same, same_chunks, same_offsets};
@@ -51,7 +51,7 @@ fn with_seam(alloc: Global, part: &str, shift: usize) -> Result<String, AllocErr
 /// Returns whether characters of the first line denote the same in both. They begin with this one
 /// and are so far apart.
 fn same_characters(buffer: &TextBuffer, lines: &Lines, plain: &str, first: u32, step: u32) -> bool
-    requires { Indexes lines.now plain.now }
+    requires { AreLinesOf lines.now plain.now }
 {
     let mut character = first;
     for _ in 0..24 {

@@ -4,7 +4,7 @@ ghost use Rattle.std.specs.Prelude.{◌≡◌, ◌++◌, ◌≤◌, ℕ, IfOk, O
 ghost use Rattle.std.specs.List.{slice_range};
 ghost use Rattle.std.specs.Result.{result_ok};
 ghost use Rattle.std.specs.Str.{IsCharBoundary, IsUtf8, chars};
-ghost use Rattle.lsp_text.specs.LineStarts.{Indexes, IsPlace};
+ghost use Rattle.lsp_text.specs.LineStarts.{AreLinesOf, IsPlace};
 ghost use Rattle.lsp_text.specs.Positions.{denoted, exact_position};
 ghost use Rattle.lsp_text.specs.Text.{place_of};
 ghost use Rattle.lsp_text.specs.Units.{units_in};
@@ -26,7 +26,7 @@ pub struct IndexedStr<'a> {
 impl<'a> Model for IndexedStr<'a> {
     ghost use Rattle.std.specs.Prelude.{ℕ, List, ◌≡◌, true};
     ghost use Rattle.std.specs.Str.{is_utf8};
-    ghost use Rattle.lsp_text.specs.LineStarts.{Indexes};
+    ghost use Rattle.lsp_text.specs.LineStarts.{AreLinesOf};
     ghost use Rattle.lsp_edit.specs.inside.OldLines.{lines_of};
 
     ghost Value = { List ℕ };
@@ -34,13 +34,13 @@ impl<'a> Model for IndexedStr<'a> {
     ghost view = { λ indexed. indexed.text.now };
 
     ghost invariant = { λ indexed. (is_utf8 indexed.text.now ≡ true)
-        × Indexes (lines_of indexed.lines) indexed.text.now };
+        × AreLinesOf (lines_of indexed.lines) indexed.text.now };
 }
 
 impl<'a> IndexedStr<'a> {
     /// Takes a text and its lines.
     pub fn new(text: &'a str, lines: KeptLines<'a>) -> Self
-        requires { Indexes (lines_of lines) text.now }
+        requires { AreLinesOf (lines_of lines) text.now }
         ensures { result ≡ text.now }
     {
         IndexedStr { text, lines }

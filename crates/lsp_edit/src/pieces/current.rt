@@ -3,7 +3,7 @@
 ghost use Rattle.std.specs.Prelude.{◌≡◌, ◌≤◌, IfOk, MatchOption, length, string_bytes};
 ghost use Rattle.std.specs.List.{replace_range};
 ghost use Rattle.std.specs.Str.{IsCharBoundary, IsUtf8, chars};
-ghost use Rattle.lsp_text.specs.LineStarts.{Indexes};
+ghost use Rattle.lsp_text.specs.LineStarts.{AreLinesOf};
 ghost use Rattle.lsp_text.specs.Units.{units_in};
 ghost use Rattle.lsp_edit.specs.Faults.{ends_of, places_at};
 ghost use Rattle.lsp_edit.specs.Parts.{AreParts, bytes_of, parts_of};
@@ -66,7 +66,7 @@ pub fn text_with_lines(
     requires room { length (bytes_of before.now (parts_of spans.now)) ≤ 2147483648 }
     ensures { IfOk result (λ indexed.
         (string_bytes indexed.0 ≡ bytes_of before.now (parts_of spans.now))
-        × Indexes indexed.1 (string_bytes indexed.0)) }
+        × AreLinesOf indexed.1 (string_bytes indexed.0)) }
 {
     let text = text_of_spans(alloc, before, spans, len)?;
     let lines = Lines::new(alloc, &text)?;

@@ -2,7 +2,7 @@
 
 ghost use Rattle.std.specs.Prelude.{◌≡◌, ◌+◌, ◌++◌, ◌≤◌, ◌<◌, IfOk, OnOk, Ok, Some, true, IsCharBoundary, map, length, take, drop, string_bytes, encode_utf8_all};
 ghost use Rattle.std.specs.Str.{chars};
-ghost use Rattle.lsp_text.specs.LineStarts.{Indexes};
+ghost use Rattle.lsp_text.specs.LineStarts.{AreLinesOf};
 ghost use Rattle.lsp_text.specs.TextLines.{numbers_from};
 ghost use Rattle.lsp_text.specs.Units.{units_in};
 ghost use Rattle.lsp_edit.specs.Items.{Old as OldItem, New as NewItem, character_of as spec_character_of, text_of as spec_text_of};
@@ -139,7 +139,7 @@ fn put_gap(
     high: usize,
     text: &[char],
 ) -> Result<(), AllocError>
-    requires indexed { Indexes lines.now before.now }
+    requires indexed { AreLinesOf lines.now before.now }
     requires old { old.now ≡ chars before.now }
     requires ends { is_changed (gap_at low high text.now) ≡ true →
         HasExactEnds (chars before.now) (gap_at low high text.now) }
@@ -166,7 +166,7 @@ pub(crate) fn gaps_written(
     old: &[char],
     items: &[Item],
 ) -> Result<Vec<Change>, AllocError>
-    requires indexed { Indexes lines.now before.now }
+    requires indexed { AreLinesOf lines.now before.now }
     requires old { old.now ≡ chars before.now }
     requires keeps { Keeps (chars before.now) 0 (items_in_order items.now) }
     ensures { IfOk result

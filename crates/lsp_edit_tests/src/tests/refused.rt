@@ -2,7 +2,7 @@
 //! the same call succeeds the second time. Each test prints how many requests were refused.
 
 ghost use Rattle.std.specs.Prelude.{IfOk};
-ghost use Rattle.lsp_text.specs.LineStarts.{Indexes};
+ghost use Rattle.lsp_text.specs.LineStarts.{AreLinesOf};
 
 use super::pieces::left_by_both;
 use super::{are_applied, start_again};
@@ -30,7 +30,7 @@ fn refused_start(rt: HostRuntime) -> Result<(), Fail> {
 }
 
 fn lines(alloc: Global, refused: &mut usize) -> Result<Lines, AllocError>
-    ensures { IfOk result (λ lines. Indexes lines TEXT.now) }
+    ensures { IfOk result (λ lines. AreLinesOf lines TEXT.now) }
 {
     match Lines::new(alloc, TEXT) {
         Ok(lines) => Ok(lines),
@@ -61,7 +61,7 @@ fn lead_to_a_text(
     changes: &[Change],
     refused: &mut usize,
 ) -> Result<bool, EditFault>
-    requires { Indexes lines.now TEXT.now }
+    requires { AreLinesOf lines.now TEXT.now }
 {
     let mut pieces = Pieces::over(alloc, TEXT, lines);
     if !are_applied(&mut pieces, changes, &TEXTS, refused)? {

@@ -21,14 +21,15 @@ abbrev pub StopsHeader : List ℕ → Type 0
 StopsHeader bytes = (lines : List Line) (more : List ℕ) → AreLines lines →
     header_of lines ≡ bytes ++ more → ⊥
 
--- The length of the body, or the first fault, of a header with such notes.
+-- The length of the body, or the first fault, of a header that gives this length and has this note
+-- on the charset.
 abbrev pub charset_judged : ℕ → Charset → Result ℕ HeaderFault
 charset_judged n named.Missing = Ok n
 charset_judged n named.Good = Ok n
 charset_judged n named.Bad = Err BadCharset
 charset_judged n named.Repeated = Err RepeatedHeader
 
--- The same by the note on the length, if the charset is given once at most.
+-- The length of the body, or the first fault, by both notes, if the charset is given once at most.
 abbrev pub length_judged : Length → Charset → Result ℕ HeaderFault
 length_judged said.Missing charset = Err MissingLength
 length_judged said.Bad charset = Err BadLength
@@ -36,7 +37,8 @@ length_judged said.TooLong charset = Err BodyTooLong
 length_judged (said.Given n) charset = charset_judged n charset
 length_judged said.Repeated charset = Err RepeatedHeader
 
--- The same by both notes: a repeated Content-Type is a fault whatever the length is.
+-- The length of the body, or the first fault, by both notes. A repeated Content-Type is a fault
+-- whatever the length is.
 abbrev pub both_judged : Length → Charset → Result ℕ HeaderFault
 both_judged length named.Missing = length_judged length named.Missing
 both_judged length named.Good = length_judged length named.Good

@@ -16,7 +16,8 @@ pub record IsHolding (max_body : ℕ) (stream : List ℕ) (bodies : List (List �
   pub part : IsPart max_body framer.buffered
   pub limit : framer.limits.max_body ≡ max_body
 
--- The same, and the buffered bytes are no whole frame.
+-- A framer has released the frames of a stream with these bodies, and what it has buffered is no
+-- whole frame.
 pub record HasTaken (max_body : ℕ) (stream : List ℕ) (bodies : List (List ℕ))
     (framer : FramerData) : Type 0 where
   pub holding : IsHolding max_body stream bodies framer

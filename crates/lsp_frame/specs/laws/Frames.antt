@@ -19,7 +19,7 @@ pub record SameFrame (raw other body other_body x y : List ℕ) : Type 0 where
   pub body_is : body ≡ other_body
   pub rest_is : x ≡ y
 
--- The same bytes begin with at most one frame.
+-- Bytes begin with at most one frame.
 abbrev pub FrontLaw : Type 0
 FrontLaw =
     (max_body : ℕ) (raw other body other_body x y : List ℕ) →

@@ -13,7 +13,7 @@ pub struct Case {
     /// Which of the writer's calls flush, if each write takes one byte.
     pub flushes: &'static [usize],
     /// The reads, if the calls are counted.
-    pub reads: &'static [Call],
+    pub reads: &'static [CallEnd],
     /// The order of the calls if each moves all that it can: reads, writes and flushes.
     pub order: &'static [u8],
 }
@@ -162,7 +162,7 @@ impl<'a> Runs<'a> {
     }
 
     /// Returns whether the run is as wanted if the read of this number fails.
-    fn fails_at_read(&self, script: &[Call], number: usize) -> Result<bool, Fail> {
+    fn fails_at_read(&self, script: &[CallEnd], number: usize) -> Result<bool, Fail> {
         let calls = Calls {
             reads: script,
             ..SMOOTH
@@ -177,11 +177,11 @@ impl<'a> Runs<'a> {
     pub fn each_read_fails(&self) -> Result<bool, Fail> {
         let mut script = script(self.alloc, self.reads())?;
         for number in 0..self.reads() {
-            set(&mut script, number, Call::Fail);
+            set(&mut script, number, CallEnd::Fail);
             if !self.fails_at_read(&script, number)? {
                 return Ok(false);
             }
-            set(&mut script, number, Call::Take(1));
+            set(&mut script, number, CallEnd::Take(1));
         }
         Ok(true)
     }
@@ -214,7 +214,7 @@ impl<'a> Runs<'a> {
 
     /// Returns whether the run is as wanted if the writer's call of this number fails, or takes
     /// nothing.
-    fn fails_at_write(&self, script: &[Call], number: usize) -> Result<bool, Fail> {
+    fn fails_at_write(&self, script: &[CallEnd], number: usize) -> Result<bool, Fail> {
         let calls = Calls {
             writes: script,
             ..SMOOTH
@@ -227,16 +227,16 @@ impl<'a> Runs<'a> {
         self.meets(calls, failed)
     }
 
-    pub fn each_write_fails(&self, ending: Call) -> Result<bool, Fail> {
+    pub fn each_write_fails(&self, ending: CallEnd) -> Result<bool, Fail> {
         let mut script = script(self.alloc, self.writes())?;
         for number in 0..self.writes() {
             // A flush has nothing to take.
-            if ending == Call::Fail || !self.case.flushes.contains(&number) {
+            if ending == CallEnd::Fail || !self.case.flushes.contains(&number) {
                 set(&mut script, number, ending);
                 if !self.fails_at_write(&script, number)? {
                     return Ok(false);
                 }
-                set(&mut script, number, Call::Take(1));
+                set(&mut script, number, CallEnd::Take(1));
             }
         }
         Ok(true)
@@ -285,27 +285,27 @@ fn one_more(made: [usize; 3], call: u8) -> [usize; 3] {
 }
 
 /// Returns a script in which each call is interrupted, and then moves one byte.
-fn interrupted(alloc: Global, calls: usize) -> Result<Vec<Call>, AllocError> {
+fn interrupted(alloc: Global, calls: usize) -> Result<Vec<CallEnd>, AllocError> {
     let mut script = Vec::new(alloc);
     for _ in 0..calls {
-        script.push(Call::Interrupt)?;
-        script.push(Call::Take(1))?;
+        script.push(CallEnd::Interrupt)?;
+        script.push(CallEnd::Take(1))?;
     }
     Ok(script)
 }
 
 /// From now on the call of this number ends like this.
-fn set(script: &mut [Call], number: usize, ending: Call) {
+fn set(script: &mut [CallEnd], number: usize, ending: CallEnd) {
     if let Some(call) = script.get_mut(number) {
         *call = ending;
     }
 }
 
 /// Returns a script in which each call moves one byte.
-fn script(alloc: Global, calls: usize) -> Result<Vec<Call>, AllocError> {
+fn script(alloc: Global, calls: usize) -> Result<Vec<CallEnd>, AllocError> {
     let mut script = Vec::new(alloc);
     for _ in 0..calls {
-        script.push(Call::Take(1))?;
+        script.push(CallEnd::Take(1))?;
     }
     Ok(script)
 }

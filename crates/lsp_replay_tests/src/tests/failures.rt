@@ -14,13 +14,13 @@ static SERVED: [Case; 1] = [Case {
     records: &[(172, 152), (836, 212)],
     flushes: &[152, 213],
     reads: &[
-        Call::Take(172),
-        Call::Take(74),
-        Call::Take(168),
-        Call::Take(238),
-        Call::Take(118),
-        Call::Take(66),
-        Call::Take(55),
+        CallEnd::Take(172),
+        CallEnd::Take(74),
+        CallEnd::Take(168),
+        CallEnd::Take(238),
+        CallEnd::Take(118),
+        CallEnd::Take(66),
+        CallEnd::Take(55),
     ],
     order: b"RWFRRRRRWFR",
 }];
@@ -319,7 +319,7 @@ fn writes_fail(alloc: Global, cases: &[Case]) -> Result<bool, Fail> {
         if !runs.writes_slowly()? {
             return Ok(false);
         }
-        if !runs.each_write_fails(Call::Take(0))? || !runs.each_write_fails(Call::Fail)? {
+        if !runs.each_write_fails(CallEnd::Take(0))? || !runs.each_write_fails(CallEnd::Fail)? {
             return Ok(false);
         }
     }
@@ -369,14 +369,14 @@ fn serves(alloc: Global, calls: Calls, answer: Answer, written: usize) -> Result
 #[test]
 fn a_reader_and_a_writer_that_stop(rt: HostRuntime) -> Result<(), Fail> {
     let first = Calls {
-        reads: &[Call::Take(172)],
-        other_reads: Call::Fail,
+        reads: &[CallEnd::Take(172)],
+        other_reads: CallEnd::Fail,
         ..SMOOTH
     };
     assert!(rt; serves(rt.alloc(), first, Err(EngineFault::Read), 152)?);
     let short = Calls {
-        writes: &[Call::Take(100)],
-        other_writes: Call::Fail,
+        writes: &[CallEnd::Take(100)],
+        other_writes: CallEnd::Fail,
         ..SMOOTH
     };
     assert!(rt; serves(rt.alloc(), short, Err(EngineFault::Write), 100)?);
@@ -389,7 +389,7 @@ fn is_answered_at_once(alloc: Global) -> Result<bool, Fail> {
     let bodies = ["[]"; 20];
     let endless = log(alloc, &bodies)?;
     let calls = Calls {
-        other_reads: Call::Take(23),
+        other_reads: CallEnd::Take(23),
         turns: 10,
         ..SMOOTH
     };

@@ -12,8 +12,8 @@ static ROWS: [(&[u8], Calls<'static>, End, bool); 5] = [
     (
         b"",
         Calls {
-            reads: &[Call::Interrupt, Call::Take(200), Call::Interrupt],
-            writes: &[Call::Take(5), Call::Interrupt],
+            reads: &[CallEnd::Interrupt, CallEnd::Take(200), CallEnd::Interrupt],
+            writes: &[CallEnd::Take(5), CallEnd::Interrupt],
             ..SMOOTH
         },
         Ended(0, 7, 0),
@@ -23,8 +23,8 @@ static ROWS: [(&[u8], Calls<'static>, End, bool); 5] = [
     (
         b"",
         Calls {
-            reads: &[Call::Take(172)],
-            writes: &[Call::Take(152), Call::Fail],
+            reads: &[CallEnd::Take(172)],
+            writes: &[CallEnd::Take(152), CallEnd::Fail],
             ..SMOOTH
         },
         Fault(EngineFault::Write),

@@ -193,14 +193,14 @@ static WAYS: [Calls<'static>; 3] = [
     SINGLE,
     Calls {
         reads: &[
-            Call::Interrupt,
-            Call::Take(17),
-            Call::Interrupt,
-            Call::Take(30),
+            CallEnd::Interrupt,
+            CallEnd::Take(17),
+            CallEnd::Interrupt,
+            CallEnd::Take(30),
         ],
-        other_reads: Call::Take(usize::MAX),
-        writes: &[Call::Interrupt, Call::Take(5), Call::Interrupt],
-        other_writes: Call::Take(usize::MAX),
+        other_reads: CallEnd::Take(usize::MAX),
+        writes: &[CallEnd::Interrupt, CallEnd::Take(5), CallEnd::Interrupt],
+        other_writes: CallEnd::Take(usize::MAX),
         turns: u64::MAX,
     },
 ];
@@ -242,12 +242,12 @@ fn a_record_that_ends_the_run(rt: HostRuntime) -> Result<(), Fail> {
 }
 
 /// So many reads of one byte, and then one that fails.
-fn failing_script(alloc: Global, reads: usize) -> Result<Vec<Call>, AllocError> {
+fn failing_script(alloc: Global, reads: usize) -> Result<Vec<CallEnd>, AllocError> {
     let mut script = Vec::new(alloc);
     for _ in 0..reads {
-        script.push(Call::Take(1))?;
+        script.push(CallEnd::Take(1))?;
     }
-    script.push(Call::Fail)?;
+    script.push(CallEnd::Fail)?;
     Ok(script)
 }
 
@@ -293,24 +293,28 @@ fn each_read_fails_in_turn(rt: HostRuntime) -> Result<(), Fail> {
     Ok(())
 }
 
-const ALL: Call = Call::Take(999);
+const ALL: CallEnd = CallEnd::Take(999);
 
-const NONE: Call = Call::Take(0);
+const NONE: CallEnd = CallEnd::Take(0);
 
 /// The writer's calls, the result, and how much is written. Each reply is one write and one flush;
 /// a flush has nothing to take.
-static WRITES: [(&[Call], End, usize); 8] = [
-    (&[Call::Fail], Fault(EngineFault::Write), 0),
+static WRITES: [(&[CallEnd], End, usize); 8] = [
+    (&[CallEnd::Fail], Fault(EngineFault::Write), 0),
     (&[NONE], Fault(EngineFault::Write), 0),
-    (&[ALL, Call::Fail], Fault(EngineFault::Write), 101),
+    (&[ALL, CallEnd::Fail], Fault(EngineFault::Write), 101),
     (&[ALL, NONE], Ended(1, 2, 2), 202),
-    (&[ALL, ALL, Call::Fail], Fault(EngineFault::Write), 101),
+    (&[ALL, ALL, CallEnd::Fail], Fault(EngineFault::Write), 101),
     (&[ALL, ALL, NONE], Fault(EngineFault::Write), 101),
-    (&[ALL, ALL, ALL, Call::Fail], Fault(EngineFault::Write), 202),
+    (
+        &[ALL, ALL, ALL, CallEnd::Fail],
+        Fault(EngineFault::Write),
+        202,
+    ),
     (&[ALL, ALL, ALL, NONE], Ended(1, 2, 2), 202),
 ];
 
-fn is_written(alloc: Global, row: &(&[Call], End, usize)) -> Result<bool, Fail> {
+fn is_written(alloc: Global, row: &(&[CallEnd], End, usize)) -> Result<bool, Fail> {
     let (writes, end, written) = row;
     let replies = log(alloc, &[INVALID, INVALID])?;
     let calls = Calls { writes, ..SMOOTH };
@@ -329,7 +333,12 @@ fn each_write_and_flush_fails_in_turn(rt: HostRuntime) -> Result<(), Fail> {
 #[test]
 fn a_short_write_goes_on_with_the_rest(rt: HostRuntime) -> Result<(), Fail> {
     let calls = Calls {
-        writes: &[Call::Take(10), Call::Interrupt, Call::Take(3), Call::Fail],
+        writes: &[
+            CallEnd::Take(10),
+            CallEnd::Interrupt,
+            CallEnd::Take(3),
+            CallEnd::Fail,
+        ],
         ..SMOOTH
     };
     let answer = Err(EngineFault::Write);

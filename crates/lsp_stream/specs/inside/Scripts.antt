@@ -3,11 +3,11 @@ use Rattle.std.specs.Prelude.{◌≡◌, ◌≢◌}
 use Rattle.std.specs.declared.io.Error.{Error}
 use Rattle.std.specs.declared.io.ErrorKind.TheVariants.{Interrupted}
 use Rattle.std.specs.IoError.{error_kind}
-use Rattle.lsp_stream.specs.declared.stop.Call.{Call}
-use Rattle.lsp_stream.specs.declared.stop.Call.TheVariants.{Take, Interrupt, Fail}
+use Rattle.lsp_stream.specs.declared.stop.CallEnd.{CallEnd}
+use Rattle.lsp_stream.specs.declared.stop.CallEnd.TheVariants.{Take, Interrupt, Fail}
 
 -- The error of a call that moves no byte: an interruption, or another error.
-abbrev pub IsStop : Call → Error → Type 0
+abbrev pub IsStop : CallEnd → Error → Type 0
 IsStop (Take most) e = error_kind e ≢ Interrupted
 IsStop Interrupt e = error_kind e ≡ Interrupted
 IsStop Fail e = error_kind e ≢ Interrupted

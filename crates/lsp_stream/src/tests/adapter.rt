@@ -1,6 +1,6 @@
 //! Each result is that of the inner reader or writer.
 
-use crate::{Call, Sink, Source, StopReader, StopWriter, Told};
+use crate::{CallEnd, Sink, Source, StopReader, StopWriter, Told};
 use std::alloc::Global;
 use std::io::ErrorKind;
 use std::test::Fail;
@@ -56,12 +56,12 @@ static READS: [Read; 8] = [
     },
 ];
 
-static READ_SCRIPT: [Call; 5] = [
-    Call::Take(2),
-    Call::Interrupt,
-    Call::Fail,
-    Call::Take(0),
-    Call::Take(9),
+static READ_SCRIPT: [CallEnd; 5] = [
+    CallEnd::Take(2),
+    CallEnd::Interrupt,
+    CallEnd::Fail,
+    CallEnd::Take(0),
+    CallEnd::Take(9),
 ];
 
 /// Returns whether these are the bytes, and zeros after them.
@@ -92,7 +92,7 @@ fn read_so(reader: &mut Told<StopReader>, reads: &[Read]) -> bool {
 
 #[test]
 fn reads_answer_what_the_inner_ones_do(rt: HostRuntime) {
-    let mut reader = Told::new(StopReader::new(b"abcdefgh", &READ_SCRIPT, Call::Take(1)));
+    let mut reader = Told::new(StopReader::new(b"abcdefgh", &READ_SCRIPT, CallEnd::Take(1)));
     assert_eq!(rt; (Source::failed(&reader), reader.ended()), (false, false));
     assert_eq!(rt; Source::calls(&reader), 0);
     assert!(rt; read_so(&mut reader, &READS));
@@ -101,7 +101,12 @@ fn reads_answer_what_the_inner_ones_do(rt: HostRuntime) {
     assert_eq!(rt; (Source::calls(&reader), reader.ended()), (9, false));
 }
 
-static WRITE_SCRIPT: [Call; 4] = [Call::Take(2), Call::Interrupt, Call::Take(0), Call::Fail];
+static WRITE_SCRIPT: [CallEnd; 4] = [
+    CallEnd::Take(2),
+    CallEnd::Interrupt,
+    CallEnd::Take(0),
+    CallEnd::Fail,
+];
 
 /// What a write of `abc` returns, and whether it failed.
 static WRITES: [(Result<usize, ErrorKind>, bool); 5] = [
@@ -127,7 +132,7 @@ fn write_so(writer: &mut Told<StopWriter>, writes: &[(Result<usize, ErrorKind>, 
 
 #[test]
 fn writes_answer_what_the_inner_ones_do(rt: HostRuntime) -> Result<(), Fail> {
-    let mut writer = Told::new(StopWriter::new(rt.alloc(), &WRITE_SCRIPT, Call::Take(9)));
+    let mut writer = Told::new(StopWriter::new(rt.alloc(), &WRITE_SCRIPT, CallEnd::Take(9)));
     assert_eq!(rt; (Sink::failed(&writer), Sink::calls(&writer)), (false, 0));
     assert!(rt; write_so(&mut writer, &WRITES));
     assert_eq!(rt; Sink::write(&mut writer, b"").ok(), Some(0));
@@ -136,7 +141,7 @@ fn writes_answer_what_the_inner_ones_do(rt: HostRuntime) -> Result<(), Fail> {
     Ok(())
 }
 
-static FLUSH_SCRIPT: [Call; 3] = [Call::Take(0), Call::Interrupt, Call::Fail];
+static FLUSH_SCRIPT: [CallEnd; 3] = [CallEnd::Take(0), CallEnd::Interrupt, CallEnd::Fail];
 
 /// What a flush returns, whether it failed, and how many have succeeded then.
 static FLUSHES: [(Result<(), ErrorKind>, bool, usize); 4] = [
@@ -152,7 +157,7 @@ fn flush_so(
     alloc: Global,
     flushes: &[(Result<(), ErrorKind>, bool, usize)],
 ) -> Option<(u64, usize, usize)> {
-    let mut writer = Told::new(StopWriter::new(alloc, &FLUSH_SCRIPT, Call::Take(9)));
+    let mut writer = Told::new(StopWriter::new(alloc, &FLUSH_SCRIPT, CallEnd::Take(9)));
     for (wanted, failed, _) in flushes {
         let answer = Sink::flush(&mut writer).map_err(|error| error.kind());
         if answer != *wanted || Sink::failed(&writer) != *failed {
@@ -174,17 +179,17 @@ fn flushes_answer_what_the_inner_ones_do(rt: HostRuntime) {
     }
 }
 
-static WRITES_AND_FLUSHES: [Call; 5] = [
-    Call::Take(0),
-    Call::Take(2),
-    Call::Interrupt,
-    Call::Fail,
-    Call::Take(0),
+static WRITES_AND_FLUSHES: [CallEnd; 5] = [
+    CallEnd::Take(0),
+    CallEnd::Take(2),
+    CallEnd::Interrupt,
+    CallEnd::Fail,
+    CallEnd::Take(0),
 ];
 
 #[test]
 fn flushed_once_a_flush_succeeds(rt: HostRuntime) {
-    let mut writer = Told::new(StopWriter::new(rt.alloc(), &WRITES_AND_FLUSHES, Call::Fail));
+    let mut writer = Told::new(StopWriter::new(rt.alloc(), &WRITES_AND_FLUSHES, CallEnd::Fail));
     assert!(rt; writer.flushed());
     for flushed in [true, false] {
         let _ = Sink::write(&mut writer, b"abc");

@@ -1,6 +1,6 @@
 //! A read that comes before all that was written is flushed.
 
-use crate::{Call, Duplex, Sink, Source, StopReader, StopWriter, Told};
+use crate::{CallEnd, Duplex, Sink, Source, StopReader, StopWriter, Told};
 use std::alloc::Global;
 use std::io::Error;
 
@@ -36,8 +36,8 @@ fn take<R: Source, W: Sink>(ends: &mut Duplex<'_, R, W>, step: Step) -> Result<(
 
 /// Returns whether the two ends report this after these steps.
 fn says(alloc: Global, steps: &[Step], read_early: bool) -> Result<bool, Error> {
-    let mut from = Told::new(StopReader::new(b"abc", &[], Call::Take(1)));
-    let mut to = Told::new(StopWriter::new(alloc, &[], Call::Take(1)));
+    let mut from = Told::new(StopReader::new(b"abc", &[], CallEnd::Take(1)));
+    let mut to = Told::new(StopWriter::new(alloc, &[], CallEnd::Take(1)));
     let mut ends = Duplex::new(&mut from, &mut to);
     for step in steps {
         take(&mut ends, *step)?;

@@ -9,7 +9,7 @@ use Rattle.std.proofs.lemmas.Str.{encodes-chars, length-le-encodes}
 use Rattle.lsp_text.specs.declared.position.Position.{Position}
 use Rattle.lsp_text.specs.Text.{place_of}
 use Rattle.lsp_text.specs.TextLines.{line_at, line_ends, line_start}
-use Rattle.lsp_text.specs.LineStarts.{Indexes, IsPlace}
+use Rattle.lsp_text.specs.LineStarts.{AreLinesOf, IsPlace}
 use Rattle.lsp_text.specs.Starts.{AreStarts, IsLineOf}
 use Rattle.lsp_text.specs.Units.{units_between}
 use Rattle.lsp_text.specs.Positions.{exact_position, denoted}
@@ -21,7 +21,7 @@ use Rattle.lsp_text.proofs.Positions.PositionLemmas.{exact_denotes}
 use Rattle.lsp_text.proofs.Counting.LeadLemmas.{utf8_units_of_text}
 use Rattle.lsp_text.proofs.Positions.ResolveLemmas.{part, part_utf8, chars_part}
 
-pub indexes_are : (bytes lines : List ℕ) → IsUtf8 bytes → Indexes lines bytes → AreStarts lines
+pub indexes_are : (bytes lines : List ℕ) → IsUtf8 bytes → AreLinesOf lines bytes → AreStarts lines
 indexes_are bytes lines utf8 indexes = starts_from bytes lines (indexes.starts ∙ sym (starts_of_text bytes utf8))
 
 -- There are no more lines than characters and one.
@@ -29,7 +29,7 @@ line_low : (text : List ℕ) (k : ℕ) → line_at text k ≤ k
 line_low text zero = omega arith
 line_low text (suc k) = omega (arith, (line_step text k).1, line_low text k)
 
-pub indexes_few : (bytes lines : List ℕ) → IsUtf8 bytes → Indexes lines bytes → length lines ≤ 2147483649
+pub indexes_few : (bytes lines : List ℕ) → IsUtf8 bytes → AreLinesOf lines bytes → length lines ≤ 2147483649
 indexes_few bytes lines utf8 indexes =
     let text = chars bytes in
     omega (
@@ -53,7 +53,7 @@ start_before text k within =
     )
 
 -- The line whose start is the last at or before the place of an index is the index's line.
-pub line_found : (bytes lines : List ℕ) (place line k : ℕ) → Indexes lines bytes → IsLineOf lines place line
+pub line_found : (bytes lines : List ℕ) (place line k : ℕ) → AreLinesOf lines bytes → IsLineOf lines place line
     → k ≤ length (chars bytes) → place_of (chars bytes) k ≡ place → line ≡ line_at (chars bytes) k
 line_found bytes lines place line k indexes found within at =
     let text = chars bytes in
@@ -86,7 +86,7 @@ pub record IsFront (bytes : List ℕ) (start place k : ℕ) : Type 0 where
   pub place_is : place_of (chars bytes) k ≡ place
   pub start_is : start ≡ place_of (chars bytes) (line_start (chars bytes) (line_at (chars bytes) k))
 
-pub front_from : (bytes lines : List ℕ) (place line k : ℕ) → Indexes lines bytes → IsLineOf lines place line
+pub front_from : (bytes lines : List ℕ) (place line k : ℕ) → AreLinesOf lines bytes → IsLineOf lines place line
     → k ≤ length (chars bytes) → place_of (chars bytes) k ≡ place → IsFront bytes (slice_index lines line) place k
 front_from bytes lines place line k indexes found within at =
     record {
@@ -155,7 +155,7 @@ part_short bytes start place within = omega (
 )
 
 -- The same, where the search went over a copy of the starts.
-pub front_found : (bytes lines shown : List ℕ) (place line k : ℕ) → Indexes lines bytes → shown ≡ lines
+pub front_found : (bytes lines shown : List ℕ) (place line k : ℕ) → AreLinesOf lines bytes → shown ≡ lines
     → IsLineOf shown place line → k ≤ length (chars bytes) → place_of (chars bytes) k ≡ place
     → IsFront bytes (slice_index lines line) place k
 front_found bytes lines shown place line k indexes same found within at =
@@ -169,7 +169,7 @@ pub record IsAt (bytes : List ℕ) (place : ℕ) : Type 0 where
 
 -- The pair of an index's line and its units from the line's start is its exact position.
 pub exact_is : (units : ℕ → ℕ) (bytes lines shown : List ℕ) (place line count k : ℕ) → IsUtf8 bytes
-    → Indexes lines bytes → shown ≡ lines → IsLineOf shown place line →
+    → AreLinesOf lines bytes → shown ≡ lines → IsLineOf shown place line →
     count ≡ sum_by units (chars (part bytes (slice_index lines line) place)) → k ≤ length (chars bytes)
     → place_of (chars bytes) k ≡ place →
     ◌≡◌ {A = Position} (record { line = line; character = count }) (exact_position units (chars bytes) k)

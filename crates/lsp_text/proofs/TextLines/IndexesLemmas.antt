@@ -4,7 +4,7 @@ use Rattle.std.proofs.lemmas.List.{length-map, get_or-map}
 use Rattle.std.specs.Str.{chars, IsUtf8}
 use Rattle.lsp_text.specs.Text.{place_of}
 use Rattle.lsp_text.specs.TextLines.{line_ends, line_start, line_stop, splits_crlf}
-use Rattle.lsp_text.specs.LineStarts.{Indexes, line_starts, starts_between}
+use Rattle.lsp_text.specs.LineStarts.{AreLinesOf, line_starts, starts_between}
 use Rattle.lsp_text.specs.Starts.{AreStarts}
 use Rattle.lsp_text.proofs.TextLines.StartLemmas.{starts_of_text}
 use Rattle.lsp_text.proofs.TextLines.StartRowLemmas.{line_starts_are, length-line_starts, start_at, next_start, IsNextStart}
@@ -15,7 +15,7 @@ use Rattle.std.specs.Prelude.{encode_utf8_all}
 
 -- Lines made of the bytes of a text are those of the text.
 pub indexes_from : (bytes starts : List ℕ) → IsUtf8 bytes → length bytes ≤ 2147483648 → starts ≡ line_starts bytes
-    → Indexes starts bytes
+    → AreLinesOf starts bytes
 indexes_from bytes starts utf8 size looks_made = record { starts = looks_made ∙ starts_of_text bytes utf8; size = size }
 
 pub starts_from : (bytes starts : List ℕ) → starts ≡ line_starts bytes → AreStarts starts
@@ -29,13 +29,13 @@ made_whole bytes read before first starts same empty pushed found =
     (ap (λ xs. xs ++ starts_between read 0 (length read)) (pushed ∙ ap (λ xs. xs ++ 0 ∷ []) empty) ∙
     ap line_starts same)
 
-pub indexes_count : (bytes lines : List ℕ) → Indexes lines bytes → length lines ≡ line_ends (chars bytes) + 1
+pub indexes_count : (bytes lines : List ℕ) → AreLinesOf lines bytes → length lines ≡ line_ends (chars bytes) + 1
 indexes_count bytes lines indexes =
     let text = chars bytes in
     omega (arith, ap length indexes.starts, length-map (line_starts text) (place_of text), length-line_starts text)
 
 -- The start with a line's number is the place of that line's start.
-pub indexes_start : (bytes lines : List ℕ) (line : ℕ) → Indexes lines bytes → line ≤ line_ends (chars bytes)
+pub indexes_start : (bytes lines : List ℕ) (line : ℕ) → AreLinesOf lines bytes → line ≤ line_ends (chars bytes)
     → slice_index lines line ≡ place_of (chars bytes) (line_start (chars bytes) line)
 indexes_start bytes lines line indexes there =
     let text = chars bytes in
@@ -44,12 +44,12 @@ indexes_start bytes lines line indexes there =
     ∙ ap (place_of text) (start_at text line there))
 
 -- The line of an index below the number of starts is one of the text's.
-pub indexes_line : (bytes lines : List ℕ) (line : ℕ) → Indexes lines bytes → line < length lines
+pub indexes_line : (bytes lines : List ℕ) (line : ℕ) → AreLinesOf lines bytes → line < length lines
     → line ≤ line_ends (chars bytes)
 indexes_line bytes lines line indexes h = omega (arith, indexes_count bytes lines indexes)
 
 -- The content of the last line ends where the text does.
-pub indexes_last : (bytes lines : List ℕ) (line : ℕ) → IsUtf8 bytes → Indexes lines bytes → line + 1 ≡ length lines
+pub indexes_last : (bytes lines : List ℕ) (line : ℕ) → IsUtf8 bytes → AreLinesOf lines bytes → line + 1 ≡ length lines
     → length bytes ≡ place_of (chars bytes) (line_stop (chars bytes) line)
 indexes_last bytes lines line utf8 indexes last =
     let text = chars bytes in
@@ -64,7 +64,7 @@ pub record IsNext (bytes : List ℕ) (line next : ℕ) : Type 0 where
   pub stop : cond (splits_crlf bytes (next - 1)) (next - 2) (next - 1)
       ≡ place_of (chars bytes) (line_stop (chars bytes) line)
 
-pub indexes_next : (bytes lines : List ℕ) (line : ℕ) → IsUtf8 bytes → Indexes lines bytes → line + 1 < length lines
+pub indexes_next : (bytes lines : List ℕ) (line : ℕ) → IsUtf8 bytes → AreLinesOf lines bytes → line + 1 < length lines
     → IsNext bytes line (slice_index lines (line + 1))
 indexes_next bytes lines line utf8 indexes h =
     let text = chars bytes in

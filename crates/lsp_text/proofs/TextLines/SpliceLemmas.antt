@@ -5,7 +5,7 @@ use Rattle.std.proofs.lemmas.List.{length-append, length-drop, length-take, get_
 use Rattle.std.proofs.lemmas.List.Elements.{filter-append}
 use Rattle.std.proofs.lemmas.Bool.{cases_lt, cases_Bool}
 use Rattle.lsp_text.specs.TextLines.{starts_line, numbers_from}
-use Rattle.lsp_text.specs.LineStarts.{Indexes, starts_between, line_starts}
+use Rattle.lsp_text.specs.LineStarts.{AreLinesOf, starts_between, line_starts}
 use Rattle.lsp_text.specs.Starts.{IsLineOf, AreStarts}
 use Rattle.lsp_text.specs.Splice.{IsReplaced}
 use Rattle.lsp_text.specs.inside.Splice.{Replaces}
@@ -338,7 +338,7 @@ module _ (old bytes starts found now shown : List ℕ) (from to len keep past co
       placed_starts old bytes starts found now from to len keep past placed)))
 
 -- Lines of a text that was replaced, seen as line starts of its bytes, and back.
-pub replaces_from : (old lines starts bytes read : List ℕ) (from to len : ℕ) → starts ≡ lines → Indexes lines old
+pub replaces_from : (old lines starts bytes read : List ℕ) (from to len : ℕ) → starts ≡ lines → AreLinesOf lines old
     → IsUtf8 old → read ≡ bytes → IsReplaced old bytes from to len → Replaces starts read from to len
 replaces_from old lines starts bytes read from to len same indexes utf8 is replaced = record {
   old = old;
@@ -348,7 +348,7 @@ replaces_from old lines starts bytes read from to len same indexes utf8 is repla
 
 module _ {T E : Type 0} (starts bytes read : List ℕ) (is : read ≡ bytes) where
   pub indexes_ok : (r : Result T E) → IsUtf8 bytes → length bytes ≤ 2147483648 → OnOk r (starts ≡ line_starts read)
-      → OnOk r (Indexes starts bytes)
+      → OnOk r (AreLinesOf starts bytes)
   indexes_ok (Ok x) utf8 size looks_made = indexes_from bytes starts utf8 size (looks_made ∙ ap line_starts is)
   indexes_ok (Err e) utf8 size looks_made = looks_made
 

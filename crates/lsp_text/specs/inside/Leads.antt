@@ -20,7 +20,8 @@ line_place units (x ∷ line) c =
     if c == 0 then Some 0 else if nat_lt c (units x) then None else
     option_map (λ n. len_utf8 x + n) (line_place units line (c - units x))
 
--- The same over the bytes of the content.
+-- The byte offset in a line's content with c units before it, found in the content's bytes: the
+-- content's end if it has no more, none inside a character.
 abbrev pub byte_place : (ℕ → ℕ) → List ℕ → ℕ → Option ℕ
 byte_place lead_units [] c = Some 0
 byte_place lead_units (byte ∷ bytes) c =

@@ -7,7 +7,7 @@ pub trait Starts {
     /// The starts.
     ghost starts: { Self → List ℕ };
 
-    /// How many looks there were. The count stays at the greatest value of `usize`.
+    /// How many looks there were. The count saturates at `usize::MAX`.
     ghost looks: { Self → ℕ };
 
     /// Returns how many starts there are.
@@ -25,7 +25,7 @@ pub trait Starts {
     ghost are_starts: { (s : Self) → AreStarts (starts s) };
 }
 
-/// Returns the line of a byte offset: the greatest index whose start is at most the offset. It is a
+/// Returns the line of a byte offset: the last line whose start is at most the offset. It is a
 /// binary search: it takes at most as many looks as the number of starts has binary digits.
 pub fn line_of<S: Starts>(starts: &mut S, place: usize) -> usize
     ensures line { IsLineOf (S.starts starts.old) place result }
@@ -67,7 +67,7 @@ impl<'a> Looks<'a> {
         }
     }
 
-    /// Returns how many looks there were. The count stays at the greatest value of `usize`.
+    /// Returns how many looks there were. The count saturates at `usize::MAX`.
     pub fn looks_made(&self) -> usize
         ensures { result ≡ ⟦<Looks<'a> as Starts>⟧.looks self.now }
     {

@@ -2,7 +2,7 @@
 ghost use Rattle.std.specs.Prelude.{◌≡◌, ◌≤◌, ℕ, Some, length, option_map};
 ghost use Rattle.std.specs.Str.{IsUtf8, chars};
 ghost use Rattle.lsp_text.specs.Text.{place_of};
-ghost use Rattle.lsp_text.specs.LineStarts.{Indexes, IsPlace};
+ghost use Rattle.lsp_text.specs.LineStarts.{AreLinesOf, IsPlace};
 ghost use Rattle.lsp_text.specs.Positions.{exact_position, denoted};
 
 use crate::lines::starts::{Looks, line_of};
@@ -13,7 +13,7 @@ use crate::position::in_line::InLine;
 /// line's text up to the offset.
 pub fn position_in<U: InLine>(starts: &[u32], bytes: &[u8], place: usize) -> Position
     requires utf8 { IsUtf8 bytes.now }
-    requires indexed { Indexes starts.now bytes.now }
+    requires indexed { AreLinesOf starts.now bytes.now }
     requires place { IsPlace (chars bytes.now) place }
     ensures exact { (k : ℕ) → k ≤ length (chars bytes.now) → place_of (chars bytes.now) k ≡ place
         → result ≡ exact_position U.units_of (chars bytes.now) k }

@@ -152,7 +152,8 @@ fn place_one_by_one<L: LeadUnits>(bytes: &[u8], character: u32) -> Option<usize>
     Some(bytes.len())
 }
 
-/// Returns the same offset, found by long blocks first and then by short ones.
+/// Returns the offset with so many units before it, found by long blocks first, then by short ones
+/// and at last byte by byte: the end if there are no more units, `None` inside a character.
 fn place_by_leads<L: LeadUnits>(bytes: &[u8], character: u32) -> Option<usize>
     ensures { result ≡ byte_place L.lead_units bytes.now character }
 {

@@ -4,7 +4,7 @@ ghost use Rattle.std.specs.Result.{result_ok};
 ghost use Rattle.std.specs.Str.{IsCharBoundary, IsUtf8, chars};
 ghost use Rattle.lsp_text.specs.Text.{place_of};
 ghost use Rattle.lsp_text.specs.TextLines.{splits_crlf, line_start, line_stop};
-ghost use Rattle.lsp_text.specs.LineStarts.{Indexes, IsPlace};
+ghost use Rattle.lsp_text.specs.LineStarts.{AreLinesOf, IsPlace};
 ghost use Rattle.lsp_text.specs.Positions.{denoted};
 
 use crate::lines::ends::is_inside_crlf;
@@ -34,7 +34,7 @@ fn stop_before(bytes: &[u8], next: usize) -> usize
 /// Returns the byte offsets where the content of a line begins and ends.
 pub fn content(starts: &[u32], bytes: &[u8], line: usize) -> (usize, usize)
     requires utf8 { IsUtf8 bytes.now }
-    requires indexed { Indexes starts.now bytes.now }
+    requires indexed { AreLinesOf starts.now bytes.now }
     requires line { line < length starts.now }
     ensures start { result.0 ≡ place_of (chars bytes.now) (line_start (chars bytes.now) line) }
     ensures stop { result.1 ≡ place_of (chars bytes.now) (line_stop (chars bytes.now) line) }
@@ -55,7 +55,7 @@ pub fn resolve_in<U: InLine>(
     position: Position,
 ) -> Result<usize, InsideCharacter>
     requires utf8 { IsUtf8 bytes.now }
-    requires indexed { Indexes starts.now bytes.now }
+    requires indexed { AreLinesOf starts.now bytes.now }
     ensures value { result_ok result
         ≡ option_map (place_of (chars bytes.now)) (denoted U.units_of (chars bytes.now) position) }
     ensures place { IfOk result (IsPlace (chars bytes.now)) }

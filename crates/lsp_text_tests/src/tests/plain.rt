@@ -1,6 +1,6 @@
 //! Positions of many small texts, compared with the plain program.
 ghost use Rattle.std.specs.Prelude.{◌≡◌, ◌≤◌, IfOk, length, encode_utf8_all};
-ghost use Rattle.lsp_text.specs.LineStarts.{Indexes};
+ghost use Rattle.lsp_text.specs.LineStarts.{AreLinesOf};
 
 use super::{UTF8, UTF16, UTF32};
 use lsp_text::{Encoding, Lines, Position, plain};
@@ -46,7 +46,7 @@ fn characters(alloc: Global, text: &str) -> Result<Vec<char>, AllocError>
 
 /// Returns whether all positions up to line 4, character 9 are resolved as by the plain program.
 fn resolves_plainly(lines: &Lines, text: &str, chars: &[char], encoding: Encoding) -> bool
-    requires indexed { Indexes lines.now text.now }
+    requires indexed { AreLinesOf lines.now text.now }
     requires size { length (encode_utf8_all chars.now) ≤ 2147483648 }
 {
     for line in 0..5 {
@@ -65,7 +65,7 @@ fn resolves_plainly(lines: &Lines, text: &str, chars: &[char], encoding: Encodin
 /// Returns whether each byte offset has a position from which the plain program finds it again.
 /// Only offsets inside a character or a CRLF have none.
 fn has_plain_places(lines: &Lines, text: &str, chars: &[char], encoding: Encoding) -> bool
-    requires indexed { Indexes lines.now text.now }
+    requires indexed { AreLinesOf lines.now text.now }
     requires size { length (encode_utf8_all chars.now) ≤ 2147483648 }
 {
     for place in 0..text.len().saturating_add(2) {
@@ -88,7 +88,7 @@ fn has_plain_places(lines: &Lines, text: &str, chars: &[char], encoding: Encodin
 /// Returns whether the indexes that split no CRLF have the plain program's positions, and only they
 /// have any.
 fn has_plain_positions(lines: &Lines, text: &str, chars: &[char], encoding: Encoding) -> bool
-    requires indexed { Indexes lines.now text.now }
+    requires indexed { AreLinesOf lines.now text.now }
     requires size { length (encode_utf8_all chars.now) ≤ 2147483648 }
 {
     for index in 0..chars.len() + 1 {
@@ -113,7 +113,7 @@ fn has_plain_lines(lines: &Lines, chars: &[char]) -> bool {
 
 /// Returns whether all is as in the plain program, in each encoding.
 fn is_plain(lines: &Lines, text: &str, chars: &[char]) -> bool
-    requires indexed { Indexes lines.now text.now }
+    requires indexed { AreLinesOf lines.now text.now }
     requires size { length (encode_utf8_all chars.now) ≤ 2147483648 }
 {
     for encoding in &ENCODINGS {

@@ -1,12 +1,12 @@
 //! Readers and writers that fail, are interrupted or take few bytes.
 
 use super::*;
-use lsp_replay::Call::{Fail as Fails, Interrupt, Take};
+use lsp_replay::CallEnd::{Fail as Fails, Interrupt, Take};
 use lsp_samples::bodies::{INITIALIZE, OPEN, WHOLE};
 use lsp_samples::logs::log;
 use std::test::Fail;
 
-const ALL: Call = Take(usize::MAX);
+const ALL: CallEnd = Take(usize::MAX);
 
 const READ_FAULT: &str = "lspsync: read fault\n";
 
@@ -15,8 +15,8 @@ const WRITE_FAULT: &str = "lspsync: write fault\n";
 /// A command, its reads and writes, the length of what was written, and the line.
 type Failing = (
     &'static str,
-    &'static [Call],
-    &'static [Call],
+    &'static [CallEnd],
+    &'static [CallEnd],
     usize,
     &'static str,
 );
@@ -92,7 +92,7 @@ fn is_the_same(
     alloc: Global,
     command: &str,
     input: &[u8],
-    slow: &[Call],
+    slow: &[CallEnd],
 ) -> Result<bool, AllocError> {
     let words = ["lspsync", command];
     let whole = ran(alloc, &words, input)?;
@@ -118,7 +118,7 @@ static HELP: [&str; 3] = ["lspsync", "check", "--help"];
 /// printed.
 fn has_printed(
     alloc: Global,
-    writes: &[Call],
+    writes: &[CallEnd],
     len: usize,
     status: u8,
     line: &str,
@@ -131,13 +131,13 @@ fn has_printed(
 }
 
 /// The writes of help that cannot be printed, and the length of what was printed.
-static UNPRINTED: [(&[Call], usize); 3] = [
+static UNPRINTED: [(&[CallEnd], usize); 3] = [
     (&[Fails], 0),
     (&[Take(10), Fails], 10),
     (&[Take(10), Take(0)], 10),
 ];
 
-static SLOW: [Call; 5] = [Interrupt, Take(9), Interrupt, ALL, Interrupt];
+static SLOW: [CallEnd; 5] = [Interrupt, Take(9), Interrupt, ALL, Interrupt];
 
 #[test]
 fn help_that_cannot_be_printed(rt: HostRuntime) -> Result<(), Fail> {
@@ -152,7 +152,7 @@ fn help_that_cannot_be_printed(rt: HostRuntime) -> Result<(), Fail> {
 }
 
 /// Words, the reads, and the status.
-static SILENT: [(&[&str], &[Call], u8); 4] = [
+static SILENT: [(&[&str], &[CallEnd], u8); 4] = [
     (&["lspsync"], &[], 2),
     (&["lspsync", "check"], &[Fails], 3),
     (&["lspsync", "check"], &[Take(1)], 5),
@@ -160,7 +160,7 @@ static SILENT: [(&[&str], &[Call], u8); 4] = [
 ];
 
 /// Returns whether this is the status of a call that cannot print its line.
-fn has_status(alloc: Global, words: &[&str], reads: &[Call], status: u8) -> bool {
+fn has_status(alloc: Global, words: &[&str], reads: &[CallEnd], status: u8) -> bool {
     let mut reader = Told::new(StopReader::new(b"\r\n", reads, ALL));
     let mut writer = Told::new(Vec::new(alloc));
     let mut errors = StopWriter::new(alloc, &[], Fails);
