@@ -20,8 +20,9 @@ use lsp_text::Encoding;
 use std::alloc::{AllocError, Global};
 use std::marker::Model;
 
-/// What [`crate::Squash`] is, for a caller who has the document that the batches lead to. It keeps
-/// the old text with its lines and what became of it, and no second copy of the text reached.
+/// Batches of changes on one document, one after another, as one batch, for a caller who has the
+/// document that they lead to. It keeps the old text with its lines and what became of it. Unlike
+/// [`crate::Squash`] it has no second copy of the text reached.
 #[derive(Debug, Drop)]
 pub struct Batches {
     uri: String,
@@ -113,9 +114,9 @@ impl Batches {
         document.show_utf8();
         let max_text = self.limits.max_text();
         let reached = &document.stored.text;
-        if let Err(fault) = self.joined.add(self.encoding, reached, changes, max_text) {
-            return Err(out_of_memory(fault));
-        }
+        self.joined
+            .add(self.encoding, reached, changes, max_text)
+            .map_err(out_of_memory)?;
         self.version = version;
         Ok(())
     }
