@@ -114,9 +114,9 @@ impl Batches {
         document.show_utf8();
         let max_text = self.limits.max_text();
         let reached = &document.stored.text;
-        self.joined
-            .add(self.encoding, reached, changes, max_text)
-            .map_err(out_of_memory)?;
+        if let Err(fault) = self.joined.add(self.encoding, reached, changes, max_text) {
+            return Err(out_of_memory(fault));
+        }
         self.version = version;
         Ok(())
     }
