@@ -135,7 +135,8 @@ impl Stored {
         Ok(())
     }
 
-    /// Returns the canonical batch of a batch on the document's text. Refuses as `plan` does.
+    /// Returns the canonical batch of a batch on the document's text. Refuses as [`Stored::plan`]
+    /// does.
     pub fn canonical(
         &self,
         limits: &Limits,
