@@ -67,8 +67,8 @@ impl Server {
     #[tactic(auto, using(crate::proofs::Commands::obeyed_row))]
     pub(crate) fn did_change(&mut self, params: Option<ChangeParams>) -> Result<Answer, AllocError>
         requires { self.old.phase ≢ Ended }
-        ensures { IsQuietStepOf (step_on self.old (did_change (option_map change_view params))) result
-            self.old self.new }
+        ensures { IsQuietStepOf (step_on self.old (did_change (option_map change_view params)))
+            result self.old self.new }
     {
         match self.admit(params) {
             Ok(params) => self.change(&params),

@@ -202,8 +202,8 @@ impl Store {
         Ok(bytes)
     }
 
-    /// Appends the body of the message of [`Store::canonical_message`], so that a caller can put its
-    /// header before it ([`lsp_frame::put_header`]).
+    /// Appends the body of the message of [`Store::canonical_message`], so that a caller can put
+    /// its header before it ([`lsp_frame::put_header`]).
     ///
     /// Refuses as [`Store::canonical_message`] does, and then the bytes are unchanged. Costs the
     /// same, with no copy of the message.
