@@ -7,9 +7,9 @@ use Rattle.lsp_server.specs.declared.answer.ServerFault.{ServerFault}
 use Rattle.lsp_server.specs.declared.answer.ServerFault.TheVariants.{AlreadyEnded, NoMemory}
 
 -- The code of a refusal.
-abbrev pub refusal_code : Refusal → List ℕ
-refusal_code InvalidParams = codes "M4"
-refusal_code (Store fault) = fault_code fault
+abbrev pub server_refusal_code : Refusal → List ℕ
+server_refusal_code InvalidParams = codes "M4"
+server_refusal_code (Store fault) = fault_code fault
 
 -- The code of a fault.
 abbrev pub server_fault_code : ServerFault → List ℕ

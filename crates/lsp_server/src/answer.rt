@@ -2,7 +2,7 @@
 
 ghost use Rattle.std.specs.Prelude.{◌≡◌};
 ghost use Rattle.lsp_server.specs.declared.answer.ServerFault.TheVariants.{NoMemory};
-ghost use Rattle.lsp_server.specs.Codes.{refusal_code, server_fault_code};
+ghost use Rattle.lsp_server.specs.Codes.{server_refusal_code, server_fault_code};
 
 use lsp_message::ErrorCode;
 use lsp_store::StoreFault;
@@ -44,7 +44,7 @@ pub enum Refusal {
 impl Refusal {
     /// Returns the code that users see: M4, or that of the store's fault.
     pub fn code(self) -> &'static str
-        ensures { result.now ≡ refusal_code self }
+        ensures { result.now ≡ server_refusal_code self }
     {
         match self {
             Refusal::InvalidParams => "M4",
