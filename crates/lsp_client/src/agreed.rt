@@ -7,6 +7,8 @@ use lsp_text::Encoding;
 /// changes are sent.
 #[derive(Clone, Copy, Debug, PartialEq, Eq, Hash)]
 pub struct Agreed {
+    /// The encoding of positions.
     pub encoding: Encoding,
+    /// How changes are sent: as ranges, or as whole texts.
     pub kind: SyncKind,
 }

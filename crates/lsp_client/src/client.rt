@@ -12,7 +12,14 @@ use lsp_message::{Offers, Outgoing, message_frame};
 use lsp_store::Store;
 use lsp_text::Encoding;
 use std::alloc::Global;
+use std::fmt;
 use std::marker::Model;
+
+/// The id of a client's request `initialize`.
+pub const INITIALIZE_ID: i64 = 1;
+
+/// The id of a client's request `shutdown`.
+pub const SHUTDOWN_ID: i64 = 2;
 
 /// The client's end of one session (LSP 3.17, Lifecycle Messages, Text Document Synchronization).
 /// Clauses see its limits, the encodings that it offers, its phase, what was agreed on, and the
@@ -38,6 +45,18 @@ impl Model for Client {
       agreed = s.agreed;
       table = s.store.table;
     } };
+}
+
+/// Shows all that clauses see.
+impl fmt::Debug for Client {
+    fn fmt<W: fmt::Write>(&self, f: &mut fmt::Formatter<W>) -> fmt::Result {
+        f.debug_struct("Client")
+            .field("offers", &self.offers)
+            .field("phase", &self.phase)
+            .field("agreed", &self.agreed)
+            .field("store", &self.store)
+            .finish_non_exhaustive()
+    }
 }
 
 impl Client {
@@ -77,7 +96,7 @@ impl Client {
     }
 
     /// Begins the session, and returns the frame of `initialize` (LSP 3.17, Initialize Request).
-    /// Its id is 1, and it names the encodings that the client offers.
+    /// Its id is [`INITIALIZE_ID`], and it names the encodings that the client offers.
     ///
     /// In phase New, which becomes Asked; else [`ClientFault::WrongPhase`]. Costs the message's
     /// bytes.
@@ -98,7 +117,7 @@ impl Client {
     }
 
     /// Asks the server to shut down, and returns the frame of `shutdown` (LSP 3.17, Shutdown
-    /// Request). Its id is 2.
+    /// Request). Its id is [`SHUTDOWN_ID`].
     ///
     /// In phase Ready, which becomes Closing; else [`ClientFault::WrongPhase`]. The documents stay
     /// open. Costs the message's bytes.

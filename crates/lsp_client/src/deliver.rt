@@ -9,7 +9,7 @@ ghost use Rattle.lsp_client.specs.Step.{delivery_result, delivery_of, delivery_i
 ghost use Rattle.lsp_client.specs.Seen.{IsDelivered, IsFaultOf, delivered_view};
 
 use crate::agreed::Agreed;
-use crate::client::Client;
+use crate::client::{Client, INITIALIZE_ID, SHUTDOWN_ID};
 use crate::delivered::Delivered;
 use crate::fault::ClientFault;
 use crate::phase::{Phase, Reason};
@@ -176,8 +176,8 @@ fn is_awaited(phase: Phase, id: Option<&Id>) -> bool
         (read_as (response (option_map (λ id. id_view id.now) id.entry) outcome)) }
 {
     match (phase, id) {
-        (Phase::Asked, Some(Id::Whole(id))) => *id == 1,
-        (Phase::Closing, Some(Id::Whole(id))) => *id == 2,
+        (Phase::Asked, Some(Id::Whole(id))) => *id == INITIALIZE_ID,
+        (Phase::Closing, Some(Id::Whole(id))) => *id == SHUTDOWN_ID,
         _ => false,
     }
 }

@@ -2,6 +2,7 @@
 
 ghost use Rattle.std.specs.Prelude.{◌≡◌};
 ghost use Rattle.lsp_client.specs.declared.fault.ClientFault.TheVariants.{NoMemory};
+ghost use Rattle.lsp_client.specs.Codes.{client_fault_code};
 
 use crate::phase::Phase;
 use lsp_store::StoreFault;
@@ -12,7 +13,7 @@ use thiserror::Error;
 #[derive(Clone, Copy, Debug, PartialEq, Eq, Error)]
 pub enum ClientFault {
     /// C1: the call isn't allowed in this phase.
-    #[error("the call has no place in phase {phase:?}")]
+    #[error("the call isn't allowed in phase {phase}")]
     WrongPhase { phase: Phase },
     /// C2: the store refuses the call, or the message is too long. It is never
     /// [`StoreFault::NoMemory`].
@@ -21,6 +22,19 @@ pub enum ClientFault {
     /// C3: out of memory. A caller can repeat the same call.
     #[error("out of memory")]
     NoMemory,
+}
+
+impl ClientFault {
+    /// Returns the code that users see: C1, C3, and for C2 that of the store's fault.
+    pub fn code(self) -> &'static str
+        ensures { result.now ≡ client_fault_code self }
+    {
+        match self {
+            ClientFault::WrongPhase { .. } => "C1",
+            ClientFault::Store(fault) => fault.code(),
+            ClientFault::NoMemory => "C3",
+        }
+    }
 }
 
 impl From<AllocError> for ClientFault {

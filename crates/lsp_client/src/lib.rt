@@ -68,7 +68,12 @@ mod framed;
 mod phase;
 mod whole;
 
-pub use client::Client;
+pub use client::{Client, INITIALIZE_ID, SHUTDOWN_ID};
 pub use delivered::Delivered;
 pub use fault::ClientFault;
+pub use lsp_edit::{Change, EditFault, Side, TextEdit, TextEditFault};
+pub use lsp_frame::{BadLimits, Limits};
+pub use lsp_message::Offers;
+pub use lsp_store::{Document, Documents, Store, StoreFault};
+pub use lsp_text::{Encoding, InsideCharacter, Position, Range, UnknownEncoding};
 pub use phase::{Phase, Reason};

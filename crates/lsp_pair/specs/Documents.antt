@@ -20,11 +20,11 @@ no_history = record { sent = []; handled = 0 }
 -- The history after a step, with the client's documents after it. The client sends a message in an
 -- accepted call, and where it answers one of the server. A delivery to the server handles one; no
 -- other step changes the history.
-abbrev pub after : History → Happened → List DocumentItem → History
-after h Sent documents = record h { sent = h.sent ++ documents ∷ [] }
-after h (Client Send) documents = record h { sent = h.sent ++ documents ∷ [] }
-after h (Server did) documents = record h { handled = h.handled + 1 }
-after h happened documents = h
+abbrev pub history_after : History → Happened → List DocumentItem → History
+history_after h Sent documents = record h { sent = h.sent ++ documents ∷ [] }
+history_after h (Client Send) documents = record h { sent = h.sent ++ documents ∷ [] }
+history_after h (Server did) documents = record h { handled = h.handled + 1 }
+history_after h happened documents = h
 
 -- The server has the documents that the client had after the last handled message, and the client
 -- those after the last sent one; before the first message these are none. The others wait.
@@ -38,4 +38,4 @@ abbrev pub IsLater : History → PairData → List EventData → History → Pai
 IsLater h old [] later new = (later ≡ h) × (new ≡ old)
 IsLater h old (event ∷ events) later new =
     (happened : Happened) × (mid : PairData) × IsStep old event happened mid
-    × IsLater (after h happened mid.client.table) mid events later new
+    × IsLater (history_after h happened mid.client.table) mid events later new

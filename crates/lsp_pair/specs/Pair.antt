@@ -113,10 +113,10 @@ IsRun old (event ∷ events) new =
 -- ---- which settings a pair accepts
 
 -- A server of this choice can choose UTF-16, which a client uses where nothing else was agreed on.
-abbrev pub is_utf16 : EncodingChoice → Bool
-is_utf16 (Fixed Utf16) = true
-is_utf16 (Negotiated prefer) = true
-is_utf16 choice = false
+abbrev pub can_choose_utf16 : EncodingChoice → Bool
+can_choose_utf16 (Fixed Utf16) = true
+can_choose_utf16 (Negotiated prefer) = true
+can_choose_utf16 choice = false
 
 -- Each of the limits is at most the other's, and they are lenient only if the others are.
 abbrev pub are_within : LimitsData → LimitsData → Bool
@@ -130,4 +130,4 @@ pub record IsFitting (setting : Setting) : Type 0 where
   pub ranges : AreInRange setting.limits
   pub great : AreInRange setting.config.limits
   pub within : AreWithin setting.limits setting.config.limits
-  pub choice : is_utf16 setting.config.choice ≡ true
+  pub choice : can_choose_utf16 setting.config.choice ≡ true

@@ -6,7 +6,7 @@ use lsp_message::ErrorCode;
 use lsp_server::Refusal;
 
 /// What may happen: a call of the client, or the delivery of the first frame of a queue.
-#[derive(Debug, Drop)]
+#[derive(Debug, PartialEq, Eq, Drop)]
 pub enum Event {
     /// [`Client::start`](lsp_client::Client::start).
     Start,
@@ -56,11 +56,17 @@ pub enum Happened {
 /// client.
 #[derive(Clone, Copy, Debug, PartialEq, Eq)]
 pub enum Did {
+    /// It replied: with this error, or with a result.
     Reply(Option<ErrorCode>),
+    /// A document notification changed the open documents.
     Changed,
+    /// It dropped a notification before `initialize` or after `shutdown`.
     Dropped,
+    /// It ignored a response, or a notification that it doesn't handle.
     Ignored,
+    /// It refused a document notification, which changed nothing.
     Refused(Refusal),
+    /// It ended, with this exit status.
     Exit(u8),
 }
 
@@ -68,8 +74,12 @@ pub enum Did {
 /// which waits for the server.
 #[derive(Clone, Copy, Debug, PartialEq, Eq)]
 pub enum Heard {
+    /// It sends a message.
     Send,
+    /// It noted the response to `shutdown`.
     Noted,
+    /// It ignored a notification.
     Ignored,
+    /// It can't continue the session; its phase is now Failed with this reason.
     BadServer(Reason),
 }

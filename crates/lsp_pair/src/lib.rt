@@ -32,6 +32,12 @@ mod setting;
 
 pub use event::{Did, Event, Happened, Heard};
 pub use laws::pair_laws;
+pub use lsp_client::{Client, ClientFault, Reason};
+pub use lsp_edit::Change;
+pub use lsp_frame::{BadLimits, Limits};
+pub use lsp_message::{ErrorCode, Offers};
+pub use lsp_server::{ChangeForm, Config, EncodingChoice, Refusal, Server};
+pub use lsp_text::Encoding;
 pub use pair::Pair;
 pub use run::{Ran, run_pair};
 pub use setting::PairFault;

@@ -6,23 +6,24 @@ ghost use Rattle.lsp_client.specs.declared.fault.ClientFault.TheVariants.{NoMemo
 ghost use Rattle.lsp_client.specs.Seen.{IsSent, IsFaultOf};
 ghost use Rattle.lsp_client.specs.Step.{call_result};
 ghost use Rattle.lsp_pair.specs.Events.{Setting, EventData, to_server, to_client};
-ghost use Rattle.lsp_pair.specs.Pair.{new_pair, IsFitting, IsStep, is_utf16, are_within};
+ghost use Rattle.lsp_pair.specs.Pair.{new_pair, IsFitting, IsStep, can_choose_utf16, are_within};
 ghost use Rattle.lsp_pair.specs.laws.World.{IsProperEvent};
 ghost use Rattle.lsp_pair.specs.laws.At.{IsAt};
 ghost use Rattle.lsp_pair.specs.inside.Ends.{IsCall, HoldsOnCall};
 ghost use Rattle.lsp_pair.specs.inside.History.{IsHistory};
-ghost use Rattle.lsp_pair.specs.Documents.{History, no_history, after, HaveDocuments};
+ghost use Rattle.lsp_pair.specs.Documents.{History, no_history, history_after, HaveDocuments};
 ghost use Rattle.lsp_pair.specs.Seen.{event_view};
 
 use crate::delivery::{hear_first, serve_first};
 use crate::event::{Event, Happened};
-use crate::setting::{PairFault, are_within, is_utf16};
+use crate::setting::{PairFault, are_within, can_choose_utf16};
 use lsp_client::{Client, ClientFault};
 use lsp_frame::Limits;
 use lsp_message::Offers;
 use lsp_server::{Config, Server};
 use std::alloc::{AllocError, Global};
 use std::collections::VecDeque;
+use std::fmt;
 use std::marker::Model;
 
 /// Both ends of a session, and the frames on the way to each, oldest first. Clauses see the ends
@@ -59,6 +60,18 @@ impl Model for Pair {
     }) };
 }
 
+/// Shows all that clauses see, of the frames how many there are.
+impl fmt::Debug for Pair {
+    fn fmt<W: fmt::Write>(&self, f: &mut fmt::Formatter<W>) -> fmt::Result {
+        f.debug_struct("Pair")
+            .field("client", &self.client)
+            .field("server", &self.server)
+            .field("to_server", &self.to_server.len())
+            .field("to_client", &self.to_client.len())
+            .finish_non_exhaustive()
+    }
+}
+
 impl Pair {
     /// Returns two new ends, with no frame on the way.
     ///
@@ -79,13 +92,15 @@ impl Pair {
         ensures history { IfOk result (λ pair. IsHistory no_history pair) }
         ensures sound { OnOk result
             (IsFitting (record { limits = limits; offers = offers; config = config })) }
-        ensures encoding { (result ≡ Err PairFault.NotUtf16) ↔ (is_utf16 config.choice ≡ false) }
+        ensures encoding { (result ≡ Err PairFault.NotUtf16)
+            ↔ (can_choose_utf16 config.choice ≡ false) }
         // Refused where a limit of the server, in `config`, is below the client's, `limits`, or
         // where the server's are strict and the client's lenient.
         ensures limits { (result ≡ Err PairFault.LimitsTooSmall)
-            ↔ ((is_utf16 config.choice ≡ true) × (are_within limits config.limits ≡ false)) }
+            ↔ ((can_choose_utf16 config.choice ≡ true)
+            × (are_within limits config.limits ≡ false)) }
     {
-        if !is_utf16(config.choice) {
+        if !can_choose_utf16(config.choice) {
             return Err(PairFault::NotUtf16);
         }
         if !are_within(&limits, &config.limits) {
@@ -147,8 +162,8 @@ impl Pair {
         // The server has the documents that the client had when it sent the last message that the
         // server has handled. `IsHistory` need not be opened: each pair has a history.
         ensures history { IfOk result (λ happened. (h : History) → IsHistory h self.old
-            → IsHistory (after h happened self.new.client.table) self.new
-            × HaveDocuments (after h happened self.new.client.table) self.new) }
+            → IsHistory (history_after h happened self.new.client.table) self.new
+            × HaveDocuments (history_after h happened self.new.client.table) self.new) }
     {
         match event {
             Event::ToServer => serve_first(

@@ -2,7 +2,8 @@
 
 ghost use Rattle.std.specs.Prelude.{◌≡◌};
 ghost use Rattle.lsp_frame.specs.Limits.{AreInRange};
-ghost use Rattle.lsp_pair.specs.Pair.{is_utf16, are_within};
+ghost use Rattle.lsp_pair.specs.Codes.{pair_fault_code};
+ghost use Rattle.lsp_pair.specs.Pair.{can_choose_utf16, are_within};
 
 use lsp_frame::Limits;
 use lsp_server::EncodingChoice;
@@ -15,15 +16,27 @@ pub enum PairFault {
     /// Q1: the server's encoding is fixed, and is not UTF-16.
     #[error("the server's encoding is fixed, and is not utf-16")]
     NotUtf16,
-    /// Q2: one of the server's limits is below the client's, or they are strict and the client's
+    /// Q2: one of the server's limits is below the client's, or the server is strict and the client
     /// lenient.
-    #[error("one of the server's limits is below the client's")]
+    #[error("one of the server's limits is below the client's, or only the client is lenient")]
     LimitsTooSmall,
 }
 
+impl PairFault {
+    /// Returns the code that users see: Q1 or Q2.
+    pub fn code(self) -> &'static str
+        ensures { result.now ≡ pair_fault_code self }
+    {
+        match self {
+            PairFault::NotUtf16 => "Q1",
+            PairFault::LimitsTooSmall => "Q2",
+        }
+    }
+}
+
 /// Returns whether a server of this choice can choose UTF-16.
-pub(crate) fn is_utf16(choice: EncodingChoice) -> bool
-    ensures { result ≡ is_utf16 choice }
+pub(crate) fn can_choose_utf16(choice: EncodingChoice) -> bool
+    ensures { result ≡ can_choose_utf16 choice }
 {
     match choice {
         EncodingChoice::Fixed(Encoding::Utf16) | EncodingChoice::Negotiated { .. } => true,

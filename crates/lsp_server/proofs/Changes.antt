@@ -22,7 +22,7 @@ use Rattle.lsp_server.specs.declared.planned.PlannedChange.{PlannedChange}
 use Rattle.lsp_server.specs.declared.planned.PlannedChange.TheVariants.{Accepted, Answered}
 use Rattle.lsp_server.specs.Answer.{dropped, refused}
 use Rattle.lsp_server.specs.Calls.{IsStepOf}
-use Rattle.lsp_server.specs.Planned.{IsAnswered, IsPlanOfChange, IsPlannedAs, store_of}
+use Rattle.lsp_server.specs.Planned.{IsNotObeyed, IsPlanOfChange, IsPlannedAs, store_of}
 use Rattle.lsp_server.specs.Step.{ServerData, Step, change_command, edit_from_data, session_encoding, command_step, unchanged_step, step_in, step_on}
 use Rattle.lsp_server.proofs.Commands.{edits_of, obeyed_as_refused}
 
@@ -51,7 +51,7 @@ pub refused_is : (s : ServerData) (store : StoreData) (p : ChangeParams) (uri : 
     → edits ≡ p.changes.items → s.phase ≡ Running
     → (fault ≢ NoMemory) × (a ≡ Refused (Store fault))
     → IsRefused store (changes uri version encoding (map edit_of edits)) fault
-    → IsAnswered s (step_on s (did_change (Some (change_view p)))) a
+    → IsNotObeyed s (step_on s (did_change (Some (change_view p)))) a
 refused_is s store p uri version encoding edits fault a store_is uri_is version_is encoding_is edits_is running why
     error =
     let command : changes uri version encoding (map edit_of edits) ≡ change_command s (change_view p) =
@@ -68,8 +68,8 @@ refused_is s store p uri version encoding edits fault a store_is uri_is version_
     subst (λ (of : StoreData). IsRefused of (change_command s (change_view p)) fault) store_is given in
     let step : step_on s (did_change (Some (change_view p))) ≡ unchanged_step s (refused (Store fault)) =
     running_step s (change_view p) running ∙ obeyed_as_refused s (change_command s (change_view p)) fault why.0 same in
-    subst (λ (b : Answer). IsAnswered s (step_on s (did_change (Some (change_view p)))) b) (sym why.1)
-    (subst (λ (taken : Step). IsAnswered s taken (Refused (Store fault))) (sym step) (record {
+    subst (λ (b : Answer). IsNotObeyed s (step_on s (did_change (Some (change_view p)))) b) (sym why.1)
+    (subst (λ (taken : Step). IsNotObeyed s taken (Refused (Store fault))) (sym step) (record {
       answer = refl;
       unchanged = refl;
       not_changed = λ e. cc;
@@ -77,11 +77,11 @@ refused_is s store p uri version encoding edits fault a store_is uri_is version_
 
 -- Outside phase Running a change is dropped.
 pub dropped_is : (s : ServerData) (p : ChangeData) → (s.phase ≡ New) ⊎ (s.phase ≡ Down)
-    → IsAnswered s (step_on s (did_change (Some p))) Dropped
+    → IsNotObeyed s (step_on s (did_change (Some p))) Dropped
 dropped_is s p (inl new) =
     let step : step_on s (did_change (Some p)) ≡ unchanged_step s dropped =
     ap (λ phase. step_in phase s (did_change (Some p))) new in
-    subst (λ (taken : Step). IsAnswered s taken Dropped) (sym step) (record {
+    subst (λ (taken : Step). IsNotObeyed s taken Dropped) (sym step) (record {
       answer = refl;
       unchanged = refl;
       not_changed = λ e. cc;
@@ -89,7 +89,7 @@ dropped_is s p (inl new) =
 dropped_is s p (inr down) =
     let step : step_on s (did_change (Some p)) ≡ unchanged_step s dropped =
     ap (λ phase. step_in phase s (did_change (Some p))) down in
-    subst (λ (taken : Step). IsAnswered s taken Dropped) (sym step) (record {
+    subst (λ (taken : Step). IsNotObeyed s taken Dropped) (sym step) (record {
       answer = refl;
       unchanged = refl;
       not_changed = λ e. cc;
@@ -115,7 +115,7 @@ pub answered_step : {E : Type 0} (s : ServerData) (p : ChangeData) (planned : Pl
     ≡ Answered a → s.phase ≡ Running → IsPlannedAs s p planned
     → IsStepOf {E = E} (command_step s (change_command s p)) (Ok a) s s
 answered_step {E} s p planned a is running h =
-    let answered : IsAnswered s (step_on s (did_change (Some p))) a =
+    let answered : IsNotObeyed s (step_on s (did_change (Some p))) a =
     subst (λ (x : PlannedChange). IsPlannedAs s p x) is h in
     subst (λ (taken : Step). IsStepOf {E = E} taken (Ok a) s s) (running_step s p running) (record {
       answer = answered.answer;

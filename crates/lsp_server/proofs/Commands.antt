@@ -15,7 +15,7 @@ use Rattle.lsp_server.specs.declared.answer.Answer.TheVariants.{Changed, Refused
 use Rattle.lsp_server.specs.declared.answer.Refusal.TheVariants.{Store}
 use Rattle.lsp_server.specs.Answer.{refused, NeverAllocates}
 use Rattle.lsp_server.specs.Step.{ServerData, edit_from_data, unchanged_step, result_step, command_step}
-use Rattle.lsp_server.specs.Calls.{IsStepOf, IsRowOf}
+use Rattle.lsp_server.specs.Calls.{IsStepOf, IsQuietStepOf}
 use Rattle.lsp_server.specs.Planned.{store_of}
 
 -- The changes as they were read are those that the store is given.
@@ -75,6 +75,6 @@ loud s (Ok next) quiet = quiet
 loud s (Err refusal) quiet = quiet
 
 pub obeyed_row : {E : Type 0} (s : ServerData) (command : Command) (result : Result Answer E) (old new : ServerData)
-    → IsStepOf (command_step s command) result old new → IsRowOf (command_step s command) result old new
+    → IsStepOf (command_step s command) result old new → IsQuietStepOf (command_step s command) result old new
 obeyed_row s command result old new step =
     record { taken = step; quiet = λ quiet. absurd (loud s (after_command s.config.limits s.table command) quiet) }

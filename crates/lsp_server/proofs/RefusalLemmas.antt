@@ -9,7 +9,7 @@ use Rattle.lsp_server.specs.declared.answer.Answer.{Answer}
 use Rattle.lsp_server.specs.declared.answer.Answer.TheVariants.{Reply, Changed, Dropped, Ignored, Refused}
 use Rattle.lsp_server.specs.declared.answer.Answer.TheVariants as variants
 use Rattle.lsp_server.specs.Answer.{AnswerData, Sent, reply, changed, dropped, ignored, already_ended, refused, exits, as_sent}
-use Rattle.lsp_server.specs.Calls.{IsRowOf}
+use Rattle.lsp_server.specs.Calls.{IsQuietStepOf}
 use Rattle.lsp_server.specs.laws.Steps.{ChangesNothing}
 use Rattle.lsp_server.specs.Seen.{answer_view, IsRefusing}
 use Rattle.lsp_server.specs.Step.{ServerData, step_on}
@@ -53,7 +53,7 @@ as_answered (exits status) h = h
 
 -- After a call that took a step and was refused the server is as before.
 pub refused_stays : {E : Type 0} (s new : ServerData) (m : IncomingData) (a : Answer)
-    → IsRowOf {E = E} (step_on s m) (Ok a) s new → IsRefusing a → new ≡ s
+    → IsQuietStepOf {E = E} (step_on s m) (Ok a) s new → IsRefusing a → new ≡ s
 refused_stays s new m a row refusing =
     row.taken.state ∙ (kept s.phase s m refl).refusal
     (as_answered (step_on s m).answer (subst IsRefusingSent row.taken.answer (as_viewed a refusing)))

@@ -6,9 +6,9 @@ use Rattle.lsp_message.specs.Outgoing.{OutgoingData, error_reply, body_of}
 use Rattle.lsp_server.specs.declared.answer.Refusal.{Refusal}
 use Rattle.lsp_server.specs.declared.answer.Refusal.TheVariants.{InvalidParams}
 
--- What a server answers: a reply, or the outcome of a notification. The documents changed; it came
--- in the wrong phase; the server doesn't handle it; it is refused; or the session ends with an exit
--- status. An ended server has no answer.
+-- What a server answers: a reply, or the outcome of a notification or of a response. The documents
+-- changed; it came in the wrong phase; the server doesn't handle it; it is refused; or the session
+-- ends with an exit status. An ended server has no answer.
 pub data AnswerData (Reply : Type 0) : Type 0 where
   reply : Reply → AnswerData Reply
   changed dropped ignored already_ended : AnswerData Reply
@@ -39,7 +39,8 @@ as_sent already_ended = already_ended
 as_sent (refused refusal) = refused refusal
 as_sent (exits status) = exits status
 
--- An answer that takes no memory: there is no reply, and the store isn't called.
+-- An answer that takes no memory: there is no reply, and the store isn't called. (An ended server's
+-- isn't one: the call returns a fault.)
 abbrev pub NeverAllocates : {Reply : Type 0} → AnswerData Reply → Type 0
 NeverAllocates dropped = ⊤
 NeverAllocates ignored = ⊤

@@ -14,7 +14,7 @@ pub record IsStepOf {E : Type 0} (step : Step) (result : Result Answer E) (old n
   pub unchanged : OnErr result (new ≡ old)
 
 -- A call took this step, and was out of memory only where its answer takes memory.
-pub record IsRowOf {E : Type 0} (step : Step) (result : Result Answer E) (old new : ServerData) :
+pub record IsQuietStepOf {E : Type 0} (step : Step) (result : Result Answer E) (old new : ServerData) :
     Type 0 where
   pub taken : IsStepOf step result old new
   pub quiet : NeverAllocates step.answer → IsOk result

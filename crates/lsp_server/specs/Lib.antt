@@ -1,4 +1,5 @@
 pub use Rattle.lsp_reader.specs.Incoming
+pub mod Codes
 pub mod Choice
 pub mod Answer
 pub mod Step

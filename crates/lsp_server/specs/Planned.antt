@@ -33,7 +33,7 @@ abbrev pub after_commit : ServerData → Plan → ServerData
 after_commit s plan = record s { table = (after_plan (store_of s) plan).table }
 
 -- A message isn't obeyed: it has this answer, and changes nothing.
-pub record IsAnswered (s : ServerData) (step : Step) (a : Answer) : Type 0 where
+pub record IsNotObeyed (s : ServerData) (step : Step) (a : Answer) : Type 0 where
   pub answer : answer_view a ≡ as_sent step.answer
   pub unchanged : step.state ≡ s
   pub not_changed : a ≢ Changed
@@ -41,4 +41,4 @@ pub record IsAnswered (s : ServerData) (step : Step) (a : Answer) : Type 0 where
 -- What becomes of a change: a plan that may be committed, or an answer.
 abbrev pub IsPlannedAs : ServerData → ChangeData → PlannedChange → Type 0
 IsPlannedAs s p (Accepted plan) = IsCommittable s plan × IsPlanOfChange s p plan
-IsPlannedAs s p (Answered a) = IsAnswered s (step_on s (did_change (Some p))) a
+IsPlannedAs s p (Answered a) = IsNotObeyed s (step_on s (did_change (Some p))) a

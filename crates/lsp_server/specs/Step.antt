@@ -103,8 +103,8 @@ with_encoding s encoding = record s { encoding = option_map (λ _. encoding) s.e
 abbrev pub step_in : Phase → ServerData → IncomingData → Step
 -- After `exit` there is no answer.
 step_in Ended s m = unchanged_step s already_ended
--- A body that is no JSON, or JSON and no message, is answered with an error response in any phase
--- (Response Message).
+-- A body that is no JSON, or JSON and no message, is answered with an error response in every other
+-- phase (Response Message).
 step_in phase s not_json = error_step s None ParseError
 step_in phase s (not_a_message id) = error_step s id InvalidRequest
 -- The server sends no requests, so it ignores responses.

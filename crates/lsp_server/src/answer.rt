@@ -2,6 +2,7 @@
 
 ghost use Rattle.std.specs.Prelude.{◌≡◌};
 ghost use Rattle.lsp_server.specs.declared.answer.ServerFault.TheVariants.{NoMemory};
+ghost use Rattle.lsp_server.specs.Codes.{server_refusal_code, server_fault_code};
 
 use lsp_message::ErrorCode;
 use lsp_store::StoreFault;
@@ -30,12 +31,26 @@ pub enum Answer {
 }
 
 /// Why a document notification was refused.
-#[derive(Clone, Copy, Debug, PartialEq, Eq)]
+#[derive(Clone, Copy, Debug, PartialEq, Eq, Error)]
 pub enum Refusal {
     /// M4: its params don't fit its method.
+    #[error("invalid params")]
     InvalidParams,
     /// S1 to S7: the store refuses the command.
+    #[error("{0}")]
     Store(StoreFault),
+}
+
+impl Refusal {
+    /// Returns the code that users see: M4, or that of the store's fault.
+    pub fn code(self) -> &'static str
+        ensures { result.now ≡ server_refusal_code self }
+    {
+        match self {
+            Refusal::InvalidParams => "M4",
+            Refusal::Store(fault) => fault.code(),
+        }
+    }
 }
 
 /// Why there is no answer. The server is unchanged.
@@ -47,6 +62,18 @@ pub enum ServerFault {
     /// V2: out of memory. A caller can pass the same body again.
     #[error("out of memory")]
     NoMemory,
+}
+
+impl ServerFault {
+    /// Returns the code that users see: V1 or V2.
+    pub fn code(self) -> &'static str
+        ensures { result.now ≡ server_fault_code self }
+    {
+        match self {
+            ServerFault::AlreadyEnded => "V1",
+            ServerFault::NoMemory => "V2",
+        }
+    }
 }
 
 impl From<AllocError> for ServerFault {

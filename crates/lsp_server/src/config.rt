@@ -12,8 +12,11 @@ use lsp_text::Encoding;
 /// choose [lenient](Limits::lenient) limits.
 #[derive(Clone, Copy, Debug, PartialEq, Eq)]
 pub struct Config {
+    /// What the server refuses as too much.
     pub limits: Limits,
+    /// How it chooses the encoding of positions.
     pub choice: EncodingChoice,
+    /// How it wants to be notified of changes.
     pub sync: ChangeForm,
 }
 

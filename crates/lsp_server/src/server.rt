@@ -6,7 +6,7 @@ ghost use Rattle.lsp_server.specs.declared.phase.Phase.TheVariants.{Running, End
 ghost use Rattle.lsp_server.specs.Step.{new_server, with_encoding, step, step_on};
 ghost use Rattle.lsp_server.specs.Answer.{NeverAllocates, as_sent};
 ghost use Rattle.lsp_server.specs.Seen.{answer_view, IsRefusing};
-ghost use Rattle.lsp_server.specs.Calls.{IsRowOf};
+ghost use Rattle.lsp_server.specs.Calls.{IsQuietStepOf};
 ghost use Rattle.lsp_reader.specs.Incoming.{incoming_of};
 ghost use Rattle.lsp_reader.specs.Seen.{incoming_view};
 
@@ -195,7 +195,8 @@ impl Server {
 
     fn step(&mut self, incoming: Incoming) -> Result<Answer, AllocError>
         requires { self.old.phase ≢ Ended }
-        ensures { IsRowOf (step_on self.old (incoming_view incoming)) result self.old self.new }
+        ensures { IsQuietStepOf (step_on self.old (incoming_view incoming)) result
+            self.old self.new }
     {
         match incoming {
             Incoming::NotJson => self.fail(None, ErrorCode::ParseError),

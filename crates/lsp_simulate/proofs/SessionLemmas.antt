@@ -12,7 +12,7 @@ use Rattle.lsp_message.specs.Params.{DocumentItem}
 use Rattle.lsp_pair.specs.declared.event.Happened.{Happened}
 use Rattle.lsp_pair.specs.declared.setting.PairFault.{PairFault}
 use Rattle.lsp_pair.specs.declared.setting.PairFault.TheVariants.{NotUtf16, LimitsTooSmall}
-use Rattle.lsp_pair.specs.Pair.{PairData, IsFitting, IsStep, are_within, is_utf16, new_pair}
+use Rattle.lsp_pair.specs.Pair.{PairData, IsFitting, IsStep, are_within, can_choose_utf16, new_pair}
 use Rattle.lsp_simulate.specs.declared.command_line.Setting.{Setting}
 use Rattle.lsp_simulate.specs.declared.run.RunFault.{RunFault}
 use Rattle.lsp_simulate.specs.declared.run.RunFault.TheVariants.{Read, Write, NoMemory, BadEvent}
@@ -278,9 +278,9 @@ module _ (setting : Setting) (before mid : WriterState) (left number next : ℕ)
 -- ---- how a session ends
 
 pub refused : {T : Type 0} (setting : Setting) (result : Result T PairFault) (fault : PairFault) → result ≡ Err fault
-    → ((result ≡ Err NotUtf16) ↔ (is_utf16 setting.config.choice ≡ false))
+    → ((result ≡ Err NotUtf16) ↔ (can_choose_utf16 setting.config.choice ≡ false))
     → ((result ≡ Err LimitsTooSmall)
-    ↔ ((is_utf16 setting.config.choice ≡ true) × (are_within setting.limits setting.config.limits ≡ false)))
+    ↔ ((can_choose_utf16 setting.config.choice ≡ true) × (are_within setting.limits setting.config.limits ≡ false)))
     → IsSettingRefused (pair_setting setting) fault
 refused setting result NotUtf16 is encoding limits = encoding.0 is
 refused setting result LimitsTooSmall is encoding limits = limits.0 is

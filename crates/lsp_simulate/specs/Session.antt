@@ -10,7 +10,7 @@ use Rattle.lsp_pair.specs.declared.event.Happened.{Happened}
 use Rattle.lsp_pair.specs.declared.setting.PairFault.{PairFault}
 use Rattle.lsp_pair.specs.declared.setting.PairFault.TheVariants.{NotUtf16, LimitsTooSmall}
 use Rattle.lsp_pair.specs.Events.{Setting as PairSetting, EventData}
-use Rattle.lsp_pair.specs.Pair.{PairData, IsFitting, IsStep, are_within, is_utf16, new_pair}
+use Rattle.lsp_pair.specs.Pair.{PairData, IsFitting, IsStep, are_within, can_choose_utf16, new_pair}
 use Rattle.lsp_simulate.specs.declared.command_line.Setting.{Setting}
 use Rattle.lsp_simulate.specs.declared.run.RunFault.{RunFault}
 use Rattle.lsp_simulate.specs.declared.run.RunFault.TheVariants.{Pair, Write, NoMemory, BadEvent}
@@ -71,9 +71,9 @@ pair_setting setting = record {
 
 -- A pair refuses this setting, with this fault.
 abbrev pub IsSettingRefused : PairSetting → PairFault → Type 0
-IsSettingRefused setting NotUtf16 = is_utf16 setting.config.choice ≡ false
+IsSettingRefused setting NotUtf16 = can_choose_utf16 setting.config.choice ≡ false
 IsSettingRefused setting LimitsTooSmall =
-    (is_utf16 setting.config.choice ≡ true)
+    (can_choose_utf16 setting.config.choice ≡ true)
     × (are_within setting.limits setting.config.limits ≡ false)
 
 -- Whole lines: nothing, or bytes of which the last is a line end.

@@ -1,4 +1,3 @@
 -- What is read of a document's text.
-pub mod LineContentLemmas
 pub mod UnitsBeforeLemmas
 pub mod UnitsPassedLemmas

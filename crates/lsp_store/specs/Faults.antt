@@ -21,7 +21,8 @@ refusal_fault (stale_version held) = StaleVersion held
 refusal_fault (edit number why) = Edit (fault_at number why)
 refusal_fault (body_too_long len) = BodyTooLong len
 
--- The code of a fault, as docs/PROTOCOL.md lists them. That of S7 is its cause.
+-- The code of a fault, as docs/PROTOCOL.md lists them. A change without a result has the code of its
+-- cause, E1 or E2, in place of S7.
 abbrev pub fault_code : StoreFault → List ℕ
 fault_code AlreadyOpen = codes "S1"
 fault_code TooManyDocuments = codes "S2"

@@ -3,7 +3,6 @@ pub mod Faults
 pub mod Opened
 pub mod Message
 pub mod Squash
-pub mod LineContent
 pub mod UnitsBefore
 pub mod inside
 pub mod Plan

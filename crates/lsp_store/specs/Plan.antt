@@ -30,7 +30,8 @@ abbrev pub after_plan : StoreData → Plan → StoreData
 after_plan store plan
     = record store { table = planned_table store.table plan.index plan.version plan.delta }
 
--- A plan may be applied to a store: it was made of the text that is there.
+-- A plan may be applied to a store: it was made of the text that is there, and leaves one of at most
+-- 1,073,741,824 bytes (1 GiB).
 pub record IsPlanOn (store : StoreData) (plan : Plan) : Type 0 where
   pub entry : DocumentItem
   pub at : slice_get store.table plan.index ≡ Some entry

@@ -2,12 +2,12 @@
 //! Document Synchronization).
 //!
 //! - `store`: the documents in order of opening, and the calls that open, change and close them.
-//!   `opening` has the first of these.
+//!   `opening` has the call that opens one.
 //! - `document`: an open document as a caller reads it. `units` counts units of its whole text.
 //! - `documents`: the open documents, one after another.
 //! - `canonical`: the canonical message of an accepted batch of changes.
 //! - `squash`: many batches on one document as one message.
-//! - `batches`: the same for a caller who keeps the document.
+//! - `batches`: many batches on one document as one message, for a caller who keeps the document.
 //! - `plan`: a batch that was resolved once on an open document.
 //! - `stored`: the language, version and text of a document, and how a batch changes them.
 //! - `reached`: the document that several batches lead to.

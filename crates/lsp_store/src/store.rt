@@ -191,7 +191,7 @@ impl Store {
         Document::new(uri, stored)
     }
 
-    /// Applies a plan that was made of this store as it is. Fails only if it is out of memory, and
+    /// Applies a plan that was made of this store as it is. Fails only where memory runs out, and
     /// then changes nothing. Costs what the delta costs ([`lsp_edit::IndexedText::apply`]).
     pub fn apply(&mut self, plan: Plan<'_>) -> Result<(), AllocError>
         requires on { IsPlanOn self.old plan }

@@ -11,13 +11,14 @@ static FAULTS: [(ClientFault, &str); 4] = [
         ClientFault::WrongPhase {
             phase: Phase::Ready,
         },
-        "the call has no place in phase Ready",
+        "the call isn't allowed in phase Ready",
     ),
     (
         ClientFault::WrongPhase {
             phase: Phase::Failed(Reason::NoSync),
         },
-        "the call has no place in phase Failed(NoSync)",
+        "the call isn't allowed in phase Failed: \
+         the server doesn't want to be notified of documents or of changes",
     ),
     (
         ClientFault::Store(StoreFault::StaleVersion { held: -7 }),

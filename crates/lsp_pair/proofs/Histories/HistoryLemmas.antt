@@ -14,7 +14,7 @@ use Rattle.lsp_pair.specs.Pair.{PairData, IsFitting, IsStep, new_pair}
 use Rattle.lsp_pair.specs.laws.World.{ClientMessage, commands, lifecycle, World, Turn, turn_of_call, turn_of_delivery, to_server_event, to_client_event, turn_of_result, turn, world_of, beginning, client_of, server_of}
 use Rattle.lsp_pair.specs.laws.At.{table_with, frames_from, waiting_out, IsAt}
 use Rattle.lsp_pair.specs.laws.Steps.{IsStepAt}
-use Rattle.lsp_pair.specs.Documents.{History, no_history, after, HaveDocuments, IsLater}
+use Rattle.lsp_pair.specs.Documents.{History, no_history, history_after, HaveDocuments, IsLater}
 use Rattle.lsp_pair.specs.inside.History.{tables_from, history_of, IsHistory}
 use Rattle.lsp_pair.proofs.Worlds.ListLemmas.{table_after_all}
 use Rattle.lsp_pair.proofs.Worlds.Shapes.{the_kind}
@@ -88,7 +88,8 @@ new_history setting sound = record { setting = setting; sound = sound; events = 
 
 -- what a turn adds to the history
 abbrev IsNextHistory : Setting → World → Turn → Type 0
-IsNextHistory setting w t = after (history_of w) t.happened (client_of setting t.world).table ≡ history_of t.world
+IsNextHistory setting w t =
+    history_after (history_of w) t.happened (client_of setting t.world).table ≡ history_of t.world
 
 one_more : (w : World) (said : ClientMessage)
     → record (history_of w) { sent = tables_from [] w.out ++ table_after_all [] (w.out ++ said ∷ []) ∷ [] }
@@ -134,7 +135,7 @@ turn_next setting w to_client = client_next setting w (slice_get w.back w.back_d
 pub next_history : (setting : Setting) (events : List EventData) (event : EventData) (h : History) (happened : Happened)
     (new : PairData)
     → IsFitting setting → h ≡ history_of (world_of setting events) → IsStepAt setting events event happened new
-    → IsHistory (after h happened new.client.table) new
+    → IsHistory (history_after h happened new.client.table) new
 next_history setting events event h happened new sound told steps =
     let t : Turn = turn setting (world_of setting events) event in
     let last : world_of setting (events ++ event ∷ []) ≡ t.world = world-last setting beginning events event in
@@ -146,7 +147,7 @@ next_history setting events event h happened new sound told steps =
       events = events ++ event ∷ [];
       at = steps.at;
       told =
-          (λ i. after (told i) (steps.happens i) (documents i))
+          (λ i. history_after (told i) (steps.happens i) (documents i))
           ∙ (turn_next setting (world_of setting events) event ∙ ap history_of (sym last));
     }
 
@@ -155,12 +156,13 @@ pub history_if : {E : Type 0} (old new : PairData) (event : EventData) (result :
     → IfOk result (λ happened. (setting : Setting) (events : List EventData) → IsFitting setting
     → IsAt setting old events → IsStepAt setting events event happened new)
     → IfOk result (λ happened. (h : History) → IsHistory h old
-    → IsHistory (after h happened new.client.table) new × HaveDocuments (after h happened new.client.table) new)
+    → IsHistory (history_after h happened new.client.table) new
+    × HaveDocuments (history_after h happened new.client.table) new)
 history_if old new event (Ok happened) steps = λ h is.
     let next = next_history is.setting is.events event h happened new is.sound is.told
     (steps is.setting is.events is.sound is.at) in (
       next,
-      history_documents (after h happened new.client.table) new next,
+      history_documents (history_after h happened new.client.table) new next,
     )
 history_if old new event (Err e) steps = tt
 
@@ -168,19 +170,20 @@ history_if old new event (Err e) steps = tt
 
 pub later-last : (h mid_history : History) (old mid new : PairData) (events : List EventData) (event : EventData)
     (happened : Happened) → IsLater h old events mid_history mid
-    → IsStep mid event happened new → IsLater h old (events ++ event ∷ []) (after mid_history happened new.client.table)
+    → IsStep mid event happened new
+    → IsLater h old (events ++ event ∷ []) (history_after mid_history happened new.client.table)
     new
 later-last h mid_history old mid new [] event happened run steps = (
   happened,
   new,
   subst (λ p. IsStep p event happened new) run.1 steps,
-  (ap (λ k. after k happened new.client.table) run.0, refl),
+  (ap (λ k. history_after k happened new.client.table) run.0, refl),
 )
 later-last h mid_history old mid new (first ∷ events) event happened run steps = (
   run.0,
   run.1,
   run.2,
-  later-last (after h run.0 run.1.client.table) mid_history run.1 mid new events event happened run.3 steps,
+  later-last (history_after h run.0 run.1.client.table) mid_history run.1 mid new events event happened run.3 steps,
 )
 
 -- after a run, whose number of steps is known by another name

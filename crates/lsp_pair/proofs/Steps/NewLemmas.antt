@@ -7,7 +7,7 @@ use Rattle.lsp_message.specs.declared.agreement.Offers.{Offers}
 use Rattle.lsp_server.specs.declared.config.Config.{Config}
 use Rattle.lsp_store.specs.Limits.{AreWithin}
 use Rattle.lsp_pair.specs.Events.{Setting}
-use Rattle.lsp_pair.specs.Pair.{IsFitting, is_utf16, are_within, new_pair}
+use Rattle.lsp_pair.specs.Pair.{IsFitting, can_choose_utf16, are_within, new_pair}
 use Rattle.lsp_pair.specs.inside.Reached.{IsReached}
 use Rattle.lsp_pair.proofs.Steps.StepLemmas.{new_at}
 
@@ -34,7 +34,7 @@ within_from small great e =
     }
 
 pub sound_from : (limits : LimitsData) (offers : Offers) (config : Config) → AreInRange limits
-    → AreInRange config.limits → are_within limits config.limits ≡ true → is_utf16 config.choice ≡ true
+    → AreInRange config.limits → are_within limits config.limits ≡ true → can_choose_utf16 config.choice ≡ true
     → IsFitting (record { limits = limits; offers = offers; config = config })
 sound_from limits offers config ranges great within choice = record {
   ranges = ranges;

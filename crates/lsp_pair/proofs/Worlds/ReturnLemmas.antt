@@ -24,7 +24,7 @@ use Rattle.lsp_client.specs.Step as client
 use Rattle.lsp_client.specs.Step.{ClientData, Delivery, delivery_of, delivery_in, is_awaited, begin_if_agreed, begin_as_announced, begin_in, is_listening}
 use Rattle.lsp_pair.specs.declared.event.Happened.TheVariants.{Client}
 use Rattle.lsp_pair.specs.Events.{Setting, heard_of, messages_in}
-use Rattle.lsp_pair.specs.Pair.{IsFitting, is_utf16}
+use Rattle.lsp_pair.specs.Pair.{IsFitting, can_choose_utf16}
 use Rattle.lsp_pair.specs.laws.World.{ClientMessage, lifecycle, World, client_of, turn_of_delivery}
 use Rattle.lsp_pair.specs.laws.At.{waiting_back}
 use Rattle.lsp_pair.specs.laws.Usual.{IsUsualBack}
@@ -80,7 +80,7 @@ return setting w shape next m rest delivery at e busy server encoding phase agre
 
 -- ---- what is announced
 
-pub offered_is : (choice : EncodingChoice) (offers : Offers) → is_utf16 choice ≡ true
+pub offered_is : (choice : EncodingChoice) (offers : Offers) → can_choose_utf16 choice ≡ true
     → is_offered offers (encoding_chosen choice offers) ≡ true
 offered_is (Fixed Utf8) offers e = absurd (let bad : false ≡ true = e in cc)
 offered_is (Fixed Utf16) offers e = refl

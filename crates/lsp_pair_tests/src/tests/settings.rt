@@ -82,7 +82,7 @@ static TEXTS: [(PairFault, &str); 2] = [
     ),
     (
         PairFault::LimitsTooSmall,
-        "one of the server's limits is below the client's",
+        "one of the server's limits is below the client's, or only the client is lenient",
     ),
 ];
 

@@ -26,7 +26,7 @@ use Rattle.lsp_server.specs.declared.planned.PlannedChange.TheVariants.{Accepted
 use Rattle.lsp_server.specs.declared.phase.Phase.TheVariants.{Running}
 use Rattle.lsp_server.specs.Answer.{as_sent, changed, refused}
 use Rattle.lsp_server.specs.Incoming.{did_change, incoming_of}
-use Rattle.lsp_server.specs.Planned.{IsAnswered, IsPlanOfChange, IsPlannedAs, after_commit, store_of}
+use Rattle.lsp_server.specs.Planned.{IsNotObeyed, IsPlanOfChange, IsPlannedAs, after_commit, store_of}
 use Rattle.lsp_server.specs.Seen.{answer_view}
 use Rattle.lsp_server.specs.Step.{ServerData, edit_from_data, session_encoding, step_on}
 use Rattle.lsp_stream.specs.Ports.{one_more}
@@ -65,7 +65,7 @@ is_changed (Exit status) e = absurd (cc)
 
 -- An answer in place of a plan is a refusal.
 pub answered_some : (server : ServerData) (p : ChangeData) → server.phase ≡ Running → (a : Answer)
-    → IsAnswered server (step_on server (did_change (Some p))) a → refusal_of server p ≢ None
+    → IsNotObeyed server (step_on server (did_change (Some p))) a → refusal_of server p ≢ None
 answered_some server p running a why =
     λ (none : refusal_of server p ≡ None). why.not_changed
     (is_changed a (why.answer ∙ ap as_sent (step_accepted server p running none)))
@@ -81,7 +81,7 @@ module _ (inside server : ServerData) (same : inside ≡ server) (p : ChangeData
   pub accepted_at : (plan : Plan) → planned ≡ Accepted plan → IsPlanOfChange server p plan
   accepted_at plan is = (planned_at (Accepted plan) is).1
 
-  pub answered_at : (a : Answer) → planned ≡ Answered a → IsAnswered server (step_on server (did_change (Some p))) a
+  pub answered_at : (a : Answer) → planned ≡ Answered a → IsNotObeyed server (step_on server (did_change (Some p))) a
   answered_at a is = planned_at (Answered a) is
 
 module _ (s : Session) (p : ChangeData) (running : s.server.phase ≡ Running) (known : s.expected ≡ None) where
@@ -118,7 +118,7 @@ module _ (s : Session) (p : ChangeData) (running : s.server.phase ≡ Running) (
       (record s { messages = one_more s.messages; refusals = one_more s.refusals })
   refused_by version refusal is = rw (running, known, is) refl
 
-  refused_for : (a : Answer) → IsAnswered s.server (step_on s.server (did_change (Some p))) a → (r : Option Refusal)
+  refused_for : (a : Answer) → IsNotObeyed s.server (step_on s.server (did_change (Some p))) a → (r : Option Refusal)
       → refusal_of s.server p ≡ r → (new : Session)
       → new ≡ record s { records = one_more s.records; messages = one_more s.messages; refusals = one_more s.refusals }
       → IsChangeTaken s p (answered (answer_view a)) new
@@ -131,7 +131,7 @@ module _ (s : Session) (p : ChangeData) (running : s.server.phase ≡ Running) (
         session = λ version. new_is ∙ sym (ap (λ (j : Judged). (counted j).session) (refused_by version refusal is));
       }
 
-  pub refused_taken : (a : Answer) → IsAnswered s.server (step_on s.server (did_change (Some p))) a → (t : Session)
+  pub refused_taken : (a : Answer) → IsNotObeyed s.server (step_on s.server (did_change (Some p))) a → (t : Session)
       → t ≡ s → (records : ℕ) → records ≡ one_more t.records
       → (messages : ℕ) → messages ≡ one_more t.messages → (refusals : ℕ) → refusals ≡ one_more t.refusals
       → IsChangeTaken s p (answered (answer_view a)) (record t {

@@ -10,7 +10,7 @@ ghost use Rattle.lsp_store.specs.declared.fault.StoreFault.TheVariants.{NoMemory
 ghost use Rattle.lsp_store.specs.Plan.{IsPlanOn};
 ghost use Rattle.lsp_server.specs.declared.phase.Phase.TheVariants.{Running};
 ghost use Rattle.lsp_server.specs.Incoming.{did_change};
-ghost use Rattle.lsp_server.specs.Planned.{IsAnswered, IsPlanOfChange, store_of};
+ghost use Rattle.lsp_server.specs.Planned.{IsNotObeyed, IsPlanOfChange, store_of};
 ghost use Rattle.lsp_server.specs.Step.{step_on};
 ghost use Rattle.lsp_replay.specs.inside.Bodies.{IsChangeTaken};
 ghost use Rattle.lsp_replay.specs.inside.Verdicts.{verdict_view};
@@ -55,7 +55,7 @@ impl Session {
         requires running { self.old.server.phase ≡ Running }
         requires known { self.old.expected ≡ None }
         ensures { (p : ChangeData)
-            → IsAnswered self.old.server (step_on self.old.server (did_change (Some p))) answer
+            → IsNotObeyed self.old.server (step_on self.old.server (did_change (Some p))) answer
             → IsChangeTaken self.old p (verdict_view result) self.new }
     {
         self.records = one_more(self.records);

@@ -22,7 +22,7 @@ impl Server {
     ghost use Rattle.lsp_store.specs.Table.{opens};
     ghost use Rattle.lsp_server.specs.declared.phase.Phase.TheVariants.{Running, Ended};
     ghost use Rattle.lsp_server.specs.Step.{step_on, command_step, change_command, close_command};
-    ghost use Rattle.lsp_server.specs.Calls.{IsStepOf, IsRowOf};
+    ghost use Rattle.lsp_server.specs.Calls.{IsStepOf, IsQuietStepOf};
     ghost use Rattle.lsp_server.specs.Planned.{IsCommittable, IsPlanOfChange, IsPlannedAs, after_commit, store_of};
 
     /// Returns the params of a notification that is obeyed, else its answer: it is dropped outside
@@ -42,7 +42,7 @@ impl Server {
     #[tactic(auto, using(crate::proofs::Commands::obeyed_row))]
     pub(crate) fn did_open(&mut self, params: Option<OpenParams>) -> Result<Answer, AllocError>
         requires { self.old.phase ≢ Ended }
-        ensures { IsRowOf (step_on self.old (did_open (option_map open_view params))) result
+        ensures { IsQuietStepOf (step_on self.old (did_open (option_map open_view params))) result
             self.old self.new }
     {
         match self.admit(params) {
@@ -67,8 +67,8 @@ impl Server {
     #[tactic(auto, using(crate::proofs::Commands::obeyed_row))]
     pub(crate) fn did_change(&mut self, params: Option<ChangeParams>) -> Result<Answer, AllocError>
         requires { self.old.phase ≢ Ended }
-        ensures { IsRowOf (step_on self.old (did_change (option_map change_view params))) result
-            self.old self.new }
+        ensures { IsQuietStepOf (step_on self.old (did_change (option_map change_view params)))
+            result self.old self.new }
     {
         match self.admit(params) {
             Ok(params) => self.change(&params),
@@ -111,7 +111,7 @@ impl Server {
     }
 
     /// Resolves a change as [`plan_change`](Server::plan_change) does, for a caller that knows that
-    /// the session is running. Fails only if it is out of memory, and costs the same.
+    /// the session is running. Fails only where memory runs out, and costs the same.
     pub fn plan<'a>(&self, params: &'a ChangeParams) -> Result<PlannedChange<'a>, AllocError>
         requires { self.now.phase ≡ Running }
         ensures planned { IfOk result (IsPlannedAs self.now (change_view params.now)) }
@@ -130,7 +130,7 @@ impl Server {
     /// Makes a change that was planned ([`plan_change`](Server::plan_change)) on the server as it
     /// is, and answers it: [`Answer::Changed`].
     ///
-    /// Fails only if it is out of memory, and then changes nothing; the change has to be planned
+    /// Fails only where memory runs out, and then changes nothing; the change has to be planned
     /// again. Costs what [`Store::apply`](lsp_store::Store::apply) costs.
     pub fn commit_change(&mut self, plan: Plan<'_>) -> Result<Answer, AllocError>
         requires { IsCommittable self.old plan }
@@ -160,7 +160,7 @@ impl Server {
     #[tactic(auto, using(crate::proofs::Commands::obeyed_row))]
     pub(crate) fn did_close(&mut self, params: Option<CloseParams>) -> Result<Answer, AllocError>
         requires { self.old.phase ≢ Ended }
-        ensures { IsRowOf (step_on self.old (did_close (option_map close_view params))) result
+        ensures { IsQuietStepOf (step_on self.old (did_close (option_map close_view params))) result
             self.old self.new }
     {
         match self.admit(params) {

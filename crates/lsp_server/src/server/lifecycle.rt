@@ -14,7 +14,7 @@ impl Server {
     ghost use Rattle.lsp_server.specs.Answer.{as_sent};
     ghost use Rattle.lsp_server.specs.Seen.{answer_view};
     ghost use Rattle.lsp_server.specs.Step.{error_step, begin_step, step_on};
-    ghost use Rattle.lsp_server.specs.Calls.{IsStepOf, IsRowOf};
+    ghost use Rattle.lsp_server.specs.Calls.{IsStepOf, IsQuietStepOf};
 
     /// Returns an error response, and changes nothing.
     pub(crate) fn fail(&self, id: Option<Id>, error: ErrorCode) -> Result<Answer, AllocError>
@@ -34,7 +34,7 @@ impl Server {
         offers: Option<Offers>,
     ) -> Result<Answer, AllocError>
         requires { self.old.phase ≢ Ended }
-        ensures { IsRowOf (step_on self.old (initialize (id_view id) offers)) result
+        ensures { IsQuietStepOf (step_on self.old (initialize (id_view id) offers)) result
             self.old self.new }
     {
         match self.phase {
@@ -63,7 +63,8 @@ impl Server {
 
     pub(crate) fn shutdown(&mut self, id: Id) -> Result<Answer, AllocError>
         requires { self.old.phase ≢ Ended }
-        ensures { IsRowOf (step_on self.old (shutdown (id_view id))) result self.old self.new }
+        ensures { IsQuietStepOf (step_on self.old (shutdown (id_view id))) result
+            self.old self.new }
     {
         match self.phase {
             Phase::New => self.fail(Some(id), ErrorCode::ServerNotInitialized),
@@ -79,7 +80,7 @@ impl Server {
     pub(crate) fn other_request(&self, id: Id) -> Result<Answer, AllocError>
         requires { self.now.phase ≢ Ended }
         ensures { (method : List ℕ) →
-            IsRowOf (step_on self.now (other_request (id_view id) method)) result
+            IsQuietStepOf (step_on self.now (other_request (id_view id) method)) result
             self.now self.now }
     {
         let error = match self.phase {

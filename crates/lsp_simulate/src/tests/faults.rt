@@ -46,7 +46,7 @@ static FAULTS: &[(&[&str], &str, u8, &str, &str)] = &[
         "",
         2,
         "",
-        "lsp_simulate: one of the server's limits is below the client's\n",
+        "lsp_simulate: one of the server's limits is below the client's, or only the client is lenient\n",
     ),
 ];
 

@@ -20,8 +20,9 @@ use lsp_text::Encoding;
 use std::alloc::{AllocError, Global};
 use std::marker::Model;
 
-/// What [`crate::Squash`] is, for a caller who has the document that the batches lead to. It keeps
-/// the old text with its lines and what became of it, and no second copy of the text reached.
+/// Batches of changes on one document, one after another, as one batch, for a caller who has the
+/// document that they lead to. It keeps the old text with its lines and what became of it. Unlike
+/// [`crate::Squash`] it has no second copy of the text reached.
 #[derive(Debug, Drop)]
 pub struct Batches {
     uri: String,

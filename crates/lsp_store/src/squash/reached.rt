@@ -44,7 +44,7 @@ impl Stored {
             → IsLeftToMeaning limits.now (entry_under uri self.old) version
             (map edit_of changes.now) }
     {
-        self.may_change(limits, version, changes)?;
+        self.check_change(limits, version, changes)?;
         joined.change(encoding, &mut self.text, changes, limits.max_text())?;
         self.version = version;
         Ok(())

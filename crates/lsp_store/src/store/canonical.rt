@@ -26,7 +26,7 @@ use lsp_text::Encoding;
 use std::alloc::{AllocError, Global};
 
 /// Refuses a batch with more changes than the limit allows. Takes no memory.
-fn may_be_written(limits: &Limits, changes: &[Change]) -> Result<(), StoreFault>
+fn check_batch_length(limits: &Limits, changes: &[Change]) -> Result<(), StoreFault>
     ensures ok { OnOk result (length changes.now ≤ limits.now.max_changes) }
     ensures error { IfErr result (λ fault. (fault ≡ TooManyChanges)
         × (limits.now.max_changes < length changes.now)) }
@@ -65,8 +65,8 @@ fn change_frame(
     body_frame(alloc, limits, &body)
 }
 
-/// Returns the frame of the `textDocument/didChange` of a batch that may have too many changes.
-/// Out of memory only where it hasn't.
+/// Returns the frame of the `textDocument/didChange` of a batch. Refuses with
+/// [`StoreFault::TooManyChanges`] before it takes memory, then as [`change_frame`] does.
 pub fn batch_frame(
     alloc: Global,
     limits: &Limits,
@@ -85,7 +85,7 @@ pub fn batch_frame(
         body_refusal limits.now (change_body uri.now version (map edit_of changes.items)))) }
     ensures memory { result ≡ Err NoMemory → length changes.items ≤ limits.now.max_changes }
 {
-    may_be_written(limits, &changes)?;
+    check_batch_length(limits, &changes)?;
     change_frame(alloc, limits, uri, version, changes)
 }
 
@@ -128,7 +128,7 @@ fn keep_within(bytes: &mut Vec<u8>, start: usize, limits: &Limits) -> Result<(),
     Ok(())
 }
 
-/// Returns the frame of a body. Out of memory only where the body isn't too long.
+/// Returns the frame of a body. Refuses with [`StoreFault::BodyTooLong`] before it takes memory.
 fn body_frame(alloc: Global, limits: &Limits, body: &[u8]) -> Result<Vec<u8>, StoreFault>
     ensures framed { IfOk result (λ bytes. bytes.items ≡ frame body.now) }
     ensures within { OnOk result (body_refusal limits.now body.now ≡ None) }
@@ -202,8 +202,8 @@ impl Store {
         Ok(bytes)
     }
 
-    /// Appends the body of that message, so that a caller can put its header before it
-    /// ([`lsp_frame::put_header`]).
+    /// Appends the body of the message of [`Store::canonical_message`], so that a caller can put
+    /// its header before it ([`lsp_frame::put_header`]).
     ///
     /// Refuses as [`Store::canonical_message`] does, and then the bytes are unchanged. Costs the
     /// same, with no copy of the message.
@@ -268,8 +268,8 @@ impl Store {
         change_frame(alloc, &self.limits, uri, version, batch)
     }
 
-    /// Appends the body of that message, so that a caller can put its header before it
-    /// ([`lsp_frame::put_header`]).
+    /// Appends the body of the message of [`Store::planned_message`], so that a caller can put its
+    /// header before it ([`lsp_frame::put_header`]).
     ///
     /// Refuses as [`Store::planned_message`] does, and then the bytes are unchanged. Costs the
     /// same, with no copy of the message.
@@ -284,8 +284,8 @@ impl Store {
         push_body(bytes, &self.limits, uri, version, changes)
     }
 
-    /// Returns the text that a plan leaves, before it is applied. Fails only if it is out of
-    /// memory. Costs one copy of that text.
+    /// Returns the text that a plan leaves, before it is applied. Fails only where memory runs out.
+    /// Costs one copy of that text.
     pub fn planned_text(&self, plan: &Plan<'_>) -> Result<String, AllocError>
         requires on { IsPlanOn self.now plan.now }
         ensures { IfOk result (λ text. (on : IsPlanOn self.now plan.now)

@@ -8,10 +8,10 @@ ghost use Rattle.lsp_text.specs.Positions.{denoted, exact_position};
 ghost use Rattle.lsp_text.specs.Text.{place_of};
 ghost use Rattle.lsp_text.specs.TextLines.{line_ends};
 ghost use Rattle.lsp_text.specs.Units.{units_in};
+ghost use Rattle.lsp_buffer.specs.Contents.{IsContentOf};
 ghost use Rattle.lsp_edit.specs.Edited.{edit_of};
 ghost use Rattle.lsp_edit.specs.TextEdits.{IsBatchOfEdits, IsEditsFault};
 ghost use Rattle.lsp_store.specs.UnitsBefore.{HasUnitsBefore};
-ghost use Rattle.lsp_store.specs.LineContent.{IsContent, IsSlice};
 ghost use Rattle.lsp_store.specs.Opened.{entry_under};
 
 mod units;
@@ -90,8 +90,7 @@ impl<'a> Document<'a> {
     ///
     /// Returns `None` if the text has no such line. Costs two binary searches over the blocks.
     pub fn line(&self, line: u32) -> Option<Range<usize>>
-        ensures content { IfSome result (IsContent self.now.text line) }
-        ensures slice { IfSome result (IsSlice self.now.text) }
+        ensures content { IfSome result (IsContentOf self.now.text line) }
         ensures some { OnSome result (line ≤ line_ends (chars self.now.text)) }
         ensures none { IfNone result (line_ends (chars self.now.text) < line) }
     {

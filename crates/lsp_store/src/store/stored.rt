@@ -63,7 +63,7 @@ impl Stored {
 
     /// Checks a batch apart from its meaning: its version, and the limits on its changes. Takes no
     /// memory.
-    pub fn may_change(
+    pub fn check_change(
         &self,
         limits: &Limits,
         version: i32,
@@ -113,7 +113,7 @@ impl Stored {
             (map edit_of changes.now) }
     {
         let max_len = limits.max_text();
-        self.may_change(limits, version, changes)?;
+        self.check_change(limits, version, changes)?;
         // `?` isn't proved here.
         match self.text.delta(encoding, changes, max_len) {
             Ok(delta) => Ok(delta),
@@ -121,8 +121,8 @@ impl Stored {
         }
     }
 
-    /// Applies a delta that was made of the document's text, and sets its version. Out of memory
-    /// changes nothing.
+    /// Applies a delta that was made of the document's text, and sets its version. Fails only where
+    /// memory runs out, and then changes nothing.
     pub fn apply(&mut self, version: i32, delta: Delta<'_>) -> Result<(), AllocError>
         requires on { IsOn self.old.text delta }
         requires short { length (bytes_after self.old.text delta) ≤ 1073741824 }
@@ -135,7 +135,8 @@ impl Stored {
         Ok(())
     }
 
-    /// Returns the canonical batch of a batch on the document's text. Refuses as `plan` does.
+    /// Returns the canonical batch of a batch on the document's text. Refuses as [`Stored::plan`]
+    /// does.
     pub fn canonical(
         &self,
         limits: &Limits,
@@ -159,7 +160,7 @@ impl Stored {
             (map edit_of changes.now) }
     {
         let max_text = limits.max_text();
-        self.may_change(limits, version, changes)?;
+        self.check_change(limits, version, changes)?;
         Ok(self.text.canonical(encoding, changes, max_text)?)
     }
 }

@@ -3,7 +3,7 @@ use Rattle.std.proofs.lemmas.List.{append_assoc}
 use Rattle.lsp_pair.specs.Pair.{IsRun}
 use Rattle.lsp_pair.specs.laws.At.{IsAt}
 use Rattle.lsp_pair.specs.Seen.{event_view}
-use Rattle.lsp_pair.specs.Documents.{after, IsLater}
+use Rattle.lsp_pair.specs.Documents.{history_after, IsLater}
 use Rattle.lsp_pair.proofs.Histories.HistoryLemmas.{later-last, later_documents}
 use Rattle.lsp_pair.proofs.Steps.RunLemmas.{run-last, take_mapped}
 use Rattle.lsp_pair.proofs.run.run_pair.Goals as goal
@@ -28,8 +28,8 @@ loop-event-preserved c =
           (c.loop-event.invariant.at setting before sound at));
       history = λ h is.
           let was = c.loop-event.invariant.history h is in (
-            after was.0 c.in-Ok.field-0 c.step.new.self.client.table,
-            subst (λ es. IsLater h c.args.pair.now es (after was.0 c.in-Ok.field-0 c.step.new.self.client.table)
+            history_after was.0 c.in-Ok.field-0 c.step.new.self.client.table,
+            subst (λ es. IsLater h c.args.pair.now es (history_after was.0 c.in-Ok.field-0 c.step.new.self.client.table)
                 c.step.new.self) (sym more)
                 (later-last h was.0 c.args.pair.now _ c.step.new.self (take i events) (event_view c.event-item.result)
                 c.in-Ok.field-0 was.1 c.in-Ok.ensures.step),

@@ -20,7 +20,7 @@ fn counted(encoding: Encoding, text: &str) -> usize
     count
 }
 
-/// Returns how many units the characters before a byte offset have.
+/// Returns how many units the characters before a byte offset have, by counting them.
 fn counted_to(encoding: Encoding, text: &TextBuffer, end: usize) -> usize
     requires utf8 { IsUtf8 text.now }
     requires at_end { IsCharBoundary text.now end }
@@ -36,7 +36,7 @@ fn counted_to(encoding: Encoding, text: &TextBuffer, end: usize) -> usize
     count
 }
 
-/// Returns the same. In UTF-8 the time is constant.
+/// Returns how many units the characters before a byte offset have. In UTF-8 the time is constant.
 fn units_to(encoding: Encoding, text: &TextBuffer, end: usize) -> usize
     requires utf8 { IsUtf8 text.now }
     requires at_end { IsCharBoundary text.now end }
@@ -78,8 +78,8 @@ fn passed_by(encoding: Encoding, text: &str, count: usize) -> (usize, usize)
     (offset, left)
 }
 
-/// Passes the characters of a text in blocks that have at most `count` units together. Returns the
-/// same.
+/// Passes the characters of a text in blocks that have at most `count` units together. Returns how
+/// many bytes they have, and how many units are left.
 fn passed_in(encoding: Encoding, text: &TextBuffer, count: usize) -> (usize, usize)
     ensures { IsPassed (units_in encoding) (chars text.now) count result.0 result.1 }
 {
@@ -99,7 +99,7 @@ fn passed_in(encoding: Encoding, text: &TextBuffer, count: usize) -> (usize, usi
     (offset, left)
 }
 
-/// Returns the byte offset that has so many units before it, or `None` if there is none.
+/// Returns the byte offset that has `count` units before it, or `None` if there is none.
 pub fn offset_after(encoding: Encoding, text: &TextBuffer, count: usize) -> Option<usize>
     ensures { (offset : ℕ) → (result ≡ Some offset)
         ↔ HasUnitsBefore (units_in encoding) (chars text.now) offset count }

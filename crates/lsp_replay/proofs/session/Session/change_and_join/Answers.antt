@@ -1,7 +1,7 @@
 use Rattle.std.proofs.Common.{◌≡◌, Some, ap, refl}
 use Rattle.lsp_message.specs.Seen.{change_view}
 use Rattle.lsp_server.specs.Incoming.{did_change}
-use Rattle.lsp_server.specs.Planned.{IsAnswered, IsPlanOfChange}
+use Rattle.lsp_server.specs.Planned.{IsNotObeyed, IsPlanOfChange}
 use Rattle.lsp_server.specs.Step.{step_on}
 use Rattle.lsp_replay.proofs.Records.TakenLemmas.{accepted_at, answered_at, answered_some}
 use Rattle.lsp_replay.proofs.session.Session.change_and_join.Goals as goal
@@ -25,7 +25,7 @@ returns-in_ok-commit-in-Accepted-clause-taken c =
 pub returns-in-Answered-clause-taken : goal.returns-in-Answered-clause-taken
 returns-in-Answered-clause-taken c =
     let server : c.self.inside.server ≡ c.args.self.now.server = ap (λ s. s.server) c.self.view_is in
-    let why : IsAnswered c.args.self.now.server
+    let why : IsNotObeyed c.args.self.now.server
     (step_on c.args.self.now.server (did_change (Some (change_view c.args.params.now)))) c.in-Answered.answer =
     answered_at c.self.inside.server c.args.self.now.server server (change_view c.args.params.now) c.in_ok-plan.field-0
     c.in_ok-plan.ensures.planned c.in-Answered.answer c.in-Answered.is in
@@ -34,7 +34,7 @@ returns-in-Answered-clause-taken c =
 pub returns-in-Answered-clause-writing : goal.returns-in-Answered-clause-writing
 returns-in-Answered-clause-writing c =
     let server : c.self.inside.server ≡ c.args.self.now.server = ap (λ s. s.server) c.self.view_is in
-    let why : IsAnswered c.args.self.now.server
+    let why : IsNotObeyed c.args.self.now.server
     (step_on c.args.self.now.server (did_change (Some (change_view c.args.params.now)))) c.in-Answered.answer =
     answered_at c.self.inside.server c.args.self.now.server server (change_view c.args.params.now) c.in_ok-plan.field-0
     c.in_ok-plan.ensures.planned c.in-Answered.answer c.in-Answered.is in (

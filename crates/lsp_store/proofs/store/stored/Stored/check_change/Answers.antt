@@ -3,8 +3,8 @@ use Rattle.std.proofs.lemmas.Int.{to_z-of_z}
 use Rattle.lsp_edit.specs.Edited.{edit_of}
 use Rattle.lsp_store.specs.Opened.{entry_under}
 use Rattle.lsp_store.proofs.Tables.RefusalLemmas.{stale_refused, many_refused, long_refused, fit_accepted}
-use Rattle.lsp_store.proofs.store.stored.Stored.may_change.Goals as goal
-use Rattle.lsp_store.proofs.store.stored.Stored.may_change.Goals.{then-changes-max_changes-via-then-changes-max_changes, then-changes-max_changes-via-else-changes-max_changes+then-not-fits}
+use Rattle.lsp_store.proofs.store.stored.Stored.check_change.Goals as goal
+use Rattle.lsp_store.proofs.store.stored.Stored.check_change.Goals.{then-changes-max_changes-via-then-changes-max_changes, then-changes-max_changes-via-else-changes-max_changes+then-not-fits}
 
 pub returns-then-is_stale-clause-error : goal.returns-then-is_stale-clause-error
 returns-then-is_stale-clause-error c units uri =
