@@ -118,7 +118,7 @@ fn error_of(code: Option<ErrorCode>) -> i32
     ensures { result ≡ error_number code }
 {
     match code {
-        Some(code) => code.code(),
+        Some(code) => code.number(),
         None => 0,
     }
 }

@@ -60,7 +60,7 @@ pub enum ErrorCode {
 
 impl ErrorCode {
     /// Returns the protocol's number.
-    pub fn code(self) -> i32
+    pub fn number(self) -> i32
         ensures { result ≡ code_of self }
     {
         match self {

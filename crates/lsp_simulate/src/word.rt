@@ -56,7 +56,7 @@ fn write_reply<W: Write>(output: &mut W, error: Option<ErrorCode>) -> io::Result
 {
     match error {
         None => write!(output, "server reply"),
-        Some(code) => write!(output, "server error {}", code.code()),
+        Some(code) => write!(output, "server error {}", code.number()),
     }
 }
 

@@ -209,7 +209,7 @@ fn error_value(writer: &mut Writer, error: ErrorCode) -> Result<(), AllocError>
     ensures { OnOk result (Appends writer.old writer.new (tokens_of (values.error_value error))) }
 {
     writer.begin_object()?;
-    integer_member(writer, "code", error.code())?;
+    integer_member(writer, "code", error.number())?;
     text_member(writer, "message", error.text())?;
     writer.end_object()
 }
