@@ -9,7 +9,7 @@ ghost use Rattle.lsp_edit.specs.Layers.{layer_parts};
 ghost use Rattle.lsp_edit.specs.inside.Layers.{IsLayer};
 ghost use Rattle.lsp_edit.specs.Edited.{edit_of};
 ghost use Rattle.lsp_edit.specs.Items.{Item};
-ghost use Rattle.lsp_edit.specs.Once.{IsOn, IsPut, bytes_after, delta_encoding, meant_by, put_items};
+ghost use Rattle.lsp_edit.specs.Delta.{IsOn, IsPut, bytes_after, delta_encoding, meant_by, put_items};
 
 use crate::change::Change;
 use crate::indexed::IndexedText;
@@ -139,10 +139,7 @@ impl<'a> Delta<'a> {
                 ..
             } => match text.layer(*encoding, changes, usize::MAX) {
                 Ok(layer) => Ok(layer),
-                // The batch has a result on this text, so no other fault comes.
-                Err(TextFault::NoMemory | TextFault::Edit(_) | TextFault::TooLong) => {
-                    Err(AllocError)
-                }
+                Err(fault) => Err(out_of_memory(fault)),
             },
         }
     }
@@ -166,11 +163,13 @@ impl<'a> Delta<'a> {
                 ..
             } => match text.canonical(*encoding, changes, usize::MAX) {
                 Ok(batch) => Ok(batch),
-                // As in `layer`.
-                Err(TextFault::NoMemory | TextFault::Edit(_) | TextFault::TooLong) => {
-                    Err(AllocError)
-                }
+                Err(fault) => Err(out_of_memory(fault)),
             },
         }
     }
+}
+
+/// Returns the fault of a batch that has a result on its text: no other fault comes.
+fn out_of_memory(_fault: TextFault) -> AllocError {
+    AllocError
 }

@@ -6,7 +6,7 @@ ghost use Rattle.lsp_text.specs.Units.{units_in};
 ghost use Rattle.lsp_text.specs.declared.position.Range.{Range};
 ghost use Rattle.lsp_edit.specs.declared.indexed.fault.TextFault.TheVariants.{NoMemory};
 ghost use Rattle.lsp_edit.specs.Batch.{meaning};
-ghost use Rattle.lsp_edit.specs.Once.{IsDeltaOf, IsOn, bytes_after};
+ghost use Rattle.lsp_edit.specs.Delta.{IsDeltaOf, IsOn, bytes_after};
 ghost use Rattle.lsp_edit.specs.Edited.{edit_of};
 ghost use Rattle.lsp_edit.specs.Indexed.{IsTextFaultOf, alone, text_within};
 

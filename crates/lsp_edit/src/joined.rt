@@ -10,7 +10,7 @@ ghost use Rattle.lsp_edit.specs.Edited.{edit_of};
 ghost use Rattle.lsp_edit.specs.Indexed.{IsTextFaultOf, text_within};
 ghost use Rattle.lsp_edit.specs.Items.{plain};
 ghost use Rattle.lsp_edit.specs.Joined.{IsJoined, IsReached};
-ghost use Rattle.lsp_edit.specs.Once.{IsOn, meant_by};
+ghost use Rattle.lsp_edit.specs.Delta.{IsOn, meant_by};
 ghost use Rattle.lsp_edit.specs.inside.Joined.{IsWhole};
 
 pub(crate) mod layer;

@@ -43,22 +43,20 @@ code_of InvalidParams = negsuc 32601
 code_of ServerNotInitialized = negsuc 32001
 
 -- The `message` of an error response.
-abbrev pub error_text_of : ErrorCode → List ℕ
-error_text_of ParseError = codes "parse error"
-error_text_of InvalidRequest = codes "invalid request"
-error_text_of MethodNotFound = codes "method not found"
-error_text_of InvalidParams = codes "invalid params"
-error_text_of ServerNotInitialized = codes "server not initialized"
+abbrev pub error_message : ErrorCode → List ℕ
+error_message ParseError = codes "parse error"
+error_message InvalidRequest = codes "invalid request"
+error_message MethodNotFound = codes "method not found"
+error_message InvalidParams = codes "invalid params"
+error_message ServerNotInitialized = codes "server not initialized"
 
 -- ---- parts of a body; `quoted` is a string of JSON
 
 -- The member `error` of an error response.
 abbrev pub error_text : ErrorCode → List ℕ
-error_text ParseError = codes "{\"code\":-32700,\"message\":\"parse error\"}"
-error_text InvalidRequest = codes "{\"code\":-32600,\"message\":\"invalid request\"}"
-error_text MethodNotFound = codes "{\"code\":-32601,\"message\":\"method not found\"}"
-error_text InvalidParams = codes "{\"code\":-32602,\"message\":\"invalid params\"}"
-error_text ServerNotInitialized = codes "{\"code\":-32002,\"message\":\"server not initialized\"}"
+error_text error =
+    codes "{\"code\":" ++ signed_decimal (code_of error) ++ codes ",\"message\":"
+    ++ quoted (error_message error) ++ codes "}"
 
 -- An id, or null.
 abbrev pub id_text : Option IdData → List ℕ
@@ -108,7 +106,7 @@ edit_text e = codes "{" ++ range_if_any e.range ++ codes "\"text\":" ++ quoted e
 
 -- ---- bodies
 
--- A notification with this method and these params.
+-- A notification with this method, whose characters need no escape, and these params.
 abbrev pub notification_text : List ℕ → List ℕ → List ℕ
 notification_text method params =
     codes "{\"jsonrpc\":\"2.0\",\"method\":\"" ++ method ++ codes "\",\"params\":" ++ params
