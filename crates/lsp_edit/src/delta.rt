@@ -139,7 +139,10 @@ impl<'a> Delta<'a> {
                 ..
             } => match text.layer(*encoding, changes, usize::MAX) {
                 Ok(layer) => Ok(layer),
-                Err(fault) => Err(out_of_memory(fault)),
+                // The batch has a result on this text, so no other fault comes.
+                Err(TextFault::NoMemory | TextFault::Edit(_) | TextFault::TooLong) => {
+                    Err(AllocError)
+                }
             },
         }
     }
@@ -163,13 +166,11 @@ impl<'a> Delta<'a> {
                 ..
             } => match text.canonical(*encoding, changes, usize::MAX) {
                 Ok(batch) => Ok(batch),
-                Err(fault) => Err(out_of_memory(fault)),
+                // As in `layer`.
+                Err(TextFault::NoMemory | TextFault::Edit(_) | TextFault::TooLong) => {
+                    Err(AllocError)
+                }
             },
         }
     }
-}
-
-/// Returns the fault of a batch that has a result on its text: no other fault comes.
-fn out_of_memory(_fault: TextFault) -> AllocError {
-    AllocError
 }

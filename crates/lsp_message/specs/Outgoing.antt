@@ -54,9 +54,11 @@ error_message ServerNotInitialized = codes "server not initialized"
 
 -- The member `error` of an error response.
 abbrev pub error_text : ErrorCode → List ℕ
-error_text error =
-    codes "{\"code\":" ++ signed_decimal (code_of error) ++ codes ",\"message\":"
-    ++ quoted (error_message error) ++ codes "}"
+error_text ParseError = codes "{\"code\":-32700,\"message\":\"parse error\"}"
+error_text InvalidRequest = codes "{\"code\":-32600,\"message\":\"invalid request\"}"
+error_text MethodNotFound = codes "{\"code\":-32601,\"message\":\"method not found\"}"
+error_text InvalidParams = codes "{\"code\":-32602,\"message\":\"invalid params\"}"
+error_text ServerNotInitialized = codes "{\"code\":-32002,\"message\":\"server not initialized\"}"
 
 -- An id, or null.
 abbrev pub id_text : Option IdData → List ℕ
