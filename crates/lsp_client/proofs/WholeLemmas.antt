@@ -7,7 +7,7 @@ use Rattle.lsp_edit.specs.declared.change.Change.{Change}
 use Rattle.lsp_text.specs.declared.encoding.Encoding.{Encoding}
 use Rattle.lsp_text.specs.Units.{units_in}
 use Rattle.lsp_edit.specs.Batch.{Edit}
-use Rattle.lsp_edit.specs.Once.{bytes_after}
+use Rattle.lsp_edit.specs.Delta.{bytes_after}
 use Rattle.lsp_message.specs.Outgoing.{did_change, body_of}
 use Rattle.lsp_message.specs.Seen.{edit_view}
 use Rattle.lsp_store.specs.declared.store.plan.Plan.{Plan}

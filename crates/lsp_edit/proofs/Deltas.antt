@@ -1,5 +1,5 @@
 -- Batches that were resolved once, and the text that they change.
-pub mod OnceLemmas
+pub mod DeltaLemmas
 pub mod SeriesLemmas
 pub mod IndexedLemmas
 pub mod InPlaceLemmas

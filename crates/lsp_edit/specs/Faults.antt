@@ -1,5 +1,5 @@
 -- How the calls of this crate report a fault.
-use Rattle.std.specs.Prelude.{ℕ, ◌≡◌, ◌⊎◌, if◌then◌else◌, nat_le, List, Option, Some, None, Result, Ok, Err}
+use Rattle.std.specs.Prelude.{ℕ, ◌≡◌, ◌⊎◌, if◌then◌else◌, nat_le, List, Option, Some, None, Result, Ok, Err, codes}
 use Rattle.lsp_text.specs.declared.position.Range.{Range}
 use Rattle.lsp_text.specs.Text.{place_of}
 use Rattle.lsp_text.specs.Positions.{denoted}
@@ -14,6 +14,12 @@ abbrev pub fault_at : ℕ → Fault → EditFault
 fault_at number InsideStart = InsideCharacter number Start
 fault_at number InsideStop = InsideCharacter number Stop
 fault_at number Reversed = ReversedRange number
+
+-- The code of a fault, as docs/PROTOCOL.md lists them; none for out of memory.
+abbrev pub edit_code : EditFault → Option (List ℕ)
+edit_code (InsideCharacter change side) = Some (codes "E1")
+edit_code (ReversedRange change) = Some (codes "E2")
+edit_code NoMemory = None
 
 -- The fault is out of memory, or why the change of this number has no result.
 abbrev pub IsFaultOfChange : ℕ → Result (List Item) Fault → EditFault → Type 0

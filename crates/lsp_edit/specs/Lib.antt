@@ -10,7 +10,7 @@ pub mod Edited
 pub mod Indexed
 pub mod TextEdits
 pub mod Joined
-pub mod Once
+pub mod Delta
 pub mod Plain
 pub mod inside
 pub mod laws

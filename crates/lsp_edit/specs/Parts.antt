@@ -85,7 +85,8 @@ abbrev pub NoneTouch : List Part → Type 0
 NoneTouch [] = Unit {0}
 NoneTouch (part ∷ parts) = IsApart part parts × NoneTouch parts
 
--- The parts of the old text come in order: none begins before `low`, nor before another ends.
+-- The parts of the old text come in order: each begins at `low` or after it, and where the old part
+-- before it ends or after it. New parts between them are passed over.
 abbrev pub Ascend : ℕ → List Part → Type 0
 Ascend low [] = Unit {0}
 Ascend low (OldPart from to ∷ parts) = (low ≤ from) × (from ≤ to) × Ascend to parts

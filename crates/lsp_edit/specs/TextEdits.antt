@@ -1,5 +1,6 @@
--- What a list of text edits means (LSP 3.17, TextEdit[]). All ranges count in the old text, and
--- insertions at one index come in the order of the list.
+-- What a list of text edits means (LSP 3.17, TextEdit[]): all ranges count in the old text and never
+-- overlap. Several edits may start at one index: any number of insertions, in the order of the list,
+-- and after them at most one that removes or replaces.
 use Rattle.std.specs.Prelude.{ℕ, suc, ◌≡◌, ◌⊎◌, ◌<◌, ◌≤◌, Bool, ◌&&◌, if◌then◌else◌, nat_le, nat_lt, ◌==◌, List, [], ◌∷◌, ◌++◌, length, map, filter, flat_map, Contains, string_bytes, Result, Ok, Err}
 use Rattle.std.specs.List.{list_any}
 use Rattle.std.specs.Str.{chars}
@@ -75,7 +76,7 @@ NoneOverlap edits = (first second : LocatedEdit) → Contains edits first → Co
     → ComesBefore first second → first.stop ≤ second.start
 
 -- `answered` is the canonical batch of what the edits leave, and as a batch it means the same. Each
--- range of the edits has two ends, and none overlap.
+-- range's ends denote, and are in order; none overlap.
 pub record IsBatchOfEdits (units : ℕ → ℕ) (before : List ℕ) (edits : List TextEdit)
     (answered : List Edit) : Type 0 where
   pub all : List LocatedEdit
@@ -93,11 +94,11 @@ fault_of (edit.ReversedRange number) = ReversedRange number
 fault_of edit.NoMemory = NoMemory
 
 -- The first edit whose range has a fault, with its number, and why.
-pub record LiesNowhere (units : ℕ → ℕ) (old : List ℕ) (edits : List TextEdit)
+pub record HasRangeFault (units : ℕ → ℕ) (old : List ℕ) (edits : List TextEdit)
     (fault : TextEditFault) : Type 0 where
   pub number : ℕ
   pub why : Fault
-  pub lies : located units old 0 edits ≡ Err (number, why)
+  pub at : located units old 0 edits ≡ Err (number, why)
   pub error : fault ≡ fault_of (fault_at number why)
 
 -- Two edits overlap: the second comes after the first, with no edit between them, and starts before
@@ -116,7 +117,7 @@ pub record EditsOverlap (units : ℕ → ℕ) (old : List ℕ) (edits : List Tex
   pub over : second.start < first.stop
   pub error : fault ≡ Overlap first.number second.number
 
--- Why edits have no meaning.
+-- Out of memory, or why edits have no meaning: a range is faulty, or two edits overlap.
 abbrev pub IsEditsFault : (ℕ → ℕ) → List ℕ → List TextEdit → TextEditFault → Type 0
 IsEditsFault units old edits fault =
-    (fault ≡ NoMemory) ⊎ LiesNowhere units old edits fault ⊎ EditsOverlap units old edits fault
+    (fault ≡ NoMemory) ⊎ HasRangeFault units old edits fault ⊎ EditsOverlap units old edits fault

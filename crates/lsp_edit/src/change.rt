@@ -9,7 +9,9 @@ pub const MAX_NEW_TEXT: usize = 1_073_741_824;
 /// the whole text if there is no range.
 #[derive(Debug, PartialEq, Eq, Drop)]
 pub struct Change {
+    /// The range that is replaced; `None` for the whole text.
     pub range: Option<Range>,
+    /// The text that replaces it.
     pub text: String,
 }
 

@@ -88,7 +88,7 @@ pub fn compose<'a>(
     compose_old(alloc, before, encoding, changes)
 }
 
-/// Does the same over a text whose lines the caller has.
+/// Applies the changes of a batch to a text whose lines the caller has, as [`compose`] does.
 pub fn compose_over<'a>(
     alloc: Global,
     before: &'a str,
@@ -109,7 +109,7 @@ pub fn compose_over<'a>(
     compose_old(alloc, before, encoding, changes)
 }
 
-/// Does the same over a text in blocks.
+/// Applies the changes of a batch to a text in blocks, as [`compose`] does.
 pub fn compose_buffer<'a>(
     alloc: Global,
     before: &'a TextBuffer,
@@ -128,7 +128,7 @@ pub fn compose_buffer<'a>(
     compose_old(alloc, before, encoding, changes)
 }
 
-/// Does the same over an old text in any form.
+/// Applies the changes of a batch to an old text in any form, as [`compose`] does.
 pub(crate) fn compose_old<'a>(
     alloc: Global,
     before: OldText<'a>,

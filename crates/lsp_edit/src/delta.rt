@@ -9,7 +9,7 @@ ghost use Rattle.lsp_edit.specs.Layers.{layer_parts};
 ghost use Rattle.lsp_edit.specs.inside.Layers.{IsLayer};
 ghost use Rattle.lsp_edit.specs.Edited.{edit_of};
 ghost use Rattle.lsp_edit.specs.Items.{Item};
-ghost use Rattle.lsp_edit.specs.Once.{IsOn, IsPut, bytes_after, delta_encoding, meant_by, put_items};
+ghost use Rattle.lsp_edit.specs.Delta.{IsOn, IsPut, bytes_after, delta_encoding, meant_by, put_items};
 
 use crate::change::Change;
 use crate::indexed::IndexedText;
@@ -21,30 +21,36 @@ use lsp_text::Encoding;
 use std::alloc::{AllocError, Global};
 
 /// A batch of changes, resolved on a text ([`IndexedText::delta`]). It borrows the changes.
-#[derive(Drop)]
+#[derive(Debug, Drop)]
 pub enum Delta<'a> {
     /// A range is replaced.
     Put(Put<'a>),
     /// The batch leaves a new text, with its lines.
     Left {
+        /// The positions of the changes are in its units.
         encoding: Encoding,
+        /// The changes of the batch.
         changes: &'a [Change],
+        /// The text after all of them.
         left: IndexedText,
     },
 }
 
-/// The bytes from `start` to `stop` are replaced by `new`. The positions of the change that this
-/// was are in the units of `encoding`.
-#[derive(Clone, Copy)]
+/// A replaced range of bytes: one change, resolved.
+#[derive(Clone, Copy, Debug)]
 pub struct Put<'a> {
+    /// The positions of the change are in its units.
     pub encoding: Encoding,
+    /// The byte offset at which the range starts.
     pub start: usize,
+    /// The byte offset after the range.
     pub stop: usize,
+    /// The text that replaces the range.
     pub new: &'a str,
 }
 
 impl<'a> Put<'a> {
-    /// Returns how many bytes it leaves of a text.
+    /// Returns how many bytes the replacement leaves of a text.
     fn len_on(&self, text: &IndexedText) -> usize
         requires put { IsPut (units_in self.now.encoding) text.now self.now.start self.now.stop
             self.now.new.now }
@@ -54,7 +60,7 @@ impl<'a> Put<'a> {
         text.len() - (self.stop - self.start) + self.new.len()
     }
 
-    /// Returns the text that it leaves of a text.
+    /// Returns the text that the replacement leaves of a text.
     fn text(&self, alloc: Global, text: &IndexedText) -> Result<String, AllocError>
         requires put { IsPut (units_in self.now.encoding) text.now self.now.start self.now.stop
             self.now.new.now }
@@ -65,7 +71,7 @@ impl<'a> Put<'a> {
         before.replaced(alloc, self.start, self.stop, self.new)
     }
 
-    /// Returns it as spans that own their texts.
+    /// Returns the replacement as spans that own their texts.
     fn layer(&self, alloc: Global, text: &IndexedText) -> Result<Layer, AllocError>
         requires put { IsPut (units_in self.now.encoding) text.now self.now.start self.now.stop
             self.now.new.now }
@@ -78,7 +84,7 @@ impl<'a> Put<'a> {
         Layer::of_spans(alloc, 0, spans.as_slice())
     }
 
-    /// Returns its canonical batch.
+    /// Returns the canonical batch of the replacement.
     fn canonical(&self, alloc: Global, text: &IndexedText) -> Result<Vec<Change>, AllocError>
         requires put { IsPut (units_in self.now.encoding) text.now self.now.start self.now.stop
             self.now.new.now }
@@ -94,7 +100,7 @@ impl<'a> Put<'a> {
 }
 
 impl<'a> Delta<'a> {
-    /// Returns how many bytes it leaves of the text that it was made of.
+    /// Returns how many bytes the delta leaves of the text that it was made of.
     pub fn len_on(&self, text: &IndexedText) -> usize
         requires on { IsOn text.now self.now }
         ensures { result ≡ length (bytes_after text.now self.now) }
@@ -105,9 +111,9 @@ impl<'a> Delta<'a> {
         }
     }
 
-    /// Returns the text that it leaves of the text that it was made of.
+    /// Returns the text that the delta leaves of the text that it was made of.
     ///
-    /// Fails only if it is out of memory. Costs one copy of the text that is left.
+    /// Fails only where memory runs out. Costs one copy of the text that is left.
     pub fn text(&self, alloc: Global, text: &IndexedText) -> Result<String, AllocError>
         requires on { IsOn text.now self.now }
         ensures { IfOk result (λ left. string_bytes left ≡ bytes_after text.now self.now) }
@@ -118,8 +124,8 @@ impl<'a> Delta<'a> {
         }
     }
 
-    /// Returns it in spans that own their texts. Fails only if it is out of memory. A range costs
-    /// three spans, and a copy of its new text. Any other batch is composed.
+    /// Returns the delta in spans that own their texts. Fails only where memory runs out. A range
+    /// costs three spans, and a copy of its new text. Any other batch is composed.
     pub(crate) fn layer(&self, alloc: Global, text: &IndexedText) -> Result<Layer, AllocError>
         requires on { IsOn text.now self.now }
         ensures { IfOk result (λ layer. IsLayer (meant_by text.now self.now) text.now
@@ -144,7 +150,7 @@ impl<'a> Delta<'a> {
     /// Returns the canonical batch, over the text that the delta was made of. It has one change for
     /// each changed gap between kept characters, from the last gap to the first.
     ///
-    /// Fails only if it is out of memory. A range costs one exact position for each of its ends,
+    /// Fails only where memory runs out. A range costs one exact position for each of its ends,
     /// and a copy of its new text. Any other batch is composed.
     pub fn canonical(&self, alloc: Global, text: &IndexedText) -> Result<Vec<Change>, AllocError>
         requires on { IsOn text.now self.now }

@@ -29,15 +29,31 @@ impl fmt::Display for Side {
 /// stop, then by their order.
 #[derive(Clone, Copy, Debug, PartialEq, Eq, Error)]
 pub enum EditFault {
-    /// An end of the change's range lies inside a character.
+    /// E1: an end of the change's range lies inside a character.
     #[error("change at index {change}: the {side} of its range lies inside a character")]
     InsideCharacter { change: usize, side: Side },
-    /// The change's range starts after its end.
+    /// E2: the change's range starts after its end.
     #[error("change at index {change}: the range is reversed")]
     ReversedRange { change: usize },
     /// Out of memory.
     #[error("out of memory")]
     NoMemory,
+}
+
+impl EditFault {
+    ghost use Rattle.std.specs.Prelude.{option_map};
+    ghost use Rattle.lsp_edit.specs.Faults.{edit_code};
+
+    /// Returns the code that users see: E1 or E2; `None` where memory ran out.
+    pub fn code(self) -> Option<&'static str>
+        ensures { option_map (λ code. code.now) result ≡ edit_code self }
+    {
+        match self {
+            EditFault::InsideCharacter { .. } => Some("E1"),
+            EditFault::ReversedRange { .. } => Some("E2"),
+            EditFault::NoMemory => None,
+        }
+    }
 }
 
 impl From<AllocError> for EditFault {

@@ -6,7 +6,7 @@ ghost use Rattle.lsp_text.specs.Units.{units_in};
 ghost use Rattle.lsp_text.specs.declared.position.Range.{Range};
 ghost use Rattle.lsp_edit.specs.declared.indexed.fault.TextFault.TheVariants.{NoMemory};
 ghost use Rattle.lsp_edit.specs.Batch.{meaning};
-ghost use Rattle.lsp_edit.specs.Once.{IsDeltaOf, IsOn, bytes_after};
+ghost use Rattle.lsp_edit.specs.Delta.{IsDeltaOf, IsOn, bytes_after};
 ghost use Rattle.lsp_edit.specs.Edited.{edit_of};
 ghost use Rattle.lsp_edit.specs.Indexed.{IsTextFaultOf, alone, text_within};
 
@@ -42,7 +42,7 @@ impl Model for IndexedText {
 }
 
 impl IndexedText {
-    /// Finds the lines of a text, which is moved in. Fails only if it is out of memory. Costs a
+    /// Finds the lines of a text, which is moved in. Fails only where memory runs out. Costs a
     /// search through the text. It stays one block until its first change.
     pub fn new(alloc: Global, text: String) -> Result<Self, AllocError>
         requires { string_len text ≤ MAX_TEXT }
@@ -74,7 +74,7 @@ impl IndexedText {
         self.len() == 0
     }
 
-    /// Returns what the text takes its memory of.
+    /// Returns the text's allocator.
     fn allocator(&self) -> &Global {
         self.text.allocator()
     }
@@ -86,7 +86,7 @@ impl IndexedText {
         OldText::in_blocks(&self.text)
     }
 
-    /// Returns a copy, which shares its blocks with this text. Fails only if it is out of memory.
+    /// Returns a copy, which shares its blocks with this text. Fails only where memory runs out.
     /// Costs a step for each block: a block is copied once one of both changes it.
     pub fn clone_in(&self, alloc: Global) -> Result<Self, AllocError>
         ensures copy { IfOk result (λ copy. copy ≡ self.now) }
@@ -194,7 +194,7 @@ impl IndexedText {
     /// Resolves a batch on the text (LSP 3.17, DidChangeTextDocumentParams), if the result has at
     /// most `max_len` bytes. The delta borrows the changes, and nothing of the text.
     ///
-    /// It has the errors of [`IndexedText::change`], and changes nothing. One change with a range
+    /// Has the errors of [`IndexedText::change`], and changes nothing. One change with a range
     /// costs its two positions, and takes no memory. Any other batch costs what it costs to apply.
     pub fn delta<'a>(
         &self,
@@ -217,7 +217,7 @@ impl IndexedText {
         }
     }
 
-    /// Applies a delta that was made of this text. Fails only if it is out of memory, and then
+    /// Applies a delta that was made of this text. Fails only where memory runs out, and then
     /// changes nothing.
     ///
     /// A range costs its block, and an addition for each later block; the first one of a text that

@@ -10,7 +10,7 @@ ghost use Rattle.lsp_edit.specs.Edited.{edit_of};
 ghost use Rattle.lsp_edit.specs.Indexed.{IsTextFaultOf, text_within};
 ghost use Rattle.lsp_edit.specs.Items.{plain};
 ghost use Rattle.lsp_edit.specs.Joined.{IsJoined, IsReached};
-ghost use Rattle.lsp_edit.specs.Once.{IsOn, meant_by};
+ghost use Rattle.lsp_edit.specs.Delta.{IsOn, meant_by};
 ghost use Rattle.lsp_edit.specs.inside.Joined.{IsWhole};
 
 pub(crate) mod layer;
@@ -64,7 +64,7 @@ impl Model for Joined {
 }
 
 impl Joined {
-    /// Makes a text before any batch; the text is moved in. Fails only if it is out of memory.
+    /// Makes a text before any batch; the text is moved in. Fails only where memory runs out.
     /// Costs a search through the text for its lines.
     pub fn new(alloc: Global, text: String) -> Result<Self, AllocError>
         requires { string_len text ≤ MAX_TEXT }
@@ -79,7 +79,7 @@ impl Joined {
         Ok(Self::begin(alloc, before))
     }
 
-    /// Makes a text before any batch, as a copy of this one. Fails only if it is out of memory.
+    /// Makes a text before any batch, as a copy of this one. Fails only where memory runs out.
     /// Costs what [`IndexedText::clone_in`] costs.
     pub fn over(alloc: Global, text: &IndexedText) -> Result<Self, AllocError>
         ensures joined { IfOk result (λ joined.
@@ -162,7 +162,7 @@ impl Joined {
     /// Adds a batch on `reached`, the text after the batches before it, if the result has at most
     /// `max_len` bytes.
     ///
-    /// It has the errors of [`IndexedText::change`], and then nothing changes. Costs what the
+    /// Has the errors of [`IndexedText::change`], and then nothing changes. Costs what the
     /// changes cost to apply, and now and then a walk over the spans of earlier batches. k changes,
     /// in as many batches, cost some k log k steps on spans.
     pub fn add(
@@ -190,7 +190,7 @@ impl Joined {
 
     /// Adds a batch that was resolved on `reached`, the text after the batches before it.
     ///
-    /// Fails only if it is out of memory, and then nothing changes. A range costs three spans and a
+    /// Fails only where memory runs out, and then nothing changes. A range costs three spans and a
     /// copy of its new text, any other batch is composed. Now and then there is a walk over the
     /// spans of earlier batches.
     pub fn add_delta(&mut self, reached: &IndexedText, delta: &Delta<'_>) -> Result<(), AllocError>
@@ -246,7 +246,7 @@ impl Joined {
     /// Returns the canonical batch of all batches. It has one change for each changed gap between
     /// kept characters of the text before them, from the last gap to the first.
     ///
-    /// Fails only if it is out of memory. Costs a walk over the spans for some log k layers of k
+    /// Fails only where memory runs out. Costs a walk over the spans for some log k layers of k
     /// batches, and one exact position for each end of a changed gap.
     pub fn canonical(&self, encoding: Encoding) -> Result<Vec<Change>, AllocError>
         ensures { IfOk result (λ changes. map edit_of changes.items

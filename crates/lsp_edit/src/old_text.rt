@@ -23,7 +23,7 @@ use std::marker::Model;
 
 /// The text before any change, which is borrowed: one string with its lines, or a text in blocks.
 /// Clauses see its bytes.
-#[derive(Drop)]
+#[derive(Debug, Drop)]
 pub struct OldText<'a> {
     form: Form<'a>,
 }
@@ -38,7 +38,7 @@ impl<'a> Model for OldText<'a> {
 }
 
 impl<'a> OldText<'a> {
-    /// Takes one string and finds its lines. Fails only if it is out of memory. Costs a search
+    /// Takes one string and finds its lines. Fails only where memory runs out. Costs a search
     /// through the text.
     pub fn new(alloc: Global, text: &'a str) -> Result<Self, AllocError>
         requires { length text.now ≤ 2147483648 }
@@ -68,7 +68,7 @@ impl<'a> OldText<'a> {
         }
     }
 
-    /// Returns the same text with its lines borrowed from this one.
+    /// Returns a text like this one, whose lines are borrowed from it.
     pub fn borrowed(&self) -> OldText<'_>
         ensures { result ≡ self.now }
     {
@@ -116,8 +116,8 @@ impl<'a> OldText<'a> {
         }
     }
 
-    /// Returns a copy in blocks, which shares those of a text in blocks. Fails only if it is out of
-    /// memory. Costs what [`TextBuffer::clone_in`] costs; one string is copied.
+    /// Returns a copy in blocks, which shares those of a text in blocks. Fails only where memory
+    /// runs out. Costs what [`TextBuffer::clone_in`] costs; one string is copied.
     pub fn to_buffer(&self, alloc: Global) -> Result<TextBuffer, AllocError>
         ensures { IfOk result (λ buffer. buffer ≡ self.now) }
     {
@@ -127,8 +127,8 @@ impl<'a> OldText<'a> {
         }
     }
 
-    /// Returns the text with the bytes from `start` to `end` replaced. Fails only if it is out of
-    /// memory. Costs one copy of the result.
+    /// Returns the text with the bytes from `start` to `end` replaced. Fails only where memory runs
+    /// out. Costs one copy of the result.
     pub fn replaced(
         &self,
         alloc: Global,
@@ -150,7 +150,7 @@ impl<'a> OldText<'a> {
         Ok(text)
     }
 
-    /// Appends the bytes from `start` to `end` to a string. Fails only if it is out of memory.
+    /// Appends the bytes from `start` to `end` to a string. Fails only where memory runs out.
     pub fn push_range(&self, out: &mut String, start: usize, end: usize) -> Result<(), AllocError>
         requires order { start ≤ end }
         requires at_start { IsCharBoundary self.now start }

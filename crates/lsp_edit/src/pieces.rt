@@ -40,7 +40,7 @@ pub const MAX_TEXT: usize = 2_147_483_648;
 
 /// A text under changes, one after another. It borrows the old text and the texts of the changes,
 /// and describes the result by spans of both, without a copy.
-#[derive(Drop)]
+#[derive(Debug, Drop)]
 pub struct Pieces<'a> {
     alloc: Global,
     // The text before any change.
@@ -100,9 +100,9 @@ impl<'a> Pieces<'a> {
         }
     }
 
-    /// Makes the same, ready for several changes: with a current text that shares the blocks of a
-    /// text in blocks. Fails only if it is out of memory. Costs what [`TextBuffer::clone_in`]
-    /// costs; a text in one string is copied.
+    /// Makes pieces of a text before any change, ready for several changes: with a current text
+    /// that shares the blocks of a text in blocks. Fails only where memory runs out. Costs what
+    /// [`TextBuffer::clone_in`] costs; a text in one string is copied.
     pub(crate) fn begin_several(alloc: Global, before: OldText<'a>) -> Result<Self, AllocError>
         ensures begun { IfOk result (λ pieces. pieces.edited ≡ record {
           before = chars before.entry;
@@ -124,7 +124,7 @@ impl<'a> Pieces<'a> {
         })
     }
 
-    /// Makes pieces of a text before any change. Fails only if it is out of memory. Costs a search
+    /// Makes pieces of a text before any change. Fails only where memory runs out. Costs a search
     /// through the text for its lines.
     pub fn start(alloc: Global, before: &'a str) -> Result<Self, AllocError>
         requires { length before.now ≤ MAX_TEXT }
@@ -150,7 +150,7 @@ impl<'a> Pieces<'a> {
     /// Composes two series of changes; `second` is over the text that `first` leaves. The result is
     /// over the old text of `first`, and counts the changes of both.
     ///
-    /// Fails only if it is out of memory. Costs the spans of both, and borrows the lines of
+    /// Fails only where memory runs out. Costs the spans of both, and borrows the lines of
     /// `first`.
     pub fn then<'b, 'c>(
         alloc: Global,
@@ -204,8 +204,8 @@ impl<'a> Pieces<'a> {
     /// Returns the canonical batch of the changes. It has one change for each changed gap between
     /// kept characters of the old text, from the last gap to the first.
     ///
-    /// It has the same result, character by character. Each of its ranges denotes the same in the
-    /// text that it meets as in the old text. Fails only if it is out of memory. Costs the spans,
+    /// The batch has the same result, character by character. Each of its ranges denotes the same
+    /// in the text that it meets as in the old text. Fails only where memory runs out. Costs the spans,
     /// and one exact position for each end of a changed gap.
     pub fn canonical(&self, encoding: Encoding) -> Result<Vec<Change>, AllocError>
         ensures batch { IfOk result (λ changes. map edit_of changes.items ≡ canonical
@@ -242,14 +242,14 @@ impl<'a> Pieces<'a> {
         self.spans.as_slice()
     }
 
-    /// Returns the current text. Fails only if it is out of memory. Costs one copy.
+    /// Returns the current text. Fails only where memory runs out. Costs one copy.
     pub fn text(&self) -> Result<String, AllocError>
         ensures { IfOk result (λ text. string_bytes text ≡ edited_bytes self.now.edited) }
     {
         text_of_spans(self.alloc, &self.before, self.spans.as_slice(), self.len)
     }
 
-    /// Returns the current text and its lines. Fails only if it is out of memory. Costs one copy,
+    /// Returns the current text and its lines. Fails only where memory runs out. Costs one copy,
     /// and a search through it for its lines.
     pub fn into_text(self) -> Result<(String, Lines), AllocError>
         ensures { IfOk result (λ indexed. (string_bytes indexed.0 ≡ edited_bytes self.entry.edited)

@@ -115,15 +115,15 @@ sound_code MethodNotFound = sound_integer (spec.code_of MethodNotFound) (record 
 sound_code InvalidParams = sound_integer (spec.code_of InvalidParams) (record { sfits = omega arith })
 sound_code ServerNotInitialized = sound_integer (spec.code_of ServerNotInitialized) (record { sfits = omega arith })
 
-utf8-error_text_of : (e : ErrorCode) → IsUtf8 (spec.error_text_of e)
-utf8-error_text_of ParseError = IsUtf8-are_ascii _ refl
-utf8-error_text_of InvalidRequest = IsUtf8-are_ascii _ refl
-utf8-error_text_of MethodNotFound = IsUtf8-are_ascii _ refl
-utf8-error_text_of InvalidParams = IsUtf8-are_ascii _ refl
-utf8-error_text_of ServerNotInitialized = IsUtf8-are_ascii _ refl
+utf8-error_message : (e : ErrorCode) → IsUtf8 (spec.error_message e)
+utf8-error_message ParseError = IsUtf8-are_ascii _ refl
+utf8-error_message InvalidRequest = IsUtf8-are_ascii _ refl
+utf8-error_message MethodNotFound = IsUtf8-are_ascii _ refl
+utf8-error_message InvalidParams = IsUtf8-are_ascii _ refl
+utf8-error_message ServerNotInitialized = IsUtf8-are_ascii _ refl
 
 sound_error : (e : ErrorCode) → Sound (values.error_value e)
-sound_error e = sound_object _ refl (refl, sound_code e, (refl, sound_string _ (utf8-error_text_of e), tt))
+sound_error e = sound_object _ refl (refl, sound_code e, (refl, sound_string _ (utf8-error_message e), tt))
 
 sound_kind : (kind : SyncKind) → Sound (values.sync_value kind)
 sound_kind Off = sound_object _ refl (refl, sound_unsigned _ (omega arith), (refl, sound_boolean true, tt))

@@ -21,7 +21,7 @@ use Rattle.lsp_message.specs.declared.outgoing.ErrorCode.TheVariants.{ParseError
 use Rattle.lsp_message.specs.Values.{text_in, is_null}
 use Rattle.lsp_message.specs.Agreement.{offers_of, announced_of}
 use Rattle.lsp_message.specs.Message.{IdData, whole, text, message_of, message, reading, id_in, id_found}
-use Rattle.lsp_message.specs.Params.{DocumentItem, EditData, ChangeData, open_of, change_of, close_of, within_version, version_in, position_in, range_in, edit_in}
+use Rattle.lsp_message.specs.Params.{DocumentItem, EditData, ChangeData, open_of, change_of, close_of, version_from, version_in, position_in, range_in, edit_in}
 use Rattle.lsp_message.specs.inside.Params.{edits_in}
 use Rattle.lsp_message.specs.Outgoing as spec
 use Rattle.lsp_message.specs.Written as values
@@ -36,14 +36,14 @@ as_i64-of_integer : (z : ℤ) → FitsSigned w64 z → as_i64 (of_integer z) ≡
 as_i64-of_integer (pos n) h = let small : n < 2 ^ 63 = h.sfits in rw lt-ltb refl
 as_i64-of_integer (negsuc n) h = refl
 
-within_version-fits : (z : ℤ) → FitsSigned w32 z → within_version z ≡ Some z
-within_version-fits (pos n) h = let small : n < 2 ^ 31 = h.sfits in grind (arith, nat_tests)
-within_version-fits (negsuc n) h = let small : n < 2 ^ 31 = h.sfits in grind (arith, nat_tests)
+version_from-fits : (z : ℤ) → FitsSigned w32 z → version_from z ≡ Some z
+version_from-fits (pos n) h = let small : n < 2 ^ 31 = h.sfits in grind (arith, nat_tests)
+version_from-fits (negsuc n) h = let small : n < 2 ^ 31 = h.sfits in grind (arith, nat_tests)
 
 version_in-of_integer : (z : ℤ) → FitsSigned w32 z → version_in (Some (number (of_integer z))) ≡ Some z
 version_in-of_integer z h =
     let small = h.sfits in
-    ap (option_and_then within_version) (as_i64-of_integer z (record { sfits = omega arith })) ∙ within_version-fits z h
+    ap (option_and_then version_from) (as_i64-of_integer z (record { sfits = omega arith })) ∙ version_from-fits z h
 
 -- ---- which message it is
 
@@ -143,11 +143,11 @@ is_read_back (spec.error_reply id error) h = tt
 
 abbrev error_named : List ℕ → Option ErrorCode
 error_named s =
-    if bytes_eq s (spec.error_text_of ParseError) then Some ParseError
-    else if bytes_eq s (spec.error_text_of InvalidRequest) then Some InvalidRequest
-    else if bytes_eq s (spec.error_text_of MethodNotFound) then Some MethodNotFound
-    else if bytes_eq s (spec.error_text_of InvalidParams) then Some InvalidParams
-    else if bytes_eq s (spec.error_text_of ServerNotInitialized) then Some ServerNotInitialized
+    if bytes_eq s (spec.error_message ParseError) then Some ParseError
+    else if bytes_eq s (spec.error_message InvalidRequest) then Some InvalidRequest
+    else if bytes_eq s (spec.error_message MethodNotFound) then Some MethodNotFound
+    else if bytes_eq s (spec.error_message InvalidParams) then Some InvalidParams
+    else if bytes_eq s (spec.error_message ServerNotInitialized) then Some ServerNotInitialized
     else None
 
 abbrev called : List ℕ → Option Data → Option OutgoingData
@@ -187,7 +187,7 @@ id_found-id_or_null : (id : Option IdData) → IfSome id IsProperId → id_found
 id_found-id_or_null None h = refl
 id_found-id_or_null (Some id) h = id_in-id_value id h
 
-error_named-text : (e : ErrorCode) → error_named (spec.error_text_of e) ≡ Some e
+error_named-text : (e : ErrorCode) → error_named (spec.error_message e) ≡ Some e
 error_named-text ParseError = refl
 error_named-text InvalidRequest = refl
 error_named-text MethodNotFound = refl

@@ -28,9 +28,10 @@ is_among encoding names = list_any (λ name. bytes_eq name (name_of encoding)) n
 abbrev pub offers_named : List (List ℕ) → Offers
 offers_named names = record { utf8 = is_among Utf8 names; utf32 = is_among Utf32 names }
 
--- The encodings that the params of an `initialize` offer; none where the params are refused. The
--- names are in `capabilities.general.positionEncodings`. An object that is missing on the way there
--- counts as one without members, and a missing list as an empty one.
+-- The encodings that the params of an `initialize` offer; none where they are invalid. The names are
+-- in `capabilities.general.positionEncodings`. An object that is missing on the way there counts as
+-- one without members, and a missing list as an empty one. (LSP 3.17 requires `capabilities`, and
+-- also `processId` and `rootUri`, which aren't read.)
 abbrev pub offers_of : Option Data → Option Offers
 offers_of params = do
   ms ← members_in params
@@ -40,16 +41,18 @@ offers_of params = do
   Some (offers_named names)
 
 -- The kind of synchronisation with this number (TextDocumentSyncKind).
-abbrev pub kind_numbered : ℕ → Option SyncKind
-kind_numbered n = if n == 0 then Some Off else if n == 1 then Some Full else
+abbrev pub kind_with_number : ℕ → Option SyncKind
+kind_with_number n = if n == 0 then Some Off else if n == 1 then Some Full else
     if n == 2 then Some Incremental else None
 
 -- The kind whose number a value is.
 abbrev pub kind_in : Option Data → Option SyncKind
-kind_in value = option_and_then kind_numbered (natural_in value)
+kind_in value = option_and_then kind_with_number (natural_in value)
 
--- What a `textDocumentSync` announces: whether documents that open and close are notified, and how
--- changes are. It is an object, or the number of a kind, and then they are notified.
+-- What a `textDocumentSync` announces: whether opening and closing are notified, and how changes
+-- are. An object says both (a missing `openClose` is false, a missing `change` is Off, the
+-- protocol's None). A number is a kind, and opening and closing are then notified whichever kind it
+-- is.
 abbrev pub sync_in : Option Data → Option (Bool × SyncKind)
 sync_in (Some (object ms)) = do
   open_close ← optional false bool_in (get_member (codes "openClose") ms)
@@ -57,11 +60,12 @@ sync_in (Some (object ms)) = do
   Some (open_close, kind)
 sync_in value = option_map (λ kind. (true, kind)) (kind_in value)
 
--- The encoding whose name a value is. An unknown name is no encoding.
+-- The encoding whose name a value is. `None`: the value is no string. `Some None`: a name that
+-- nobody knows.
 abbrev pub announced_encoding : Option Data → Option (Option Encoding)
 announced_encoding value = option_map encoding_named (text_in value)
 
--- What the result of an `initialize` announces; none where the result is refused.
+-- What the result of an `initialize` announces; none where it is invalid.
 abbrev pub announced_of : Data → Option Announced
 announced_of result = do
   capabilities ← members_in (get (codes "capabilities") result)

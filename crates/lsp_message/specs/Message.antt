@@ -8,7 +8,8 @@ use Rattle.serde_json.specs.Find.{get, as_i64}
 use Rattle.serde_json.specs.Read.{read}
 use Rattle.lsp_message.specs.Values.{◌>>=◌, text_in, is_missing}
 
--- The id of a request, and of the response to it: a whole number or a text.
+-- The id of a request, and of the response to it: a whole number of 64 bits (the protocol's have
+-- 32), or a text.
 pub data IdData : Type 0 where
   whole : ℤ → IdData
   text : List ℕ → IdData
@@ -19,19 +20,19 @@ pub data OutcomeData : Type 0 where
   failed : OutcomeData
 
 -- A request has an id, a method and params; a notification a method and params; a response an id,
--- or null, and an outcome.
+-- or null, and an outcome. Params are of any type (LSP 3.17: an array or an object).
 pub data MessageData : Type 0 where
   request : IdData → List ℕ → Option Data → MessageData
   notification : List ℕ → Option Data → MessageData
   response : Option IdData → OutcomeData → MessageData
 
--- What a body is read as. A body that is no message still has the id that a reply may name.
+-- What a body is read as. JSON that is no message may still have an id, which a reply can name.
 pub data Reading : Type 0 where
   not_json : Reading
   not_a_message : Option IdData → Reading
   message : MessageData → Reading
 
--- The id that a value is: a whole number or a string.
+-- The id that a value is: a whole number of 64 bits (the protocol's have 32), or a string.
 abbrev pub id_in : Data → Option IdData
 id_in (number n) = option_map whole (as_i64 n)
 id_in (string s) = Some (text s)

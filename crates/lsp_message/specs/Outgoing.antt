@@ -43,12 +43,12 @@ code_of InvalidParams = negsuc 32601
 code_of ServerNotInitialized = negsuc 32001
 
 -- The `message` of an error response.
-abbrev pub error_text_of : ErrorCode → List ℕ
-error_text_of ParseError = codes "parse error"
-error_text_of InvalidRequest = codes "invalid request"
-error_text_of MethodNotFound = codes "method not found"
-error_text_of InvalidParams = codes "invalid params"
-error_text_of ServerNotInitialized = codes "server not initialized"
+abbrev pub error_message : ErrorCode → List ℕ
+error_message ParseError = codes "parse error"
+error_message InvalidRequest = codes "invalid request"
+error_message MethodNotFound = codes "method not found"
+error_message InvalidParams = codes "invalid params"
+error_message ServerNotInitialized = codes "server not initialized"
 
 -- ---- parts of a body; `quoted` is a string of JSON
 
@@ -108,7 +108,7 @@ edit_text e = codes "{" ++ range_if_any e.range ++ codes "\"text\":" ++ quoted e
 
 -- ---- bodies
 
--- A notification with this method and these params.
+-- A notification with this method, whose characters need no escape, and these params.
 abbrev pub notification_text : List ℕ → List ℕ → List ℕ
 notification_text method params =
     codes "{\"jsonrpc\":\"2.0\",\"method\":\"" ++ method ++ codes "\",\"params\":" ++ params

@@ -32,21 +32,22 @@ pub record CloseData : Type 0 where
   pub uri : List ℕ
 
 -- A number that is a version: from -2147483648 to 2147483647.
-abbrev pub within_version : ℤ → Option ℤ
-within_version n = if int_lt n (negsuc 2147483647) || int_lt (pos 2147483647) n then None else
+abbrev pub version_from : ℤ → Option ℤ
+version_from n = if int_lt n (negsuc 2147483647) || int_lt (pos 2147483647) n then None else
     Some n
 
 -- The version that a value is.
 abbrev pub version_in : Option Data → Option ℤ
-version_in value = option_and_then within_version (whole_in value)
+version_in value = option_and_then version_from (whole_in value)
 
--- A number that is a line or a character: from 0 to 4294967295.
-abbrev pub within_position : ℕ → Option ℕ
-within_position n = if nat_lt n (2 ^ 32) then Some n else None
+-- A number that is a line or a character: from 0 to 4294967295. (The protocol's uinteger ends at
+-- 2147483647.)
+abbrev pub coordinate_from : ℕ → Option ℕ
+coordinate_from n = if nat_lt n (2 ^ 32) then Some n else None
 
 -- The line or the character that a value is.
 abbrev pub coordinate_in : Option Data → Option ℕ
-coordinate_in value = option_and_then within_position (natural_in value)
+coordinate_in value = option_and_then coordinate_from (natural_in value)
 
 -- The `Position` that a value is.
 abbrev pub position_in : Option Data → Option Position
@@ -62,7 +63,8 @@ range_in value = do
   stop ← position_in (member_at (codes "end") value)
   Some (record { start = start; stop = stop })
 
--- The range of a change. A missing range, or null, means the whole text.
+-- The range of a change. A missing range means the whole text; a null one too, which the protocol
+-- doesn't have.
 abbrev pub range_of : Option Data → Option (Option Range)
 range_of value = optional None (λ v. option_map Some (range_in v)) value
 
@@ -90,7 +92,7 @@ open_by document = do
   text ← text_in (get_member (codes "text") document)
   Some (record { uri = uri; language = language; version = version; text = text })
 
--- What params are as those of a `textDocument/didOpen`; none where they are refused.
+-- The document that the params of a `textDocument/didOpen` have; none where they are invalid.
 abbrev pub open_of : Option Data → Option DocumentItem
 open_of params = option_and_then open_by (document_in params)
 
@@ -110,15 +112,16 @@ document_and_changes params = do
   changes ← array_in (member_at (codes "contentChanges") params)
   Some (document, changes)
 
--- What params are as those of a `textDocument/didChange`; none where they are refused.
+-- The batch that the params of a `textDocument/didChange` have; none where they are invalid.
 abbrev pub change_of : Option Data → Option ChangeData
 change_of params = option_and_then (λ p. change_by p.0 p.1) (document_and_changes params)
 
--- A batch has changes. Only their list takes memory, and only where the params are valid.
+-- A batch has changes.
 abbrev pub HasChanges : ChangeData → Type 0
 HasChanges change = 0 < length change.changes
 
--- Reading params as those of a `textDocument/didChange` takes memory.
+-- Reading the params of a `textDocument/didChange` may take memory: they are valid and have a
+-- change.
 abbrev pub ParamsMayAllocate : Option Data → Type 0
 ParamsMayAllocate params = IsSomeAnd (change_of params) HasChanges
 
@@ -127,7 +130,7 @@ abbrev pub close_by : Members → Option CloseData
 close_by document
     = option_map (λ uri. record { uri = uri }) (text_in (get_member (codes "uri") document))
 
--- What params are as those of a `textDocument/didClose`; none where they are refused.
+-- The document that the params of a `textDocument/didClose` name; none where they are invalid.
 abbrev pub close_of : Option Data → Option CloseData
 close_of params = option_and_then close_by (document_in params)
 

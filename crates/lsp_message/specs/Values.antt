@@ -1,4 +1,5 @@
--- Parts of a JSON value. The suffix `_in`: of a value that may be missing or of another type.
+-- Parts of a JSON value. The suffix `_in`: what a value is read as, if it has that type; an
+-- `Option Data` may also be missing.
 use Rattle.std.specs.Prelude.{ℕ, Bool, true, ℤ, List, [], ◌∷◌, Option, Some, option_and_then, is_some, if◌then◌else◌}
 use Rattle.std.specs.Option.{option_map_or}
 use Rattle.serde_json.specs.Data.{Data, Items, no_items, item, Members}

@@ -14,13 +14,13 @@ use Rattle.lsp_message.specs.declared.outgoing.ErrorCode.{ErrorCode}
 use Rattle.lsp_message.specs.Agreement.{is_offered}
 use Rattle.lsp_message.specs.Message.{IdData, whole, text}
 use Rattle.lsp_message.specs.Params.{DocumentItem, EditData, ChangeData, CloseData}
-use Rattle.lsp_message.specs.Outgoing.{OutgoingData, initialize, initialized, did_open, did_change, did_close, shutdown, exit, initialize_result, shutdown_result, error_reply, code_of, error_text_of, kind_number}
+use Rattle.lsp_message.specs.Outgoing.{OutgoingData, initialize, initialized, did_open, did_change, did_close, shutdown, exit, initialize_result, shutdown_result, error_reply, code_of, error_message, kind_number}
 
 -- The member `error` of an error response.
 abbrev pub error_value : ErrorCode → Data
 error_value error
     = object (member (codes "code") (number (of_integer (code_of error)))
-    (member (codes "message") (string (error_text_of error)) no_members))
+    (member (codes "message") (string (error_message error)) no_members))
 
 -- ---- envelopes
 

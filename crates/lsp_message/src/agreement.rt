@@ -20,7 +20,7 @@ use std::alloc::Global;
 
 /// The encodings that a client offers (LSP 3.17, `general.positionEncodings`). UTF-16 is always one
 /// of them.
-#[derive(Clone, Copy, Debug, PartialEq, Eq, Hash)]
+#[derive(Clone, Copy, Debug, Default, PartialEq, Eq, Hash)]
 pub struct Offers {
     /// The client names `utf-8`.
     pub utf8: bool,

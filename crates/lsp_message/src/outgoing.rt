@@ -1,7 +1,7 @@
 //! The messages that are written, and the errors of replies.
 
 ghost use Rattle.std.specs.Prelude.{◌≡◌};
-ghost use Rattle.lsp_message.specs.Outgoing.{code_of, error_text_of};
+ghost use Rattle.lsp_message.specs.Outgoing.{code_of, error_message};
 
 use crate::agreement::{Offers, SyncKind};
 use crate::message::Id;
@@ -74,7 +74,7 @@ impl ErrorCode {
 
     /// Returns the `message` of the error response.
     pub fn text(self) -> &'static str
-        ensures { result.now ≡ error_text_of self }
+        ensures { result.now ≡ error_message self }
     {
         match self {
             ErrorCode::ParseError => "parse error",

@@ -211,10 +211,7 @@ fn is_edit(value: &Value) -> bool
 fn has_text(value: &Value) -> bool
     ensures { result ≡ is_some (text_in (get (codes "text") (view value.now))) }
 {
-    match value.get("text") {
-        Some(text) => text.is_string(),
-        None => false,
-    }
+    value.get("text").is_some_and(Value::is_string)
 }
 
 fn are_edits(values: &[Value]) -> bool

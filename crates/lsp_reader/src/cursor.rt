@@ -53,8 +53,8 @@ impl<'a> Cursor<'a> {
         Some(text)
     }
 
-    /// Reads a whole number below 2^64, after blanks, where a comma, a brace or a line's end
-    /// follows it.
+    /// Reads a whole number below 2^64, after blanks, where a comma, a closing brace or a line
+    /// feed follows it.
     pub(crate) fn natural(&mut self) -> Option<u64>
         ensures { IfSome result (λ n. IsNaturalAt self.old.rest.now n self.new.rest.now) }
     {

@@ -33,7 +33,7 @@ const MAX_KEPT: usize = 65_536;
 ///
 /// The params of other requests and notifications, and the result of a response, are read by
 /// `lsp_message::read` of the same body.
-#[derive(Debug, PartialEq, Drop)]
+#[derive(Debug, PartialEq, Eq, Drop)]
 pub enum Incoming {
     /// The body is no JSON.
     NotJson,
@@ -121,7 +121,7 @@ fn read_body(alloc: Global, body: &[u8], scratch: &mut Scratch) -> Result<Incomi
     }
 }
 
-/// Returns what a text asks that can't be read. Out of memory only where its reading was.
+/// Turns the fault of a text into what the text asks, or into out of memory.
 fn unread_text(fault: Fault) -> Result<Incoming, AllocError>
     ensures ok { IfOk result
         (λ m. (fault ≡ Fault.NotJson) × (incoming_view m ≡ incoming_of not_json)) }
@@ -144,7 +144,7 @@ fn read_tree(alloc: Global, body: &[u8]) -> Result<Incoming, AllocError>
     }
 }
 
-/// Returns what a body asks that is no message. Out of memory only where its reading was.
+/// Turns the fault of a body into what the body asks, or into out of memory.
 fn unread_body(fault: ReadFault) -> Result<Incoming, AllocError>
     ensures ok { IfOk result (λ m. (body : List ℕ) → IsReadFault body fault
         → incoming_view m ≡ incoming_of (reading body)) }

@@ -32,7 +32,7 @@ struct Document<'a> {
 #[derive(Clone, Copy, Drop)]
 struct Edit<'a> {
     range: Range,
-    /// Its `rangeLength`, if it has one.
+    /// The `rangeLength` of the change, if it has one.
     length: Option<u64>,
     text: &'a str,
 }

@@ -19,7 +19,7 @@ use Rattle.lsp_edit.specs.Joined.{IsJoined, IsReached, JoinedData, joined_text}
 use Rattle.lsp_edit.specs.laws.Batches.{IsCanonical}
 use Rattle.lsp_edit.specs.declared.delta.Delta.{Delta}
 use Rattle.lsp_edit.specs.declared.delta.Delta.TheVariants.{Put, Left}
-use Rattle.lsp_edit.specs.Once.{IsOn, bytes_after, meant_by}
+use Rattle.lsp_edit.specs.Delta.{IsOn, bytes_after, meant_by}
 use Rattle.lsp_edit.proofs.Batches.ComposeLemmas.{text_of-then, then_means}
 use Rattle.lsp_edit.proofs.Batches.LawLemmas.{canonical_law, units_some}
 use Rattle.lsp_store.specs.declared.fault.StoreFault.{StoreFault}

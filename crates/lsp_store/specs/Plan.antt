@@ -4,7 +4,7 @@ use Rattle.lsp_text.specs.Units.{units_in}
 use Rattle.lsp_text.specs.declared.encoding.Encoding.{Encoding}
 use Rattle.lsp_edit.specs.declared.delta.Delta.{Delta}
 use Rattle.lsp_edit.specs.Batch.{Edit}
-use Rattle.lsp_edit.specs.Once.{IsDeltaOf, IsOn, bytes_after}
+use Rattle.lsp_edit.specs.Delta.{IsDeltaOf, IsOn, bytes_after}
 use Rattle.lsp_message.specs.Params.{DocumentItem}
 use Rattle.lsp_store.specs.declared.store.plan.Plan.{Plan}
 use Rattle.lsp_store.specs.declared.fault.StoreFault.{StoreFault}

@@ -24,8 +24,8 @@ use Rattle.lsp_edit.specs.Canonical.{canonical}
 use Rattle.lsp_edit.specs.Faults.{ends_of, fault_at, places_at}
 use Rattle.lsp_edit.specs.Items.{Item, Old, New}
 use Rattle.lsp_edit.specs.Parts.{Part, index_of, items_of, new_parts}
-use Rattle.lsp_edit.specs.TextEdits.{LocatedEdit, located, new_at, is_taken_out, left_at, items_left, ComesBefore, NoneOverlap, IsBatchOfEdits, fault_of, LiesNowhere, EditsOverlap, IsEditsFault}
-use Rattle.lsp_edit.specs.inside.TextEdits.{IsPlaced, ArePlaced, IsInOrder, AreApart, old_parts, parts_left, AreLeftByEdits, HasNoPlace, DoOverlap, PlacedOverlap, IsPlacingFault}
+use Rattle.lsp_edit.specs.TextEdits.{LocatedEdit, located, new_at, is_taken_out, left_at, items_left, ComesBefore, NoneOverlap, IsBatchOfEdits, fault_of, HasRangeFault, EditsOverlap, IsEditsFault}
+use Rattle.lsp_edit.specs.inside.TextEdits.{IsPlaced, ArePlaced, IsInOrder, AreApart, old_parts, parts_left, AreLeftByEdits, HasFaultyRange, DoOverlap, PlacedOverlap, IsPlacingFault}
 use Rattle.lsp_edit.proofs.Composing.AppliedLemmas.{AreEnds, ends_told}
 use Rattle.lsp_edit.proofs.Composing.EditedLemmas.{index_first}
 use Rattle.lsp_edit.proofs.Deltas.LayerLemmas.{items_both}
@@ -80,25 +80,25 @@ module _ (units : ℕ → ℕ) (old : List ℕ) where
       let n : number + suc (length front) ≡ suc number + length front = omega arith in
       rw (ends_are number e p all.0, located_front (suc number) front placed first rest why all.1 lies, n) refl
 
-  lies_nowhere : (edits : List TextEdit) (fault : TextEditFault) → HasNoPlace units old edits fault
-      → LiesNowhere units old edits fault
-  lies_nowhere edits fault f = by_ends (ends_of units old f.first.range) refl
+  range_fault : (edits : List TextEdit) (fault : TextEditFault) → HasFaultyRange units old edits fault
+      → HasRangeFault units old edits fault
+  range_fault edits fault f = by_ends (ends_of units old f.first.range) refl
     where
       by_ends : (ends : Result (ℕ × ℕ) Fault) → ends_of units old f.first.range ≡ ends
-          → LiesNowhere units old edits fault
+          → HasRangeFault units old edits fault
       by_ends (Ok ends) e =
           absurd
           (let g : ◌≡◌ {A = Result (ℕ × ℕ) EditFault} (Ok (place_of old ends.0, place_of old ends.1)) (Err f.why) =
-          ap (places_at (length f.front) old) (sym e) ∙ f.lies in cc)
+          ap (places_at (length f.front) old) (sym e) ∙ f.faulty in cc)
       by_ends (Err why) e =
           let g : ◌≡◌ {A = Result (ℕ × ℕ) EditFault} (Err (fault_at (length f.front) why)) (Err f.why) =
-          ap (places_at (length f.front) old) (sym e) ∙ f.lies in
+          ap (places_at (length f.front) old) (sym e) ∙ f.faulty in
           let w : fault_at (length f.front) why ≡ f.why = cc in
           let n : 0 + length f.front ≡ length f.front = omega arith in
           record {
             number = length f.front;
             why = why;
-            lies = ap (located units old 0) f.all
+            at = ap (located units old 0) f.all
                 ∙ subst (λ (m : ℕ). located units old 0 (f.front ++ f.first ∷ f.rest) ≡ Err (m, why)) n
                 (located_front 0 f.front f.placed f.first f.rest why f.at e);
             error = f.error ∙ ap fault_of (sym w);
@@ -688,11 +688,11 @@ module _ (before : List ℕ) where
   fault_by_indexes units edits fault why =
       ⊎_elim
       (λ (none : fault ≡ NoMemory). inl none)
-      (λ (some : HasNoPlace units (chars before) edits fault ⊎ PlacedOverlap units (chars before) edits fault).
+      (λ (some : HasFaultyRange units (chars before) edits fault ⊎ PlacedOverlap units (chars before) edits fault).
       inr
       (⊎_elim
-      (λ (nowhere : HasNoPlace units (chars before) edits fault).
-      inl (lies_nowhere units (chars before) edits fault nowhere))
+      (λ (nowhere : HasFaultyRange units (chars before) edits fault).
+      inl (range_fault units (chars before) edits fault nowhere))
       (λ (over : PlacedOverlap units (chars before) edits fault).
       inr (overlap_by_indexes units edits over.placed over.ordered over.at over.order fault over.over))
       some))

@@ -23,7 +23,7 @@ use Rattle.lsp_edit.specs.Items.{Item, Old, New}
 use Rattle.lsp_edit.specs.Keeps.{Keeps}
 use Rattle.lsp_edit.specs.Parts.{Part, AreParts, index_of, items_of, new_parts}
 use Rattle.lsp_edit.specs.TextEdits.{fault_of}
-use Rattle.lsp_edit.specs.inside.TextEdits.{IsPlaced, ArePlaced, AreApart, old_parts, parts_left, AreLeftByEdits, HasNoPlace, DoOverlap}
+use Rattle.lsp_edit.specs.inside.TextEdits.{IsPlaced, ArePlaced, AreApart, old_parts, parts_left, AreLeftByEdits, HasFaultyRange, DoOverlap}
 use Rattle.lsp_edit.proofs.Composing.AppliedLemmas.{AreEnds, ends_told}
 use Rattle.lsp_edit.proofs.Deltas.LayerLemmas.{are_both, items_both}
 use Rattle.lsp_edit.proofs.Composing.EditedLemmas.{index_first}
@@ -80,7 +80,7 @@ pub nowhere : (units : ℕ → ℕ) (old : List ℕ) (edits : List TextEdit) (in
     (first : TextEdit) (rest : List TextEdit) (number : ℕ) (why : EditFault) → drop index edits ≡ first ∷ rest
     → ArePlaced units old 0 (take index edits) placed
     → number ≡ length placed → Err why ≡ places_at number old (ends_of units old first.range)
-    → HasNoPlace units old edits (fault_of why)
+    → HasFaultyRange units old edits (fault_of why)
 nowhere units old edits index placed first rest number why is at number_is lies =
     let n : number ≡ length (take index edits) = number_is ∙ placed_long units old 0 (take index edits) placed at in
     record {
@@ -91,7 +91,7 @@ nowhere units old edits index placed first rest number why is at number_is lies 
       placed = placed;
       at = at;
       why = why;
-      lies = subst (λ (m : ℕ). places_at m old (ends_of units old first.range) ≡ Err why) n (sym lies);
+      faulty = subst (λ (m : ℕ). places_at m old (ends_of units old first.range) ≡ Err why) n (sym lies);
       error = refl;
     }
 

@@ -16,7 +16,7 @@ use Rattle.lsp_edit.specs.Items.{Item, New, plain, character_of, text_of}
 use Rattle.lsp_edit.specs.Batch.{Fault, InsideStart, InsideStop, Reversed, items_after, meaning}
 use Rattle.lsp_edit.specs.Faults.{fault_at, ends_of, places_at}
 use Rattle.lsp_edit.specs.Indexed.{alone, bytes_left, text_within, text_fault_of}
-use Rattle.lsp_edit.specs.Once.{put_items}
+use Rattle.lsp_edit.specs.Delta.{put_items}
 use Rattle.lsp_edit.specs.Parts.{index_of}
 use Rattle.lsp_edit.proofs.Parts.IndexLemmas.{index_of-place}
 use Rattle.lsp_edit.proofs.Composing.AppliedLemmas.{AreEnds, ends_told, fault_told}

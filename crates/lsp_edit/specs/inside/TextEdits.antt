@@ -61,7 +61,7 @@ pub record AreLeftByEdits (units : ℕ → ℕ) (before : List ℕ) (edits : Lis
   pub are : parts ≡ parts_left (length before) 0 ordered
 
 -- The first edit whose range has a fault, with its number, and why.
-pub record HasNoPlace (units : ℕ → ℕ) (old : List ℕ) (edits : List TextEdit)
+pub record HasFaultyRange (units : ℕ → ℕ) (old : List ℕ) (edits : List TextEdit)
     (fault : TextEditFault) : Type 0 where
   pub front : List TextEdit
   pub first : TextEdit
@@ -70,7 +70,7 @@ pub record HasNoPlace (units : ℕ → ℕ) (old : List ℕ) (edits : List TextE
   pub placed : List Placed
   pub at : ArePlaced units old 0 front placed
   pub why : EditFault
-  pub lies : places_at (length front) old (ends_of units old first.range) ≡ Err why
+  pub faulty : places_at (length front) old (ends_of units old first.range) ≡ Err why
   pub error : fault ≡ fault_of why
 
 -- Two neighbours in the order of their starts overlap: the second starts before the first stops.
@@ -92,7 +92,7 @@ pub record PlacedOverlap (units : ℕ → ℕ) (old : List ℕ) (edits : List Te
   pub order : IsInOrder placed ordered
   pub over : DoOverlap ordered fault
 
--- Why edits have no parts.
+-- Out of memory, or why edits have no parts: a range is faulty, or two edits overlap.
 abbrev pub IsPlacingFault : (ℕ → ℕ) → List ℕ → List TextEdit → TextEditFault → Type 0
 IsPlacingFault units old edits fault =
-    (fault ≡ NoMemory) ⊎ HasNoPlace units old edits fault ⊎ PlacedOverlap units old edits fault
+    (fault ≡ NoMemory) ⊎ HasFaultyRange units old edits fault ⊎ PlacedOverlap units old edits fault

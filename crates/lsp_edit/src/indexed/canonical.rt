@@ -51,7 +51,7 @@ impl IndexedText {
     /// Returns the canonical batch of what a batch means on the text. It has one change for each
     /// changed gap between kept characters, from the last gap to the first.
     ///
-    /// It has the errors of [`IndexedText::change`], and changes nothing. Costs what each change
+    /// Has the errors of [`IndexedText::change`], and changes nothing. Costs what each change
     /// costs to apply, and one exact position for each end of a changed gap. Some thousand changes
     /// are composed in series, each of which costs some [`IndexedText::clone_in`]. If that fails
     /// they are composed once more, to find the error.

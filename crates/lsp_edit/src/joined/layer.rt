@@ -62,7 +62,7 @@ fn owned(alloc: Global, spans: &[Span<'_>]) -> Result<Vec<OwnedSpan>, AllocError
 }
 
 impl OwnedSpan {
-    /// Returns the same span with its text borrowed.
+    /// Returns a span like this one, whose text is borrowed from it.
     fn borrowed(&self) -> Span<'_>
         ensures { part_of result ≡ owned_part self.now }
     {

@@ -4,7 +4,7 @@ use crate::old_text::indexed_str::IndexedStr;
 use lsp_buffer::TextBuffer;
 
 /// One string with its lines, or a text in blocks.
-#[derive(Drop)]
+#[derive(Debug, Drop)]
 pub enum Form<'a> {
     Str(IndexedStr<'a>),
     Buffer(&'a TextBuffer),

@@ -17,7 +17,7 @@ use std::alloc::{AllocError, Global};
 use std::marker::Model;
 
 /// One string with its lines. Clauses see its bytes.
-#[derive(Drop)]
+#[derive(Debug, Drop)]
 pub struct IndexedStr<'a> {
     text: &'a str,
     lines: KeptLines<'a>,
@@ -46,7 +46,7 @@ impl<'a> IndexedStr<'a> {
         IndexedStr { text, lines }
     }
 
-    /// Returns the same text with its lines borrowed from this one.
+    /// Returns a string like this one, whose lines are borrowed from it.
     pub fn borrowed(&self) -> IndexedStr<'_>
         ensures { result ≡ self.now }
     {

@@ -6,7 +6,7 @@ ghost use Rattle.lsp_edit.specs.inside.OldLines.{lines_of};
 use lsp_text::Lines;
 
 /// The lines that were found for the old text, or those that a caller has.
-#[derive(Drop)]
+#[derive(Debug, Drop)]
 pub enum KeptLines<'a> {
     Own(Lines),
     Borrowed(&'a Lines),

@@ -11,7 +11,7 @@ use std::marker::Model;
 
 /// Spans in a row. It keeps the span of the last change, by two numbers: how many spans come before
 /// it, and how many bytes those have.
-#[derive(Drop)]
+#[derive(Debug, Drop)]
 pub struct Row<'a> {
     spans: Vec<Span<'a>>,
     near: usize,

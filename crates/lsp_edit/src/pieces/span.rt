@@ -28,7 +28,7 @@ impl<'a> Span<'a> {
         }
     }
 
-    /// Returns its first `count` bytes as a span.
+    /// Returns the first `count` bytes of the span.
     pub(crate) fn front(self, count: usize) -> Self
         requires { IsCutAt (part_of self) count }
         ensures { part_of result ≡ front_part (part_of self.entry) count }

@@ -13,7 +13,7 @@ use std::alloc::{AllocError, Global};
 use std::slice;
 
 /// Spans in order: one, or any number.
-#[derive(Drop)]
+#[derive(Debug, Drop)]
 pub enum Spans<'a> {
     One(Span<'a>),
     Many(Row<'a>),

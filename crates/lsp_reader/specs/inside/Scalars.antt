@@ -6,7 +6,7 @@ use Rattle.std.specs.Str.{bytes_eq}
 use Rattle.serde_json.specs.Data as data_of
 use Rattle.serde_json.specs.Data.{Data, Num}
 use Rattle.lsp_message.specs.Message.{IdData, whole, text as text_id}
-use Rattle.lsp_message.specs.Params.{within_version, within_position}
+use Rattle.lsp_message.specs.Params.{version_from, coordinate_from}
 use Rattle.lsp_reader.specs.declared.number.Number.{Number}
 use Rattle.lsp_reader.specs.declared.number.Number.TheVariants as num
 use Rattle.lsp_reader.specs.declared.scalar.Scalar.{Scalar}
@@ -41,7 +41,7 @@ number_whole float = None
 
 -- A number that is a line or a character.
 abbrev pub number_coordinate : NumberData → Option ℕ
-number_coordinate (natural n) = within_position n
+number_coordinate (natural n) = coordinate_from n
 number_coordinate (negative z) = None
 number_coordinate float = None
 
@@ -99,7 +99,7 @@ scalar_whole other = None
 
 -- The version of a document.
 abbrev pub scalar_version : ScalarData → Option ℤ
-scalar_version s = option_and_then within_version (scalar_whole s)
+scalar_version s = option_and_then version_from (scalar_whole s)
 
 -- A line or a character.
 abbrev pub scalar_coordinate : ScalarData → Option ℕ

@@ -16,7 +16,7 @@ use Rattle.serde_json.specs.Read.{read}
 use Rattle.lsp_message.specs.Values.{member_at, text_in, array_in, each_of, whole_in}
 use Rattle.lsp_message.specs.Message as msg
 use Rattle.lsp_message.specs.Message.{IdData, whole, text, OutcomeData, Reading, MessageData, id_in, json_of, message_of, reading}
-use Rattle.lsp_message.specs.Params.{DocumentItem, EditData, ChangeData, open_of, open_by, change_of, change_by, document_in, document_and_changes, edit_by, edit_in, range_of, version_in, within_version}
+use Rattle.lsp_message.specs.Params.{DocumentItem, EditData, ChangeData, open_of, open_by, change_of, change_by, document_in, document_and_changes, edit_by, edit_in, range_of, version_in, version_from}
 use Rattle.lsp_message.specs.laws.Sent.{IsProperId}
 use Rattle.lsp_server.specs.Incoming.{IncomingData, not_json, not_a_message, response, initialize, shutdown, other_request, exit, did_open, did_change, did_close, other_notification, incoming_by, incoming_of}
 use Rattle.lsp_server.specs.Step.{edit_from_data}
@@ -229,14 +229,14 @@ texts_of_edits : (es : List EditData) → AreEditsHeld es → AreTexts (map edit
 texts_of_edits [] received = tt
 texts_of_edits (e ∷ es) received = (scalars-chars e.text received.0, texts_of_edits es received.1)
 
-within_fits : (z : ℤ) → OnSome (FitsSigned w32) (within_version z)
+within_fits : (z : ℤ) → OnSome (FitsSigned w32) (version_from z)
 within_fits (pos n) = cond_both (int_lt (pos n) (negsuc 2147483647) || int_lt (pos 2147483647) (pos n)) None
     (Some (pos n)) (OnSome (FitsSigned w32)) (λ e. tt) (λ e. record { sfits = grind (arith, nat_tests) })
 within_fits (negsuc n) = cond_both (int_lt (negsuc n) (negsuc 2147483647) || int_lt (pos 2147483647) (negsuc n)) None
     (Some (negsuc n)) (OnSome (FitsSigned w32)) (λ e. tt) (λ e. record { sfits = grind (arith, nat_tests) })
 
 version_fits : (found : Option Data) → OnSome (FitsSigned w32) (version_in found)
-version_fits found = on_then (λ z. ⊤) (FitsSigned w32) within_version (λ z h. within_fits z) (whole_in found)
+version_fits found = on_then (λ z. ⊤) (FitsSigned w32) version_from (λ z h. within_fits z) (whole_in found)
     (any (whole_in found))
 
 change_held : (ms : Members) (ds : Items) → MembersAreHeld ms → ItemsAreHeld ds → OnSome IsProperAsked (change_by ms ds)

@@ -10,7 +10,7 @@ ghost use Rattle.lsp_message.specs.laws.Sent.{IsProper, IsReadAsSent, IsReadBack
 ghost use Rattle.lsp_store.specs.declared.fault.StoreFault.TheVariants.{BodyTooLong, NoMemory, TooManyChanges};
 ghost use Rattle.lsp_store.specs.Faults.{IsRefusal};
 ghost use Rattle.lsp_store.specs.Opened.{ChangeMayAllocate};
-ghost use Rattle.lsp_edit.specs.Once.{bytes_after};
+ghost use Rattle.lsp_edit.specs.Delta.{bytes_after};
 ghost use Rattle.lsp_store.specs.Plan.{IsBodyOfPlan, IsMessageFault, IsMessageOfPlan, IsPlanOf, IsPlanOn};
 ghost use Rattle.lsp_store.specs.Table.{change_refusal, too_many_changes};
 ghost use Rattle.lsp_store.specs.Message.{AreTexts, DoAlike, IsCanonicalOn, IsReadAgain, IsCanonicalOf};

@@ -22,7 +22,7 @@ impl Stored {
     ghost use Rattle.lsp_text.specs.Units.{units_in};
     ghost use Rattle.lsp_edit.specs.Edited.{edit_of};
     ghost use Rattle.lsp_edit.specs.Indexed.{IsCanonicalBatch};
-    ghost use Rattle.lsp_edit.specs.Once.{IsDeltaOf, IsOn, bytes_after};
+    ghost use Rattle.lsp_edit.specs.Delta.{IsDeltaOf, IsOn, bytes_after};
     ghost use Rattle.lsp_store.specs.Plan.{planned};
     ghost use Rattle.lsp_store.specs.declared.fault.StoreFault.TheVariants.{NoMemory};
     ghost use Rattle.lsp_store.specs.Table.{IsLeftToMeaning, entry_refusal, is_stale};

@@ -3,10 +3,10 @@ use Rattle.std.specs.Str.{chars}
 use Rattle.lsp_text.specs.Units.{units_in}
 use Rattle.lsp_edit.specs.Canonical.{gaps}
 use Rattle.lsp_edit.specs.laws.Batches.{AllHaveExactEnds}
-use Rattle.lsp_edit.specs.Once.{IsPut}
+use Rattle.lsp_edit.specs.Delta.{IsPut}
 use Rattle.lsp_edit.specs.Parts.{AreParts, Part, items_of, parts_of}
 use Rattle.lsp_edit.specs.inside.Parts.{AreCut, AreOrdered, replaced_parts, whole_parts}
-use Rattle.lsp_edit.proofs.Deltas.OnceLemmas.{put_are, put_exact, put_items_are, put_order, put_ordered, put_start_cut, put_stop_cut}
+use Rattle.lsp_edit.proofs.Deltas.DeltaLemmas.{put_are, put_exact, put_items_are, put_order, put_ordered, put_start_cut, put_stop_cut}
 use Rattle.lsp_edit.proofs.delta.Put.canonical.Goals as goal
 
 pub replace-requires-clause-order : goal.replace-requires-clause-order

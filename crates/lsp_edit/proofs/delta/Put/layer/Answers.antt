@@ -1,9 +1,9 @@
 use Rattle.std.proofs.Common.{◌≡◌, List, ℕ, ap, ◌∙◌, subst, sym}
 use Rattle.lsp_text.specs.Units.{units_in}
-use Rattle.lsp_edit.specs.Once.{IsPut}
+use Rattle.lsp_edit.specs.Delta.{IsPut}
 use Rattle.lsp_edit.specs.Parts.{Part, parts_of}
 use Rattle.lsp_edit.specs.inside.Parts.{AreCut, AreOrdered, replaced_parts, whole_parts}
-use Rattle.lsp_edit.proofs.Deltas.OnceLemmas.{if_ok, layer_is, layer_ordered, layer_start, layer_stop, put_order}
+use Rattle.lsp_edit.proofs.Deltas.DeltaLemmas.{if_ok, layer_is, layer_ordered, layer_start, layer_stop, put_order}
 use Rattle.lsp_edit.proofs.delta.Put.layer.Goals as goal
 
 pub replace-requires-clause-order : goal.replace-requires-clause-order

@@ -1,5 +1,5 @@
 use Rattle.std.proofs.Common.{arith}
-use Rattle.lsp_edit.proofs.Deltas.OnceLemmas.{put_len, put_order, put_stop}
+use Rattle.lsp_edit.proofs.Deltas.DeltaLemmas.{put_len, put_order, put_stop}
 use Rattle.lsp_edit.proofs.delta.Put.len_on.Goals as goal
 
 pub overflow_sub-result : goal.overflow_sub-result

@@ -1,6 +1,6 @@
 use Rattle.std.proofs.Common.{List, ℕ, subst, sym}
 use Rattle.std.specs.Str.{IsCharBoundary}
-use Rattle.lsp_edit.proofs.Deltas.OnceLemmas.{put_order, put_start, put_stop}
+use Rattle.lsp_edit.proofs.Deltas.DeltaLemmas.{put_order, put_start, put_stop}
 use Rattle.lsp_edit.proofs.delta.Put.text.Goals as goal
 
 pub replaced-requires-clause-order : goal.replaced-requires-clause-order

@@ -4,7 +4,7 @@ use Rattle.lsp_text.specs.Units.{units_in}
 use Rattle.lsp_edit.specs.Batch.{meaning}
 use Rattle.lsp_edit.specs.Edited.{edit_of}
 use Rattle.lsp_edit.specs.Indexed.{text_within}
-use Rattle.lsp_edit.proofs.Deltas.OnceLemmas.{IsWithin, within_told}
+use Rattle.lsp_edit.proofs.Deltas.DeltaLemmas.{IsWithin, within_told}
 use Rattle.lsp_edit.proofs.indexed.IndexedText.left_delta.Goals as goal
 
 pub returns-clause-ok : goal.returns-clause-ok

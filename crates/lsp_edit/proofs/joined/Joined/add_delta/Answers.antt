@@ -2,7 +2,7 @@ use Rattle.std.proofs.Common.{sym, subst, ◌∙◌}
 use Rattle.lsp_edit.specs.Layers.{layer_parts}
 use Rattle.lsp_edit.specs.inside.Layers.{IsLayer}
 use Rattle.lsp_edit.proofs.Deltas.LayerLemmas.{joined_seen, left_reached, more_all, more_is, more_joined}
-use Rattle.lsp_edit.proofs.Deltas.OnceLemmas.{has_batch}
+use Rattle.lsp_edit.proofs.Deltas.DeltaLemmas.{has_batch}
 use Rattle.lsp_edit.proofs.joined.Joined.add_delta.Goals as goal
 
 pub invariant_of-self-2 : goal.invariant_of-self-2

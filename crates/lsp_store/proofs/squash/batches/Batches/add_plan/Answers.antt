@@ -1,6 +1,6 @@
 use Rattle.std.proofs.Common.{◌≡◌, ◌∙◌, List, ℕ, ap, sym, subst, string_bytes, rules, w32, to_z, of_z}
 use Rattle.std.proofs.lemmas.Int.{to_z-of_z}
-use Rattle.lsp_edit.specs.Once.{IsOn}
+use Rattle.lsp_edit.specs.Delta.{IsOn}
 use Rattle.lsp_message.specs.Params.{DocumentItem}
 use Rattle.lsp_store.proofs.SquashLemmas.{plan_after, plan_at, plan_reached}
 use Rattle.lsp_store.proofs.squash.batches.Batches.add_plan.Goals as goal

@@ -37,7 +37,8 @@ abbrev pub delta_encoding : Delta → Encoding
 delta_encoding (Put put) = put.encoding
 delta_encoding (Left encoding changes left) = encoding
 
--- The two byte offsets are those of a range's ends in that text.
+-- The two byte offsets are those of a range's ends in that text. It and the new text have at most
+-- 1 GiB each.
 pub record IsPut (units : ℕ → ℕ) (before : List ℕ) (start stop : ℕ) (new : List ℕ) : Type 0 where
   pub utf8 : IsUtf8 before
   pub size : length before ≤ 1073741824
@@ -46,7 +47,8 @@ pub record IsPut (units : ℕ → ℕ) (before : List ℕ) (start stop : ℕ) (n
   pub range : Range
   pub places : Ok (start, stop) ≡ places_at 0 (chars before) (ends_of units (chars before) range)
 
--- A batch leaves these bytes of that text.
+-- A batch leaves these bytes of that text. It has at most 1 GiB, and so have the batch's texts
+-- together.
 pub record IsLeft (units : ℕ → ℕ) (before : List ℕ) (changes : List Change) (left : List ℕ) :
     Type 0 where
   pub utf8 : IsUtf8 before

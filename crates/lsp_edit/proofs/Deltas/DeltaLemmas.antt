@@ -12,7 +12,7 @@ use Rattle.lsp_edit.specs.Indexed.{alone, bytes_left, text_within}
 use Rattle.lsp_edit.specs.laws.Batches.{AllHaveExactEnds}
 use Rattle.lsp_edit.specs.declared.delta.Delta.{Delta}
 use Rattle.lsp_edit.specs.declared.delta.Delta.TheVariants.{Put, Left}
-use Rattle.lsp_edit.specs.Once.{IsOn, IsPut, meant_by, put_items}
+use Rattle.lsp_edit.specs.Delta.{IsOn, IsPut, meant_by, put_items}
 use Rattle.lsp_text.specs.Units.{units_in}
 use Rattle.lsp_edit.specs.Parts.{AreParts, Part, items_of}
 use Rattle.lsp_edit.specs.inside.Layers.{AreSameItems, IsLayer}
