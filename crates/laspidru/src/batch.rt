@@ -16,7 +16,7 @@ use crate::codes::{
 };
 use crate::handle::Handle;
 use crate::object::Object;
-use crate::place::{Edit, Fault, Place};
+use crate::place::{Edit, FaultAt, Place};
 use lsp_edit::{Change, MAX_OLD_TEXT};
 use lsp_text::{Encoding, Position};
 use std::alloc::Global;
@@ -30,7 +30,7 @@ fn object_canonical(
     edits: &[Edit],
     texts: &[u8],
     batch: &mut Handle,
-    fault: &mut Fault,
+    fault: &mut FaultAt,
 ) -> u32
     requires checked { refused_edit edits.now texts.now ≡ None }
     requires empty { batch.old.value ≡ None }
@@ -71,7 +71,7 @@ pub extern "C" fn laspidru_document_canonical(
     edits: &[Edit],
     texts: &[u8],
     batch: &mut Handle,
-    fault: &mut Fault,
+    fault: &mut FaultAt,
 ) -> u32
     ensures answer { let text =
         unless (in_use batch.old.value) (stored_document handle.old.value) in

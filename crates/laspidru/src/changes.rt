@@ -11,7 +11,7 @@ use crate::bytes::utf8_text;
 use crate::codes::{
     BAD_LENGTH, INSIDE_CHARACTER, NOT_UTF8, OUT_OF_MEMORY, REVERSED_RANGE, TOO_LONG,
 };
-use crate::place::{Edit, Fault, Place};
+use crate::place::{Edit, FaultAt, Place};
 use lsp_edit::{Change, EditFault, MAX_NEW_TEXT, Side, TextFault};
 use lsp_text::{Encoding, Position, Range};
 use std::alloc::{AllocError, Global};
@@ -111,20 +111,20 @@ pub(crate) fn changes_of(
 
 /// Returns the code of a fault. A fault of a change is written to `out`; another leaves `out` as it
 /// is.
-pub(crate) fn report(fault: TextFault, out: &mut Fault) -> u32
+pub(crate) fn report(fault: TextFault, out: &mut FaultAt) -> u32
     ensures report { IsReport fault result out.new }
     ensures unchanged { result ≢ INSIDE_CHARACTER → result ≢ REVERSED_RANGE → out.new ≡ out.old }
 {
     match fault {
         TextFault::Edit(EditFault::InsideCharacter { change, side }) => {
-            *out = Fault {
+            *out = FaultAt {
                 change,
                 at_end: side == Side::Stop,
             };
             INSIDE_CHARACTER
         }
         TextFault::Edit(EditFault::ReversedRange { change }) => {
-            *out = Fault {
+            *out = FaultAt {
                 change,
                 at_end: false,
             };

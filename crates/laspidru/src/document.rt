@@ -18,7 +18,7 @@ use crate::codes::{
 };
 use crate::handle::Handle;
 use crate::object::Object;
-use crate::place::{Edit, Fault, Size};
+use crate::place::{Edit, FaultAt, Size};
 use lsp_edit::{IndexedText, MAX_OLD_TEXT};
 use lsp_text::Encoding;
 use std::alloc::{AllocError, Global};
@@ -85,7 +85,7 @@ fn change_object(
     encoding: Encoding,
     edits: &[Edit],
     texts: &[u8],
-    fault: &mut Fault,
+    fault: &mut FaultAt,
 ) -> u32
     requires { refused_edit edits.now texts.now ≡ None }
     ensures answer { IsAnswerOrNoMemory
@@ -125,7 +125,7 @@ pub extern "C" fn laspidru_document_change(
     encoding: u32,
     edits: &[Edit],
     texts: &[u8],
-    fault: &mut Fault,
+    fault: &mut FaultAt,
 ) -> u32
     ensures answer { IsAnswerOrNoMemory
         (batch_asked encoding edits.now texts.now (stored_document handle.old.value)) result

@@ -108,15 +108,15 @@ impl Handle {
     }
 }
 
-// The object moves to another thread with its handle.
+// SAFETY: a handle owns its object, which moves to another thread with it, and is `Send`.
 unsafe impl Send for Handle {}
 
-/// Takes what may go to another thread.
+/// Drops a value. A call compiles only if the value's type is `Send`.
 fn sent<T: Send + Drop>(value: T) {
     drop(value);
 }
 
-/// A handle may go to another thread.
+/// Drops a handle. It compiles only if a handle is `Send`: so one may go to another thread.
 pub fn handle_is_send(handle: Handle) {
     sent(handle);
 }

@@ -22,7 +22,7 @@ pub struct Edit {
 /// The change of a batch that a fault is about, counted from 0, and which end of its range.
 #[repr(C)]
 #[derive(Clone, Copy, Debug, PartialEq, Eq)]
-pub struct Fault {
+pub struct FaultAt {
     pub change: usize,
     pub at_end: bool,
 }

@@ -12,7 +12,7 @@ use crate::codes::{
     BAD_ENCODING, BAD_SERVER, ERROR_ANSWER, IGNORED, INSIDE_CHARACTER, NO_SYNC, NOT_AN_ANSWER,
     NOTED, OK, OUT_OF_MEMORY, REPLIED, REVERSED_RANGE, WRONG_PHASE,
 };
-use crate::place::Fault;
+use crate::place::FaultAt;
 use lsp_client::{ClientFault, Delivered, Phase, Reason};
 use lsp_edit::{EditFault, Side};
 use lsp_store::StoreFault;
@@ -68,7 +68,7 @@ pub(crate) fn call_code_of(fault: ClientFault) -> u32
 
 /// Returns the code of a refusal of the documents. A faulty change is written to `out`; else it
 /// stays as it is.
-pub(crate) fn report_store(fault: StoreFault, out: &mut Fault) -> u32
+pub(crate) fn report_store(fault: StoreFault, out: &mut FaultAt) -> u32
     ensures code { result ≡ store_code fault }
     ensures report { IsStoreReport fault out.new }
     ensures unchanged { result ≢ INSIDE_CHARACTER → result ≢ REVERSED_RANGE → out.new ≡ out.old }
@@ -76,14 +76,14 @@ pub(crate) fn report_store(fault: StoreFault, out: &mut Fault) -> u32
     let code = store_code_of(fault);
     match fault {
         StoreFault::Edit(EditFault::InsideCharacter { change, side }) => {
-            *out = Fault {
+            *out = FaultAt {
                 change,
                 at_end: side == Side::Stop,
             };
             code
         }
         StoreFault::Edit(EditFault::ReversedRange { change }) => {
-            *out = Fault {
+            *out = FaultAt {
                 change,
                 at_end: false,
             };
@@ -94,7 +94,7 @@ pub(crate) fn report_store(fault: StoreFault, out: &mut Fault) -> u32
 }
 
 /// Returns the code of a refused call. A faulty change is written to `out`; else it stays as it is.
-pub(crate) fn report_call(fault: ClientFault, out: &mut Fault) -> u32
+pub(crate) fn report_call(fault: ClientFault, out: &mut FaultAt) -> u32
     ensures code { result ≡ call_code fault }
     ensures report { IsCallReport fault out.new }
     ensures unchanged { result ≢ INSIDE_CHARACTER → result ≢ REVERSED_RANGE → out.new ≡ out.old }
