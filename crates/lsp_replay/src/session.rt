@@ -124,7 +124,7 @@ impl Session {
         self.messages
     }
 
-    /// Returns how many of them were refused.
+    /// Returns how many of the handled bodies were refused.
     pub fn refusals(&self) -> u64
         ensures { result ≡ self.now.refusals }
     {
