@@ -16,7 +16,7 @@ pub record LogRules : Type 0 where
   pub max_body : ℕ
   -- is version 2 recognised?
   pub versions : Bool
-  -- is it refused then?
+  -- is a log of version 2 refused, if it is recognised?
   pub refuses_two : Bool
 
 -- The line that a log of version 2 begins with.

@@ -33,9 +33,9 @@ const PIECE: usize = 65_536;
 #[derive(Clone, Copy)]
 pub struct InputRules {
     pub limits: Limits,
-    /// Whether the line of version 2 is recognised.
+    /// Whether a log of version 2 is recognised.
     pub versions: bool,
-    /// Whether a log of version 2 is refused.
+    /// Whether a log of version 2 is refused, if it is recognised.
     pub refuses_two: bool,
 }
 

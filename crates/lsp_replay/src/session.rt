@@ -144,7 +144,7 @@ impl Session {
     }
 
     /// Judges a record: hands a client's to the server, and reads the encoding in a server's. Fails
-    /// only when out of memory.
+    /// only where memory runs out.
     pub fn judge(&mut self, head: Head, body: &[u8]) -> Result<Verdict, AllocError>
         ensures verdict { IfOk result
             (λ v. verdict_view v ≡ (judge_at self.old head body.now).verdict) }

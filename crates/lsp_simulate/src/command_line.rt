@@ -14,8 +14,11 @@ use std::alloc::{AllocError, Global};
 /// The set-up of both ends.
 #[derive(Clone, Copy, Debug, PartialEq, Eq)]
 pub struct Setting {
+    /// The client's limits.
     pub limits: Limits,
+    /// The encodings that the client offers beside UTF-16.
     pub offers: Offers,
+    /// How the server is set up.
     pub config: Config,
 }
 
