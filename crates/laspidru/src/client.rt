@@ -59,8 +59,7 @@ pub extern "C" fn laspidru_client_new(
         (λ editor. (result ≡ OK) × (handle.new.value ≡ Some (ClientOf editor))) }
     ensures unchanged { result ≢ OK → handle.new.value ≡ handle.old.value }
 {
-    if let Some(stored) = handle.take(alloc) {
-        handle.put(stored);
+    if handle.is_full(alloc) {
         return IN_USE;
     }
     let editor = match editor_of(alloc, settings) {

@@ -55,8 +55,7 @@ pub extern "C" fn laspidru_document_open(alloc: Global, handle: &mut Handle, tex
         (λ text. (result ≡ OK) × (handle.new.value ≡ Some (Document text))) }
     ensures unchanged { result ≢ OK → handle.new.value ≡ handle.old.value }
 {
-    if let Some(stored) = handle.take(alloc) {
-        handle.put(stored);
+    if handle.is_full(alloc) {
         return IN_USE;
     }
     let text = match text_of(text) {

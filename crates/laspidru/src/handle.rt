@@ -99,6 +99,18 @@ impl Handle {
         }
     }
 
+    /// Returns whether it has an object.
+    pub(crate) fn is_full(&mut self, alloc: Global) -> bool
+        ensures full { result ≡ is_some self.old.value }
+        ensures unchanged { self.new.value ≡ self.old.value }
+    {
+        let Some(object) = self.take(alloc) else {
+            return false;
+        };
+        self.put(object);
+        true
+    }
+
     /// Puts an object into an empty handle.
     pub(crate) fn put(&mut self, object: Box<Object>)
         requires { self.old.value ≡ None }

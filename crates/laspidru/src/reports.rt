@@ -8,13 +8,13 @@ ghost use Rattle.laspidru.specs.Clients.{phase_number, phase_reason, reason_numb
 ghost use Rattle.laspidru.specs.inside.Clients.{IsCallReport, call_code};
 
 use crate::answers::{Answer, plain, store_code_of};
+use crate::changes::report_change;
 use crate::codes::{
     BAD_ENCODING, BAD_SERVER, ERROR_ANSWER, IGNORED, INSIDE_CHARACTER, NO_SYNC, NOT_AN_ANSWER,
     NOTED, OK, OUT_OF_MEMORY, REPLIED, REVERSED_RANGE, WRONG_PHASE,
 };
 use crate::place::FaultAt;
 use lsp_client::{ClientFault, Delivered, Phase, Reason};
-use lsp_edit::{EditFault, Side};
 use lsp_store::StoreFault;
 use lsp_text::Encoding;
 use std::alloc::Global;
@@ -73,23 +73,9 @@ pub(crate) fn report_store(fault: StoreFault, out: &mut FaultAt) -> u32
     ensures report { IsStoreReport fault out.new }
     ensures unchanged { result ≢ INSIDE_CHARACTER → result ≢ REVERSED_RANGE → out.new ≡ out.old }
 {
-    let code = store_code_of(fault);
     match fault {
-        StoreFault::Edit(EditFault::InsideCharacter { change, side }) => {
-            *out = FaultAt {
-                change,
-                at_end: side == Side::Stop,
-            };
-            code
-        }
-        StoreFault::Edit(EditFault::ReversedRange { change }) => {
-            *out = FaultAt {
-                change,
-                at_end: false,
-            };
-            code
-        }
-        _ => code,
+        StoreFault::Edit(fault) => report_change(fault, out),
+        _ => store_code_of(fault),
     }
 }
 

@@ -39,8 +39,7 @@ pub extern "C" fn laspidru_server_new(
         (result ≡ OK) × (handle.new.value ≡ Some (ServerOf (session_of config)))) }
     ensures unchanged { result ≢ OK → handle.new.value ≡ handle.old.value }
 {
-    if let Some(stored) = handle.take(alloc) {
-        handle.put(stored);
+    if handle.is_full(alloc) {
         return IN_USE;
     }
     let config = match config_of(settings) {

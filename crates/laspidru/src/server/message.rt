@@ -109,8 +109,7 @@ pub extern "C" fn laspidru_server_canonical_message(
     if let Some(code) = refusal_of(edits, texts) {
         return code;
     }
-    if let Some(stored) = output.take(alloc) {
-        output.put(stored);
+    if output.is_full(alloc) {
         return IN_USE;
     }
     let Some(object) = handle.take(alloc) else {
