@@ -159,13 +159,13 @@ typedef struct laspidru_settings {
 /* The defaults, also those of lspsync: set the members that are to differ. */
 #define LASPIDRU_SETTINGS_DEFAULT {16777216, 16777216, 1024, 65536, LASPIDRU_UTF16, 0, 0, 0}
 
-/* What a server answers to a message. A member that isn't of its kind is 0. */
+/* What became of a message: a server's answer, or what a client did. A member that isn't of the kind is 0. */
 typedef struct laspidru_answer {
-    laspidru_u32 kind;       /* LASPIDRU_REPLIED .. LASPIDRU_EXITED */
-    laspidru_u32 reason;     /* REFUSED: the code that says why */
+    laspidru_u32 kind;       /* LASPIDRU_REPLIED .. LASPIDRU_EXITED; of a client REPLIED, IGNORED, NOTED or BAD_SERVER */
+    laspidru_u32 reason;     /* REFUSED, BAD_SERVER: the code that says why */
     laspidru_u32 status;     /* EXITED: 0 after shutdown, else 1 */
     laspidru_i32 error;      /* REPLIED: the number of an error reply (LSP 3.17, ErrorCodes), 0 of a result */
-    laspidru_size reply_len; /* REPLIED: how many bytes laspidru_server_reply copies */
+    laspidru_size reply_len; /* REPLIED: how many bytes laspidru_server_reply, or laspidru_client_frame, copies */
 } laspidru_answer;
 
 /* What was taken of a piece of a stream, or where the stream is faulty. A member that isn't of the code is 0. */

@@ -10,7 +10,7 @@ use Rattle.laspidru.specs.declared.answers.Answer.{Answer}
 use Rattle.laspidru.specs.declared.codes.TheConstants.{OK}
 use Rattle.laspidru.specs.declared.object.Object.{Object}
 use Rattle.laspidru.specs.declared.object.Object.TheVariants.{Client}
-use Rattle.laspidru.specs.declared.place.Fault.{Fault}
+use Rattle.laspidru.specs.declared.place.FaultAt.{FaultAt}
 use Rattle.laspidru.specs.Streams.{StreamData}
 use Rattle.laspidru.specs.inside.Clients.{IsCallReport, call_code}
 use Rattle.laspidru.specs.Clients.{IsCalled, IsDeliveredTo, IsRefusedCall, IsTakenIn, IsWritten, delivered_out, sent_frame}
@@ -52,7 +52,7 @@ call_refused stream (Ok sending) fault code len stored why is = inl (is ∙ ap c
 call_refused stream (Err refusal) fault code len stored why is = code_is refusal fault code why is
 
 -- What its report writes is of the refusal.
-pub report_written : (r : Result Sending ClientFault) (fault : ClientFault) (code : ℕ) (out : Fault)
+pub report_written : (r : Result Sending ClientFault) (fault : ClientFault) (code : ℕ) (out : FaultAt)
     → IsFaultOf r fault → code ≡ call_code fault → IsCallReport fault out → IsWritten r code out
 report_written (Ok sending) fault code out why is written = tt
 report_written (Err (client.WrongPhase phase)) fault code out why is written = tt
@@ -62,7 +62,7 @@ report_written (Err (client.Store refusal)) fault code out (inr why) is written 
 report_written (Err client.NoMemory) fault code out why is written = tt
 
 -- An accepted call writes no fault.
-pub none_written : (r : Result Sending ClientFault) (bytes : List ℕ) (new : ClientData) (code : ℕ) (out : Fault)
+pub none_written : (r : Result Sending ClientFault) (bytes : List ℕ) (new : ClientData) (code : ℕ) (out : FaultAt)
     → IsSent r bytes new → IsWritten r code out
 none_written (Ok sending) bytes new code out sent = tt
 none_written (Err refusal) bytes new code out sent = absurd sent

@@ -13,10 +13,10 @@ use Rattle.laspidru.specs.declared.object.Object.TheVariants.{Server, Client}
 use Rattle.laspidru.specs.declared.taken.Taken.{Taken}
 use Rattle.laspidru.specs.Clients.{IsTakenIn, as_client}
 use Rattle.laspidru.specs.Codes.{IsRefusedOr, OnRefused, unless}
-use Rattle.laspidru.specs.Editors.{EditorData}
+use Rattle.laspidru.specs.HeldClients.{HeldClientData}
 use Rattle.laspidru.specs.Framers.{HasNoBody, IsBodyOf, IsFedTo}
 use Rattle.laspidru.specs.Servers.{answer_out, as_server, ended, live_asked, reply_out, step_at}
-use Rattle.laspidru.specs.Sessions.{SessionData}
+use Rattle.laspidru.specs.HeldServers.{HeldServerData}
 use Rattle.laspidru.specs.Streams.{StreamData}
 use Rattle.laspidru.specs.Taking.{IsHeard, IsServed, as_handled, listening_asked}
 
@@ -28,14 +28,14 @@ fed_well old new piece code taken is fed = subst (λ c. IsFedTo old piece c new 
 -- ---- a server
 
 -- There is a fault, and no byte was taken.
-pub not_served : (old new : SessionData) (piece : List ℕ) (code : ℕ) (taken : Taken) (before after : Answer)
+pub not_served : (old new : HeldServerData) (piece : List ℕ) (code : ℕ) (taken : Taken) (before after : Answer)
     → IsFedTo old.stream piece code new.stream taken → code ≢ OK
     → new ≡ record old { stream = new.stream } → after ≡ before → IsServed old piece code new taken before after
 not_served old new piece code taken before after fed bad rest same =
     inl (rest, record { took = inl (record { fed = fed; none = λ is. absurd (bad is) }); answer = same })
 
 -- No message is whole.
-pub none_served : (old new : SessionData) (piece : List ℕ) (code : ℕ) (taken : Taken) (before after : Answer)
+pub none_served : (old new : HeldServerData) (piece : List ℕ) (code : ℕ) (taken : Taken) (before after : Answer)
     → IsFedTo old.stream piece code new.stream taken → code ≡ OK → HasNoBody new.stream.framing
     → new ≡ record old { stream = new.stream } → after ≡ before → IsServed old piece OK new taken before after
 none_served old new piece code taken before after fed is no_body rest same =
@@ -48,7 +48,7 @@ none_served old new piece code taken before after fed is no_body rest same =
     )
 
 -- A message is whole, and out of memory.
-pub waits : (old new : SessionData) (piece body : List ℕ) (code : ℕ) (taken : Taken) (before after : Answer)
+pub waits : (old new : HeldServerData) (piece body : List ℕ) (code : ℕ) (taken : Taken) (before after : Answer)
     → IsFedTo old.stream piece code new.stream taken → code ≡ OK → IsBodyOf new.stream.framing body
     → new ≡ record old {
       stream = new.stream;
@@ -63,7 +63,7 @@ waits old new piece body code taken before after fed is whole rest same =
     )
 
 -- A message is whole, and was handled.
-pub one_served : (old new : SessionData) (stream : StreamData) (piece body reply : List ℕ) (code : ℕ) (taken : Taken)
+pub one_served : (old new : HeldServerData) (stream : StreamData) (piece body reply : List ℕ) (code : ℕ) (taken : Taken)
     (before after : Answer) (after_it : server.ServerData) (given : AnswerData Sent)
     → IsFedTo old.stream piece code stream taken → code ≡ OK → IsBodyOf stream.framing body
     → given ≡ as_sent (step_at old body).answer → after_it ≡ (step_at old body).state → reply ≡ reply_out given
@@ -77,7 +77,7 @@ one_served old new stream piece body reply code taken before after after_it give
       message = record { fed = fed_well old.stream stream piece code taken is fed; is = whole };
       handled = record {
         done = refl;
-        server = ap (λ (s : SessionData). Some (Server s)) held ∙ (λ i. Some (Server (record {
+        server = ap (λ (s : HeldServerData). Some (Server s)) held ∙ (λ i. Some (Server (record {
           server = moved i;
           reply = (replied ∙ ap reply_out answered) i;
           stream = as_handled stream;
@@ -94,7 +94,7 @@ live Down other = refl
 live Ended other = absurd (other refl)
 
 -- The server of an object takes a piece.
-pub served_in : (object stored : Object) (session new : SessionData) (piece : List ℕ) (code : ℕ) (taken : Taken)
+pub served_in : (object stored : Object) (session new : HeldServerData) (piece : List ℕ) (code : ℕ) (taken : Taken)
     (before after : Answer)
     → object ≡ Server session → session.server.phase ≢ Ended → stored ≡ Server new
     → IsServed session piece code new taken before after
@@ -110,7 +110,7 @@ served_in object stored session new piece code taken before after is other left 
     served))
 
 -- It isn't refused.
-pub served_unrefused : (object : Object) (session : SessionData) (Fact : Type 0) → object ≡ Server session
+pub served_unrefused : (object : Object) (session : HeldServerData) (Fact : Type 0) → object ≡ Server session
     → session.server.phase ≢ Ended → OnRefused (live_asked (as_server object)) Fact
 served_unrefused object session Fact is other =
     subst (λ (o : Object). OnRefused (live_asked (as_server o)) Fact) (sym is)
@@ -119,14 +119,14 @@ served_unrefused object session Fact is other =
 -- ---- a client
 
 -- There is a fault, and no byte was taken.
-pub not_heard : (old new : EditorData) (piece : List ℕ) (code : ℕ) (taken : Taken) (before after : Answer)
+pub not_heard : (old new : HeldClientData) (piece : List ℕ) (code : ℕ) (taken : Taken) (before after : Answer)
     → IsFedTo old.stream piece code new.stream taken → code ≢ OK
     → new ≡ record old { stream = new.stream } → after ≡ before → IsHeard old piece code new taken before after
 not_heard old new piece code taken before after fed bad rest same =
     inl (rest, record { took = inl (record { fed = fed; none = λ is. absurd (bad is) }); answer = same })
 
 -- No message is whole.
-pub none_heard : (old new : EditorData) (piece : List ℕ) (code : ℕ) (taken : Taken) (before after : Answer)
+pub none_heard : (old new : HeldClientData) (piece : List ℕ) (code : ℕ) (taken : Taken) (before after : Answer)
     → IsFedTo old.stream piece code new.stream taken → code ≡ OK → HasNoBody new.stream.framing
     → new ≡ record old { stream = new.stream } → after ≡ before → IsHeard old piece OK new taken before after
 none_heard old new piece code taken before after fed is no_body rest same =
@@ -139,7 +139,7 @@ none_heard old new piece code taken before after fed is no_body rest same =
     )
 
 -- A message is whole, and out of memory.
-pub unheard : (old new : EditorData) (piece body : List ℕ) (code : ℕ) (taken : Taken) (before after : Answer)
+pub unheard : (old new : HeldClientData) (piece body : List ℕ) (code : ℕ) (taken : Taken) (before after : Answer)
     → IsFedTo old.stream piece code new.stream taken → code ≡ OK → IsBodyOf new.stream.framing body
     → new ≡ record old { stream = new.stream } → after ≡ before → IsHeard old piece OUT_OF_MEMORY new taken before after
 unheard old new piece body code taken before after fed is whole rest same =
@@ -152,7 +152,7 @@ unheard old new piece body code taken before after fed is whole rest same =
     )
 
 -- A message is whole, and was handled.
-pub one_heard : (old new : EditorData) (stream : StreamData) (piece body : List ℕ) (code : ℕ) (taken : Taken)
+pub one_heard : (old new : HeldClientData) (stream : StreamData) (piece body : List ℕ) (code : ℕ) (taken : Taken)
     (before after : Answer)
     → IsFedTo old.stream piece code stream taken → code ≡ OK → IsBodyOf stream.framing body
     → IsTakenIn (as_handled stream) (delivery_of old.client (reading body)) OK (Some (Client new)) after
@@ -166,7 +166,7 @@ one_heard old new stream piece body code taken before after fed is whole deliver
     })
 
 -- The client of an object takes a piece.
-pub heard_in : (object stored : Object) (editor new : EditorData) (piece : List ℕ) (code : ℕ) (taken : Taken)
+pub heard_in : (object stored : Object) (editor new : HeldClientData) (piece : List ℕ) (code : ℕ) (taken : Taken)
     (before after : Answer)
     → object ≡ Client editor → is_listening editor.client.phase ≡ true → stored ≡ Client new
     → IsHeard editor piece code new taken before after
@@ -182,7 +182,7 @@ heard_in object stored editor new piece code taken before after is listens left 
     heard))
 
 -- It isn't refused.
-pub heard_unrefused : (object : Object) (editor : EditorData) (Fact : Type 0) → object ≡ Client editor
+pub heard_unrefused : (object : Object) (editor : HeldClientData) (Fact : Type 0) → object ≡ Client editor
     → is_listening editor.client.phase ≡ true → OnRefused (listening_asked (as_client object)) Fact
 heard_unrefused object editor Fact is listens =
     subst (λ (o : Object). OnRefused (listening_asked (as_client o)) Fact) (sym is)

@@ -6,14 +6,14 @@ use Rattle.lsp_store.specs.Faults.{IsRefusal, refusal_fault}
 use Rattle.lsp_store.specs.Table.{Refusal}
 use Rattle.laspidru.specs.declared.codes.TheConstants.{OUT_OF_MEMORY}
 use Rattle.laspidru.specs.declared.object.Object.{Object}
-use Rattle.laspidru.specs.declared.place.Fault.{Fault}
+use Rattle.laspidru.specs.declared.place.FaultAt.{FaultAt}
 use Rattle.laspidru.specs.Clients.{IsStoreReport}
 use Rattle.laspidru.specs.Messages.{IsMessageLeft, frame_unless}
 use Rattle.laspidru.specs.Servers.{store_code}
 
 -- It is refused by this fault, or out of memory.
 pub message_refused : (refusal : Option Refusal) (frame : List ℕ) (fault : StoreFault) (code len : ℕ)
-    (stored : Option Object) (out : Fault)
+    (stored : Option Object) (out : FaultAt)
     → IsRefusal refusal fault → code ≡ store_code fault → IsStoreReport fault out
     → (code ≡ OUT_OF_MEMORY) ⊎ IsMessageLeft (frame_unless refusal frame) code stored len out
 message_refused refusal frame fault code len stored out (inl none) is written = inl (is ∙ ap store_code none)

@@ -24,7 +24,7 @@ use Rattle.laspidru.specs.declared.object.Object.{Object}
 use Rattle.laspidru.specs.declared.object.Object.TheVariants.{Document}
 use Rattle.laspidru.specs.declared.place.Place.{Place}
 use Rattle.laspidru.specs.declared.place.Edit.{Edit}
-use Rattle.laspidru.specs.declared.place.Fault.{Fault}
+use Rattle.laspidru.specs.declared.place.FaultAt.{FaultAt}
 use Rattle.laspidru.specs.Codes.{and_then, unless}
 use Rattle.laspidru.specs.Objects.{IsCopy, encoding_at, position_at, stored_batch}
 
@@ -86,7 +86,7 @@ side_at false = Start
 
 -- A fault is reported by its code. If it is one of a change, `out` has the number of the change and
 -- the end of its range.
-abbrev pub IsReport : TextFault → ℕ → Fault → Type 0
+abbrev pub IsReport : TextFault → ℕ → FaultAt → Type 0
 IsReport (EditOf (edit.InsideCharacter change side)) code out =
     (code ≡ INSIDE_CHARACTER) × (out.change ≡ change) × (side_at out.at_end ≡ side)
 IsReport (EditOf (edit.ReversedRange change)) code out =
@@ -96,7 +96,7 @@ IsReport TooLong code out = code ≡ TOO_LONG
 IsReport NoMemory code out = code ≡ OUT_OF_MEMORY
 
 -- The handle has the text after the batch, or the fault is reported.
-abbrev pub IsTextLeft : Result (List ℕ) TextFault → ℕ → Option Object → Fault → Type 0
+abbrev pub IsTextLeft : Result (List ℕ) TextFault → ℕ → Option Object → FaultAt → Type 0
 IsTextLeft (Ok text) code stored out = (code ≡ OK) × (stored ≡ Some (Document text))
 IsTextLeft (Err fault) code stored out = IsReport fault code out
 
@@ -108,7 +108,7 @@ pub record IsBatchOf (asked : Asked) (changes : List Change) : Type 0 where
   pub is : map edit_of changes ≡ canonical (units_in asked.encoding) (chars asked.text) items
 
 -- The handle has the canonical batch if there is a text after the batch, or the fault is reported.
-abbrev pub IsCanonicalIf : Result (List ℕ) TextFault → Asked → ℕ → Option Object → Fault → Type 0
+abbrev pub IsCanonicalIf : Result (List ℕ) TextFault → Asked → ℕ → Option Object → FaultAt → Type 0
 IsCanonicalIf (Ok text) asked code stored out =
     (code ≡ OK) × IsOkAnd (stored_batch stored) (IsBatchOf asked)
 IsCanonicalIf (Err fault) asked code stored out = IsReport fault code out

@@ -28,10 +28,10 @@ use Rattle.laspidru.specs.declared.codes.TheConstants.{BAD_ENCODING, BAD_SERVER,
 use Rattle.laspidru.specs.declared.object.Object.{Object}
 use Rattle.laspidru.specs.declared.object.Object.TheVariants.{Client}
 use Rattle.laspidru.specs.declared.place.Edit.{Edit}
-use Rattle.laspidru.specs.declared.place.Fault.{Fault}
+use Rattle.laspidru.specs.declared.place.FaultAt.{FaultAt}
 use Rattle.laspidru.specs.Codes.{and_then}
 use Rattle.laspidru.specs.Batches.{edits_of, side_at}
-use Rattle.laspidru.specs.Editors.{EditorData}
+use Rattle.laspidru.specs.HeldClients.{HeldClientData}
 use Rattle.laspidru.specs.Servers.{limits_asked, plain_out, store_code, uri_asked}
 use Rattle.laspidru.specs.Streams.{StreamData, stream_of}
 
@@ -48,7 +48,7 @@ client_bounds settings = record {
 }
 
 -- A client at the start of a session, if each limit is in its range. It has sent nothing.
-abbrev pub client_asked : ClientSettings → Result EditorData ℕ
+abbrev pub client_asked : ClientSettings → Result HeldClientData ℕ
 client_asked settings = and_then (limits_asked (client_bounds settings)) (λ limits. Ok (record {
   client = new_client limits (record { utf8 = settings.utf8; utf32 = settings.utf32 });
   frame = [];
@@ -56,12 +56,12 @@ client_asked settings = and_then (limits_asked (client_bounds settings)) (λ lim
 }))
 
 -- The client of an object, with its last frame.
-abbrev pub as_client : Object → Result EditorData ℕ
+abbrev pub as_client : Object → Result HeldClientData ℕ
 as_client (Client editor) = Ok editor
 as_client other = Err OTHER_KIND
 
 -- The client in a handle.
-abbrev pub stored_client : Option Object → Result EditorData ℕ
+abbrev pub stored_client : Option Object → Result HeldClientData ℕ
 stored_client (Some object) = as_client object
 stored_client None = Err EMPTY
 
@@ -83,7 +83,7 @@ abbrev pub edit_asked : List ℕ → ℤ → List Edit → List ℕ → Order
 edit_asked uri version batch texts = edits uri version (edits_of batch texts)
 
 -- A faulty change is written, with the end of its range.
-abbrev pub IsStoreReport : StoreFault → Fault → Type 0
+abbrev pub IsStoreReport : StoreFault → FaultAt → Type 0
 IsStoreReport (faults.Edit (edit.InsideCharacter change side)) out =
     (out.change ≡ change) × (side_at out.at_end ≡ side)
 IsStoreReport (faults.Edit (edit.ReversedRange change)) out =
@@ -114,7 +114,7 @@ IsCalled stream (Ok sending) code stored len =
 IsCalled stream (Err refusal) code stored len = IsRefusedCall refusal code
 
 -- What a refusal writes of a faulty change.
-abbrev pub IsWritten : Result Sending ClientFault → ℕ → Fault → Type 0
+abbrev pub IsWritten : Result Sending ClientFault → ℕ → FaultAt → Type 0
 IsWritten (Err (client.Store fault)) code out =
     (code ≡ OUT_OF_MEMORY) ⊎ IsStoreReport fault out
 IsWritten result code out = Unit {0}
@@ -197,7 +197,7 @@ encoding_number (Some Utf16) = 16
 encoding_number (Some Utf32) = 32
 
 -- The state of a client.
-pub record IsState (out : ClientState) (editor : EditorData) : Type 0 where
+pub record IsState (out : ClientState) (editor : HeldClientData) : Type 0 where
   pub phase : out.phase ≡ phase_number editor.client.phase
   pub reason : out.reason ≡ phase_reason editor.client.phase
   pub encoding : out.encoding
@@ -205,14 +205,14 @@ pub record IsState (out : ClientState) (editor : EditorData) : Type 0 where
   pub documents : out.documents ≡ length editor.client.table
 
 -- The last frame of a client.
-abbrev pub frame_asked : Result EditorData ℕ → Result (List ℕ) ℕ
+abbrev pub frame_asked : Result HeldClientData ℕ → Result (List ℕ) ℕ
 frame_asked client = and_then client (λ editor. Ok editor.frame)
 
 -- The open document of a URI.
-abbrev pub document_at : List ℕ → EditorData → Result DocumentItem ℕ
+abbrev pub document_at : List ℕ → HeldClientData → Result DocumentItem ℕ
 document_at uri editor = ok_or (entry_at editor.client.table uri) NOT_OPEN
 
 -- The same, with the codes of the URI and of the handle before it.
-abbrev pub document_asked : List ℕ → Result EditorData ℕ → Result DocumentItem ℕ
+abbrev pub document_asked : List ℕ → Result HeldClientData ℕ → Result DocumentItem ℕ
 document_asked uri client =
     and_then (uri_asked uri) (λ named. and_then client (λ editor. document_at named editor))

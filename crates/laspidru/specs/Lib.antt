@@ -1,6 +1,6 @@
 pub mod Streams
-pub mod Sessions
-pub mod Editors
+pub mod HeldServers
+pub mod HeldClients
 pub mod Codes
 pub mod Objects
 pub mod Batches

@@ -9,7 +9,7 @@ use Rattle.lsp_store.specs.Table.{Refusal}
 use Rattle.laspidru.specs.declared.codes.TheConstants.{OK}
 use Rattle.laspidru.specs.declared.object.Object.{Object}
 use Rattle.laspidru.specs.declared.place.Edit.{Edit}
-use Rattle.laspidru.specs.declared.place.Fault.{Fault}
+use Rattle.laspidru.specs.declared.place.FaultAt.{FaultAt}
 use Rattle.laspidru.specs.Batches.{edits_of, refused_edit}
 use Rattle.laspidru.specs.Clients.{IsStoreReport}
 use Rattle.laspidru.specs.Codes.{and_then, unless}
@@ -17,24 +17,24 @@ use Rattle.laspidru.specs.Edits.{EditsAsked, edits_asked}
 use Rattle.laspidru.specs.Logs.{stored_output}
 use Rattle.laspidru.specs.Objects.{encoding_at}
 use Rattle.laspidru.specs.Servers.{entry_in, entry_text, store_code, uri_asked}
-use Rattle.laspidru.specs.Sessions.{SessionData}
+use Rattle.laspidru.specs.HeldServers.{HeldServerData}
 
 -- Text edits as C passes them, on the open document of a URI.
-abbrev pub edits_named : List ℕ → ℕ → List Edit → List ℕ → Result SessionData ℕ →
+abbrev pub edits_named : List ℕ → ℕ → List Edit → List ℕ → Result HeldServerData ℕ →
     Result EditsAsked ℕ
 edits_named uri number edits texts server = and_then (uri_asked uri) (λ named.
     edits_asked number edits texts (entry_text (and_then server (entry_in named))))
 
 -- A batch on the open document of a URI, under a version.
 pub record MessageAsked : Type 0 where
-  pub session : SessionData
+  pub session : HeldServerData
   pub uri : List ℕ
   pub version : ℤ
   pub encoding : Encoding
   pub edits : List batch.Edit
 
 -- The same as C passes it, or the code of its refusal.
-abbrev pub message_asked : List ℕ → ℤ → ℕ → List Edit → List ℕ → Result SessionData ℕ →
+abbrev pub message_asked : List ℕ → ℤ → ℕ → List Edit → List ℕ → Result HeldServerData ℕ →
     Result MessageAsked ℕ
 message_asked uri version number edits texts server = and_then (uri_asked uri) (λ named.
     and_then (encoding_at number) (λ encoding. unless (refused_edit edits texts) (
@@ -61,7 +61,7 @@ canonical_message_of asked =
     (canonical_frame units server.table asked.uri asked.version asked.edits)
 
 -- The handle has the frame, or its refusal is reported.
-abbrev pub IsMessageLeft : Result (List ℕ) Refusal → ℕ → Option Object → ℕ → Fault → Type 0
+abbrev pub IsMessageLeft : Result (List ℕ) Refusal → ℕ → Option Object → ℕ → FaultAt → Type 0
 IsMessageLeft (Ok frame) code stored len out =
     (code ≡ OK) × (stored_output stored ≡ Ok frame) × (len ≡ length frame)
 IsMessageLeft (Err refusal) code stored len out =

@@ -31,7 +31,7 @@ use Rattle.laspidru.specs.declared.object.Object.{Object}
 use Rattle.laspidru.specs.declared.object.Object.TheVariants.{Server}
 use Rattle.laspidru.specs.Codes.{and_then, unless}
 use Rattle.laspidru.specs.Objects.{encoding_at}
-use Rattle.laspidru.specs.Sessions.{SessionData}
+use Rattle.laspidru.specs.HeldServers.{HeldServerData}
 use Rattle.laspidru.specs.Streams.{stream_of}
 
 -- ---- how a server is set up
@@ -119,12 +119,12 @@ reply_out other = []
 -- ---- what is asked of a server
 
 -- The server of an object, with its last reply.
-abbrev pub as_server : Object → Result SessionData ℕ
+abbrev pub as_server : Object → Result HeldServerData ℕ
 as_server (Server session) = Ok session
 as_server other = Err OTHER_KIND
 
 -- The server in a handle.
-abbrev pub stored_server : Option Object → Result SessionData ℕ
+abbrev pub stored_server : Option Object → Result HeldServerData ℕ
 stored_server (Some object) = as_server object
 stored_server None = Err EMPTY
 
@@ -134,21 +134,21 @@ ended Ended = Some ENDED
 ended other = None
 
 -- The server of a session that hasn't ended.
-abbrev pub live_asked : Result SessionData ℕ → Result SessionData ℕ
+abbrev pub live_asked : Result HeldServerData ℕ → Result HeldServerData ℕ
 live_asked server =
     and_then server (λ session. unless (ended session.server.phase) (Ok session))
 
 -- The step of a server at a message.
-abbrev pub step_at : SessionData → List ℕ → Step
+abbrev pub step_at : HeldServerData → List ℕ → Step
 step_at session body = step session.server (reading body)
 
 -- A session after a step of its server, with the reply.
-abbrev pub after_step : SessionData → Step → SessionData
+abbrev pub after_step : HeldServerData → Step → HeldServerData
 after_step session it =
     record session { server = it.state; reply = reply_out (as_sent it.answer) }
 
 -- The handle has the session after the message, and C gets its answer.
-pub record IsHandled (session : SessionData) (body : List ℕ) (code : ℕ) (stored : Option Object)
+pub record IsHandled (session : HeldServerData) (body : List ℕ) (code : ℕ) (stored : Option Object)
     (out : Answer) : Type 0 where
   pub done : code ≡ OK
   pub server : stored ≡ Some (Server (after_step session (step_at session body)))
@@ -159,11 +159,11 @@ abbrev pub uri_asked : List ℕ → Result (List ℕ) ℕ
 uri_asked uri = if is_utf8 uri then Ok uri else Err NOT_UTF8
 
 -- The open document of a URI.
-abbrev pub entry_in : List ℕ → SessionData → Result DocumentItem ℕ
+abbrev pub entry_in : List ℕ → HeldServerData → Result DocumentItem ℕ
 entry_in uri session = ok_or (entry_at session.server.table uri) NOT_OPEN
 
 -- The same, with the codes of the URI and of the handle before it.
-abbrev pub entry_asked : List ℕ → Result SessionData ℕ → Result DocumentItem ℕ
+abbrev pub entry_asked : List ℕ → Result HeldServerData ℕ → Result DocumentItem ℕ
 entry_asked uri server =
     and_then (uri_asked uri) (λ named. and_then server (λ session. entry_in named session))
 
@@ -172,7 +172,7 @@ abbrev pub entry_text : Result DocumentItem ℕ → Result (List ℕ) ℕ
 entry_text document = and_then document (λ entry. Ok entry.text)
 
 -- The last reply of a server.
-abbrev pub reply_asked : Result SessionData ℕ → Result (List ℕ) ℕ
+abbrev pub reply_asked : Result HeldServerData ℕ → Result (List ℕ) ℕ
 reply_asked server = and_then server (λ session. Ok session.reply)
 
 -- The version of a document, and how many bytes its text has.
@@ -181,6 +181,6 @@ pub record IsOpened (out : Opened) (entry : DocumentItem) : Type 0 where
   pub bytes : out.bytes ≡ length entry.text
 
 -- A new server, which has replied nothing.
-abbrev pub session_of : Config → SessionData
+abbrev pub session_of : Config → HeldServerData
 session_of config =
     record { server = new_server config; reply = []; stream = stream_of config.limits }

@@ -8,10 +8,10 @@ use Rattle.laspidru.specs.declared.object.Object.TheVariants.{Server, Client}
 use Rattle.laspidru.specs.declared.taken.Taken.{Taken}
 use Rattle.laspidru.specs.Clients.{IsTakenIn}
 use Rattle.laspidru.specs.Codes.{and_then}
-use Rattle.laspidru.specs.Editors.{EditorData}
+use Rattle.laspidru.specs.HeldClients.{HeldClientData}
 use Rattle.laspidru.specs.Framers.{HasNoBody, IsBodyOf, IsFedTo}
 use Rattle.laspidru.specs.Servers.{IsHandled}
-use Rattle.laspidru.specs.Sessions.{SessionData}
+use Rattle.laspidru.specs.HeldServers.{HeldServerData}
 use Rattle.laspidru.specs.Streams.{StreamData}
 
 -- A piece was fed, and no message is whole; or there is a fault.
@@ -44,7 +44,7 @@ as_handled stream = record stream { is_handled = true }
 -- ---- a server
 
 -- A message is whole, and was handled.
-pub record IsOneServed (old : SessionData) (piece : List ℕ) (code : ℕ) (new : SessionData)
+pub record IsOneServed (old : HeldServerData) (piece : List ℕ) (code : ℕ) (new : HeldServerData)
     (taken : Taken) (after : Answer) : Type 0 where
   pub stream : StreamData
   pub body : List ℕ
@@ -53,7 +53,7 @@ pub record IsOneServed (old : SessionData) (piece : List ℕ) (code : ℕ) (new 
       after
 
 -- A server took a piece. Of the session only the stream changed, or a message was handled.
-abbrev pub IsServed : SessionData → List ℕ → ℕ → SessionData → Taken → Answer → Answer → Type 0
+abbrev pub IsServed : HeldServerData → List ℕ → ℕ → HeldServerData → Taken → Answer → Answer → Type 0
 IsServed old piece code new taken before after =
     ((new ≡ record old { stream = new.stream })
     × IsUnanswered old.stream piece code new.stream taken before after)
@@ -62,12 +62,12 @@ IsServed old piece code new taken before after =
 -- ---- a client
 
 -- The client of a session in which it listens.
-abbrev pub listening_asked : Result EditorData ℕ → Result EditorData ℕ
+abbrev pub listening_asked : Result HeldClientData ℕ → Result HeldClientData ℕ
 listening_asked client = and_then client (λ editor.
     if is_listening editor.client.phase then Ok editor else Err WRONG_PHASE)
 
 -- A message is whole, and was handled.
-pub record IsOneHeard (old : EditorData) (piece : List ℕ) (code : ℕ) (new : EditorData)
+pub record IsOneHeard (old : HeldClientData) (piece : List ℕ) (code : ℕ) (new : HeldClientData)
     (taken : Taken) (after : Answer) : Type 0 where
   pub stream : StreamData
   pub body : List ℕ
@@ -76,7 +76,7 @@ pub record IsOneHeard (old : EditorData) (piece : List ℕ) (code : ℕ) (new : 
       (Some (Client new)) after
 
 -- A client took a piece. Of the client only the stream changed, or a message was handled.
-abbrev pub IsHeard : EditorData → List ℕ → ℕ → EditorData → Taken → Answer → Answer → Type 0
+abbrev pub IsHeard : HeldClientData → List ℕ → ℕ → HeldClientData → Taken → Answer → Answer → Type 0
 IsHeard old piece code new taken before after =
     ((new ≡ record old { stream = new.stream })
     × IsUnanswered old.stream piece code new.stream taken before after)

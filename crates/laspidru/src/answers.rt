@@ -1,4 +1,4 @@
-//! The settings that C passes to a server, and the answer that it gets.
+//! The settings that C passes to a server, and the answer that it gets of a server or a client.
 
 ghost use Rattle.std.specs.Prelude.{◌≡◌, Err, IfErr, IfOk, Ok};
 ghost use Rattle.lsp_frame.specs.Limits.{LimitsData};
@@ -20,7 +20,7 @@ use lsp_store::StoreFault;
 
 /// The set-up of a server: its limits, the number of its encoding, and its kind of synchronisation.
 /// With `is_fixed` the server insists on the encoding, else it prefers it. With `is_full` it asks
-/// for whole texts. With `lenient` its limits are.
+/// for whole texts. With `lenient` its limits are lenient.
 #[repr(C)]
 #[derive(Clone, Copy, Debug, PartialEq, Eq)]
 pub struct Settings {
@@ -34,19 +34,20 @@ pub struct Settings {
     pub lenient: bool,
 }
 
-/// A server's answer to a message. A member that isn't of the kind is 0.
+/// What became of a message: a server's answer, or what a client did. A member that isn't of the
+/// kind is 0.
 #[repr(C)]
 #[derive(Clone, Copy, Debug, PartialEq, Eq)]
 pub struct Answer {
-    /// REPLIED, CHANGED, DROPPED, IGNORED, REFUSED or EXITED.
+    /// REPLIED to EXITED of a server; REPLIED, IGNORED, NOTED or BAD_SERVER of a client.
     pub kind: u32,
-    /// The code for why it is refused.
+    /// REFUSED, BAD_SERVER: the code that says why.
     pub reason: u32,
-    /// The status with which the process is to end.
+    /// EXITED: the status with which the process is to end.
     pub status: u32,
-    /// The number of an error reply (LSP 3.17, ErrorCodes); 0 of a result.
+    /// REPLIED: the number of an error reply (LSP 3.17, ErrorCodes); 0 of a result.
     pub error: i32,
-    /// How many bytes the reply has.
+    /// REPLIED: how many bytes the frame to send has.
     pub reply_len: usize,
 }
 

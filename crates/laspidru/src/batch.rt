@@ -5,7 +5,7 @@ ghost use Rattle.laspidru.specs.Batches.{IsBatchOf, IsCanonicalIf, IsEdit, IsEdi
 ghost use Rattle.laspidru.specs.Batches.{batch_asked, change_asked, fitting, refused_edit};
 ghost use Rattle.laspidru.specs.Batches.{text_left_by};
 ghost use Rattle.laspidru.specs.Codes.{IsAnswer, IsAnswerOrNoMemory, unless};
-ghost use Rattle.laspidru.specs.Objects.{as_batch, as_document, in_use, position_at, stored_batch};
+ghost use Rattle.laspidru.specs.Objects.{as_batch, as_document, in_use, stored_batch};
 ghost use Rattle.laspidru.specs.Objects.{stored_document};
 
 use crate::bytes::copy_bytes;
@@ -16,9 +16,9 @@ use crate::codes::{
 };
 use crate::handle::Handle;
 use crate::object::Object;
-use crate::place::{Edit, Fault, Place};
+use crate::place::{Edit, FaultAt, Place};
 use lsp_edit::{Change, MAX_OLD_TEXT};
-use lsp_text::{Encoding, Position};
+use lsp_text::Encoding;
 use std::alloc::Global;
 
 /// Puts the canonical batch of a batch on an object's text into an empty handle.
@@ -30,7 +30,7 @@ fn object_canonical(
     edits: &[Edit],
     texts: &[u8],
     batch: &mut Handle,
-    fault: &mut Fault,
+    fault: &mut FaultAt,
 ) -> u32
     requires checked { refused_edit edits.now texts.now ≡ None }
     requires empty { batch.old.value ≡ None }
@@ -71,7 +71,7 @@ pub extern "C" fn laspidru_document_canonical(
     edits: &[Edit],
     texts: &[u8],
     batch: &mut Handle,
-    fault: &mut Fault,
+    fault: &mut FaultAt,
 ) -> u32
     ensures answer { let text =
         unless (in_use batch.old.value) (stored_document handle.old.value) in
@@ -87,8 +87,7 @@ pub extern "C" fn laspidru_document_canonical(
     if let Some(code) = refusal_of(edits, texts) {
         return code;
     }
-    if let Some(stored) = batch.take(alloc) {
-        batch.put(stored);
+    if batch.is_full(alloc) {
         return IN_USE;
     }
     let Some(object) = handle.take(alloc) else {
@@ -127,16 +126,6 @@ pub extern "C" fn laspidru_batch_len(alloc: Global, batch: &mut Handle, out: &mu
     code
 }
 
-/// Returns a position for C.
-fn place_of(position: Position) -> Place
-    ensures { position_at result ≡ position }
-{
-    Place {
-        line: position.line,
-        character: position.character,
-    }
-}
-
 /// Returns a change for C. One of the whole text has positions of zeros.
 fn edit_of_change(change: &Change) -> Edit
     ensures { IsEdit result change.now }
@@ -146,7 +135,7 @@ fn edit_of_change(change: &Change) -> Edit
         character: 0,
     };
     let (start, end) = match change.range {
-        Some(range) => (place_of(range.start), place_of(range.stop)),
+        Some(range) => (Place::from(range.start), Place::from(range.stop)),
         None => (zero, zero),
     };
     Edit {

@@ -3,6 +3,7 @@
 ghost use Rattle.std.specs.Prelude.{◌≡◌, ◌≢◌, ◌≤◌, ◌↔◌, None, IfOk, IsTrue, length, map};
 ghost use Rattle.std.specs.Prelude.{string_len, sum_by, true};
 ghost use Rattle.std.specs.Str.{is_utf8};
+ghost use Rattle.lsp_edit.specs.declared.indexed.fault.TextFault.TheVariants.{Edit as EditOf};
 ghost use Rattle.lsp_edit.specs.Edited.{edit_of};
 ghost use Rattle.laspidru.specs.Objects.{encoding_numbered, position_at};
 ghost use Rattle.laspidru.specs.Batches.{IsReport, edit_with, edits_of, len_of, refused_edit};
@@ -11,7 +12,7 @@ use crate::bytes::utf8_text;
 use crate::codes::{
     BAD_LENGTH, INSIDE_CHARACTER, NOT_UTF8, OUT_OF_MEMORY, REVERSED_RANGE, TOO_LONG,
 };
-use crate::place::{Edit, Fault, Place};
+use crate::place::{Edit, FaultAt, Place};
 use lsp_edit::{Change, EditFault, MAX_NEW_TEXT, Side, TextFault};
 use lsp_text::{Encoding, Position, Range};
 use std::alloc::{AllocError, Global};
@@ -109,28 +110,40 @@ pub(crate) fn changes_of(
     Ok(changes)
 }
 
-/// Returns the code of a fault. A fault of a change is written to `out`; another leaves `out` as it
-/// is.
-pub(crate) fn report(fault: TextFault, out: &mut Fault) -> u32
-    ensures report { IsReport fault result out.new }
+/// Returns the code of a fault of a change. It is written to `out`; out of memory leaves `out`
+/// as it is.
+pub(crate) fn report_change(fault: EditFault, out: &mut FaultAt) -> u32
+    ensures report { IsReport (EditOf fault) result out.new }
     ensures unchanged { result ≢ INSIDE_CHARACTER → result ≢ REVERSED_RANGE → out.new ≡ out.old }
 {
     match fault {
-        TextFault::Edit(EditFault::InsideCharacter { change, side }) => {
-            *out = Fault {
+        EditFault::InsideCharacter { change, side } => {
+            *out = FaultAt {
                 change,
                 at_end: side == Side::Stop,
             };
             INSIDE_CHARACTER
         }
-        TextFault::Edit(EditFault::ReversedRange { change }) => {
-            *out = Fault {
+        EditFault::ReversedRange { change } => {
+            *out = FaultAt {
                 change,
                 at_end: false,
             };
             REVERSED_RANGE
         }
+        EditFault::NoMemory => OUT_OF_MEMORY,
+    }
+}
+
+/// Returns the code of a fault. A faulty change is written to `out`; another fault leaves `out` as
+/// it is.
+pub(crate) fn report(fault: TextFault, out: &mut FaultAt) -> u32
+    ensures report { IsReport fault result out.new }
+    ensures unchanged { result ≢ INSIDE_CHARACTER → result ≢ REVERSED_RANGE → out.new ≡ out.old }
+{
+    match fault {
+        TextFault::Edit(fault) => report_change(fault, out),
         TextFault::TooLong => TOO_LONG,
-        TextFault::Edit(EditFault::NoMemory) | TextFault::NoMemory => OUT_OF_MEMORY,
+        TextFault::NoMemory => OUT_OF_MEMORY,
     }
 }

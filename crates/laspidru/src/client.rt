@@ -17,8 +17,8 @@ mod stream;
 use crate::answers::limits_of;
 use crate::bytes::copy_from;
 use crate::codes::{EMPTY, IN_USE, OK, OTHER_KIND, OUT_OF_MEMORY};
-use crate::editor::Editor;
 use crate::handle::Handle;
+use crate::held_client::HeldClient;
 use crate::object::Object;
 use crate::reports::{ClientSettings, ClientState, number_of, phase_of};
 use crate::stream::Stream;
@@ -27,7 +27,7 @@ use lsp_message::Offers;
 use std::alloc::Global;
 
 /// Makes a client of settings, or returns the code for why there is none.
-fn editor_of(alloc: Global, settings: &ClientSettings) -> Result<Editor, u32>
+fn editor_of(alloc: Global, settings: &ClientSettings) -> Result<HeldClient, u32>
     ensures ok { IfOk result (λ editor. client_asked settings.now ≡ Ok editor) }
     ensures error { IfErr result (λ code. client_asked settings.now ≡ Err code) }
 {
@@ -39,7 +39,7 @@ fn editor_of(alloc: Global, settings: &ClientSettings) -> Result<Editor, u32>
         settings.lenient,
     )?;
     let offers = Offers::new(settings.utf8, settings.utf32);
-    Ok(Editor {
+    Ok(HeldClient {
         client: Client::new(alloc, limits, offers),
         frame: Vec::new(alloc),
         stream: Stream::new(alloc, limits),
@@ -59,8 +59,7 @@ pub extern "C" fn laspidru_client_new(
         (λ editor. (result ≡ OK) × (handle.new.value ≡ Some (ClientOf editor))) }
     ensures unchanged { result ≢ OK → handle.new.value ≡ handle.old.value }
 {
-    if let Some(stored) = handle.take(alloc) {
-        handle.put(stored);
+    if handle.is_full(alloc) {
         return IN_USE;
     }
     let editor = match editor_of(alloc, settings) {

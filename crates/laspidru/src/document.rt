@@ -18,7 +18,7 @@ use crate::codes::{
 };
 use crate::handle::Handle;
 use crate::object::Object;
-use crate::place::{Edit, Fault, Size};
+use crate::place::{Edit, FaultAt, Size};
 use lsp_edit::{IndexedText, MAX_OLD_TEXT};
 use lsp_text::Encoding;
 use std::alloc::{AllocError, Global};
@@ -55,8 +55,7 @@ pub extern "C" fn laspidru_document_open(alloc: Global, handle: &mut Handle, tex
         (λ text. (result ≡ OK) × (handle.new.value ≡ Some (Document text))) }
     ensures unchanged { result ≢ OK → handle.new.value ≡ handle.old.value }
 {
-    if let Some(stored) = handle.take(alloc) {
-        handle.put(stored);
+    if handle.is_full(alloc) {
         return IN_USE;
     }
     let text = match text_of(text) {
@@ -85,7 +84,7 @@ fn change_object(
     encoding: Encoding,
     edits: &[Edit],
     texts: &[u8],
-    fault: &mut Fault,
+    fault: &mut FaultAt,
 ) -> u32
     requires { refused_edit edits.now texts.now ≡ None }
     ensures answer { IsAnswerOrNoMemory
@@ -125,7 +124,7 @@ pub extern "C" fn laspidru_document_change(
     encoding: u32,
     edits: &[Edit],
     texts: &[u8],
-    fault: &mut Fault,
+    fault: &mut FaultAt,
 ) -> u32
     ensures answer { IsAnswerOrNoMemory
         (batch_asked encoding edits.now texts.now (stored_document handle.old.value)) result

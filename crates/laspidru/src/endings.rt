@@ -14,7 +14,7 @@ use lsp_replay::{EngineFault, Outcome, Settings};
 
 /// How a log is read: the limits, and the number of the encoding of its positions. With `squash`
 /// changes of one document that follow each other are normalised to one message. With `lenient` the
-/// limits are.
+/// limits are lenient.
 #[repr(C)]
 #[derive(Clone, Copy, Debug, PartialEq, Eq)]
 pub struct LogSettings {

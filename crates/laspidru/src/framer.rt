@@ -26,8 +26,7 @@ pub extern "C" fn laspidru_framer_new(alloc: Global, handle: &mut Handle, max_bo
         (result ≡ OK) × (handle.new.value ≡ Some (FramerOf (framing_of limits)))) }
     ensures unchanged { result ≢ OK → handle.new.value ≡ handle.old.value }
 {
-    if let Some(stored) = handle.take(alloc) {
-        handle.put(stored);
+    if handle.is_full(alloc) {
         return IN_USE;
     }
     let limits = match limits_of(

@@ -99,6 +99,18 @@ impl Handle {
         }
     }
 
+    /// Returns whether it has an object.
+    pub(crate) fn is_full(&mut self, alloc: Global) -> bool
+        ensures full { result ≡ is_some self.old.value }
+        ensures unchanged { self.new.value ≡ self.old.value }
+    {
+        let Some(object) = self.take(alloc) else {
+            return false;
+        };
+        self.put(object);
+        true
+    }
+
     /// Puts an object into an empty handle.
     pub(crate) fn put(&mut self, object: Box<Object>)
         requires { self.old.value ≡ None }
@@ -108,15 +120,15 @@ impl Handle {
     }
 }
 
-// The object moves to another thread with its handle.
+// SAFETY: a handle owns its object, which moves to another thread with it, and is `Send`.
 unsafe impl Send for Handle {}
 
-/// Takes what may go to another thread.
+/// Drops a value. A call compiles only if the value's type is `Send`.
 fn sent<T: Send + Drop>(value: T) {
     drop(value);
 }
 
-/// A handle may go to another thread.
+/// Drops a handle. It compiles only if a handle is `Send`: so one may go to another thread.
 pub fn handle_is_send(handle: Handle) {
     sent(handle);
 }

@@ -13,8 +13,8 @@
 //!   messages (`message`).
 //! - `client`: the functions on clients, with those of its lifecycle (`lifecycle`), on documents
 //!   (`editing`, `documents`, `positions`), on bodies (`delivery`) and on its stream (`stream`).
-//! - `handle`: a handle that C holds; `object`: the object in it; `session`: a server with its last
-//!   reply; `editor`: a client with its last frame; `stream`: the stream of either.
+//! - `handle`: a handle that C holds; `object`: the object in it; `held_server`: a server with its
+//!   last reply; `held_client`: a client with its last frame; `stream`: the stream of either.
 //! - `codes`: the codes that the functions return, and `laws` their numbers; `place`: the plain
 //!   structs that C passes and gets.
 //! - `changes`: a batch as C passes it, and the report of its fault; `bytes`: bytes that C passes
@@ -32,11 +32,12 @@ mod client;
 mod codes;
 mod command;
 mod document;
-mod editor;
 mod edits;
 mod endings;
 mod framer;
 mod handle;
+mod held_client;
+mod held_server;
 mod laws;
 mod log;
 mod log_reader;
@@ -45,7 +46,6 @@ mod place;
 mod positions;
 mod reports;
 mod server;
-mod session;
 mod stream;
 mod taken;
 
@@ -59,12 +59,12 @@ pub use codes::{
     WRONG_PHASE,
 };
 pub use command::{Command, CommandRun};
-pub use editor::Editor;
 pub use endings::{Ending, LogSettings};
 pub use handle::Handle;
+pub use held_client::HeldClient;
+pub use held_server::HeldServer;
 pub use laws::number_laws;
 pub use object::Object;
-pub use place::{Edit, EditsFault, Fault, Line, Place, Size};
+pub use place::{Edit, EditsFault, FaultAt, Line, Place, Size};
 pub use reports::{Call, ClientSettings, ClientState};
-pub use session::Session;
 pub use taken::Taken;

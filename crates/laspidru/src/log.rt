@@ -53,8 +53,7 @@ fn run_log(
     ensures unchanged { IsUnlessEnded result
         ((handle.new.value ≡ handle.old.value) × (out.new ≡ out.old)) }
 {
-    if let Some(stored) = handle.take(alloc) {
-        handle.put(stored);
+    if handle.is_full(alloc) {
         return IN_USE;
     }
     let settings = match log_settings_of(settings) {

@@ -1,7 +1,7 @@
 //! The object in a handle.
 
-use crate::editor::Editor;
-use crate::session::Session;
+use crate::held_client::HeldClient;
+use crate::held_server::HeldServer;
 use lsp_edit::{Change, IndexedText};
 use lsp_frame::Framer;
 
@@ -13,11 +13,11 @@ pub enum Object {
     /// The changes of a canonical batch.
     Batch(Vec<Change>),
     /// A server, with its last reply.
-    Server(Session),
+    Server(HeldServer),
     /// The output of a command on a log.
     Output(Vec<u8>),
     /// A framer of a stream.
     Framer(Framer),
     /// A client, with its last frame.
-    Client(Editor),
+    Client(HeldClient),
 }

@@ -1,11 +1,27 @@
 //! The plain structs that C passes and gets.
 
+ghost use Rattle.std.specs.Prelude.{◌≡◌};
+ghost use Rattle.laspidru.specs.Objects.{position_at};
+
+use lsp_text::Position;
+
 /// A position (LSP 3.17, Position).
 #[repr(C)]
 #[derive(Clone, Copy, Debug, PartialEq, Eq)]
 pub struct Place {
     pub line: u32,
     pub character: u32,
+}
+
+impl From<Position> for Place {
+    ghost from_gives = { λ position place. position_at place ≡ position };
+
+    fn from(position: Position) -> Place {
+        Place {
+            line: position.line,
+            character: position.character,
+        }
+    }
 }
 
 /// A change of a batch, or a text edit: the next `len` bytes of its texts replace a range, or the
@@ -22,7 +38,7 @@ pub struct Edit {
 /// The change of a batch that a fault is about, counted from 0, and which end of its range.
 #[repr(C)]
 #[derive(Clone, Copy, Debug, PartialEq, Eq)]
-pub struct Fault {
+pub struct FaultAt {
     pub change: usize,
     pub at_end: bool,
 }

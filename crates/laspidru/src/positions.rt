@@ -46,11 +46,7 @@ pub(crate) fn text_position(
     if !text.is_place(offset) {
         return INSIDE_CHARACTER;
     }
-    let found = text.position(encoding, offset);
-    *out = Place {
-        line: found.line,
-        character: found.character,
-    };
+    *out = Place::from(text.position(encoding, offset));
     OK
 }
 

@@ -8,13 +8,13 @@ ghost use Rattle.laspidru.specs.Clients.{phase_number, phase_reason, reason_numb
 ghost use Rattle.laspidru.specs.inside.Clients.{IsCallReport, call_code};
 
 use crate::answers::{Answer, plain, store_code_of};
+use crate::changes::report_change;
 use crate::codes::{
     BAD_ENCODING, BAD_SERVER, ERROR_ANSWER, IGNORED, INSIDE_CHARACTER, NO_SYNC, NOT_AN_ANSWER,
     NOTED, OK, OUT_OF_MEMORY, REPLIED, REVERSED_RANGE, WRONG_PHASE,
 };
-use crate::place::Fault;
+use crate::place::FaultAt;
 use lsp_client::{ClientFault, Delivered, Phase, Reason};
-use lsp_edit::{EditFault, Side};
 use lsp_store::StoreFault;
 use lsp_text::Encoding;
 use std::alloc::Global;
@@ -68,33 +68,19 @@ pub(crate) fn call_code_of(fault: ClientFault) -> u32
 
 /// Returns the code of a refusal of the documents. A faulty change is written to `out`; else it
 /// stays as it is.
-pub(crate) fn report_store(fault: StoreFault, out: &mut Fault) -> u32
+pub(crate) fn report_store(fault: StoreFault, out: &mut FaultAt) -> u32
     ensures code { result ≡ store_code fault }
     ensures report { IsStoreReport fault out.new }
     ensures unchanged { result ≢ INSIDE_CHARACTER → result ≢ REVERSED_RANGE → out.new ≡ out.old }
 {
-    let code = store_code_of(fault);
     match fault {
-        StoreFault::Edit(EditFault::InsideCharacter { change, side }) => {
-            *out = Fault {
-                change,
-                at_end: side == Side::Stop,
-            };
-            code
-        }
-        StoreFault::Edit(EditFault::ReversedRange { change }) => {
-            *out = Fault {
-                change,
-                at_end: false,
-            };
-            code
-        }
-        _ => code,
+        StoreFault::Edit(fault) => report_change(fault, out),
+        _ => store_code_of(fault),
     }
 }
 
 /// Returns the code of a refused call. A faulty change is written to `out`; else it stays as it is.
-pub(crate) fn report_call(fault: ClientFault, out: &mut Fault) -> u32
+pub(crate) fn report_call(fault: ClientFault, out: &mut FaultAt) -> u32
     ensures code { result ≡ call_code fault }
     ensures report { IsCallReport fault out.new }
     ensures unchanged { result ≢ INSIDE_CHARACTER → result ≢ REVERSED_RANGE → out.new ≡ out.old }

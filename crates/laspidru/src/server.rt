@@ -19,9 +19,9 @@ use crate::answers::{Answer, Settings, answer_of, config_of};
 use crate::bytes::copy_from;
 use crate::codes::{EMPTY, ENDED, IN_USE, OK, OTHER_KIND, OUT_OF_MEMORY};
 use crate::handle::Handle;
+use crate::held_server::HeldServer;
 use crate::object::Object;
 use crate::reports::number_of;
-use crate::session::Session;
 use crate::stream::Stream;
 use lsp_server::{Server, ServerFault};
 use std::alloc::Global;
@@ -39,8 +39,7 @@ pub extern "C" fn laspidru_server_new(
         (result ≡ OK) × (handle.new.value ≡ Some (ServerOf (session_of config)))) }
     ensures unchanged { result ≢ OK → handle.new.value ≡ handle.old.value }
 {
-    if let Some(stored) = handle.take(alloc) {
-        handle.put(stored);
+    if handle.is_full(alloc) {
         return IN_USE;
     }
     let config = match config_of(settings) {
@@ -48,7 +47,7 @@ pub extern "C" fn laspidru_server_new(
         Err(code) => return code,
     };
     let limits = config.limits;
-    let session = Session {
+    let session = HeldServer {
         server: Server::new(alloc, config),
         reply: Vec::new(alloc),
         stream: Stream::new(alloc, limits),

@@ -71,7 +71,8 @@ pub fn put_header(bytes: &mut [u8], body: usize) -> usize
     put_before(bytes, digits, NAME)
 }
 
-/// Writes bytes right before an index, over those there. Returns the index where they start.
+/// Writes bytes right before an index, over those there. Returns the index where they start. It is
+/// public for `normalise` of `lsp_replay`, which writes marks before headers.
 ///
 /// There is room for them: `index` is at least `new.len()`, and at most `bytes.len()`. It takes no
 /// memory, and moves no other byte.

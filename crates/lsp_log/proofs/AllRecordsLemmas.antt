@@ -167,7 +167,7 @@ module _ (decision : DecisionLaw) where
       ]
 
   all_behind : (log_rules : LogRules) (input : List ℕ) (version : Version) → IsVersion log_rules.versions version input
-      → (log_rules.only_one ≡ true → version ≡ One) → (rest : List ℕ)
+      → (log_rules.refuses_two ≡ true → version ≡ One) → (rest : List ℕ)
       → input ≡ line_of version ++ rest → AllRecords log_rules input
   all_behind log_rules input version known accepted rest is =
       let all : AllFrom log_rules.max_body version (length (line_of version)) (is_line_due version []) rest
@@ -185,12 +185,12 @@ module _ (decision : DecisionLaw) where
       }
 
   all_of_version : (log_rules : LogRules) (input : List ℕ) (version : Version) → IsVersion log_rules.versions version
-      input → (log_rules.only_one ≡ true → version ≡ One) → AllRecords log_rules input
+      input → (log_rules.refuses_two ≡ true → version ≡ One) → AllRecords log_rules input
   all_of_version log_rules input One known accepted = all_behind log_rules input One known accepted input refl
   all_of_version log_rules input Two known accepted = all_behind log_rules input Two known accepted known.1.0 known.1.1
 
   pub all_records_law : AllRecordsLaw
   all_records_law log_rules input allowed =
       let found = version_decided log_rules.versions input in
-      all_of_version log_rules input found.0 found.1 (λ only_one. same_version log_rules.versions found.0 One input
-      found.1 (allowed only_one))
+      all_of_version log_rules input found.0 found.1 (λ refuses_two. same_version log_rules.versions found.0 One input
+      found.1 (allowed refuses_two))

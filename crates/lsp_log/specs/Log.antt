@@ -16,8 +16,8 @@ pub record LogRules : Type 0 where
   pub max_body : ℕ
   -- is version 2 recognised?
   pub versions : Bool
-  -- is it refused then?
-  pub only_one : Bool
+  -- is a log of version 2 refused, if it is recognised?
+  pub refuses_two : Bool
 
 -- The line that a log of version 2 begins with.
 abbrev pub version_line : List ℕ
@@ -94,7 +94,7 @@ pub record IsReadAs (log_rules : LogRules) (input : List ℕ) (log : Log) : Type
   -- the input is of this version
   pub version : IsVersion log_rules.versions log.version input
   -- that version isn't refused
-  pub accepted : log_rules.only_one ≡ true → log.version ≡ One
+  pub accepted : log_rules.refuses_two ≡ true → log.version ≡ One
   -- the line of the version, the records, and the rest
   pub is : input ≡ line_of log.version ++ together log.version log.records log.rest
   -- each record is a frame with its mark, at its byte offset

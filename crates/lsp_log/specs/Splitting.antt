@@ -60,7 +60,7 @@ pub record IsAfter (log_rules : LogRules) (input more : List ℕ) (records : Lis
 pub record IsOpen (log_rules : LogRules) (input : List ℕ) (version : Version)
     (more : List ℕ) : Type 0 where
   pub known : IsVersion log_rules.versions version input
-  pub accepted : log_rules.only_one ≡ true → version ≡ One
+  pub accepted : log_rules.refuses_two ≡ true → version ≡ One
   pub is : input ≡ line_of version ++ more
 
 -- Who wrote the record that is coming in.

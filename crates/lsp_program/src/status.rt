@@ -12,7 +12,7 @@ pub const USAGE: u8 = 2;
 /// A read, a write or a flush failed, or too many of them were made.
 pub const STREAM_FAULT: u8 = 3;
 
-/// The memory ran out.
+/// Memory ran out.
 pub const OUT_OF_MEMORY: u8 = 4;
 
 /// The input is faulty.

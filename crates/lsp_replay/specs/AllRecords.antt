@@ -85,5 +85,5 @@ pub record RanOver (log_rules : LogRules) (run_output : List Record → RunOutpu
   pub reported : (all : Log) → IsReadAs log_rules input all → HasNoRecord log_rules.max_body all →
       IsObserved log_rules state input received_old received_new all (run_output all.records) result
   -- it is a bad log from its first byte on, and nothing is written
-  pub refused : log_rules.only_one ≡ true → IsVersion log_rules.versions Two input →
+  pub refused : log_rules.refuses_two ≡ true → IsVersion log_rules.versions Two input →
       (result ≡ Err (BadLog 0)) × Appends received_old received_new []

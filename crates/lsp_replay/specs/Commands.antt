@@ -280,13 +280,13 @@ converted settings = output_in converting tt (opened (log_config settings))
 -- How each input is read: `serve` reads frames without a log's line, and the log commands read both
 -- versions. `convert` refuses version 2.
 abbrev pub as_stream : Config → LogRules
-as_stream config = record { max_body = config.limits.max_body; versions = false; only_one = false }
+as_stream config = record { max_body = config.limits.max_body; versions = false; refuses_two = false }
 
 -- A log of either version.
 abbrev pub as_log : Settings → LogRules
-as_log settings = record { max_body = settings.limits.max_body; versions = true; only_one = false }
+as_log settings = record { max_body = settings.limits.max_body; versions = true; refuses_two = false }
 
 -- A log, of which version 2 is refused.
 abbrev pub as_converted : Settings → LogRules
 as_converted settings
-    = record { max_body = settings.limits.max_body; versions = true; only_one = true }
+    = record { max_body = settings.limits.max_body; versions = true; refuses_two = true }

@@ -99,7 +99,8 @@ is_change m = false
 abbrev pub is_early : Session → IncomingData → Bool
 is_early s m = is_some s.expected && is_running s.server.phase && is_change m
 
--- The id of the `initialize` that is accepted. In a log of version 2 its result is waited for. Any
+-- The id of the `initialize` that is accepted. In a log of version 2 its result is waited for. Where
+-- the real server answered by an error, the result never comes, and the first change is bad. Any
 -- other message changes nothing of that.
 abbrev pub expected_of : Version → IncomingData → Option IdData → Option IdData
 expected_of Two (initialize id (Some offers)) expected = Some id

@@ -82,15 +82,15 @@ impl Settings {
         self.squash
     }
 
-    /// Returns how the log is read. With `only_one` version 2 is refused.
-    fn rules(&self, only_one: bool) -> InputRules
+    /// Returns how the log is read. With `refuses_two` version 2 is refused.
+    fn rules(&self, refuses_two: bool) -> InputRules
         ensures { result
-            ≡ record { limits = self.now.limits; versions = true; only_one = only_one } }
+            ≡ record { limits = self.now.limits; versions = true; refuses_two = refuses_two } }
     {
         InputRules {
             limits: self.limits,
             versions: true,
-            only_one,
+            refuses_two,
         }
     }
 }
@@ -143,7 +143,7 @@ pub fn serve_on<R: Source, W: Sink>(
     let rules = InputRules {
         limits: config.limits,
         versions: false,
-        only_one: false,
+        refuses_two: false,
     };
     let mut serve = Serve::new(alloc, config);
     run_on(alloc, ends, &mut serve, rules, max_turns)

@@ -35,18 +35,18 @@ pub struct InputRules {
     pub limits: Limits,
     /// Whether a log of version 2 is recognised.
     pub versions: bool,
-    /// Whether it is refused then.
-    pub only_one: bool,
+    /// Whether a log of version 2 is refused, if it is recognised.
+    pub refuses_two: bool,
 }
 
 /// Refuses a log of version 2 if only version 1 is accepted.
-fn accept(version: Version, only_one: bool) -> Result<(), EngineFault>
-    ensures ok { OnOk result (only_one ≡ true → version ≡ Version.One) }
-    ensures error { IfErr result (λ fault. (fault ≡ EngineFault.BadLog 0) × (only_one ≡ true)
+fn accept(version: Version, refuses_two: bool) -> Result<(), EngineFault>
+    ensures ok { OnOk result (refuses_two ≡ true → version ≡ Version.One) }
+    ensures error { IfErr result (λ fault. (fault ≡ EngineFault.BadLog 0) × (refuses_two ≡ true)
         × (version ≡ Version.Two)) }
 {
     match version {
-        Version::Two if only_one => Err(EngineFault::BadLog { place: 0 }),
+        Version::Two if refuses_two => Err(EngineFault::BadLog { place: 0 }),
         _ => Ok(()),
     }
 }
@@ -163,7 +163,7 @@ pub fn run_on<R: Source, W: Sink, H: Handler>(
     let mut buf = [0u8; PIECE];
     let mut buffer = Vec::new(alloc);
     let opening = read_opening(ends.reader(), &mut buf, rules.versions, &mut turns)?;
-    accept(opening.version, rules.only_one)?;
+    accept(opening.version, rules.refuses_two)?;
     let mut splitter = Splitter::new(alloc, rules.limits, opening.version);
     let mut from = opening.version.line().len();
     let mut to = opening.len;

@@ -30,11 +30,11 @@ use lsp_stream::EngineFault;
 /// Which bytes are a record's output.
 #[derive(Clone, Copy, Debug, PartialEq, Eq)]
 pub enum Output {
-    /// Its frame, as it is in the input.
+    /// The record's frame, as it is in the input.
     Frame,
-    /// The buffer that was filled for it.
+    /// The buffer that was filled for the record.
     Bytes,
-    /// That buffer from an index on.
+    /// The buffer that was filled for the record, from an index on.
     BytesFrom(usize),
 }
 

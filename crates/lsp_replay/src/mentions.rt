@@ -94,7 +94,8 @@ impl Mentions {
         Ok(())
     }
 
-    /// Does the same with the document of a record, if the record opened, closed or refused one.
+    /// Puts the document with this URI first, with the number of a record, if the record opened,
+    /// closed or refused it.
     pub fn keep(
         &mut self,
         is_mention: bool,

@@ -30,8 +30,8 @@ pub enum Note {
         sent: Position,
         taken: Position,
     },
-    /// A change's `rangeLength` is neither the units of what it replaces nor its UTF-16 units, of
-    /// which there are so many.
+    /// A change's `rangeLength` is neither the units of what it replaces nor its UTF-16 units, whose
+    /// number is `replaced`.
     WrongLength {
         change: usize,
         sent: u64,

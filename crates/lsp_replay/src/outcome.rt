@@ -15,9 +15,9 @@ pub enum Missing {
 pub struct Outcome {
     /// The exit status of the program: 0 or 1.
     pub status: u8,
-    /// How many bodies were handled. It stays at the greatest value of a `u64`.
+    /// How many bodies were handled. It saturates at `u64::MAX`.
     pub messages: u64,
-    /// How many of them were refused. It stays at the greatest value of a `u64`.
+    /// How many of the handled bodies were refused. It saturates at `u64::MAX`.
     pub refused: u64,
     /// What is missing, where a part of a log is replayed. Then the status is 1.
     pub missing: Option<Missing>,

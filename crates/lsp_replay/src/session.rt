@@ -124,7 +124,7 @@ impl Session {
         self.messages
     }
 
-    /// Returns how many of them were refused.
+    /// Returns how many of the handled bodies were refused.
     pub fn refusals(&self) -> u64
         ensures { result ≡ self.now.refusals }
     {
@@ -144,7 +144,7 @@ impl Session {
     }
 
     /// Judges a record: hands a client's to the server, and reads the encoding in a server's. Fails
-    /// only when out of memory.
+    /// only where memory runs out.
     pub fn judge(&mut self, head: Head, body: &[u8]) -> Result<Verdict, AllocError>
         ensures verdict { IfOk result
             (λ v. verdict_view v ≡ (judge_at self.old head body.now).verdict) }

@@ -7,6 +7,7 @@ use clap::builder::ValueParser;
 use clap::{Arg, ArgAction, ArgMatches, Command, Error};
 use lsp_frame::Limits;
 use lsp_message::Offers;
+use lsp_program::{change_forms, encodings};
 use lsp_server::{ChangeForm, Config, EncodingChoice};
 use lsp_text::Encoding;
 use std::alloc::{AllocError, Global};
@@ -14,8 +15,11 @@ use std::alloc::{AllocError, Global};
 /// The set-up of both ends.
 #[derive(Clone, Copy, Debug, PartialEq, Eq)]
 pub struct Setting {
+    /// The client's limits.
     pub limits: Limits,
+    /// The encodings that the client offers beside UTF-16.
     pub offers: Offers,
+    /// How the server is set up.
     pub config: Config,
 }
 
@@ -92,10 +96,6 @@ fn either(options: &ArgMatches<'_>, first: &str, second: &str) -> Option<usize> 
         .or(options.get_one::<usize>(second))
 }
 
-static ENCODINGS: [&str; 3] = ["utf-8", "utf-16", "utf-32"];
-
-static KINDS: [&str; 2] = ["full", "incremental"];
-
 fn program<'a>(alloc: Global, defaults: &'a [String; 4]) -> Result<Command<'a>, AllocError> {
     let mut program = Command::new(alloc, "lsp_simulate")
         .about(help::about())
@@ -126,7 +126,7 @@ fn prefer<'a>(alloc: Global) -> Arg<'a> {
     Arg::new(alloc, "prefer")
         .long("prefer")
         .value_name("NAME")
-        .value_parser(ENCODINGS.as_slice())
+        .value_parser(encodings())
         .default_value("utf-16")
         .help(help::prefer())
 }
@@ -135,7 +135,7 @@ fn fixed<'a>(alloc: Global) -> Arg<'a> {
     Arg::new(alloc, "fixed")
         .long("fixed")
         .value_name("NAME")
-        .value_parser(ENCODINGS.as_slice())
+        .value_parser(encodings())
         .help(help::fixed())
 }
 
@@ -143,7 +143,7 @@ fn sync<'a>(alloc: Global) -> Arg<'a> {
     Arg::new(alloc, "sync")
         .long("sync")
         .value_name("NAME")
-        .value_parser(KINDS.as_slice())
+        .value_parser(change_forms())
         .default_value("incremental")
         .help(help::sync())
 }

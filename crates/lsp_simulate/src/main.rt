@@ -31,7 +31,7 @@ fn main(rt: HostRuntime) -> ExitCode {
 }
 
 /// Runs the program over the process's own streams. Fails if the words of the command line can't be
-/// read, or if out of memory.
+/// read, or where memory runs out.
 fn answer(rt: &HostRuntime) -> io::Result<u8> {
     let alloc = rt.alloc();
     let given: Vec<String> = env::args(rt)?.collect(alloc)?;

@@ -22,14 +22,19 @@ use thiserror::Error;
 /// Why a run ended before its input did.
 #[derive(Clone, Copy, Debug, PartialEq, Eq, Error)]
 pub enum RunFault {
+    /// No pair has these settings.
     #[error("{0}")]
     Pair(PairFault),
+    /// A read of the events failed.
     #[error("read fault")]
     Read,
+    /// A write or a flush of the output failed, or too many of them were made.
     #[error("write fault")]
     Write,
+    /// Memory ran out.
     #[error("out of memory")]
     NoMemory,
+    /// A line, counted from 1, is no event.
     #[error("bad event at line {line}")]
     BadEvent { line: u64 },
 }

@@ -4,12 +4,16 @@ use lsp_message::{ParamsFault, params_change, params_close, params_open};
 use lsp_pair::Event;
 use serde_json::Value;
 use std::alloc::{AllocError, Global};
+use thiserror::Error;
 
 /// Why a line has no event.
-#[derive(Clone, Copy, Debug, PartialEq, Eq)]
+#[derive(Clone, Copy, Debug, PartialEq, Eq, Error)]
 pub enum ScriptFault {
     /// It is no JSON, or no event.
+    #[error("no event")]
     BadEvent,
+    /// Memory ran out.
+    #[error("out of memory")]
     NoMemory,
 }
 

@@ -15,7 +15,7 @@ use crate::changes::{changes_of, refusal_of};
 use crate::codes::{EMPTY, INSIDE_CHARACTER, NOT_UTF8, OK, OTHER_KIND, REVERSED_RANGE};
 use crate::handle::Handle;
 use crate::object::Object;
-use crate::place::{Edit, Fault};
+use crate::place::{Edit, FaultAt};
 use crate::reports::{keep_frame, report_call};
 use lsp_client::{Client, ClientFault, Phase};
 use std::alloc::{AllocError, Global};
@@ -161,7 +161,7 @@ fn object_client_edit(
     version: i32,
     edits: &[Edit],
     texts: &[u8],
-    fault: &mut Fault,
+    fault: &mut FaultAt,
     len: &mut usize,
 ) -> u32
     requires { refused_edit edits.now texts.now ≡ None }
@@ -206,7 +206,7 @@ pub extern "C" fn laspidru_client_edit(
     version: i32,
     edits: &[Edit],
     texts: &[u8],
-    fault: &mut Fault,
+    fault: &mut FaultAt,
     len: &mut usize,
 ) -> u32
     ensures answer { let client = unless (refused_edit edits.now texts.now)

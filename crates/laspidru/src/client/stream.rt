@@ -9,8 +9,8 @@ ghost use Rattle.laspidru.specs.Taking.{IsHeard, listening_asked};
 
 use crate::answers::Answer;
 use crate::codes::{EMPTY, OK, OTHER_KIND, OUT_OF_MEMORY, WRONG_PHASE};
-use crate::editor::Editor;
 use crate::handle::Handle;
+use crate::held_client::HeldClient;
 use crate::object::Object;
 use crate::reports::{delivered_answer, frame_of};
 use crate::taken::Taken;
@@ -21,7 +21,7 @@ use std::alloc::Global;
 #[tactic(auto, using(crate::proofs::Heard::not_heard, crate::proofs::Heard::none_heard, crate::proofs::Heard::unheard, crate::proofs::Heard::one_heard, crate::proofs::Calls::heard))]
 fn hear(
     alloc: Global,
-    editor: &mut Editor,
+    editor: &mut HeldClient,
     piece: &[u8],
     taken: &mut Taken,
     out: &mut Answer,

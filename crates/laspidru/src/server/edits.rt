@@ -123,8 +123,7 @@ pub extern "C" fn laspidru_server_batch_of_edits(
     if let Some(code) = refusal_of(edits, texts) {
         return code;
     }
-    if let Some(stored) = batch.take(alloc) {
-        batch.put(stored);
+    if batch.is_full(alloc) {
         return IN_USE;
     }
     let Some(object) = handle.take(alloc) else {

@@ -15,7 +15,7 @@ use crate::codes::{
 };
 use crate::handle::Handle;
 use crate::object::Object;
-use crate::place::{Edit, Fault};
+use crate::place::{Edit, FaultAt};
 use crate::reports::report_store;
 use lsp_text::Encoding;
 use std::alloc::Global;
@@ -31,7 +31,7 @@ fn object_message(
     edits: &[Edit],
     texts: &[u8],
     output: &mut Handle,
-    fault: &mut Fault,
+    fault: &mut FaultAt,
     len: &mut usize,
 ) -> u32
     requires checked { refused_edit edits.now texts.now ≡ None }
@@ -86,7 +86,7 @@ pub extern "C" fn laspidru_server_canonical_message(
     edits: &[Edit],
     texts: &[u8],
     output: &mut Handle,
-    fault: &mut Fault,
+    fault: &mut FaultAt,
     len: &mut usize,
 ) -> u32
     ensures answer { let server =
@@ -109,8 +109,7 @@ pub extern "C" fn laspidru_server_canonical_message(
     if let Some(code) = refusal_of(edits, texts) {
         return code;
     }
-    if let Some(stored) = output.take(alloc) {
-        output.put(stored);
+    if output.is_full(alloc) {
         return IN_USE;
     }
     let Some(object) = handle.take(alloc) else {

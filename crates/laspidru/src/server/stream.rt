@@ -10,9 +10,9 @@ ghost use Rattle.laspidru.specs.Taking.{IsServed};
 use crate::answers::{Answer, answer_of};
 use crate::codes::{EMPTY, ENDED, OK, OTHER_KIND, OUT_OF_MEMORY};
 use crate::handle::Handle;
+use crate::held_server::HeldServer;
 use crate::object::Object;
 use crate::server::reply_of;
-use crate::session::Session;
 use crate::taken::Taken;
 use lsp_server::Phase;
 use std::alloc::Global;
@@ -21,7 +21,7 @@ use std::alloc::Global;
 #[tactic(auto, using(crate::proofs::Heard::not_served, crate::proofs::Heard::none_served, crate::proofs::Heard::waits, crate::proofs::Heard::one_served))]
 fn serve(
     alloc: Global,
-    session: &mut Session,
+    session: &mut HeldServer,
     piece: &[u8],
     taken: &mut Taken,
     out: &mut Answer,

@@ -24,7 +24,7 @@ pub record AllRecords (log_rules : LogRules) (input : List ℕ) : Type 0 where
 abbrev pub AllRecordsLaw : Type 0
 AllRecordsLaw =
     (log_rules : LogRules) (input : List ℕ) →
-    (log_rules.only_one ≡ true → IsVersion log_rules.versions One input)
+    (log_rules.refuses_two ≡ true → IsVersion log_rules.versions One input)
     → AllRecords log_rules input
 
 -- An input has one version.

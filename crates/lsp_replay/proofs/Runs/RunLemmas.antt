@@ -89,7 +89,7 @@ module _ (log_rules : LogRules) (run_output : List Record → RunOutput) (left r
       → ((more : List ℕ) → (ended ≡ true → more ≡ []) → IsVersion log_rules.versions version (take len buf ++ more))
       → length (line_of version) ≤ len → take len buf ≡ line_of version ++ drop (length (line_of version))
       (take len buf)
-      → (log_rules.only_one ≡ true → version ≡ One) → ((input more : List ℕ) → IsOpen log_rules input version more
+      → (log_rules.refuses_two ≡ true → version ≡ One) → ((input more : List ℕ) → IsOpen log_rules input version more
       → IsAfter log_rules input more [] s)
       → Runs log_rules run_output left received left_now ended place (take (len - size) (drop size buf)) s run_output
       received
@@ -300,7 +300,7 @@ module _ (log_rules : LogRules) (run_output : List Record → RunOutput) (left r
 
   -- A log of version 2 was refused.
   pub ran_refused : (left_now : Option (List ℕ)) (state : PortState) (fault : EngineFault) (input : List ℕ)
-      (version : Version) → (fault ≡ BadLog 0) × (log_rules.only_one ≡ true) × (version ≡ Two)
+      (version : Version) → (fault ≡ BadLog 0) × (log_rules.refuses_two ≡ true) × (version ≡ Two)
       → Consumes left left_now input
       → ((more : List ℕ) → more ≡ [] → IsVersion log_rules.versions version (input ++ more))
       → Ran log_rules run_output state left left_now received received (Err fault)
@@ -312,7 +312,7 @@ module _ (log_rules : LogRules) (run_output : List Record → RunOutput) (left r
         input = input;
         read = read;
         came = subst (IsRunFault log_rules run_output state input received received) (sym why.0)
-            (inr (inr (record { only_one = why.1; version = two; placed = refl; wrote = Appends-nil received })));
+            (inr (inr (record { refuses_two = why.1; version = two; placed = refl; wrote = Appends-nil received })));
       }
 
   -- Some first bytes of the line are no log of version 2, and begin no frame.

@@ -218,7 +218,7 @@ module _ (first_of : FirstLaw) (same_version : VersionLaw) (log_rules : LogRules
 
   refused : (place : ℕ) → RefusesInput log_rules input received_old received_new place → ⊥
   refused place is = let one : Two ≡ One =
-      same_version log_rules.versions Two all.version input is.version reads.version ∙ reads.accepted is.only_one in
+      same_version log_rules.versions Two all.version input is.version reads.version ∙ reads.accepted is.refuses_two in
       absurd (cc)
 
   fault_told : (fault : EngineFault) → IsRunFault log_rules run_output state input received_old received_new fault
@@ -264,11 +264,11 @@ abbrev IsBadFromStart : Option (List ℕ) → Option (List ℕ) → Result Outco
 IsBadFromStart received_old received_new result = (result ≡ Err (BadLog 0)) × Appends received_old received_new []
 
 module _ (same_version : VersionLaw) (log_rules : LogRules) (run_output : List Record → RunOutput) (state : PortState)
-    (input : List ℕ) (received_old received_new : Option (List ℕ)) (only_one : log_rules.only_one ≡ true)
+    (input : List ℕ) (received_old received_new : Option (List ℕ)) (refuses_two : log_rules.refuses_two ≡ true)
     (two : IsVersion log_rules.versions Two input) where
   unread : (log : Log) → IsReadAs log_rules input log → ⊥
   unread log reads = let one : Two ≡ One = same_version log_rules.versions Two log.version input two reads.version
-      ∙ reads.accepted only_one in absurd (cc)
+      ∙ reads.accepted refuses_two in absurd (cc)
 
   fault_answered : (fault : EngineFault) → IsRunFault log_rules run_output state input received_old received_new fault
       → IsBadFromStart received_old received_new (Err fault)
@@ -314,8 +314,8 @@ over_course first version log_rules run_output settles grows_all state left_old 
       reported = λ all reads ends. by_cause log_rules run_output state ran.input received_old received_new all result
           (is_told first version log_rules run_output settles grows_all state ran.input received_old received_new all
           reads ends result ran.came);
-      refused = λ only_one two. is_answered version log_rules run_output state ran.input received_old received_new
-          only_one
+      refused = λ refuses_two two. is_answered version log_rules run_output state ran.input received_old received_new
+          refuses_two
           two result ran.came;
     }
 

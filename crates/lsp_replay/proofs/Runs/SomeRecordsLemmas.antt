@@ -44,16 +44,16 @@ version_decided true input =
     ]
 
 abbrev IsRefusedInput : LogRules → List ℕ → Type 0
-IsRefusedInput log_rules input = (log_rules.only_one ≡ true) × IsVersion log_rules.versions Two input
+IsRefusedInput log_rules input = (log_rules.refuses_two ≡ true) × IsVersion log_rules.versions Two input
 
 -- An input has all its whole records, or its version is refused.
 all_or_refused : AllRecordsLaw → (log_rules : LogRules) (input : List ℕ) (version : Version)
     → IsVersion log_rules.versions version input → AllRecords log_rules input ⊎ IsRefusedInput log_rules input
-all_or_refused all_records log_rules input One is = inl (all_records log_rules input (λ only_one. is))
+all_or_refused all_records log_rules input One is = inl (all_records log_rules input (λ refuses_two. is))
 all_or_refused all_records log_rules input Two is =
-    elim (cases_Bool log_rules.only_one) [
-      | inl only_one ↦ inr (only_one, is)
-      | inr other ↦ inl (all_records log_rules input (λ only_one. absurd (cc)))
+    elim (cases_Bool log_rules.refuses_two) [
+      | inl refuses_two ↦ inr (refuses_two, is)
+      | inr other ↦ inl (all_records log_rules input (λ refuses_two. absurd (cc)))
     ]
 
 -- ---- by the list of all whole records
@@ -253,7 +253,7 @@ module _ (all_records : AllRecordsLaw) (engine : Engine) (silent : engine.in_par
       → Came engine before after input result
   refused_came input result refused bad =
       let here : RefusesInput engine.log_rules input before.writer.written after.writer.written 0 =
-      record { only_one = refused.0; version = refused.1; placed = refl; wrote = bad.1 } in
+      record { refuses_two = refused.0; version = refused.1; placed = refl; wrote = bad.1 } in
       subst (Came engine before after input) (sym bad.0) (inr (inr here))
 
   by_input : (result : Result Outcome EngineFault)

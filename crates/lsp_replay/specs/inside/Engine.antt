@@ -79,7 +79,7 @@ pub record RanOutAtEnd (log_rules : LogRules) (run_output : List Record → RunO
 -- Version 2 is refused, and the input is of it. Nothing was written.
 pub record RefusesInput (log_rules : LogRules) (input : List ℕ) (old new : Option (List ℕ))
     (place : ℕ) : Type 0 where
-  pub only_one : log_rules.only_one ≡ true
+  pub refuses_two : log_rules.refuses_two ≡ true
   pub version : IsVersion log_rules.versions Two input
   pub placed : place ≡ 0
   pub wrote : Appends old new []
@@ -166,7 +166,7 @@ reading_by rules
     = record {
       max_body = rules.limits.max_body;
       versions = rules.versions;
-      only_one = rules.only_one;
+      refuses_two = rules.refuses_two;
     }
 
 -- The loop of the engines ran between a reader and a writer.

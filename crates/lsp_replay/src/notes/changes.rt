@@ -199,7 +199,7 @@ fn push_end_note(
 fn is_same(position: Position, other: Position) -> bool
     ensures { result ≡ is_same position other }
 {
-    position.line == other.line && position.character == other.character
+    position == other
 }
 
 /// Returns the exact position of what a position denotes in a text.

@@ -21,8 +21,8 @@ use lsp_server::Answer;
 use lsp_store::{Plan, StoreFault};
 use std::alloc::AllocError;
 
-/// Returns the message, or `None` if it has too many changes or is too long. Out of memory only
-/// where making it was.
+/// Returns the message, or `None` if it has too many changes or is too long. Fails only where
+/// memory ran out in making it.
 pub(crate) fn unless_refused<T>(message: Result<T, StoreFault>) -> Result<Option<T>, AllocError>
     ensures ok { IfOk message (λ m. result ≡ Ok (Some m)) }
     ensures refused { IfErr message (λ fault. IfOk result (λ m. (fault ≢ NoMemory) × (m ≡ None))) }

@@ -115,8 +115,8 @@ fn result_for(alloc: Global, id: &Id, body: &[u8]) -> Result<Option<Value>, Allo
     }
 }
 
-/// Returns the message that was read of a body, if it has one. Out of memory only where reading it
-/// was.
+/// Returns the message that was read of a body, if it has one. Fails only where memory ran
+/// out in reading it.
 pub fn message_of(outcome: Result<Message, ReadFault>) -> Result<Option<Message>, AllocError>
     ensures read { IfOk outcome (λ message. result ≡ Ok (Some message)) }
     ensures none { IfErr outcome (λ fault.

@@ -109,7 +109,8 @@ impl Selection {
         }
     }
 
-    /// Returns the same of a client's message in a phase.
+    /// Returns whether a client's message in a phase stays. If it does, and is a request, remembers
+    /// that its answer is waited for.
     fn message_stays(&mut self, phase: Phase, incoming: &Incoming) -> Result<bool, AllocError>
         ensures stays { IfOk result (λ stays.
             stays ≡ message_stays phase (incoming_view incoming.now)) }
@@ -129,7 +130,7 @@ impl Selection {
         Ok(true)
     }
 
-    /// Returns the same of a server's record.
+    /// Returns whether a server's record stays. If it does, remembers whose answer is waited for.
     fn answer_stays(&mut self, session: &Session, body: &[u8]) -> Result<bool, AllocError>
         ensures stays { IfOk result (λ stays.
             stays ≡ stays_read session.now self.old.waiting (from_server body.now)) }

@@ -1,8 +1,8 @@
 //! The program as `clap` sees it: its commands and their options. Each function adds one option, so
 //! each is proved alone.
 
-ghost use Rattle.std.specs.Prelude.{◌≡◌, ◌∷◌, [], codes, true, false};
-ghost use Rattle.std.specs.Prelude.{IfOk, map};
+ghost use Rattle.std.specs.Prelude.{◌≡◌, ◌∷◌, [], true, false};
+ghost use Rattle.std.specs.Prelude.{IfOk};
 ghost use Rattle.clap.specs.Words.{app_of, rule_of, with_subcommand};
 ghost use Rattle.clap.specs.declared.builder.value_parser.ValueParser.TheVariants.{Names};
 ghost use Rattle.lspsync.specs.CommandLine.{IsProgram, at_rule, detail_rules, encoding_rule};
@@ -16,6 +16,7 @@ use crate::command_line::help::{
 };
 use clap::builder::ValueParser;
 use clap::{Arg, ArgAction, Command};
+use lsp_program::{change_forms, encodings};
 use lsp_replay::{Details, Part};
 use lsp_server::ChangeForm;
 use std::alloc::{AllocError, Global};
@@ -28,23 +29,6 @@ struct Values<'a> {
     limits: &'a LimitOptions,
 }
 
-static ENCODINGS: [&str; 3] = ["utf-8", "utf-16", "utf-32"];
-
-static KINDS: [&str; 2] = ["full", "incremental"];
-
-fn encodings() -> &'static [&'static str]
-    ensures { map (λ name. name.now) result.now
-        ≡ codes "utf-8" ∷ codes "utf-16" ∷ codes "utf-32" ∷ [] }
-{
-    ENCODINGS.as_slice()
-}
-
-fn kinds() -> &'static [&'static str]
-    ensures { map (λ name. name.now) result.now ≡ codes "full" ∷ codes "incremental" ∷ [] }
-{
-    KINDS.as_slice()
-}
-
 pub(crate) fn program<'a>(
     alloc: Global,
     limits: &'a LimitOptions,
@@ -54,7 +38,7 @@ pub(crate) fn program<'a>(
 {
     let values = Values {
         encodings: encodings(),
-        kinds: kinds(),
+        kinds: change_forms(),
         limits,
     };
     let program = with_command(alloc, top(alloc), help::serve(), values)?;

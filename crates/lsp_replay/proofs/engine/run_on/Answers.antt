@@ -16,7 +16,7 @@ returns-in_err-opening-clause-run g c =
       ) (ran_unopened (record {
         max_body = c.args.rules.limits.max_body;
         versions = c.args.rules.versions;
-        only_one = c.args.rules.only_one;
+        refuses_two = c.args.rules.refuses_two;
       }) (g.H.Handler.run_output c.args.handler.now) (g.R.Source.seen c.args.ends.now.reader.now).left
           (g.W.Sink.seen c.args.ends.now.writer.now).written
           (g.R.Source.seen c.read_opening.new.reader).left _ _ (record {
@@ -41,7 +41,7 @@ returns-in_err-accept-clause-run g c =
       ) (ran_refused (record {
         max_body = c.args.rules.limits.max_body;
         versions = c.args.rules.versions;
-        only_one = c.args.rules.only_one;
+        refuses_two = c.args.rules.refuses_two;
       }) (g.H.Handler.run_output c.args.handler.now) (g.R.Source.seen c.args.ends.now.reader.now).left
           (g.W.Sink.seen c.args.ends.now.writer.now).written
           (g.R.Source.seen c.read_opening.new.reader).left _ _ _ c.in_ok-opening.opening.version
@@ -60,7 +60,7 @@ pieces-init g c = record {
   runs = runs_at_start (record {
     max_body = c.args.rules.limits.max_body;
     versions = c.args.rules.versions;
-    only_one = c.args.rules.only_one;
+    refuses_two = c.args.rules.refuses_two;
   }) (g.H.Handler.run_output c.args.handler.now) (g.R.Source.seen c.args.ends.now.reader.now).left
       (g.W.Sink.seen c.args.ends.now.writer.now).written
       (g.R.Source.seen c.read_opening.new.reader).left c.in_ok-opening.opening.ended c.in_ok-opening.opening.len _ _ _
@@ -71,7 +71,7 @@ pieces-init g c = record {
       (λ input more at_start. c.new-splitter.ensures.is_after (record {
         max_body = c.args.rules.limits.max_body;
         versions = c.args.rules.versions;
-        only_one = c.args.rules.only_one;
+        refuses_two = c.args.rules.refuses_two;
       }) input more refl at_start);
   ended = c.in_ok-opening.ensures.ended;
   at_end = c.in_ok-opening.ensures.at_end;
@@ -96,7 +96,7 @@ returns-in_err-end-clause-run g c =
       ) (ran_into_fault (record {
         max_body = c.args.rules.limits.max_body;
         versions = c.args.rules.versions;
-        only_one = c.args.rules.only_one;
+        refuses_two = c.args.rules.refuses_two;
       }) (g.H.Handler.run_output c.args.handler.now) (g.R.Source.seen c.args.ends.now.reader.now).left
           (g.W.Sink.seen c.args.ends.now.writer.now).written
           (g.R.Source.seen c.pieces.ends.reader.now).left c.pieces.ended
@@ -107,14 +107,14 @@ returns-in_err-end-clause-run g c =
           (λ input w. (rw c.writer.ensures.value at c.in_err-end.ensures.error) (record {
             max_body = c.args.rules.limits.max_body;
             versions = c.args.rules.versions;
-            only_one = c.args.rules.only_one;
+            refuses_two = c.args.rules.refuses_two;
           }) (g.H.Handler.run_output c.args.handler.now) (g.W.Sink.seen c.args.ends.now.writer.now).written input w)
           c.pieces.invariant.runs);
       called = let runs = c.pieces.invariant.runs in
           let why = (rw c.writer.ensures.value at c.in_err-end.ensures.error) (record {
             max_body = c.args.rules.limits.max_body;
             versions = c.args.rules.versions;
-            only_one = c.args.rules.only_one;
+            refuses_two = c.args.rules.refuses_two;
           }) (g.H.Handler.run_output c.args.handler.now) (g.W.Sink.seen c.args.ends.now.writer.now).written runs.input
           runs.progress in
           rw (
@@ -149,7 +149,7 @@ returns-in-Some-clause-run g c =
       ran = ran_stopped (record {
         max_body = c.args.rules.limits.max_body;
         versions = c.args.rules.versions;
-        only_one = c.args.rules.only_one;
+        refuses_two = c.args.rules.refuses_two;
       }) (g.H.Handler.run_output c.args.handler.now) (g.R.Source.seen c.args.ends.now.reader.now).left
           (g.W.Sink.seen c.args.ends.now.writer.now).written
           (g.R.Source.seen c.pieces.ends.reader.now).left c.pieces.ended
@@ -161,7 +161,7 @@ returns-in-Some-clause-run g c =
           (record {
             max_body = c.args.rules.limits.max_body;
             versions = c.args.rules.versions;
-            only_one = c.args.rules.only_one;
+            refuses_two = c.args.rules.refuses_two;
           }) (g.H.Handler.run_output c.args.handler.now) (g.W.Sink.seen c.args.ends.now.writer.now).written input w))
           c.pieces.invariant.runs;
       called = search rules;
@@ -176,7 +176,7 @@ returns-then-ended-clause-run g c =
       ran = ran_finished (record {
         max_body = c.args.rules.limits.max_body;
         versions = c.args.rules.versions;
-        only_one = c.args.rules.only_one;
+        refuses_two = c.args.rules.refuses_two;
       }) (g.H.Handler.run_output c.args.handler.now) (g.R.Source.seen c.args.ends.now.reader.now).left
           (g.W.Sink.seen c.args.ends.now.writer.now).written
           (g.R.Source.seen c.pieces.ends.reader.now).left c.pieces.ended
@@ -190,7 +190,7 @@ returns-then-ended-clause-run g c =
           (runs_on (record {
             max_body = c.args.rules.limits.max_body;
             versions = c.args.rules.versions;
-            only_one = c.args.rules.only_one;
+            refuses_two = c.args.rules.refuses_two;
           }) (g.H.Handler.run_output c.args.handler.now) (g.R.Source.seen c.args.ends.now.reader.now).left
           (g.W.Sink.seen c.args.ends.now.writer.now).written (g.R.Source.seen c.pieces.ends.reader.now).left
           c.pieces.ended c.pieces.place _ c.pieces.splitter c.take_piece.new.splitter
@@ -201,7 +201,7 @@ returns-then-ended-clause-run g c =
           (record {
             max_body = c.args.rules.limits.max_body;
             versions = c.args.rules.versions;
-            only_one = c.args.rules.only_one;
+            refuses_two = c.args.rules.refuses_two;
           }) (g.H.Handler.run_output c.args.handler.now) (g.W.Sink.seen c.args.ends.now.writer.now).written input w))
           c.pieces.invariant.runs);
       called = search rules;
@@ -229,7 +229,7 @@ returns-in_err-to-clause-run g c =
       ) (ran_unread (record {
         max_body = c.args.rules.limits.max_body;
         versions = c.args.rules.versions;
-        only_one = c.args.rules.only_one;
+        refuses_two = c.args.rules.refuses_two;
       }) (g.H.Handler.run_output c.args.handler.now) (g.R.Source.seen c.args.ends.now.reader.now).left
           (g.W.Sink.seen c.args.ends.now.writer.now).written
           (g.R.Source.seen c.pieces.ends.reader.now).left (g.R.Source.seen c.read_piece.new.reader).left c.pieces.ended
@@ -246,7 +246,7 @@ returns-in_err-to-clause-run g c =
           (runs_on (record {
             max_body = c.args.rules.limits.max_body;
             versions = c.args.rules.versions;
-            only_one = c.args.rules.only_one;
+            refuses_two = c.args.rules.refuses_two;
           }) (g.H.Handler.run_output c.args.handler.now) (g.R.Source.seen c.args.ends.now.reader.now).left
           (g.W.Sink.seen c.args.ends.now.writer.now).written (g.R.Source.seen c.pieces.ends.reader.now).left
           c.pieces.ended c.pieces.place _ c.pieces.splitter c.take_piece.new.splitter
@@ -257,7 +257,7 @@ returns-in_err-to-clause-run g c =
           (record {
             max_body = c.args.rules.limits.max_body;
             versions = c.args.rules.versions;
-            only_one = c.args.rules.only_one;
+            refuses_two = c.args.rules.refuses_two;
           }) (g.H.Handler.run_output c.args.handler.now) (g.W.Sink.seen c.args.ends.now.writer.now).written input w))
           c.pieces.invariant.runs));
       called = rw (p.1, p.2) (called_fault _ _ _ _ _ c.read_piece.new.turns.left _ _ _ _ _
@@ -295,7 +295,7 @@ pieces-preserved g c =
       runs = runs_more (record {
         max_body = c.args.rules.limits.max_body;
         versions = c.args.rules.versions;
-        only_one = c.args.rules.only_one;
+        refuses_two = c.args.rules.refuses_two;
       }) (g.H.Handler.run_output c.args.handler.now) (g.R.Source.seen c.args.ends.now.reader.now).left
           (g.W.Sink.seen c.args.ends.now.writer.now).written
           (g.R.Source.seen c.pieces.ends.reader.now).left (g.R.Source.seen c.read_piece.new.reader).left c.pieces.ended
@@ -310,7 +310,7 @@ pieces-preserved g c =
           (runs_on (record {
             max_body = c.args.rules.limits.max_body;
             versions = c.args.rules.versions;
-            only_one = c.args.rules.only_one;
+            refuses_two = c.args.rules.refuses_two;
           }) (g.H.Handler.run_output c.args.handler.now) (g.R.Source.seen c.args.ends.now.reader.now).left
           (g.W.Sink.seen c.args.ends.now.writer.now).written (g.R.Source.seen c.pieces.ends.reader.now).left
           c.pieces.ended c.pieces.place _ c.pieces.splitter c.take_piece.new.splitter
@@ -321,7 +321,7 @@ pieces-preserved g c =
           (record {
             max_body = c.args.rules.limits.max_body;
             versions = c.args.rules.versions;
-            only_one = c.args.rules.only_one;
+            refuses_two = c.args.rules.refuses_two;
           }) (g.H.Handler.run_output c.args.handler.now) (g.W.Sink.seen c.args.ends.now.writer.now).written input w))
           c.pieces.invariant.runs);
       ended = (
@@ -355,7 +355,7 @@ returns-in_err-end-clause-whole g c =
     ) (λ _ is. piece_whole (record {
       max_body = c.args.rules.limits.max_body;
       versions = c.args.rules.versions;
-      only_one = c.args.rules.only_one;
+      refuses_two = c.args.rules.refuses_two;
     }) (g.H.Handler.run_output c.args.handler.now) (g.R.Source.seen c.args.ends.now.reader.now).left
     (g.W.Sink.seen c.args.ends.now.writer.now).written
     (g.R.Source.seen c.pieces.ends.reader.now).left c.pieces.ended c.pieces.place _ c.pieces.splitter
@@ -364,7 +364,7 @@ returns-in_err-end-clause-whole g c =
     (λ input w. (rw c.writer.ensures.value at c.in_err-end.ensures.error) (record {
       max_body = c.args.rules.limits.max_body;
       versions = c.args.rules.versions;
-      only_one = c.args.rules.only_one;
+      refuses_two = c.args.rules.refuses_two;
     }) (g.H.Handler.run_output c.args.handler.now) (g.W.Sink.seen c.args.ends.now.writer.now).written input w)
     c.pieces.invariant.runs is)
 
@@ -373,7 +373,7 @@ returns-then-ended-clause-whole g c = λ one is.
     end_whole (record {
       max_body = c.args.rules.limits.max_body;
       versions = c.args.rules.versions;
-      only_one = c.args.rules.only_one;
+      refuses_two = c.args.rules.refuses_two;
     }) (g.H.Handler.run_output c.args.handler.now) (g.R.Source.seen c.args.ends.now.reader.now).left
     (g.W.Sink.seen c.args.ends.now.writer.now).written
     (g.R.Source.seen c.pieces.ends.reader.now).left c.pieces.ended c.pieces.place c.take_piece.new.splitter
@@ -384,7 +384,7 @@ returns-then-ended-clause-whole g c = λ one is.
     (runs_on (record {
       max_body = c.args.rules.limits.max_body;
       versions = c.args.rules.versions;
-      only_one = c.args.rules.only_one;
+      refuses_two = c.args.rules.refuses_two;
     }) (g.H.Handler.run_output c.args.handler.now) (g.R.Source.seen c.args.ends.now.reader.now).left
     (g.W.Sink.seen c.args.ends.now.writer.now).written (g.R.Source.seen c.pieces.ends.reader.now).left c.pieces.ended
     c.pieces.place _ c.pieces.splitter c.take_piece.new.splitter
@@ -395,7 +395,7 @@ returns-then-ended-clause-whole g c = λ one is.
     (record {
       max_body = c.args.rules.limits.max_body;
       versions = c.args.rules.versions;
-      only_one = c.args.rules.only_one;
+      refuses_two = c.args.rules.refuses_two;
     }) (g.H.Handler.run_output c.args.handler.now) (g.W.Sink.seen c.args.ends.now.writer.now).written input w))
     c.pieces.invariant.runs) is
 

@@ -14,7 +14,7 @@ invariant-pieces g l = record {
   runs : Runs (record {
     max_body = l.fn.rules.limits.max_body;
     versions = l.fn.rules.versions;
-    only_one = l.fn.rules.only_one;
+    refuses_two = l.fn.rules.refuses_two;
   }) (g.H.Handler.run_output l.fn.handler) (g.R.Source.seen l.fn.ends.reader.now).left
       (g.W.Sink.seen l.fn.ends.writer.now).written
       (g.R.Source.seen l.ends.reader.now).left l.ended l.place (take (l.to - l.from) (drop l.from l.buf)) l.splitter

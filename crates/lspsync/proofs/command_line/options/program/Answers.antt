@@ -7,7 +7,11 @@ use Rattle.lspsync.proofs.command_line.options.program.Goals as goal
 
 pub returns : goal.returns
 returns c same =
-    let values : Values = record { encodings = c.encodings.result; kinds = c.kinds.result; limits = c.args.limits } in
+    let values : Values = record {
+      encodings = c.encodings.result;
+      kinds = c.change_forms.result;
+      limits = c.args.limits;
+    } in
     let one = puts _ (app_of c.in_ok-program.program) _ c.serve.result values (codes "serve")
     (λ kinds. sync_rule kinds ∷ []) c.serve.ensures same c.in_ok-program.ensures c.top.ensures in
     let two = puts _ (app_of c.in_ok-program-2.program) _ c.check.result values (codes "check") (λ _. explain_rule ∷ [])
@@ -18,5 +22,6 @@ returns c same =
     c.replay.ensures same c.in_ok-program-4.ensures three in
     let five = puts _ (app_of c.in_ok-program-5.program) _ c.normalise.result values (codes "normalise")
     (λ _. writing_rules) c.normalise.ensures same c.in_ok-program-5.ensures four in
-    program_is _ c.convert.result values c.with_command-6.result c.encodings.ensures c.kinds.ensures c.convert.ensures
+    program_is _ c.convert.result values c.with_command-6.result c.encodings.ensures c.change_forms.ensures
+    c.convert.ensures
     same c.with_command-6.ensures five

@@ -7,16 +7,16 @@ use std::marker::Model;
 /// A client, the frame that its last accepted call or delivery sends (no bytes if none), and its
 /// stream.
 #[derive(Drop)]
-pub struct Editor {
+pub struct HeldClient {
     pub(crate) client: Client,
     pub(crate) frame: Vec<u8>,
     pub(crate) stream: Stream,
 }
 
-impl Model for Editor {
-    ghost use Rattle.laspidru.specs.Editors.{EditorData};
+impl Model for HeldClient {
+    ghost use Rattle.laspidru.specs.HeldClients.{HeldClientData};
 
-    ghost Value = { EditorData };
+    ghost Value = { HeldClientData };
 
     ghost view = { λ it.
         record { client = it.client; frame = it.frame.items; stream = it.stream } };
