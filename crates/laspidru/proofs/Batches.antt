@@ -3,11 +3,11 @@ use Rattle.std.proofs.Common.{List, map}
 use Rattle.lsp_text.specs.Units.{units_in}
 use Rattle.lsp_edit.specs.declared.change.Change.{Change}
 use Rattle.lsp_edit.specs.declared.composed.TheConstants.{MAX_OLD_TEXT}
-use Rattle.lsp_edit.specs.Edited.{edit_of}
+use Rattle.lsp_edit.specs.Edited.{content_change}
 use Rattle.lsp_edit.specs.Indexed.{IsCanonicalBatch}
 use Rattle.laspidru.specs.Batches.{Asked, IsBatchOf}
 
 pub is_batch_of : (asked : Asked) (changes : List Change)
-    → IsCanonicalBatch (units_in asked.encoding) MAX_OLD_TEXT asked.text asked.edits (map edit_of changes)
+    → IsCanonicalBatch (units_in asked.encoding) MAX_OLD_TEXT asked.text asked.edits (map content_change changes)
     → IsBatchOf asked changes
 is_batch_of asked changes batch = record { items = batch.items; means = batch.means; is = batch.is }

@@ -11,12 +11,12 @@ use Rattle.lsp_edit.specs.declared.composed.TheConstants.{MAX_OLD_TEXT}
 use Rattle.lsp_edit.specs.declared.fault.EditFault.TheVariants as edit
 use Rattle.lsp_edit.specs.declared.fault.Side.{Side}
 use Rattle.lsp_edit.specs.declared.fault.Side.TheVariants.{Start, Stop}
-use Rattle.lsp_edit.specs.declared.indexed.fault.TextFault.{TextFault}
-use Rattle.lsp_edit.specs.declared.indexed.fault.TextFault.TheVariants.{Edit as EditOf, TooLong, NoMemory}
+use Rattle.lsp_edit.specs.declared.indexed.fault.BatchFault.{BatchFault}
+use Rattle.lsp_edit.specs.declared.indexed.fault.BatchFault.TheVariants.{Edit as EditOf, TooLong, NoMemory}
 use Rattle.lsp_edit.specs.Batch as batch
 use Rattle.lsp_edit.specs.Batch.{meaning}
 use Rattle.lsp_edit.specs.Items.{Item}
-use Rattle.lsp_edit.specs.Edited.{edit_of}
+use Rattle.lsp_edit.specs.Edited.{content_change}
 use Rattle.lsp_edit.specs.Canonical.{canonical}
 use Rattle.lsp_edit.specs.Indexed.{text_within}
 use Rattle.laspidru.specs.declared.codes.TheConstants.{BAD_LENGTH, INSIDE_CHARACTER, NOT_UTF8, OK, OUT_OF_MEMORY, OUT_OF_RANGE, REVERSED_RANGE, TOO_LONG}
@@ -34,11 +34,11 @@ range_if true start end = None
 range_if false start end = Some (record { start = position_at start; stop = position_at end })
 
 -- An edit whose new text has these bytes.
-abbrev pub edit_with : Edit → List ℕ → batch.Edit
+abbrev pub edit_with : Edit → List ℕ → batch.ContentChange
 edit_with edit own = record { range = range_if edit.is_whole edit.start edit.end; text = chars own }
 
 -- The edits, each with its part of the texts.
-abbrev pub edits_of : List Edit → List ℕ → List batch.Edit
+abbrev pub edits_of : List Edit → List ℕ → List batch.ContentChange
 edits_of [] texts = []
 edits_of (edit ∷ rest) texts =
     edit_with edit (take edit.len texts) ∷ edits_of rest (drop edit.len texts)
@@ -58,7 +58,7 @@ len_of edits = sum_by (λ edit. edit.len) edits
 -- A batch on a text, in an encoding.
 pub record Asked : Type 0 where
   pub encoding : Encoding
-  pub edits : List batch.Edit
+  pub edits : List batch.ContentChange
   pub text : List ℕ
 
 -- A batch on the text of a document, if neither is too long.
@@ -74,7 +74,7 @@ batch_asked number edits texts document = and_then (encoding_at number) (λ enco
     unless (refused_edit edits texts) (fitting encoding edits texts document))
 
 -- The text after a batch, if that isn't too long.
-abbrev pub text_left_by : Asked → Result (List ℕ) TextFault
+abbrev pub text_left_by : Asked → Result (List ℕ) BatchFault
 text_left_by asked =
     let means = meaning (units_in asked.encoding) (chars asked.text) asked.edits in
     text_within MAX_OLD_TEXT asked.text means
@@ -86,7 +86,7 @@ side_at false = Start
 
 -- A fault is reported by its code. If it is one of a change, `out` has the number of the change and
 -- the end of its range.
-abbrev pub IsReport : TextFault → ℕ → FaultAt → Type 0
+abbrev pub IsReport : BatchFault → ℕ → FaultAt → Type 0
 IsReport (EditOf (edit.InsideCharacter change side)) code out =
     (code ≡ INSIDE_CHARACTER) × (out.change ≡ change) × (side_at out.at_end ≡ side)
 IsReport (EditOf (edit.ReversedRange change)) code out =
@@ -96,7 +96,7 @@ IsReport TooLong code out = code ≡ TOO_LONG
 IsReport NoMemory code out = code ≡ OUT_OF_MEMORY
 
 -- The handle has the text after the batch, or the fault is reported.
-abbrev pub IsTextLeft : Result (List ℕ) TextFault → ℕ → Option Object → FaultAt → Type 0
+abbrev pub IsTextLeft : Result (List ℕ) BatchFault → ℕ → Option Object → FaultAt → Type 0
 IsTextLeft (Ok text) code stored out = (code ≡ OK) × (stored ≡ Some (Document text))
 IsTextLeft (Err fault) code stored out = IsReport fault code out
 
@@ -105,10 +105,10 @@ IsTextLeft (Err fault) code stored out = IsReport fault code out
 pub record IsBatchOf (asked : Asked) (changes : List Change) : Type 0 where
   pub items : List Item
   pub means : meaning (units_in asked.encoding) (chars asked.text) asked.edits ≡ Ok items
-  pub is : map edit_of changes ≡ canonical (units_in asked.encoding) (chars asked.text) items
+  pub is : map content_change changes ≡ canonical (units_in asked.encoding) (chars asked.text) items
 
 -- The handle has the canonical batch if there is a text after the batch, or the fault is reported.
-abbrev pub IsCanonicalIf : Result (List ℕ) TextFault → Asked → ℕ → Option Object → FaultAt → Type 0
+abbrev pub IsCanonicalIf : Result (List ℕ) BatchFault → Asked → ℕ → Option Object → FaultAt → Type 0
 IsCanonicalIf (Ok text) asked code stored out =
     (code ≡ OK) × IsOkAnd (stored_batch stored) (IsBatchOf asked)
 IsCanonicalIf (Err fault) asked code stored out = IsReport fault code out

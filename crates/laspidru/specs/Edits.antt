@@ -7,13 +7,13 @@ use Rattle.lsp_text.specs.Units.{units_in}
 use Rattle.lsp_edit.specs.declared.change.Change.{Change}
 use Rattle.lsp_edit.specs.declared.change.TheConstants.{MAX_NEW_TEXT}
 use Rattle.lsp_edit.specs.declared.composed.TheConstants.{MAX_OLD_TEXT}
-use Rattle.lsp_edit.specs.declared.indexed.fault.TextFault.{TextFault}
-use Rattle.lsp_edit.specs.declared.indexed.fault.TextFault.TheVariants.{TooLong}
+use Rattle.lsp_edit.specs.declared.indexed.fault.BatchFault.{BatchFault}
+use Rattle.lsp_edit.specs.declared.indexed.fault.BatchFault.TheVariants.{TooLong}
 use Rattle.lsp_edit.specs.declared.text_edits.TextEdit.{TextEdit}
 use Rattle.lsp_edit.specs.declared.text_edits.TextEditFault.{TextEditFault}
 use Rattle.lsp_edit.specs.declared.text_edits.TextEditFault.TheVariants.{InsideCharacter, ReversedRange, Overlap, NoMemory}
 use Rattle.lsp_edit.specs.Batch.{meaning}
-use Rattle.lsp_edit.specs.Edited.{edit_of}
+use Rattle.lsp_edit.specs.Edited.{content_change}
 use Rattle.lsp_edit.specs.Indexed.{text_within}
 use Rattle.lsp_edit.specs.TextEdits.{IsBatchOfEdits, IsEditsFault}
 use Rattle.laspidru.specs.declared.codes.TheConstants.{INSIDE_CHARACTER, OK, OUT_OF_MEMORY, OVERLAP, REVERSED_RANGE, TOO_LONG}
@@ -99,7 +99,7 @@ pub record AreFaulty (asked : EditsAsked) (code : ℕ) (out : EditsFault) : Type
 pub record IsBatchOfAsked (asked : EditsAsked) (changes : List Change) : Type 0 where
   pub edits : List TextEdit
   pub are : map replacement_of edits ≡ asked.replacements
-  pub batch : IsBatchOfEdits (units_in asked.encoding) asked.text edits (map edit_of changes)
+  pub batch : IsBatchOfEdits (units_in asked.encoding) asked.text edits (map content_change changes)
 
 -- The handle holds the batch, or the edits are faulty.
 abbrev pub AreBatched : EditsAsked → ℕ → Option Object → EditsFault → Type 0
@@ -107,9 +107,9 @@ AreBatched asked code stored out =
     ((code ≡ OK) × IsOkAnd (stored_batch stored) (IsBatchOfAsked asked)) ⊎ AreFaulty asked code out
 
 -- what changes leave of a text, if that isn't too long
-abbrev pub text_left : Encoding → List ℕ → List Change → Result (List ℕ) TextFault
+abbrev pub text_left : Encoding → List ℕ → List Change → Result (List ℕ) BatchFault
 text_left encoding text changes =
-    text_within MAX_OLD_TEXT text (meaning (units_in encoding) (chars text) (map edit_of changes))
+    text_within MAX_OLD_TEXT text (meaning (units_in encoding) (chars text) (map content_change changes))
 
 -- Changes put in more than they may, or leave too long a text.
 abbrev pub IsTooMuch : Encoding → List ℕ → List Change → Type 0

@@ -31,7 +31,7 @@ pub record MessageAsked : Type 0 where
   pub uri : List ℕ
   pub version : ℤ
   pub encoding : Encoding
-  pub edits : List batch.Edit
+  pub edits : List batch.ContentChange
 
 -- The same as C passes it, or the code of its refusal.
 abbrev pub message_asked : List ℕ → ℤ → ℕ → List Edit → List ℕ → Result HeldServerData ℕ →

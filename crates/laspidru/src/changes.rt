@@ -3,8 +3,8 @@
 ghost use Rattle.std.specs.Prelude.{◌≡◌, ◌≢◌, ◌≤◌, ◌↔◌, None, IfOk, IsTrue, length, map};
 ghost use Rattle.std.specs.Prelude.{string_len, sum_by, true};
 ghost use Rattle.std.specs.Str.{is_utf8};
-ghost use Rattle.lsp_edit.specs.declared.indexed.fault.TextFault.TheVariants.{Edit as EditOf};
-ghost use Rattle.lsp_edit.specs.Edited.{edit_of};
+ghost use Rattle.lsp_edit.specs.declared.indexed.fault.BatchFault.TheVariants.{Edit as EditOf};
+ghost use Rattle.lsp_edit.specs.Edited.{content_change};
 ghost use Rattle.laspidru.specs.Objects.{encoding_numbered, position_at};
 ghost use Rattle.laspidru.specs.Batches.{IsReport, edit_with, edits_of, len_of, refused_edit};
 
@@ -13,7 +13,7 @@ use crate::codes::{
     BAD_LENGTH, INSIDE_CHARACTER, NOT_UTF8, OUT_OF_MEMORY, REVERSED_RANGE, TOO_LONG,
 };
 use crate::place::{Edit, FaultAt, Place};
-use lsp_edit::{Change, EditFault, MAX_NEW_TEXT, Side, TextFault};
+use lsp_edit::{BatchFault, Change, EditFault, MAX_NEW_TEXT, Side};
 use lsp_text::{Encoding, Position, Range};
 use std::alloc::{AllocError, Global};
 
@@ -73,7 +73,7 @@ pub(crate) fn fits(edits: &[Edit]) -> bool
 /// Returns an edit with its text.
 fn change_of(alloc: Global, edit: Edit, own: &[u8]) -> Result<Change, AllocError>
     requires { is_utf8 own.now ≡ true }
-    ensures ok { IfOk result (λ change. edit_of change ≡ edit_with edit own.now) }
+    ensures ok { IfOk result (λ change. content_change change ≡ edit_with edit own.now) }
     ensures len { IfOk result (λ change. string_len change.text ≡ length own.now) }
 {
     // SAFETY: `refusal_of` has read each text.
@@ -96,7 +96,7 @@ pub(crate) fn changes_of(
     texts: &[u8],
 ) -> Result<Vec<Change>, AllocError>
     requires { refused_edit edits.now texts.now ≡ None }
-    ensures ok { IfOk result (λ changes. map edit_of changes.items ≡ edits_of edits.now texts.now) }
+    ensures ok { IfOk result (λ changes. map content_change changes.items ≡ edits_of edits.now texts.now) }
     ensures len { IfOk result (λ changes.
         sum_by (λ change. string_len change.text) changes.items ≡ len_of edits.now) }
 {
@@ -137,13 +137,13 @@ pub(crate) fn report_change(fault: EditFault, out: &mut FaultAt) -> u32
 
 /// Returns the code of a fault. A faulty change is written to `out`; another fault leaves `out` as
 /// it is.
-pub(crate) fn report(fault: TextFault, out: &mut FaultAt) -> u32
+pub(crate) fn report(fault: BatchFault, out: &mut FaultAt) -> u32
     ensures report { IsReport fault result out.new }
     ensures unchanged { result ≢ INSIDE_CHARACTER → result ≢ REVERSED_RANGE → out.new ≡ out.old }
 {
     match fault {
-        TextFault::Edit(fault) => report_change(fault, out),
-        TextFault::TooLong => TOO_LONG,
-        TextFault::NoMemory => OUT_OF_MEMORY,
+        BatchFault::Edit(fault) => report_change(fault, out),
+        BatchFault::TooLong => TOO_LONG,
+        BatchFault::NoMemory => OUT_OF_MEMORY,
     }
 }

@@ -19,7 +19,7 @@ use crate::codes::{
 use crate::handle::Handle;
 use crate::object::Object;
 use crate::place::{Edit, EditsFault, Place};
-use lsp_edit::{Change, IndexedText, MAX_OLD_TEXT, Side, TextEdit, TextEditFault, TextFault};
+use lsp_edit::{BatchFault, Change, IndexedText, MAX_OLD_TEXT, Side, TextEdit, TextEditFault};
 use lsp_text::{Encoding, Range};
 use std::alloc::{AllocError, Global};
 
@@ -214,8 +214,8 @@ fn change_by(document: &mut IndexedText, encoding: Encoding, batch: &[Change]) -
     }
     match document.change(encoding, batch, MAX_OLD_TEXT) {
         Ok(()) => Ok(()),
-        Err(TextFault::TooLong) => Err(TOO_LONG),
-        Err(TextFault::Edit(_) | TextFault::NoMemory) => Err(OUT_OF_MEMORY),
+        Err(BatchFault::TooLong) => Err(TOO_LONG),
+        Err(BatchFault::Edit(_) | BatchFault::NoMemory) => Err(OUT_OF_MEMORY),
     }
 }
 

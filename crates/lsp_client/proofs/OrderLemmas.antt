@@ -3,7 +3,7 @@ use Rattle.std.proofs.Common.{◌≡◌, ◌≢◌, ℕ, ℤ, List, Option, Some
 use Rattle.lsp_frame.specs.Frame.{frame}
 use Rattle.lsp_text.specs.declared.encoding.Encoding.{Encoding}
 use Rattle.lsp_text.specs.Units.{units_in}
-use Rattle.lsp_edit.specs.Batch.{Edit}
+use Rattle.lsp_edit.specs.Batch.{ContentChange}
 use Rattle.lsp_message.specs.declared.agreement.SyncKind.{SyncKind}
 use Rattle.lsp_message.specs.declared.agreement.SyncKind.TheVariants.{Off, Full, Incremental}
 use Rattle.lsp_store.specs.declared.fault.StoreFault.{StoreFault}
@@ -80,7 +80,7 @@ sent_if s kind command bytes new may within framed state = rw (may, within) (fra
 
 -- Under any kind but Full the canonical batch is sent.
 pub canonical_sent : (kind : SyncKind) (table : List DocumentItem) (uri : List ℕ) (version : ℤ) (encoding : Encoding)
-    (batch : List Edit) → kind ≢ Full
+    (batch : List ContentChange) → kind ≢ Full
     → sent_body kind table (changes uri version encoding batch) ≡ canonical_body (units_in encoding) table uri version
     batch
 unfolding change_body sent_body

@@ -5,7 +5,7 @@ use Rattle.lsp_frame.specs.Limits.{LimitsData}
 use Rattle.lsp_message.specs.declared.agreement.Offers.{Offers}
 use Rattle.lsp_text.specs.declared.encoding.Encoding.{Encoding}
 use Rattle.lsp_text.specs.Units.{units_in}
-use Rattle.lsp_edit.specs.Batch.{Edit}
+use Rattle.lsp_edit.specs.Batch.{ContentChange}
 use Rattle.lsp_message.specs.declared.agreement.SyncKind.{SyncKind}
 use Rattle.lsp_message.specs.declared.agreement.SyncKind.TheVariants.{Full}
 use Rattle.lsp_message.specs.Outgoing.{did_open, did_close, body_of}
@@ -99,7 +99,7 @@ may_close limits table uri entry found = rw (← found) refl
 
 -- The canonical message is refused as the order is, under any kind but Full.
 pub canonical_refusal : (limits : LimitsData) (kind : SyncKind) (table : List DocumentItem) (uri : List ℕ) (version : ℤ)
-    (encoding : Encoding) (batch : List Edit) → kind ≢ Full
+    (encoding : Encoding) (batch : List ContentChange) → kind ≢ Full
     → message_refusal limits (units_in encoding) table uri version batch ≡ order_refusal limits kind table
     (documents.changes uri version encoding batch)
 canonical_refusal limits kind table uri version encoding batch not =
@@ -107,7 +107,7 @@ canonical_refusal limits kind table uri version encoding batch not =
     (body_refusal limits body)) (sym (canonical_sent kind table uri version encoding batch not))
 
 pub change_refused : (limits : LimitsData) (table : List DocumentItem) (s : ClientData) (agreed : Agreed) (uri : List ℕ)
-    (version : ℤ) (batch : List Edit) (fault : StoreFault)
+    (version : ℤ) (batch : List ContentChange) (fault : StoreFault)
     → limits ≡ s.limits → table ≡ s.table → agreed ≡ agreement s → (agreement s).kind ≢ Full
     → IsRefusal (message_refusal limits (units_in agreed.encoding) table uri version batch) fault
     → IsOrderFault s (edits uri version batch) fault
@@ -125,7 +125,7 @@ second_none None later none = none
 second_none (Some refusal) later none = absurd (cc)
 
 pub change_within : (limits : LimitsData) (table : List DocumentItem) (s : ClientData) (agreed : Agreed) (uri : List ℕ)
-    (version : ℤ) (batch : List Edit)
+    (version : ℤ) (batch : List ContentChange)
     → limits ≡ s.limits → table ≡ s.table → agreed ≡ agreement s → (agreement s).kind ≢ Full
     → message_refusal limits (units_in agreed.encoding) table uri version batch ≡ None
     → body_refusal s.limits
@@ -140,7 +140,7 @@ change_within limits table s agreed uri version batch same there is not none =
     ) at none)
 
 pub change_framed : (table : List DocumentItem) (s : ClientData) (agreed : Agreed) (uri : List ℕ) (version : ℤ)
-    (batch : List Edit) (bytes : List ℕ)
+    (batch : List ContentChange) (bytes : List ℕ)
     → table ≡ s.table → agreed ≡ agreement s → (agreement s).kind ≢ Full
     → bytes ≡ canonical_frame (units_in agreed.encoding) table uri version batch
     → bytes ≡ frame (sent_body (agreement s).kind s.table (documents.changes uri version (agreement s).encoding batch))
@@ -157,7 +157,7 @@ order_fault s order fault ready why = rw ready (refused _ _ fault why)
 
 -- Under Full the body is that of the text that the batch leaves.
 pub whole_sent : (table : List DocumentItem) (s : ClientData) (agreed : Agreed) (uri : List ℕ) (version : ℤ)
-    (batch : List Edit) (whole : Edit)
+    (batch : List ContentChange) (whole : ContentChange)
     → table ≡ s.table → agreed ≡ agreement s → (agreement s).kind ≡ Full
     → whole_batch (units_in agreed.encoding) table uri version batch ≡ whole ∷ []
     → change_body uri version (whole ∷ []) ≡ sent_body (agreement s).kind s.table

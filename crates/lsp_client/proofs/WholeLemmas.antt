@@ -6,7 +6,7 @@ use Rattle.std.specs.declared.alloc.Global.{Global}
 use Rattle.lsp_edit.specs.declared.change.Change.{Change}
 use Rattle.lsp_text.specs.declared.encoding.Encoding.{Encoding}
 use Rattle.lsp_text.specs.Units.{units_in}
-use Rattle.lsp_edit.specs.Batch.{Edit}
+use Rattle.lsp_edit.specs.Batch.{ContentChange}
 use Rattle.lsp_edit.specs.Delta.{bytes_after}
 use Rattle.lsp_message.specs.Outgoing.{did_change, body_of}
 use Rattle.lsp_message.specs.Seen.{edit_view}
@@ -22,7 +22,7 @@ use Rattle.lsp_client.proofs.OrderLemmas.{some_same}
 
 -- ---- the document that a change leaves
 
-pub entry_after : (units : ℕ → ℕ) (table : List DocumentItem) (uri : List ℕ) (version : ℤ) (batch : List Edit)
+pub entry_after : (units : ℕ → ℕ) (table : List DocumentItem) (uri : List ℕ) (version : ℤ) (batch : List ContentChange)
     (entry : DocumentItem) → entry_at table uri ≡ Some entry
     → entry_at (after_change units table uri version batch) uri ≡ Some (changed units entry version batch)
 entry_after units [] uri version batch entry found = absurd (cc)
@@ -40,7 +40,7 @@ entry_after units (first ∷ table) uri version batch entry found =
     (cases_Bool (bytes_eq uri first.uri))
 
 -- The document of a URI decides what text is left.
-pub whole_left : (units : ℕ → ℕ) (table : List DocumentItem) (uri : List ℕ) (version : ℤ) (batch : List Edit)
+pub whole_left : (units : ℕ → ℕ) (table : List DocumentItem) (uri : List ℕ) (version : ℤ) (batch : List ContentChange)
     (entry : DocumentItem) (text : List ℕ) → entry_at table uri ≡ Some entry
     → (changed units entry version batch).text ≡ text
     → whole_batch units table uri version batch ≡ whole_change text ∷ []
@@ -50,7 +50,7 @@ whole_left units table uri version batch entry text found left =
     ap whole_text whole ∙ ap (λ (t : List ℕ). whole_change t ∷ []) left
 
 -- The whole text that a plan leaves is that of its batch.
-pub planned_whole : (store : StoreData) (uri : List ℕ) (version : ℤ) (encoding : Encoding) (batch : List Edit)
+pub planned_whole : (store : StoreData) (uri : List ℕ) (version : ℤ) (encoding : Encoding) (batch : List ContentChange)
     (plan : Plan) (q : IsPlanOf store uri version encoding batch plan) (text : List ℕ)
     → text ≡ bytes_after q.on.entry.text plan.delta → whole_batch (units_in encoding) store.table uri version batch
     ≡ whole_change text ∷ []

@@ -3,7 +3,7 @@ use Rattle.std.specs.Prelude.{ℕ, ℤ, ◌≡◌, ◌⊎◌, List, map, String,
 use Rattle.std.specs.declared.alloc.Global.{Global}
 use Rattle.lsp_frame.specs.Frame.{frame}
 use Rattle.lsp_edit.specs.declared.change.Change.{Change}
-use Rattle.lsp_edit.specs.Edited.{edit_of}
+use Rattle.lsp_edit.specs.Edited.{content_change}
 use Rattle.lsp_message.specs.Outgoing.{OutgoingData, body_of}
 use Rattle.lsp_store.specs.declared.fault.StoreFault as documents_fault
 use Rattle.lsp_store.specs.declared.fault.StoreFault.TheVariants as faults
@@ -30,7 +30,7 @@ open_order uri language version text =
 
 -- The order of a call of `edit`.
 abbrev pub edit_order : List ℕ → ℤ → List Change → Order
-edit_order uri version changes = edits uri version (map edit_of changes)
+edit_order uri version changes = edits uri version (map content_change changes)
 
 -- ---- what is refused
 

@@ -6,7 +6,7 @@ use Rattle.lsp_frame.specs.Limits.{LimitsData}
 use Rattle.lsp_text.specs.declared.encoding.Encoding.{Encoding}
 use Rattle.lsp_text.specs.declared.encoding.Encoding.TheVariants.{Utf16}
 use Rattle.lsp_text.specs.Units.{units_in}
-use Rattle.lsp_edit.specs.Batch.{Edit}
+use Rattle.lsp_edit.specs.Batch.{ContentChange}
 use Rattle.lsp_message.specs.declared.agreement.Announced.{Announced}
 use Rattle.lsp_message.specs.declared.agreement.Offers.{Offers}
 use Rattle.lsp_message.specs.declared.agreement.SyncKind.{SyncKind}
@@ -48,7 +48,7 @@ new_client limits offers =
 -- close one, by its URI.
 pub data Order : Type 0 where
   opens : DocumentItem → Order
-  edits : List ℕ → ℤ → List Edit → Order
+  edits : List ℕ → ℤ → List ContentChange → Order
   closes : List ℕ → Order
 
 -- A call of the client.
@@ -72,7 +72,7 @@ command_of encoding (edits uri version batch) = documents.changes uri version en
 command_of encoding (closes uri) = documents.closes uri
 
 -- The batch that is sent for a batch: under Full the document's new text, else the canonical one.
-abbrev pub sent_batch : SyncKind → (ℕ → ℕ) → List DocumentItem → List ℕ → ℤ → List Edit → List Edit
+abbrev pub sent_batch : SyncKind → (ℕ → ℕ) → List DocumentItem → List ℕ → ℤ → List ContentChange → List ContentChange
 sent_batch Full units table uri version batch = whole_batch units table uri version batch
 sent_batch kind units table uri version batch = canonical_batch units table uri batch
 

@@ -3,6 +3,8 @@ pub mod BatchLemmas
 pub mod ComposeLemmas
 pub mod LawLemmas
 pub mod LocatedLemmas
+pub mod LocatedRowLemmas
+pub mod LocatedOrderLemmas
 pub mod PlainLemmas
 pub mod TextBatchLemmas
 pub mod TextEditLemmas

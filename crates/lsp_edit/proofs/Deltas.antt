@@ -4,3 +4,4 @@ pub mod SeriesLemmas
 pub mod IndexedLemmas
 pub mod InPlaceLemmas
 pub mod LayerLemmas
+pub mod OwnedLemmas

@@ -4,6 +4,7 @@ pub mod CutLemmas
 pub mod CutPartsLemmas
 pub mod MergedLemmas
 pub mod PassedLemmas
+pub mod PassingLemmas
 pub mod PutLemmas
 pub mod MarkLemmas
 pub mod ThroughLemmas

@@ -7,7 +7,7 @@ use Rattle.lsp_edit.specs.Items.{Item, New, plain, text_of}
 
 -- One change (LSP 3.17, TextDocumentContentChangeEvent): a range, or none for the whole text, and
 -- the characters that replace it.
-pub record Edit : Type 0 where
+pub record ContentChange : Type 0 where
   pub range : Option Range
   pub text : List ℕ
 
@@ -34,7 +34,7 @@ changed_in units old items characters (Some range) =
     (denoted units (text_of old items) range.stop)
 
 -- The items after a change.
-abbrev pub items_after : (ℕ → ℕ) → List ℕ → List Item → Edit → Result (List Item) Fault
+abbrev pub items_after : (ℕ → ℕ) → List ℕ → List Item → ContentChange → Result (List Item) Fault
 items_after units old items change = changed_in units old items change.text change.range
 
 -- The items after the rest of a batch, if `number` changes came before. Or the first change that
@@ -46,7 +46,7 @@ continue_with rest number (Err fault) = Err (number, fault)
 
 -- The items after these changes, numbered from `number`; or the first change that has no result,
 -- and why.
-abbrev pub after_changes : (ℕ → ℕ) → List ℕ → ℕ → List Item → List Edit →
+abbrev pub after_changes : (ℕ → ℕ) → List ℕ → ℕ → List Item → List ContentChange →
     Result (List Item) (ℕ × Fault)
 after_changes units old number items [] = Ok items
 after_changes units old number items (change ∷ changes) =
@@ -54,5 +54,5 @@ after_changes units old number items (change ∷ changes) =
     (items_after units old items change)
 
 -- What a batch means on an old text: the items after all its changes, or its first fault.
-abbrev pub meaning : (ℕ → ℕ) → List ℕ → List Edit → Result (List Item) (ℕ × Fault)
+abbrev pub meaning : (ℕ → ℕ) → List ℕ → List ContentChange → Result (List Item) (ℕ × Fault)
 meaning units old batch = after_changes units old 0 (plain old) batch

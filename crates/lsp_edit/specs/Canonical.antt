@@ -3,7 +3,7 @@
 use Rattle.std.specs.Prelude.{ℕ, suc, ◌≡◌, Bool, ◌||◌, nat_lt, List, [], ◌∷◌, ◌++◌, length, map, reverse, filter, Some}
 use Rattle.lsp_text.specs.Positions.{exact_position}
 use Rattle.lsp_edit.specs.Items.{Item, Old, New}
-use Rattle.lsp_edit.specs.Batch.{Edit}
+use Rattle.lsp_edit.specs.Batch.{ContentChange}
 
 -- The old characters that are kept, by their indexes, in order.
 abbrev pub kept : List Item → List ℕ
@@ -52,8 +52,8 @@ abbrev pub is_changed : Gap → Bool
 is_changed gap = nat_lt gap.low gap.high || nat_lt 0 (length gap.text)
 
 -- The change of a gap: its range is the exact positions of the gap's two ends in the old text.
-abbrev pub gap_edit : (ℕ → ℕ) → List ℕ → Gap → Edit
-gap_edit units old gap =
+abbrev pub gap_change : (ℕ → ℕ) → List ℕ → Gap → ContentChange
+gap_change units old gap =
     record {
       range = Some (record {
         start = exact_position units old gap.low;
@@ -63,5 +63,5 @@ gap_edit units old gap =
     }
 
 -- The canonical batch of items: one change for each changed gap, from the last gap to the first.
-abbrev pub canonical : (ℕ → ℕ) → List ℕ → List Item → List Edit
-canonical units old items = reverse (map (gap_edit units old) (filter is_changed (gaps old items)))
+abbrev pub canonical : (ℕ → ℕ) → List ℕ → List Item → List ContentChange
+canonical units old items = reverse (map (gap_change units old) (filter is_changed (gaps old items)))

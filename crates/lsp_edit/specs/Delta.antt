@@ -9,8 +9,8 @@ use Rattle.lsp_edit.specs.declared.change.Change.{Change}
 use Rattle.lsp_edit.specs.declared.delta.Delta.{Delta}
 use Rattle.lsp_edit.specs.declared.delta.Delta.TheVariants.{Put, Left}
 use Rattle.lsp_edit.specs.Items.{Item, New, plain}
-use Rattle.lsp_edit.specs.Batch.{Edit, Fault, meaning}
-use Rattle.lsp_edit.specs.Edited.{edit_of}
+use Rattle.lsp_edit.specs.Batch.{ContentChange, Fault, meaning}
+use Rattle.lsp_edit.specs.Edited.{content_change}
 use Rattle.lsp_edit.specs.Faults.{ends_of, places_at}
 use Rattle.lsp_edit.specs.Indexed.{bytes_left, text_within}
 use Rattle.lsp_edit.specs.Parts.{index_of}
@@ -25,7 +25,7 @@ put_items before start stop new =
 abbrev pub meant_by : List ℕ → Delta → Result (List Item) (ℕ × Fault)
 meant_by before (Put put) = Ok (put_items before put.start put.stop put.new.now)
 meant_by before (Left encoding changes left)
-    = meaning (units_in encoding) (chars before) (map edit_of changes.now)
+    = meaning (units_in encoding) (chars before) (map content_change changes.now)
 
 -- The bytes that a delta leaves of that text.
 abbrev pub bytes_after : List ℕ → Delta → List ℕ
@@ -55,7 +55,7 @@ pub record IsLeft (units : ℕ → ℕ) (before : List ℕ) (changes : List Chan
   pub size : length before ≤ 1073741824
   pub fits : sum_by (λ change. string_len change.text) changes ≤ 1073741824
   pub items : List Item
-  pub means : meaning units (chars before) (map edit_of changes) ≡ Ok items
+  pub means : meaning units (chars before) (map content_change changes) ≡ Ok items
   pub is : left ≡ bytes_left before items
 
 -- A delta may be applied to that text.
@@ -66,7 +66,7 @@ IsOn before (Left encoding changes left)
     = IsLeft (units_in encoding) before changes.now left
 
 -- A delta of `batch` on that text; at most `max_len` bytes are left.
-pub record IsDeltaOf (units : ℕ → ℕ) (max_len : ℕ) (before : List ℕ) (batch : List Edit)
+pub record IsDeltaOf (units : ℕ → ℕ) (max_len : ℕ) (before : List ℕ) (batch : List ContentChange)
     (delta : Delta) : Type 0 where
   pub on : IsOn before delta
   pub units_are : units_in (delta_encoding delta) ≡ units

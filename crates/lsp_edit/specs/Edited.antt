@@ -3,7 +3,7 @@ use Rattle.std.specs.Prelude.{ℕ, ◌≡◌, ◌+◌, ◌*◌, ◌≤◌, true,
 use Rattle.std.specs.Str.{chars, is_utf8}
 use Rattle.lsp_edit.specs.declared.change.Change.{Change}
 use Rattle.lsp_edit.specs.Items.{Item, plain, text_of}
-use Rattle.lsp_edit.specs.Batch.{Edit, Fault, items_after}
+use Rattle.lsp_edit.specs.Batch.{ContentChange, Fault, items_after}
 use Rattle.lsp_edit.specs.Keeps.{Keeps}
 use Rattle.lsp_edit.specs.Parts.{Part, AreParts, NoneTouch, items_of, bytes_of}
 
@@ -31,8 +31,8 @@ abbrev pub before_bytes : PlainData → List ℕ
 before_bytes edited = encode_utf8_all edited.before
 
 -- A change with its text as characters.
-abbrev pub edit_of : Change → Edit
-edit_of change = record { range = change.range; text = chars (string_bytes change.text) }
+abbrev pub content_change : Change → ContentChange
+content_change change = record { range = change.range; text = chars (string_bytes change.text) }
 
 -- One change more. The count stays at the greatest number of 64 bits.
 abbrev pub next_number : ℕ → ℕ
@@ -43,7 +43,7 @@ abbrev pub both_counts : ℕ → ℕ → ℕ
 both_counts first second = min (first + second) 18446744073709551615
 
 -- `next` is `edited` after a change, and counts it.
-pub record Applied (units : ℕ → ℕ) (edited : PlainData) (change : Edit) (next : PlainData) : Type
+pub record Applied (units : ℕ → ℕ) (edited : PlainData) (change : ContentChange) (next : PlainData) : Type
     0 where
   pub changed : items_after units edited.before edited.items change ≡ Ok next.items
   pub same : next.before ≡ edited.before

@@ -4,10 +4,10 @@ use Rattle.std.specs.Str.{IsUtf8, chars}
 use Rattle.lsp_text.specs.declared.position.Range.{Range}
 use Rattle.lsp_edit.specs.declared.fault.EditFault.{EditFault}
 use Rattle.lsp_edit.specs.declared.fault.EditFault.TheVariants as edit
-use Rattle.lsp_edit.specs.declared.indexed.fault.TextFault.{TextFault}
-use Rattle.lsp_edit.specs.declared.indexed.fault.TextFault.TheVariants.{Edit as EditOf, TooLong, NoMemory}
+use Rattle.lsp_edit.specs.declared.indexed.fault.BatchFault.{BatchFault}
+use Rattle.lsp_edit.specs.declared.indexed.fault.BatchFault.TheVariants.{Edit as EditOf, TooLong, NoMemory}
 use Rattle.lsp_edit.specs.Items.{Item, text_of}
-use Rattle.lsp_edit.specs.Batch.{Edit, Fault, meaning}
+use Rattle.lsp_edit.specs.Batch.{ContentChange, Fault, meaning}
 use Rattle.lsp_edit.specs.Canonical.{canonical}
 use Rattle.lsp_edit.specs.Faults.{fault_at}
 use Rattle.lsp_edit.specs.laws.Batches.{IsCanonical}
@@ -18,34 +18,34 @@ bytes_left before items = encode_utf8_all (text_of (chars before) items)
 
 -- The bytes that a meaning leaves of a text, if they are at most `max_len`; else why there are
 -- none.
-abbrev pub text_within : ℕ → List ℕ → Result (List Item) (ℕ × Fault) → Result (List ℕ) TextFault
+abbrev pub text_within : ℕ → List ℕ → Result (List Item) (ℕ × Fault) → Result (List ℕ) BatchFault
 text_within max_len before (Err fault) = Err (EditOf (fault_at fault.0 fault.1))
 text_within max_len before (Ok items) = if nat_lt max_len (length (bytes_left before items)) then
     Err TooLong else Ok (bytes_left before items)
 
 -- Out of memory, or why a batch leaves no text of at most `max_len` bytes.
-abbrev pub IsTextFaultOf : (ℕ → ℕ) → ℕ → List ℕ → List Edit → TextFault → Type 0
-IsTextFaultOf units max_len before batch fault = (fault ≡ NoMemory)
+abbrev pub IsBatchFaultOf : (ℕ → ℕ) → ℕ → List ℕ → List ContentChange → BatchFault → Type 0
+IsBatchFaultOf units max_len before batch fault = (fault ≡ NoMemory)
     ⊎ (text_within max_len before (meaning units (chars before) batch) ≡ Err fault)
 
 -- A batch of one change with a range, by the bytes of its text.
-abbrev pub alone : Range → List ℕ → List Edit
+abbrev pub alone : Range → List ℕ → List ContentChange
 alone range new = record { range = Some range; text = chars new } ∷ []
 
 -- How a fault of a change is reported.
-abbrev pub text_fault_of : EditFault → TextFault
-text_fault_of (edit.InsideCharacter change side) = EditOf (edit.InsideCharacter change side)
-text_fault_of (edit.ReversedRange change) = EditOf (edit.ReversedRange change)
-text_fault_of edit.NoMemory = NoMemory
+abbrev pub batch_fault_of : EditFault → BatchFault
+batch_fault_of (edit.InsideCharacter change side) = EditOf (edit.InsideCharacter change side)
+batch_fault_of (edit.ReversedRange change) = EditOf (edit.ReversedRange change)
+batch_fault_of edit.NoMemory = NoMemory
 
 -- `answered` is the canonical batch of what `batch` means on the text with these bytes, and at most
 -- `max_len` bytes are left. `law` is true of every batch on that text.
 pub record IsCanonicalBatch (units : ℕ → ℕ) (max_len : ℕ) (before : List ℕ)
-    (batch answered : List Edit) : Type 0 where
+    (batch answered : List ContentChange) : Type 0 where
   pub utf8 : IsUtf8 before
   pub items : List Item
   pub means : meaning units (chars before) batch ≡ Ok items
   pub within : length (bytes_left before items) ≤ max_len
   pub is : answered ≡ canonical units (chars before) items
-  pub law : (other : List Edit) (others : List Item) →
+  pub law : (other : List ContentChange) (others : List Item) →
       meaning units (chars before) other ≡ Ok others → IsCanonical units (chars before) other others

@@ -2,7 +2,7 @@
 use Rattle.std.specs.Prelude.{ℕ, ◌≡◌, List, Ok}
 use Rattle.std.specs.Str.{IsUtf8, chars}
 use Rattle.lsp_edit.specs.Items.{Item, text_of}
-use Rattle.lsp_edit.specs.Batch.{Edit, meaning}
+use Rattle.lsp_edit.specs.Batch.{ContentChange, meaning}
 use Rattle.lsp_edit.specs.Compose.{then_items}
 
 -- The text before all batches, as bytes, and what became of its characters.
@@ -20,7 +20,7 @@ pub record IsReached (joined : JoinedData) (text : List ℕ) : Type 0 where
   pub text_is : chars text ≡ joined_text joined
 
 -- A batch is added to those before it.
-pub record IsJoined (units : ℕ → ℕ) (old : JoinedData) (batch : List Edit)
+pub record IsJoined (units : ℕ → ℕ) (old : JoinedData) (batch : List ContentChange)
     (new : JoinedData) : Type 0 where
   -- What the batch means on the text that the others leave.
   pub others : List Item

@@ -11,7 +11,7 @@ use Rattle.lsp_edit.specs.declared.text_edits.TextEdit.{TextEdit}
 use Rattle.lsp_edit.specs.declared.text_edits.TextEditFault.{TextEditFault}
 use Rattle.lsp_edit.specs.declared.text_edits.TextEditFault.TheVariants.{InsideCharacter, ReversedRange, Overlap, NoMemory}
 use Rattle.lsp_edit.specs.Items.{Item, Old, New}
-use Rattle.lsp_edit.specs.Batch.{Edit, Fault, meaning}
+use Rattle.lsp_edit.specs.Batch.{ContentChange, Fault, meaning}
 use Rattle.lsp_edit.specs.Canonical.{canonical}
 use Rattle.lsp_edit.specs.Faults.{ends_of, fault_at}
 
@@ -78,7 +78,7 @@ NoneOverlap edits = (first second : LocatedEdit) → Contains edits first → Co
 -- `answered` is the canonical batch of what the edits leave, and as a batch it means the same. Each
 -- range's ends denote, and are in order; none overlap.
 pub record IsBatchOfEdits (units : ℕ → ℕ) (before : List ℕ) (edits : List TextEdit)
-    (answered : List Edit) : Type 0 where
+    (answered : List ContentChange) : Type 0 where
   pub all : List LocatedEdit
   pub at : located units (chars before) 0 edits ≡ Ok all
   pub apart : NoneOverlap all

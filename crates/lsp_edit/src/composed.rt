@@ -5,7 +5,7 @@ ghost use Rattle.std.specs.Str.{IsUtf8, chars};
 ghost use Rattle.lsp_text.specs.LineStarts.{AreLinesOf};
 ghost use Rattle.lsp_text.specs.Units.{units_in};
 ghost use Rattle.lsp_edit.specs.Batch.{after_changes, meaning};
-ghost use Rattle.lsp_edit.specs.Edited.{Means, edit_of, edited_bytes};
+ghost use Rattle.lsp_edit.specs.Edited.{Means, content_change, edited_bytes};
 ghost use Rattle.lsp_edit.specs.Faults.{IsFaultOfChanges};
 ghost use Rattle.lsp_edit.specs.Items.{plain};
 
@@ -53,10 +53,10 @@ fn apply_all<'a>(
     ensures { MatchResult result
         (λ composed. Means pieces.entry.edited.before
         (after_changes (units_in encoding) pieces.entry.edited.before 0 pieces.entry.edited.items
-        (map edit_of changes.now)) (length changes.now) composed.edited)
+        (map content_change changes.now)) (length changes.now) composed.edited)
         (λ fault. IsFaultOfChanges (after_changes
         (units_in encoding) pieces.entry.edited.before 0 pieces.entry.edited.items
-        (map edit_of changes.now)) fault) }
+        (map content_change changes.now)) fault) }
 {
     let mut pieces = pieces;
     for change in changes {
@@ -80,9 +80,9 @@ pub fn compose<'a>(
     requires fits { sum_by (λ change. string_len change.text) changes.now ≤ MAX_NEW_TEXT }
     ensures { MatchResult result
         (λ pieces. Means (chars before.now) (meaning (units_in encoding) (chars before.now)
-        (map edit_of changes.now)) (length changes.now) pieces.edited)
+        (map content_change changes.now)) (length changes.now) pieces.edited)
         (λ fault. IsFaultOfChanges
-        (meaning (units_in encoding) (chars before.now) (map edit_of changes.now)) fault) }
+        (meaning (units_in encoding) (chars before.now) (map content_change changes.now)) fault) }
 {
     let before = OldText::new(alloc, before)?;
     compose_old(alloc, before, encoding, changes)
@@ -101,9 +101,9 @@ pub fn compose_over<'a>(
     requires fits { sum_by (λ change. string_len change.text) changes.now ≤ MAX_NEW_TEXT }
     ensures { MatchResult result
         (λ pieces. Means (chars before.now) (meaning (units_in encoding) (chars before.now)
-        (map edit_of changes.now)) (length changes.now) pieces.edited)
+        (map content_change changes.now)) (length changes.now) pieces.edited)
         (λ fault. IsFaultOfChanges
-        (meaning (units_in encoding) (chars before.now) (map edit_of changes.now)) fault) }
+        (meaning (units_in encoding) (chars before.now) (map content_change changes.now)) fault) }
 {
     let before = OldText::with_lines(before, lines);
     compose_old(alloc, before, encoding, changes)
@@ -120,9 +120,9 @@ pub fn compose_buffer<'a>(
     requires fits { sum_by (λ change. string_len change.text) changes.now ≤ MAX_NEW_TEXT }
     ensures { MatchResult result
         (λ pieces. Means (chars before.now) (meaning (units_in encoding) (chars before.now)
-        (map edit_of changes.now)) (length changes.now) pieces.edited)
+        (map content_change changes.now)) (length changes.now) pieces.edited)
         (λ fault. IsFaultOfChanges
-        (meaning (units_in encoding) (chars before.now) (map edit_of changes.now)) fault) }
+        (meaning (units_in encoding) (chars before.now) (map content_change changes.now)) fault) }
 {
     let before = OldText::in_blocks(before);
     compose_old(alloc, before, encoding, changes)
@@ -139,9 +139,9 @@ pub(crate) fn compose_old<'a>(
     requires fits { sum_by (λ change. string_len change.text) changes.now ≤ MAX_NEW_TEXT }
     ensures means { MatchResult result
         (λ pieces. Means (chars before.entry) (meaning (units_in encoding) (chars before.entry)
-        (map edit_of changes.now)) (length changes.now) pieces.edited)
+        (map content_change changes.now)) (length changes.now) pieces.edited)
         (λ fault. IsFaultOfChanges
-        (meaning (units_in encoding) (chars before.entry) (map edit_of changes.now)) fault) }
+        (meaning (units_in encoding) (chars before.entry) (map content_change changes.now)) fault) }
     ensures utf8 { OnOk result (IsUtf8 before.entry) }
 {
     let pieces = begun(alloc, before, changes)?;

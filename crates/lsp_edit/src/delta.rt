@@ -7,13 +7,13 @@ ghost use Rattle.lsp_text.specs.Units.{units_in};
 ghost use Rattle.lsp_edit.specs.Canonical.{canonical};
 ghost use Rattle.lsp_edit.specs.Layers.{layer_parts};
 ghost use Rattle.lsp_edit.specs.inside.Layers.{IsLayer};
-ghost use Rattle.lsp_edit.specs.Edited.{edit_of};
+ghost use Rattle.lsp_edit.specs.Edited.{content_change};
 ghost use Rattle.lsp_edit.specs.Items.{Item};
 ghost use Rattle.lsp_edit.specs.Delta.{IsOn, IsPut, bytes_after, delta_encoding, meant_by, put_items};
 
 use crate::change::Change;
 use crate::indexed::IndexedText;
-use crate::indexed::fault::TextFault;
+use crate::indexed::fault::BatchFault;
 use crate::joined::layer::Layer;
 use crate::pieces::canonical::canonical_of;
 use crate::pieces::spans::Spans;
@@ -88,7 +88,7 @@ impl<'a> Put<'a> {
     fn canonical(&self, alloc: Global, text: &IndexedText) -> Result<Vec<Change>, AllocError>
         requires put { IsPut (units_in self.now.encoding) text.now self.now.start self.now.stop
             self.now.new.now }
-        ensures { IfOk result (λ answered. map edit_of answered.items
+        ensures { IfOk result (λ answered. map content_change answered.items
             ≡ canonical (units_in self.now.encoding) (chars text.now)
             (put_items text.now self.now.start self.now.stop self.now.new.now)) }
     {
@@ -140,7 +140,7 @@ impl<'a> Delta<'a> {
             } => match text.layer(*encoding, changes, usize::MAX) {
                 Ok(layer) => Ok(layer),
                 // The batch has a result on this text, so no other fault comes.
-                Err(TextFault::NoMemory | TextFault::Edit(_) | TextFault::TooLong) => {
+                Err(BatchFault::NoMemory | BatchFault::Edit(_) | BatchFault::TooLong) => {
                     Err(AllocError)
                 }
             },
@@ -155,7 +155,7 @@ impl<'a> Delta<'a> {
     pub fn canonical(&self, alloc: Global, text: &IndexedText) -> Result<Vec<Change>, AllocError>
         requires on { IsOn text.now self.now }
         ensures { IfOk result (λ answered. (items : List Item) → meant_by text.now self.now
-            ≡ Ok items → map edit_of answered.items
+            ≡ Ok items → map content_change answered.items
             ≡ canonical (units_in (delta_encoding self.now)) (chars text.now) items) }
     {
         match self {
@@ -167,7 +167,7 @@ impl<'a> Delta<'a> {
             } => match text.canonical(*encoding, changes, usize::MAX) {
                 Ok(batch) => Ok(batch),
                 // As in `layer`.
-                Err(TextFault::NoMemory | TextFault::Edit(_) | TextFault::TooLong) => {
+                Err(BatchFault::NoMemory | BatchFault::Edit(_) | BatchFault::TooLong) => {
                     Err(AllocError)
                 }
             },

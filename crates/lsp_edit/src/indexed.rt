@@ -4,11 +4,11 @@ ghost use Rattle.std.specs.Prelude.{◌≡◌, ◌≢◌, ◌≤◌, ◌↔◌, 
 ghost use Rattle.std.specs.Str.{IsUtf8, chars};
 ghost use Rattle.lsp_text.specs.Units.{units_in};
 ghost use Rattle.lsp_text.specs.declared.position.Range.{Range};
-ghost use Rattle.lsp_edit.specs.declared.indexed.fault.TextFault.TheVariants.{NoMemory};
+ghost use Rattle.lsp_edit.specs.declared.indexed.fault.BatchFault.TheVariants.{NoMemory};
 ghost use Rattle.lsp_edit.specs.Batch.{meaning};
 ghost use Rattle.lsp_edit.specs.Delta.{IsDeltaOf, IsOn, bytes_after};
-ghost use Rattle.lsp_edit.specs.Edited.{edit_of};
-ghost use Rattle.lsp_edit.specs.Indexed.{IsTextFaultOf, alone, text_within};
+ghost use Rattle.lsp_edit.specs.Edited.{content_change};
+ghost use Rattle.lsp_edit.specs.Indexed.{IsBatchFaultOf, alone, text_within};
 
 mod canonical;
 mod draft;
@@ -18,7 +18,7 @@ use crate::change::{Change, MAX_NEW_TEXT};
 use crate::composed::MAX_OLD_TEXT;
 use crate::delta::{Delta, Put};
 use crate::ends::ends;
-use crate::indexed::fault::TextFault;
+use crate::indexed::fault::BatchFault;
 use crate::old_text::OldText;
 use crate::pieces::MAX_TEXT;
 use lsp_buffer::TextBuffer;
@@ -111,20 +111,20 @@ impl IndexedText {
         encoding: Encoding,
         changes: &[Change],
         max_len: usize,
-    ) -> Result<(), TextFault>
+    ) -> Result<(), BatchFault>
         requires size { length self.old ≤ MAX_OLD_TEXT }
         requires fits { sum_by (λ change. string_len change.text) changes.now ≤ MAX_NEW_TEXT }
         ensures changed { OnOk result
             (text_within max_len self.old
-            (meaning (units_in encoding) (chars self.old) (map edit_of changes.now))
+            (meaning (units_in encoding) (chars self.old) (map content_change changes.now))
             ≡ Ok self.new) }
         ensures unchanged { OnErr result (self.new ≡ self.old) }
-        ensures error { IfErr result (IsTextFaultOf (units_in encoding) max_len self.old
-            (map edit_of changes.now)) }
+        ensures error { IfErr result (IsBatchFaultOf (units_in encoding) max_len self.old
+            (map content_change changes.now)) }
         // For one change with a range, out of memory means that there is a result of that length.
         ensures memory { result ≡ Err NoMemory → (range : Range) (text : List ℕ)
-            → map edit_of changes.now ≡ alone range text → IsOk (text_within max_len self.old
-            (meaning (units_in encoding) (chars self.old) (map edit_of changes.now))) }
+            → map content_change changes.now ≡ alone range text → IsOk (text_within max_len self.old
+            (meaning (units_in encoding) (chars self.old) (map content_change changes.now))) }
     {
         // `?` isn't proved here.
         match self.delta(encoding, changes, max_len) {
@@ -144,12 +144,12 @@ impl IndexedText {
         range: Range,
         new: &'a str,
         max_len: usize,
-    ) -> Result<Delta<'a>, TextFault>
+    ) -> Result<Delta<'a>, BatchFault>
         requires size { length self.now ≤ MAX_OLD_TEXT }
         requires fits { length new.now ≤ MAX_NEW_TEXT }
         ensures ok { IfOk result
             (IsDeltaOf (units_in encoding) max_len self.now (alone range new.now)) }
-        ensures error { IfErr result (IsTextFaultOf (units_in encoding) max_len self.now
+        ensures error { IfErr result (IsBatchFaultOf (units_in encoding) max_len self.now
             (alone range new.now)) }
         ensures memory { result ≢ Err NoMemory }
     {
@@ -157,7 +157,7 @@ impl IndexedText {
         let len = text.len();
         let (start, stop) = ends(&text, encoding, range, 0)?;
         if len - (stop - start) + new.len() > max_len {
-            return Err(TextFault::TooLong);
+            return Err(BatchFault::TooLong);
         }
         Ok(Delta::Put(Put {
             encoding,
@@ -173,13 +173,13 @@ impl IndexedText {
         encoding: Encoding,
         changes: &'a [Change],
         max_len: usize,
-    ) -> Result<Delta<'a>, TextFault>
+    ) -> Result<Delta<'a>, BatchFault>
         requires size { length self.now ≤ MAX_OLD_TEXT }
         requires fits { sum_by (λ change. string_len change.text) changes.now ≤ MAX_NEW_TEXT }
         ensures ok { IfOk result
-            (IsDeltaOf (units_in encoding) max_len self.now (map edit_of changes.now)) }
-        ensures error { IfErr result (IsTextFaultOf (units_in encoding) max_len self.now
-            (map edit_of changes.now)) }
+            (IsDeltaOf (units_in encoding) max_len self.now (map content_change changes.now)) }
+        ensures error { IfErr result (IsBatchFaultOf (units_in encoding) max_len self.now
+            (map content_change changes.now)) }
     {
         // States that the text is UTF-8.
         let _ = self.len();
@@ -201,15 +201,15 @@ impl IndexedText {
         encoding: Encoding,
         changes: &'a [Change],
         max_len: usize,
-    ) -> Result<Delta<'a>, TextFault>
+    ) -> Result<Delta<'a>, BatchFault>
         requires size { length self.now ≤ MAX_OLD_TEXT }
         requires fits { sum_by (λ change. string_len change.text) changes.now ≤ MAX_NEW_TEXT }
         ensures ok { IfOk result
-            (IsDeltaOf (units_in encoding) max_len self.now (map edit_of changes.now)) }
-        ensures error { IfErr result (IsTextFaultOf (units_in encoding) max_len self.now
-            (map edit_of changes.now)) }
+            (IsDeltaOf (units_in encoding) max_len self.now (map content_change changes.now)) }
+        ensures error { IfErr result (IsBatchFaultOf (units_in encoding) max_len self.now
+            (map content_change changes.now)) }
         ensures memory { result ≡ Err NoMemory → (range : Range) (text : List ℕ)
-            → map edit_of changes.now ≡ alone range text → ⊥ }
+            → map content_change changes.now ≡ alone range text → ⊥ }
     {
         match put_of(changes) {
             Some((range, new)) => self.put_delta(encoding, range, new, max_len),
@@ -240,11 +240,11 @@ impl IndexedText {
 
 /// Returns the range and the text of a batch of one change with a range.
 fn put_of<'a>(changes: &'a [Change]) -> Option<(Range, &'a str)>
-    ensures some { IfSome result (λ put. map edit_of changes.now ≡ alone put.0 put.1.now) }
+    ensures some { IfSome result (λ put. map content_change changes.now ≡ alone put.0 put.1.now) }
     ensures short { IfSome result
         (λ put. length put.1.now ≤ sum_by (λ change. string_len change.text) changes.now) }
     ensures none { result ≡ None → (range : Range) (text : List ℕ)
-        → map edit_of changes.now ≡ alone range text → ⊥ }
+        → map content_change changes.now ≡ alone range text → ⊥ }
 {
     match changes {
         [

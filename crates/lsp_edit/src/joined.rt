@@ -3,11 +3,11 @@
 ghost use Rattle.std.specs.Prelude.{ℕ, ◌≡◌, ◌≤◌, List, Err, IfErr, IfOk, IsOk, Ok, OnErr, OnOk, length, map, string_bytes, string_len, sum_by};
 ghost use Rattle.std.specs.Str.{chars};
 ghost use Rattle.lsp_text.specs.Units.{units_in};
-ghost use Rattle.lsp_edit.specs.declared.indexed.fault.TextFault.TheVariants.{NoMemory};
-ghost use Rattle.lsp_edit.specs.Batch.{Edit, meaning};
+ghost use Rattle.lsp_edit.specs.declared.indexed.fault.BatchFault.TheVariants.{NoMemory};
+ghost use Rattle.lsp_edit.specs.Batch.{ContentChange, meaning};
 ghost use Rattle.lsp_edit.specs.Canonical.{canonical};
-ghost use Rattle.lsp_edit.specs.Edited.{edit_of};
-ghost use Rattle.lsp_edit.specs.Indexed.{IsTextFaultOf, text_within};
+ghost use Rattle.lsp_edit.specs.Edited.{content_change};
+ghost use Rattle.lsp_edit.specs.Indexed.{IsBatchFaultOf, text_within};
 ghost use Rattle.lsp_edit.specs.Items.{plain};
 ghost use Rattle.lsp_edit.specs.Joined.{IsJoined, IsReached};
 ghost use Rattle.lsp_edit.specs.Delta.{IsOn, meant_by};
@@ -19,7 +19,7 @@ use crate::change::{Change, MAX_NEW_TEXT};
 use crate::composed::MAX_OLD_TEXT;
 use crate::delta::Delta;
 use crate::indexed::IndexedText;
-use crate::indexed::fault::TextFault;
+use crate::indexed::fault::BatchFault;
 use crate::joined::layer::Layer;
 use crate::pieces::MAX_TEXT;
 use crate::pieces::canonical::canonical_of;
@@ -111,11 +111,11 @@ impl Joined {
         before: &IndexedText,
         changes: &[Change],
         max_len: usize,
-    ) -> Result<Self, TextFault>
+    ) -> Result<Self, BatchFault>
         requires size { length before.now ≤ MAX_OLD_TEXT }
         requires fits { sum_by (λ change. string_len change.text) changes.now ≤ MAX_NEW_TEXT }
         ensures { IfOk result (IsWhole (units_in encoding) max_len before.now
-            (map edit_of changes.now)) }
+            (map content_change changes.now)) }
     {
         let mut reached = before.clone_in(alloc)?;
         let mut joined = Self::over(alloc, before)?;
@@ -123,7 +123,7 @@ impl Joined {
             joined.change(encoding, &mut reached, series, MAX_OLD_TEXT)?;
         }
         if reached.len() > max_len {
-            return Err(TextFault::TooLong);
+            return Err(BatchFault::TooLong);
         }
         Ok(joined)
     }
@@ -171,17 +171,17 @@ impl Joined {
         reached: &IndexedText,
         changes: &[Change],
         max_len: usize,
-    ) -> Result<(), TextFault>
+    ) -> Result<(), BatchFault>
         requires reached { IsReached self.old reached.now }
         requires size { length reached.now ≤ MAX_OLD_TEXT }
         requires fits { sum_by (λ change. string_len change.text) changes.now ≤ MAX_NEW_TEXT }
         ensures ok { OnOk result
-            (IsJoined (units_in encoding) self.old (map edit_of changes.now) self.new) }
+            (IsJoined (units_in encoding) self.old (map content_change changes.now) self.new) }
         ensures within { OnOk result (IsOk (text_within max_len reached.now
-            (meaning (units_in encoding) (chars reached.now) (map edit_of changes.now)))) }
+            (meaning (units_in encoding) (chars reached.now) (map content_change changes.now)))) }
         ensures unchanged { OnErr result (self.new ≡ self.old) }
-        ensures error { IfErr result (IsTextFaultOf (units_in encoding) max_len reached.now
-            (map edit_of changes.now)) }
+        ensures error { IfErr result (IsBatchFaultOf (units_in encoding) max_len reached.now
+            (map content_change changes.now)) }
     {
         let delta = reached.delta(encoding, changes, max_len)?;
         self.add_delta(reached, &delta)?;
@@ -196,7 +196,7 @@ impl Joined {
     pub fn add_delta(&mut self, reached: &IndexedText, delta: &Delta<'_>) -> Result<(), AllocError>
         requires reached { IsReached self.old reached.now }
         requires on { IsOn reached.now delta.now }
-        ensures ok { OnOk result ((units : ℕ → ℕ) (batch : List Edit)
+        ensures ok { OnOk result ((units : ℕ → ℕ) (batch : List ContentChange)
             → meaning units (chars reached.now) batch ≡ meant_by reached.now delta.now
             → IsJoined units self.old batch self.new) }
         ensures reached { OnOk result ((max_len : ℕ) (left : List ℕ)
@@ -219,20 +219,20 @@ impl Joined {
         reached: &mut IndexedText,
         changes: &[Change],
         max_len: usize,
-    ) -> Result<(), TextFault>
+    ) -> Result<(), BatchFault>
         requires reached { IsReached self.old reached.old }
         requires size { length reached.old ≤ MAX_OLD_TEXT }
         requires fits { sum_by (λ change. string_len change.text) changes.now ≤ MAX_NEW_TEXT }
         ensures ok { OnOk result
-            (IsJoined (units_in encoding) self.old (map edit_of changes.now) self.new) }
+            (IsJoined (units_in encoding) self.old (map content_change changes.now) self.new) }
         ensures reached { OnOk result (IsReached self.new reached.new) }
         ensures changed { OnOk result (text_within max_len reached.old
-            (meaning (units_in encoding) (chars reached.old) (map edit_of changes.now))
+            (meaning (units_in encoding) (chars reached.old) (map content_change changes.now))
             ≡ Ok reached.new) }
         ensures unchanged { OnErr result (self.new ≡ self.old) }
         ensures reached_unchanged { OnErr result (reached.new ≡ reached.old) }
-        ensures error { IfErr result (IsTextFaultOf (units_in encoding) max_len reached.old
-            (map edit_of changes.now)) }
+        ensures error { IfErr result (IsBatchFaultOf (units_in encoding) max_len reached.old
+            (map content_change changes.now)) }
     {
         self.join()?;
         let delta = reached.delta(encoding, changes, max_len)?;
@@ -249,7 +249,7 @@ impl Joined {
     /// Fails only where memory runs out. Costs a walk over the spans for some log k layers of k
     /// batches, and one exact position for each end of a changed gap.
     pub fn canonical(&self, encoding: Encoding) -> Result<Vec<Change>, AllocError>
-        ensures { IfOk result (λ changes. map edit_of changes.items
+        ensures { IfOk result (λ changes. map content_change changes.items
             ≡ canonical (units_in encoding) (chars self.now.before) self.now.items) }
     {
         let alloc = *self.layers.allocator();

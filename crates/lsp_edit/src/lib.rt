@@ -41,7 +41,7 @@ pub use composed::{MAX_OLD_TEXT, compose, compose_buffer, compose_over};
 pub use delta::{Delta, Put};
 pub use fault::{EditFault, Side};
 pub use indexed::IndexedText;
-pub use indexed::fault::TextFault;
+pub use indexed::fault::BatchFault;
 pub use joined::Joined;
 pub use laws::batch_laws;
 pub use pieces::span::Span;

@@ -7,9 +7,9 @@ ghost use Rattle.lsp_text.specs.Units.{units_in};
 ghost use Rattle.lsp_edit.specs.Items.{Item, plain};
 ghost use Rattle.lsp_edit.specs.Parts.{AreParts, Ascend, NoneEmpty, NoneTouch, items_of, parts_of};
 ghost use Rattle.lsp_edit.specs.Compose.{then_items};
-ghost use Rattle.lsp_edit.specs.Edited.{before_bytes, both_counts, edit_of, edited_bytes};
+ghost use Rattle.lsp_edit.specs.Edited.{before_bytes, both_counts, content_change, edited_bytes};
 ghost use Rattle.lsp_edit.specs.Edited.{edited_text};
-ghost use Rattle.lsp_edit.specs.Batch.{Edit, meaning};
+ghost use Rattle.lsp_edit.specs.Batch.{ContentChange, meaning};
 ghost use Rattle.lsp_edit.specs.Canonical.{canonical};
 ghost use Rattle.lsp_edit.specs.laws.Batches.{IsCanonical, KeepsPairs, RangesStay};
 
@@ -165,7 +165,7 @@ impl<'a> Pieces<'a> {
           items = then_items first.now.edited.items second.now.edited.items;
           changes = both_counts first.now.edited.changes second.now.edited.changes;
         }) }
-        ensures means { (units : ℕ → ℕ) (batch next : List Edit)
+        ensures means { (units : ℕ → ℕ) (batch next : List ContentChange)
             → meaning units first.now.edited.before batch ≡ Ok first.now.edited.items
             → meaning units second.now.edited.before next ≡ Ok second.now.edited.items
             → meaning units first.now.edited.before (batch ++ next) ≡ Ok
@@ -208,7 +208,7 @@ impl<'a> Pieces<'a> {
     /// in the text that it meets as in the old text. Fails only where memory runs out. Costs the spans,
     /// and one exact position for each end of a changed gap.
     pub fn canonical(&self, encoding: Encoding) -> Result<Vec<Change>, AllocError>
-        ensures batch { IfOk result (λ changes. map edit_of changes.items ≡ canonical
+        ensures batch { IfOk result (λ changes. map content_change changes.items ≡ canonical
             (units_in encoding) self.now.edited.before self.now.edited.items) }
         ensures means { meaning (units_in encoding) self.now.edited.before
             (canonical (units_in encoding) self.now.edited.before self.now.edited.items)
@@ -217,7 +217,7 @@ impl<'a> Pieces<'a> {
             (plain self.now.edited.before) (canonical
             (units_in encoding) self.now.edited.before self.now.edited.items) }
         ensures pairs { KeepsPairs self.now.edited.before self.now.edited.items }
-        ensures law { (batch : List Edit) → meaning (units_in encoding) self.now.edited.before batch
+        ensures law { (batch : List ContentChange) → meaning (units_in encoding) self.now.edited.before batch
             ≡ Ok self.now.edited.items
             → IsCanonical (units_in encoding) self.now.edited.before batch self.now.edited.items }
     {

@@ -6,10 +6,10 @@ ghost use Rattle.std.specs.Prelude.{◌≡◌, ◌+◌, ◌++◌, ◌≤◌, ◌
 ghost use Rattle.std.specs.Str.{chars};
 ghost use Rattle.lsp_text.specs.Units.{units_in};
 ghost use Rattle.lsp_edit.specs.Items.{Item as SpecItem, plain as plain_items};
-ghost use Rattle.lsp_edit.specs.Batch.{Edit, items_after, changed_in, meaning};
+ghost use Rattle.lsp_edit.specs.Batch.{ContentChange, items_after, changed_in, meaning};
 ghost use Rattle.lsp_edit.specs.Canonical.{canonical as spec_canonical};
 ghost use Rattle.lsp_edit.specs.Compose.{then_items as spec_then_items, item_through as spec_item_through};
-ghost use Rattle.lsp_edit.specs.Edited.{Applied, Means, both_counts, edit_of, edited_bytes, edited_text};
+ghost use Rattle.lsp_edit.specs.Edited.{Applied, Means, both_counts, content_change, edited_bytes, edited_text};
 ghost use Rattle.lsp_edit.specs.Faults.{IsFaultOfChanges, IsFaultOfChange};
 ghost use Rattle.lsp_edit.specs.laws.Batches.{IsCanonical, KeepsPairs, RangesStay};
 ghost use Rattle.lsp_edit.specs.Plain.{item_of, items_in_order};
@@ -112,10 +112,10 @@ impl<'a> Plain<'a> {
     fn apply(&mut self, encoding: Encoding, change: &Change) -> Result<(), EditFault>
         requires { length (edited_bytes self.old) + string_len change.now.text ≤ MAX_TEXT }
         ensures applied { OnOk result
-            (Applied (units_in encoding) self.old (edit_of change.now) self.new) }
+            (Applied (units_in encoding) self.old (content_change change.now) self.new) }
         ensures unchanged { OnErr result (self.new ≡ self.old) }
         ensures error { IfErr result (λ fault. IsFaultOfChange self.old.changes
-            (items_after (units_in encoding) self.old.before self.old.items (edit_of change.now))
+            (items_after (units_in encoding) self.old.before self.old.items (content_change change.now))
             fault) }
     {
         let text = characters(self.alloc, &change.text)?;
@@ -136,7 +136,7 @@ impl<'a> Plain<'a> {
           items = spec_then_items self.now.items second.now.items;
           changes = both_counts self.now.changes second.now.changes;
         }) }
-        ensures means { (units : ℕ → ℕ) (batch next : List Edit)
+        ensures means { (units : ℕ → ℕ) (batch next : List ContentChange)
             → meaning units self.now.before batch ≡ Ok self.now.items
             → meaning units second.now.before next ≡ Ok second.now.items
             → meaning units self.now.before (batch ++ next)
@@ -174,7 +174,7 @@ impl<'a> Plain<'a> {
     /// Returns the canonical batch of the changes.
     pub fn canonical(&self, encoding: Encoding) -> Result<Vec<Change>, AllocError>
         ensures batch { IfOk result
-            (λ changes. map edit_of changes.items
+            (λ changes. map content_change changes.items
             ≡ spec_canonical (units_in encoding) self.now.before self.now.items) }
         ensures means { meaning (units_in encoding) self.now.before
             (spec_canonical (units_in encoding) self.now.before self.now.items)
@@ -183,7 +183,7 @@ impl<'a> Plain<'a> {
             (plain_items self.now.before)
             (spec_canonical (units_in encoding) self.now.before self.now.items) }
         ensures pairs { KeepsPairs self.now.before self.now.items }
-        ensures law { (batch : List Edit) →
+        ensures law { (batch : List ContentChange) →
             meaning (units_in encoding) self.now.before batch ≡ Ok self.now.items
             → IsCanonical (units_in encoding) self.now.before batch self.now.items }
     {
@@ -240,10 +240,10 @@ pub fn compose<'a>(
     requires fits { sum_by (λ change. string_len change.text) changes.now ≤ MAX_NEW_TEXT }
     ensures { MatchResult result
         (λ plain. Means (chars before.now)
-        (meaning (units_in encoding) (chars before.now) (map edit_of changes.now))
+        (meaning (units_in encoding) (chars before.now) (map content_change changes.now))
         (length changes.now) plain)
         (λ fault. IsFaultOfChanges
-        (meaning (units_in encoding) (chars before.now) (map edit_of changes.now)) fault) }
+        (meaning (units_in encoding) (chars before.now) (map content_change changes.now)) fault) }
 {
     let mut plain = Plain::start(alloc, before)?;
     for change in changes {

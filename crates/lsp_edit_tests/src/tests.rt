@@ -16,7 +16,7 @@ mod text_edits;
 
 ghost use Rattle.std.specs.Prelude.{◌≡◌, IfOk};
 
-use lsp_edit::{Change, EditFault, IndexedText, MAX_OLD_TEXT, Pieces, Side, TextFault, fits};
+use lsp_edit::{BatchFault, Change, EditFault, IndexedText, MAX_OLD_TEXT, Pieces, Side, fits};
 use lsp_samples::edits::{ALL, Edit, batch, change};
 use lsp_text::Encoding;
 use std::alloc::{AllocError, Global};
@@ -277,9 +277,9 @@ pub(super) fn applied(
     kept: &mut IndexedText,
     changes: &[Change],
     max_len: usize,
-) -> Result<(), TextFault> {
+) -> Result<(), BatchFault> {
     if kept.len() > MAX_OLD_TEXT || !fits(changes) {
-        return Err(TextFault::TooLong);
+        return Err(BatchFault::TooLong);
     }
     kept.change(Encoding::Utf16, changes, max_len)
 }
@@ -289,9 +289,9 @@ pub(super) fn canonical_of(
     kept: &IndexedText,
     changes: &[Change],
     max_len: usize,
-) -> Result<Vec<Change>, TextFault> {
+) -> Result<Vec<Change>, BatchFault> {
     if kept.len() > MAX_OLD_TEXT || !fits(changes) {
-        return Err(TextFault::TooLong);
+        return Err(BatchFault::TooLong);
     }
     kept.canonical(Encoding::Utf16, changes, max_len)
 }
@@ -302,9 +302,9 @@ pub(super) fn canonical_again(
     changes: &[Change],
     max_len: usize,
     refused: &mut usize,
-) -> Result<Vec<Change>, TextFault> {
+) -> Result<Vec<Change>, BatchFault> {
     let answer = canonical_of(kept, changes, max_len);
-    if answer == Err(TextFault::NoMemory) {
+    if answer == Err(BatchFault::NoMemory) {
         *refused = refused.saturating_add(1);
         return canonical_of(kept, changes, max_len);
     }

@@ -5,7 +5,7 @@ use Rattle.lsp_frame.specs.Header.{header_of}
 use Rattle.lsp_frame.specs.Frame.{frame, IsFrameOf}
 use Rattle.lsp_frame.specs.laws.Frames.{OneFrameLaw, BoundLaw, FramesLaw, FaultLaw, InjectiveLaw, SameFrame}
 use Rattle.lsp_frame.proofs.FrameLemmas.{judge_within}
-use Rattle.lsp_frame.proofs.StreamLemmas.{Way, same_frame, same_frames, way_of, not_before, same_kind}
+use Rattle.lsp_frame.proofs.FramedLemmas.{Way, same_frame, same_frames, way_of, not_before, same_kind}
 use Rattle.lsp_frame.proofs.WrittenLemmas.{written_is_frame}
 
 pub one_frame_law : OneFrameLaw

@@ -9,6 +9,7 @@ pub mod LineLemmas
 pub mod ProgressLemmas
 pub mod FrameLemmas
 pub mod FaultLemmas
+pub mod FramedLemmas
 pub mod StreamLemmas
 pub mod WordLemmas
 pub mod WrittenLemmas

@@ -12,7 +12,7 @@ use Rattle.lsp_frame.specs.Charset.{trimmed}
 use Rattle.lsp_frame.specs.Verdict.{is_digit, number, judge_header}
 use Rattle.lsp_frame.specs.inside.Stage.{BeginsWritten, IsInBody}
 use Rattle.lsp_frame.specs.declared.written.WrittenHeader.{WrittenHeader}
-use Rattle.lsp_frame.proofs.StreamLemmas.{same_length_front}
+use Rattle.lsp_frame.proofs.FramedLemmas.{same_length_front}
 use Rattle.lsp_frame.proofs.WrittenLemmas.{AreDigits, all_digits, digits_are_values, trimmed_digits, name_from_test}
 
 -- the one line of such a header

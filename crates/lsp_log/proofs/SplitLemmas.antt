@@ -10,7 +10,7 @@ use Rattle.lsp_stream.specs.Faults.{engine_fault}
 use Rattle.lsp_stream.specs.declared.fault.EngineFault.TheVariants as engine
 use Rattle.lsp_frame.specs.declared.fault.FrameFault.{FrameFault}
 use Rattle.lsp_frame.specs.declared.fault.FrameFault.TheVariants as fault_of
-use Rattle.lsp_frame.proofs.StreamLemmas.{nothing_part}
+use Rattle.lsp_frame.proofs.FramedLemmas.{nothing_part}
 use Rattle.lsp_log.specs.declared.record.Version.{Version}
 use Rattle.lsp_log.specs.declared.record.Version.TheVariants.{One, Two}
 use Rattle.lsp_log.specs.declared.record.Sender.{Sender}

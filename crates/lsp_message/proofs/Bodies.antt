@@ -18,7 +18,7 @@ use Rattle.lsp_message.specs.declared.agreement.SyncKind.TheVariants.{Off, Full,
 use Rattle.lsp_message.specs.declared.outgoing.ErrorCode.{ErrorCode}
 use Rattle.lsp_message.specs.declared.outgoing.ErrorCode.TheVariants.{ParseError, InvalidRequest, MethodNotFound, InvalidParams, ServerNotInitialized}
 use Rattle.lsp_message.specs.Message.{IdData, whole, text}
-use Rattle.lsp_message.specs.Params.{DocumentItem, EditData, ChangeData, CloseData}
+use Rattle.lsp_message.specs.Params.{DocumentItem, ContentChangeData, ChangeData, CloseData}
 use Rattle.lsp_message.specs.Outgoing as spec
 use Rattle.lsp_message.specs.Written as values
 use Rattle.lsp_message.specs.Outgoing.{OutgoingData}
@@ -37,7 +37,7 @@ depth-edit_value : (r : Option Range) (s : List ℕ) → depth (values.edit_valu
 depth-edit_value None s = omega arith
 depth-edit_value (Some r) s = omega arith
 
-items_depth-edits : (es : List EditData) → items_depth (items_of (map values.edit_value es)) ≤ 3
+items_depth-edits : (es : List ContentChangeData) → items_depth (items_of (map values.edit_value es)) ≤ 3
 items_depth-edits [] = omega arith
 items_depth-edits (e ∷ es) = omega (arith, depth-edit_value e.range e.text, items_depth-edits es)
 
@@ -93,7 +93,7 @@ sound_edit : (r : Option Range) (s : List ℕ) → IfSome r IsProperRange → Is
 sound_edit None s h u = sound_object _ refl (refl, sound_string s u, tt)
 sound_edit (Some r) s h u = sound_object _ refl (refl, sound_range r h, (refl, sound_string s u, tt))
 
-sound_edits : (es : List EditData) → All IsProperEdit es → SoundItems (items_of (map values.edit_value es))
+sound_edits : (es : List ContentChangeData) → All IsProperEdit es → SoundItems (items_of (map values.edit_value es))
 sound_edits [] h = sound_no_items
 sound_edits (e ∷ es) h =
     let first = h 0 e (omega arith) in

@@ -18,7 +18,7 @@ use Rattle.lsp_message.specs.declared.agreement.SyncKind.TheVariants.{Off, Full,
 use Rattle.lsp_message.specs.declared.outgoing.ErrorCode.{ErrorCode}
 use Rattle.lsp_message.specs.declared.outgoing.ErrorCode.TheVariants.{ParseError, InvalidRequest, MethodNotFound, InvalidParams, ServerNotInitialized}
 use Rattle.lsp_message.specs.Message.{IdData, whole, text}
-use Rattle.lsp_message.specs.Params.{DocumentItem, EditData, ChangeData, CloseData}
+use Rattle.lsp_message.specs.Params.{DocumentItem, ContentChangeData, ChangeData, CloseData}
 use Rattle.lsp_message.specs.Outgoing.{OutgoingData, initialize, initialized, did_open, did_change, did_close, shutdown, exit, initialize_result, shutdown_result, error_reply, error_text, id_text, document_text, position_text, range_text, edit_text, notification_text, result_text, body_of}
 use Rattle.lsp_message.specs.Written as values
 use Rattle.lsp_message.proofs.Tokens.{integer_text}
@@ -98,7 +98,7 @@ edit_of_is (Some r) s =
     (five (range_text r) (codes ",") (codes "\"text\":") (quoted s) (codes "}")
     ∙ ap (λ t. t ++ (codes ",\"text\":" ++ (quoted s ++ codes "}"))) (range_is r))
 
-edit_is : (e : EditData) → edit_text e ≡ compact_text (values.edit_value e)
+edit_is : (e : ContentChangeData) → edit_text e ≡ compact_text (values.edit_value e)
 edit_is e = edit_of_is e.range e.text
 
 pub document_is : (p : DocumentItem) → document_text p ≡ compact_text (values.opened_document p)

@@ -8,18 +8,19 @@ use Rattle.serde_json.specs.Find.{get, get_member}
 use Rattle.serde_json.specs.View.{view, items_view}
 use Rattle.serde_json.specs.declared.value.Value.{Value}
 use Rattle.lsp_message.specs.Values.{text_in}
-use Rattle.lsp_message.specs.Params.{EditData, ChangeData, HasChanges, edit_in, range_of}
+use Rattle.lsp_message.specs.Params.{ContentChangeData, ChangeData, HasChanges, content_change_in, range_of}
 use Rattle.lsp_message.specs.inside.Params.{edits_in}
 
 both_there : (text : Option (List ℕ)) (range : Option (Option Range)) →
     is_some (option_and_then
-    (λ t. option_and_then (λ (r : Option Range). Some (let e : EditData = record { range = r; text = t } in e)) range)
+    (λ t. option_and_then (λ (r : Option Range). Some (let e : ContentChangeData = record { range = r; text = t } in
+    e)) range)
     text) ≡ (is_some text && is_some range)
 both_there None range = refl
 both_there (Some t) None = refl
 both_there (Some t) (Some r) = refl
 
-pub edit_there : (d : Data) → is_some (edit_in d)
+pub edit_there : (d : Data) → is_some (content_change_in d)
     ≡ (is_some (text_in (get (codes "text") d)) && is_some (range_of (get (codes "range") d)))
 edit_there null = refl
 edit_there (boolean b) = refl
@@ -28,20 +29,20 @@ edit_there (string s) = refl
 edit_there (array ds) = refl
 edit_there (object ms) = both_there (text_in (get_member (codes "text") ms)) (range_of (get_member (codes "range") ms))
 
-one_more : (edit : Option EditData) (edits : Option (List EditData)) →
+one_more : (edit : Option ContentChangeData) (edits : Option (List ContentChangeData)) →
     is_some (option_and_then (λ e. option_and_then (λ es. Some (e ∷ es)) edits) edit) ≡ (is_some edit && is_some edits)
 one_more None edits = refl
 one_more (Some e) None = refl
 one_more (Some e) (Some es) = refl
 
-pub edits_there : (values : List Value) → list_all (λ v. is_some (edit_in (view v))) values
+pub edits_there : (values : List Value) → list_all (λ v. is_some (content_change_in (view v))) values
     ≡ is_some (edits_in (items_view values))
 edits_there [] = refl
 edits_there (value ∷ values) =
-    ap (λ b. is_some (edit_in (view value)) && b) (edits_there values)
-    ∙ sym (one_more (edit_in (view value)) (edits_in (items_view values)))
+    ap (λ b. is_some (content_change_in (view value)) && b) (edits_there values)
+    ∙ sym (one_more (content_change_in (view value)) (edits_in (items_view values)))
 
-some_more : (edit : Option EditData) (edits : Option (List EditData)) →
+some_more : (edit : Option ContentChangeData) (edits : Option (List ContentChangeData)) →
     is_some (option_and_then (λ e. option_and_then (λ es. Some (e ∷ es)) edits) edit) ≡ true →
     IsSomeAnd (option_and_then (λ e. option_and_then (λ es. Some (e ∷ es)) edits) edit) (λ es. 0 < length es)
 some_more None edits there = cc
@@ -51,9 +52,10 @@ some_more (Some e) (Some es) there = omega arith
 pub has_edits : (values : List Value) → 0 < length values → is_some (edits_in (items_view values)) ≡ true
     → IsSomeAnd (edits_in (items_view values)) (λ es. 0 < length es)
 has_edits [] some there = absurd (omega arith)
-has_edits (value ∷ values) some there = some_more (edit_in (view value)) (edits_in (items_view values)) there
+has_edits (value ∷ values) some there = some_more (content_change_in (view value)) (edits_in (items_view values)) there
 
-pub has_changes : (uri : Option (List ℕ)) (version : Option ℤ) (edits : Option (List EditData)) → is_some uri ≡ true
+pub has_changes : (uri : Option (List ℕ)) (version : Option ℤ) (edits : Option (List ContentChangeData))
+    → is_some uri ≡ true
     → is_some version ≡ true → IsSomeAnd edits (λ es. 0 < length es) →
     IsSomeAnd (option_and_then
     (λ u. option_and_then

@@ -21,7 +21,7 @@ use Rattle.lsp_message.specs.declared.outgoing.ErrorCode.TheVariants.{ParseError
 use Rattle.lsp_message.specs.Values.{text_in, is_null}
 use Rattle.lsp_message.specs.Agreement.{offers_of, announced_of}
 use Rattle.lsp_message.specs.Message.{IdData, whole, text, message_of, message, reading, id_in, id_found}
-use Rattle.lsp_message.specs.Params.{DocumentItem, EditData, ChangeData, open_of, change_of, close_of, version_from, version_in, position_in, range_in, edit_in}
+use Rattle.lsp_message.specs.Params.{DocumentItem, ContentChangeData, ChangeData, open_of, change_of, close_of, version_from, version_in, position_in, range_in, content_change_in}
 use Rattle.lsp_message.specs.inside.Params.{edits_in}
 use Rattle.lsp_message.specs.Outgoing as spec
 use Rattle.lsp_message.specs.Written as values
@@ -88,16 +88,21 @@ range_in-range_value : (r : Range) → IsProperRange r → range_in (Some (value
 range_in-range_value r h = rw (position_in-position_value r.start h.start, position_in-position_value r.stop h.stop)
     refl
 
-edit_in-edit_value : (r : Option Range) (s : List ℕ) → IfSome r IsProperRange
-    → edit_in (values.edit_value (record { range = r; text = s })) ≡ Some (record { range = r; text = s })
-edit_in-edit_value None s h = refl
-edit_in-edit_value (Some r) s h = rw (range_in-range_value r h) refl
+content_change_in-edit_value : (r : Option Range) (s : List ℕ) → IfSome r IsProperRange
+    → content_change_in (values.edit_value (record { range = r; text = s })) ≡ Some (record { range = r; text = s })
+content_change_in-edit_value None s h = refl
+content_change_in-edit_value (Some r) s h = rw (range_in-range_value r h) refl
 
-edits_in-edits : (es : List EditData) → All IsProperEdit es → edits_in (items_of (map values.edit_value es)) ≡ Some es
+edits_in-edits : (es : List ContentChangeData) → All IsProperEdit es → edits_in (items_of
+    (map values.edit_value es)) ≡ Some es
 edits_in-edits [] h = refl
 edits_in-edits (e ∷ es) h =
     let first = h 0 e (omega arith) in
-    rw (edit_in-edit_value e.range e.text first.range, edits_in-edits es (λ k d l. h (suc k) d (omega arith))) refl
+    rw (
+      content_change_in-edit_value e.range e.text first.range,
+      edits_in-edits es (λ k d l. h (suc k) d
+          (omega arith)),
+    ) refl
 
 open_of-open_params : (p : DocumentItem) → IsProperDocument p → open_of (Some (values.open_params p)) ≡ Some p
 open_of-open_params p h = rw (version_in-of_integer p.version h.version) refl

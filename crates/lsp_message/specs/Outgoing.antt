@@ -17,7 +17,7 @@ use Rattle.lsp_message.specs.declared.outgoing.ErrorCode.{ErrorCode}
 use Rattle.lsp_message.specs.declared.outgoing.ErrorCode.TheVariants.{ParseError, InvalidRequest, MethodNotFound, InvalidParams, ServerNotInitialized}
 use Rattle.lsp_message.specs.Agreement.{is_offered}
 use Rattle.lsp_message.specs.Message.{IdData, whole, text}
-use Rattle.lsp_message.specs.Params.{DocumentItem, EditData, ChangeData, CloseData}
+use Rattle.lsp_message.specs.Params.{DocumentItem, ContentChangeData, ChangeData, CloseData}
 
 -- A client's message (the first seven), or a reply: `error_reply` is also a client's, to a request.
 pub data OutgoingData : Type 0 where
@@ -103,7 +103,7 @@ range_if_any None = []
 range_if_any (Some r) = codes "\"range\":" ++ range_text r ++ codes ","
 
 -- A `TextDocumentContentChangeEvent`.
-abbrev pub edit_text : EditData → List ℕ
+abbrev pub edit_text : ContentChangeData → List ℕ
 edit_text e = codes "{" ++ range_if_any e.range ++ codes "\"text\":" ++ quoted e.text ++ codes "}"
 
 -- ---- bodies

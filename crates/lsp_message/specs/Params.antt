@@ -17,7 +17,7 @@ pub record DocumentItem : Type 0 where
   pub text : List ℕ
 
 -- One change: the range that its text replaces (none: the whole text), and the text.
-pub record EditData : Type 0 where
+pub record ContentChangeData : Type 0 where
   pub range : Option Range
   pub text : List ℕ
 
@@ -25,7 +25,7 @@ pub record EditData : Type 0 where
 pub record ChangeData : Type 0 where
   pub uri : List ℕ
   pub version : ℤ
-  pub changes : List EditData
+  pub changes : List ContentChangeData
 
 -- The params of a `textDocument/didClose`.
 pub record CloseData : Type 0 where
@@ -69,15 +69,15 @@ abbrev pub range_of : Option Data → Option (Option Range)
 range_of value = optional None (λ v. option_map Some (range_in v)) value
 
 -- The change that the members of an object are.
-abbrev pub edit_by : Members → Option EditData
-edit_by ms = do
+abbrev pub content_change_by : Members → Option ContentChangeData
+content_change_by ms = do
   text ← text_in (get_member (codes "text") ms)
   range ← range_of (get_member (codes "range") ms)
   Some (record { range = range; text = text })
 
 -- The change that a value is.
-abbrev pub edit_in : Data → Option EditData
-edit_in value = option_and_then edit_by (as_object value)
+abbrev pub content_change_in : Data → Option ContentChangeData
+content_change_in value = option_and_then content_change_by (as_object value)
 
 -- The members of `textDocument`.
 abbrev pub document_in : Option Data → Option Members
@@ -102,7 +102,7 @@ abbrev pub change_by : Members → Items → Option ChangeData
 change_by document changes = do
   uri ← text_in (get_member (codes "uri") document)
   version ← version_in (get_member (codes "version") document)
-  edits ← each_of edit_in changes
+  edits ← each_of content_change_in changes
   Some (record { uri = uri; version = version; changes = edits })
 
 -- The members of `textDocument` and the items of `contentChanges`.

@@ -19,7 +19,7 @@ use Rattle.lsp_message.specs.declared.outgoing.Outgoing.{Outgoing}
 use Rattle.lsp_message.specs.declared.outgoing.Outgoing.TheVariants.{Initialize, Initialized, DidOpen, DidChange, DidClose, Shutdown, Exit, InitializeResult, ShutdownResult, ErrorReply}
 use Rattle.lsp_message.specs.Message as spec
 use Rattle.lsp_message.specs.Outgoing as out
-use Rattle.lsp_message.specs.Params.{DocumentItem, EditData, ChangeData, CloseData}
+use Rattle.lsp_message.specs.Params.{DocumentItem, ContentChangeData, ChangeData, CloseData}
 
 -- An id, with its text as bytes.
 abbrev pub id_view : Id → spec.IdData
@@ -49,7 +49,7 @@ open_view p = record {
 }
 
 -- A change, with its text as bytes.
-abbrev pub edit_view : Change → EditData
+abbrev pub edit_view : Change → ContentChangeData
 edit_view c = record { range = c.range; text = string_bytes c.text }
 
 -- The params of a `textDocument/didChange`, with their texts as bytes.

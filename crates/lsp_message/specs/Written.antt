@@ -13,7 +13,7 @@ use Rattle.lsp_message.specs.declared.agreement.SyncKind.{SyncKind}
 use Rattle.lsp_message.specs.declared.outgoing.ErrorCode.{ErrorCode}
 use Rattle.lsp_message.specs.Agreement.{is_offered}
 use Rattle.lsp_message.specs.Message.{IdData, whole, text}
-use Rattle.lsp_message.specs.Params.{DocumentItem, EditData, ChangeData, CloseData}
+use Rattle.lsp_message.specs.Params.{DocumentItem, ContentChangeData, ChangeData, CloseData}
 use Rattle.lsp_message.specs.Outgoing.{OutgoingData, initialize, initialized, did_open, did_change, did_close, shutdown, exit, initialize_result, shutdown_result, error_reply, code_of, error_message, kind_number}
 
 -- The member `error` of an error response.
@@ -119,7 +119,7 @@ range_before None rest = rest
 range_before (Some r) rest = member (codes "range") (range_value r) rest
 
 -- A `TextDocumentContentChangeEvent`.
-abbrev pub edit_value : EditData → Data
+abbrev pub edit_value : ContentChangeData → Data
 edit_value e = object (range_before e.range (member (codes "text") (string e.text) no_members))
 
 -- A `VersionedTextDocumentIdentifier`.

@@ -6,7 +6,7 @@ ghost use Rattle.std.specs.List.{list_all};
 ghost use Rattle.serde_json.specs.View.{view, items_view, members_view};
 ghost use Rattle.serde_json.specs.Find.{get};
 ghost use Rattle.lsp_message.specs.declared.params.ParamsFault.TheVariants.{InvalidParams, NoMemory};
-ghost use Rattle.lsp_message.specs.Params.{open_of, change_of, close_of, open_by, edit_in, document_in, document_and_changes, change_by, version_in, coordinate_in, position_in, range_in, range_of, ParamsMayAllocate};
+ghost use Rattle.lsp_message.specs.Params.{open_of, change_of, close_of, open_by, content_change_in, document_in, document_and_changes, change_by, version_in, coordinate_in, position_in, range_in, range_of, ParamsMayAllocate};
 ghost use Rattle.lsp_message.specs.inside.Params.{edits_in, MembersMayAllocate};
 ghost use Rattle.lsp_message.specs.Values.{text_in};
 ghost use Rattle.lsp_message.specs.Seen.{open_view, change_view, close_view, edit_view};
@@ -192,8 +192,8 @@ fn range_of(value: Option<&Value>) -> Option<Option<Range>>
     range_in(value).map(Some)
 }
 
-fn edit_in(value: Value) -> Option<Change>
-    ensures { option_map edit_view result ≡ edit_in (view value) }
+fn content_change_in(value: Value) -> Option<Change>
+    ensures { option_map edit_view result ≡ content_change_in (view value) }
 {
     let mut members = object(Some(value))?;
     let text = text(take(&mut members, "text"))?;
@@ -203,7 +203,7 @@ fn edit_in(value: Value) -> Option<Change>
 
 /// Returns whether a value is a change, without moving anything out of it.
 fn is_edit(value: &Value) -> bool
-    ensures { result ≡ is_some (edit_in (view value.now)) }
+    ensures { result ≡ is_some (content_change_in (view value.now)) }
 {
     has_text(value) && range_of(value.get("range")).is_some()
 }
@@ -215,7 +215,7 @@ fn has_text(value: &Value) -> bool
 }
 
 fn are_edits(values: &[Value]) -> bool
-    ensures { result ≡ list_all (λ v. is_some (edit_in (view v))) values.now }
+    ensures { result ≡ list_all (λ v. is_some (content_change_in (view v))) values.now }
 {
     values.iter().all(|value| is_edit(value))
 }
@@ -280,7 +280,7 @@ fn edits_into(mut changes: Vec<Change>, values: Vec<Value>) -> Option<Vec<Change
         ≡ edits_in (items_view values.items) }
 {
     for value in values {
-        if changes.push(edit_in(value)?).is_err() {
+        if changes.push(content_change_in(value)?).is_err() {
             unreachable!();
         }
     }

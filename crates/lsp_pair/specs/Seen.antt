@@ -2,7 +2,7 @@
 use Rattle.std.specs.Prelude.{ℕ, List, map, string_bytes}
 use Rattle.std.specs.declared.alloc.Global.{Global}
 use Rattle.std.specs.Prelude.{Vec}
-use Rattle.lsp_edit.specs.Edited.{edit_of}
+use Rattle.lsp_edit.specs.Edited.{content_change}
 use Rattle.lsp_client.specs.Step as client
 use Rattle.lsp_pair.specs.declared.event.Event.{Event}
 use Rattle.lsp_pair.specs.declared.event.Event.TheVariants.{Start, Open, Edit, Close, Shutdown, Exit, ToServer, ToClient}
@@ -21,7 +21,7 @@ event_view (Open uri language version text) =
       text = string_bytes text;
     })))
 event_view (Edit uri version changes)
-    = calls (client.orders (client.edits (string_bytes uri) version (map edit_of changes.items)))
+    = calls (client.orders (client.edits (string_bytes uri) version (map content_change changes.items)))
 event_view (Close uri) = calls (client.orders (client.closes (string_bytes uri)))
 event_view Shutdown = calls client.shuts_down
 event_view Exit = calls client.exits

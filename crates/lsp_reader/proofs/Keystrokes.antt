@@ -8,7 +8,7 @@ use Rattle.serde_json.specs.Read.{of_json, number_of, read}
 use Rattle.lsp_text.specs.declared.position.Position.{Position}
 use Rattle.lsp_text.specs.declared.position.Range.{Range}
 use Rattle.lsp_message.specs.Message.{message_of}
-use Rattle.lsp_message.specs.Params.{coordinate_in, version_in, position_in, range_in, edit_in}
+use Rattle.lsp_message.specs.Params.{coordinate_in, version_in, position_in, range_in, content_change_in}
 use Rattle.lsp_message.specs.Values.{member_at, natural_in}
 use Rattle.lsp_reader.specs.Incoming.{incoming_of, did_change}
 use Rattle.lsp_reader.specs.Lengths.{lengths_of}
@@ -78,12 +78,13 @@ range_is : (a b : Data) (r : Range) → position_in (Some a) ≡ Some r.start �
 range_is a b r start stop = rw (start, stop) refl
 
 edit_is : (length : Option Num) (a b : Data) (r : Range) (text : List ℕ) → range_in (Some (range_data a b)) ≡ Some r
-    → edit_in (edit_data length (range_data a b) text) ≡ Some (record { range = Some r; text = text })
+    → content_change_in (edit_data length (range_data a b) text) ≡ Some (record { range = Some r; text = text })
 edit_is None a b r text is = rw is refl
 edit_is (Some n) a b r text is = rw is refl
 
 message_is : (uri text : List ℕ) (v : Num) (edit : Data) (version : ℤ) (r : Range)
-    → version_in (Some (number v)) ≡ Some version → edit_in edit ≡ Some (record { range = Some r; text = text })
+    → version_in (Some (number v)) ≡ Some version → content_change_in edit
+    ≡ Some (record { range = Some r; text = text })
     → incoming_of (message_of (message_data (params_data (document_data uri v) edit)))
     ≡ did_change (Some (one_change uri version r text))
 message_is uri text v edit version r is change = rw (is, change) refl

@@ -2,6 +2,7 @@
 pub mod AskedLemmas
 pub mod ContentLemmas
 pub mod ReadLemmas
+pub mod TokenLemmas
 pub mod JudgeLemmas
 pub mod StateLemmas
 pub mod NumberedLemmas

@@ -10,7 +10,7 @@ use Rattle.lsp_text.specs.Units.{units_in}
 use Rattle.lsp_text.specs.declared.encoding.Encoding.TheVariants.{Utf16}
 use Rattle.lsp_text.specs.declared.position.Position.{Position}
 use Rattle.lsp_text.specs.declared.position.Range.{Range}
-use Rattle.lsp_edit.specs.Batch.{Edit, Fault, meaning}
+use Rattle.lsp_edit.specs.Batch.{ContentChange, Fault, meaning}
 use Rattle.lsp_edit.specs.Faults.{ends_of}
 use Rattle.lsp_edit.specs.Indexed.{text_within}
 use Rattle.lsp_edit.specs.declared.fault.Side.{Side}
@@ -105,7 +105,7 @@ same_notes index new None = []
 same_notes index new (Some replaced) = if bytes_eq new replaced then SameText index ∷ [] else []
 
 -- The notes of a change, with this index, on the characters of a text.
-abbrev pub change_notes : Terms → List ℕ → ℕ → Edit → List Note
+abbrev pub change_notes : Terms → List ℕ → ℕ → ContentChange → List Note
 change_notes terms text index change =
     whole_notes terms.ranged index change.range
     ++ range_notes terms.units text index change.range
@@ -117,7 +117,7 @@ change_notes terms text index change =
 
 -- The bytes that a change leaves of a text. There are none if it has no result, or if these bytes
 -- or those of its own text are more than a batch may have.
-abbrev pub left_by : (ℕ → ℕ) → List ℕ → Edit → Option (List ℕ)
+abbrev pub left_by : (ℕ → ℕ) → List ℕ → ContentChange → Option (List ℕ)
 left_by units text change =
     if nat_lt greatest_batch (length (encode_utf8_all change.text)) then None
     else result_ok (text_within greatest_batch text (meaning units (chars text) (change ∷ [])))
@@ -128,7 +128,7 @@ notes_after rest None = []
 notes_after rest (Some text) = rest text
 
 -- The notes of changes from an index on, each on the bytes that the one before it leaves.
-abbrev pub notes_from : Terms → ℕ → List ℕ → List Edit → List Note
+abbrev pub notes_from : Terms → ℕ → List ℕ → List ContentChange → List Note
 notes_from terms index text [] = []
 notes_from terms index text (change ∷ changes) =
     change_notes terms (chars text) index change
@@ -136,7 +136,7 @@ notes_from terms index text (change ∷ changes) =
     (left_by terms.units text change)
 
 -- The notes of a batch on a text.
-abbrev pub batch_notes : Terms → List ℕ → List Edit → List Note
+abbrev pub batch_notes : Terms → List ℕ → List ContentChange → List Note
 batch_notes terms text [] = NoChanges ∷ []
 batch_notes terms text (change ∷ changes) = notes_from terms 0 text (change ∷ changes)
 

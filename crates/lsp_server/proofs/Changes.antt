@@ -1,8 +1,8 @@
 -- A change in two halves, as one step.
 use Rattle.std.proofs.Common.{ℕ, ℤ, ◌≡◌, ◌≢◌, ◌⊎◌, inl, inr, List, map, Result, Ok, Some, string_bytes, sym, ap, subst, refl, ◌∙◌}
 use Rattle.lsp_edit.specs.declared.change.Change.{Change}
-use Rattle.lsp_edit.specs.Batch.{Edit}
-use Rattle.lsp_edit.specs.Edited.{edit_of}
+use Rattle.lsp_edit.specs.Batch.{ContentChange}
+use Rattle.lsp_edit.specs.Edited.{content_change}
 use Rattle.lsp_message.specs.declared.params.ChangeParams.{ChangeParams}
 use Rattle.lsp_message.specs.Params.{ChangeData}
 use Rattle.lsp_message.specs.Seen.{change_view, edit_view}
@@ -36,7 +36,7 @@ pub planned_is : (s : ServerData) (store : StoreData) (p : ChangeParams) (uri : 
     (encoding : Encoding) (edits : List Change) (plan : Plan)
     → store ≡ store_of s → uri ≡ string_bytes p.uri → version ≡ p.version → encoding ≡ session_encoding s
     → edits ≡ p.changes.items → s.phase ≡ Running
-    → IsPlanOf store uri version encoding (map edit_of edits) plan
+    → IsPlanOf store uri version encoding (map content_change edits) plan
     → IsPlannedAs s (change_view p) (Accepted plan)
 planned_is s store p uri version encoding edits plan store_is uri_is version_is encoding_is edits_is running planned =
     let same : IsPlanOf (store_of s) (string_bytes p.uri) p.version (session_encoding s)
@@ -50,17 +50,17 @@ pub refused_is : (s : ServerData) (store : StoreData) (p : ChangeParams) (uri : 
     → store ≡ store_of s → uri ≡ string_bytes p.uri → version ≡ p.version → encoding ≡ session_encoding s
     → edits ≡ p.changes.items → s.phase ≡ Running
     → (fault ≢ NoMemory) × (a ≡ Refused (Store fault))
-    → IsRefused store (changes uri version encoding (map edit_of edits)) fault
+    → IsRefused store (changes uri version encoding (map content_change edits)) fault
     → IsNotObeyed s (step_on s (did_change (Some (change_view p)))) a
 refused_is s store p uri version encoding edits fault a store_is uri_is version_is encoding_is edits_is running why
     error =
-    let command : changes uri version encoding (map edit_of edits) ≡ change_command s (change_view p) =
+    let command : changes uri version encoding (map content_change edits) ≡ change_command s (change_view p) =
     rw (
       uri_is,
       version_is,
       encoding_is,
       edits_is,
-    ) (ap (λ (batch : List Edit). changes (string_bytes p.uri) p.version (session_encoding s) batch)
+    ) (ap (λ (batch : List ContentChange). changes (string_bytes p.uri) p.version (session_encoding s) batch)
     (sym (edits_of p.changes.items))) in
     let given : IsRefused store (change_command s (change_view p)) fault =
     subst (λ (asked : Command). IsRefused store asked fault) command error in

@@ -2,11 +2,11 @@
 use Rattle.std.proofs.Common.{◌≡◌, List, [], ◌∷◌, map, encode_utf8_all, refl}
 use Rattle.std.specs.Str.{chars}
 use Rattle.std.proofs.lemmas.Str.{chars-encodes}
-use Rattle.lsp_edit.specs.Batch.{Edit}
+use Rattle.lsp_edit.specs.Batch.{ContentChange}
 use Rattle.lsp_store.specs.Message.{AreTexts, written_edit}
 use Rattle.lsp_server.specs.Step.{edit_from_data}
 
-pub edits_back : (batch : List Edit) → AreTexts batch → map edit_from_data (map written_edit batch) ≡ batch
+pub edits_back : (batch : List ContentChange) → AreTexts batch → map edit_from_data (map written_edit batch) ≡ batch
 edits_back [] texts = refl
 edits_back (change ∷ batch) texts =
     let text : chars (encode_utf8_all change.text) ≡ change.text = chars-encodes change.text texts.0 in

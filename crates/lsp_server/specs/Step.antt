@@ -4,13 +4,13 @@ use Rattle.std.specs.Prelude.{List, [], map, option_map, unwrap_or, Option, Some
 use Rattle.std.specs.Str.{chars}
 use Rattle.lsp_text.specs.declared.encoding.Encoding.{Encoding}
 use Rattle.lsp_text.specs.declared.encoding.Encoding.TheVariants.{Utf16}
-use Rattle.lsp_edit.specs.Batch.{Edit}
+use Rattle.lsp_edit.specs.Batch.{ContentChange}
 use Rattle.lsp_message.specs.declared.agreement.Offers.{Offers}
 use Rattle.lsp_message.specs.declared.outgoing.ErrorCode.{ErrorCode}
 use Rattle.lsp_message.specs.declared.outgoing.ErrorCode.TheVariants.{ParseError, InvalidRequest, MethodNotFound, InvalidParams, ServerNotInitialized}
 use Rattle.lsp_message.specs.Message.{IdData, Reading}
 use Rattle.lsp_message.specs.Outgoing.{OutgoingData, initialize_result, shutdown_result, error_reply}
-use Rattle.lsp_message.specs.Params.{DocumentItem, EditData, ChangeData, CloseData}
+use Rattle.lsp_message.specs.Params.{DocumentItem, ContentChangeData, ChangeData, CloseData}
 use Rattle.lsp_store.specs.Faults.{refusal_fault}
 use Rattle.lsp_store.specs.Table as table
 use Rattle.lsp_store.specs.Table.{Command, opens, changes, closes, after_command}
@@ -77,7 +77,7 @@ command_step s command = result_step s (after_command s.config.limits s.table co
 -- ---- commands
 
 -- A change, with its text as characters.
-abbrev pub edit_from_data : EditData → Edit
+abbrev pub edit_from_data : ContentChangeData → ContentChange
 edit_from_data e = record { range = e.range; text = chars e.text }
 
 -- The encoding of changes. Before one is chosen there are no changes; UTF-16 is the protocol's

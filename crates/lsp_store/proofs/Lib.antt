@@ -3,7 +3,9 @@
 -- `Tables/StoreLemmas`, over the ordered map's entries (`Tables/TableLemmas`).
 -- `canonical_message.exactly` is `exactly_alike` of `Messages/MessageLemmas`. `Squash::add.ok` is `adds` of
 -- `SquashLemmas`, and `store_laws` is in `LawLemmas`. `Queries` has what is read of a document's text.
+pub mod GreaterLemmas
 pub mod LawLemmas
+pub mod WithinLemmas
 pub mod SquashLemmas
 pub mod Messages
 pub mod Tables

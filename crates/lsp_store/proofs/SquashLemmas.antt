@@ -10,9 +10,9 @@ use Rattle.lsp_text.specs.Units.{units_in}
 use Rattle.lsp_text.specs.declared.encoding.Encoding.{Encoding}
 use Rattle.lsp_edit.specs.Items.{Item, plain, text_of}
 use Rattle.lsp_edit.specs.Indexed.{text_within, bytes_left}
-use Rattle.lsp_edit.specs.declared.indexed.fault.TextFault.{TextFault}
-use Rattle.lsp_edit.specs.declared.indexed.fault.TextFault.TheVariants.{NoMemory}
-use Rattle.lsp_edit.specs.Batch.{Edit, meaning}
+use Rattle.lsp_edit.specs.declared.indexed.fault.BatchFault.{BatchFault}
+use Rattle.lsp_edit.specs.declared.indexed.fault.BatchFault.TheVariants.{NoMemory}
+use Rattle.lsp_edit.specs.Batch.{ContentChange, meaning}
 use Rattle.lsp_edit.specs.Canonical.{canonical}
 use Rattle.lsp_edit.specs.Compose.{then_items}
 use Rattle.lsp_edit.specs.Joined.{IsJoined, IsReached, JoinedData, joined_text}
@@ -48,8 +48,9 @@ seen uri limits encoding joined version = record {
   version = version;
 }
 
-weights : (edits : List Edit) → batch_bytes edits ≤ sum_by (λ change. sum_by len_utf8 change.text) edits
-weights edits = sum_by-le-sum_by (λ (e : Edit). length (encode_utf8_all e.text)) (λ (e : Edit). sum_by len_utf8 e.text)
+weights : (edits : List ContentChange) → batch_bytes edits ≤ sum_by (λ change. sum_by len_utf8 change.text) edits
+weights edits = sum_by-le-sum_by (λ (e : ContentChange). length (encode_utf8_all e.text)) (λ
+    (e : ContentChange). sum_by len_utf8 e.text)
     edits (λ e. omega (arith, bytes_sum e.text))
 
 -- ---- before any batch
@@ -69,7 +70,8 @@ module _ (uri : List ℕ) (limits : LimitsData) (encoding : Encoding) (joined : 
   text_is : stored.text ≡ bytes_left joined.before joined.items
   text_is = sym (encodes-chars stored.text at.utf8) ∙ ap encode_utf8_all at.text_is
 
-  refusal_is : (version : ℤ) (more : List Edit) → entry_refusal limits (units_in encoding) (entry_under uri stored)
+  refusal_is : (version : ℤ) (more : List ContentChange) → entry_refusal limits (units_in encoding)
+      (entry_under uri stored)
       version more ≡ add_refusal kept version more
   refusal_is version more =
       ap (λ (t : List ℕ). entry_refusal limits (units_in encoding) (record {
@@ -80,12 +82,13 @@ module _ (uri : List ℕ) (limits : LimitsData) (encoding : Encoding) (joined : 
       }) version more) text_is
       ∙ ap (λ (k : SquashData). add_refusal k version more) view
 
-  pub add_error : (version : ℤ) (more : List Edit) (fault : StoreFault)
+  pub add_error : (version : ℤ) (more : List ContentChange) (fault : StoreFault)
       → IsRefusal (entry_refusal limits (units_in encoding) (entry_under uri stored) version more) fault
       → IsRefusal (add_refusal kept version more) fault
   add_error version more fault error = subst (λ (r : Option Refusal). IsRefusal r fault) (refusal_is version more) error
 
-  pub left_to_meaning : (version : ℤ) (more : List Edit) → IsLeftToMeaning limits (entry_under uri stored) version more
+  pub left_to_meaning : (version : ℤ) (more : List ContentChange) → IsLeftToMeaning limits
+      (entry_under uri stored) version more
       → IsLeftToMeaning kept.limits (reached_entry kept) version more
   left_to_meaning version more left =
       let at_text =
@@ -99,7 +102,7 @@ module _ (uri : List ℕ) (limits : LimitsData) (encoding : Encoding) (joined : 
 
   -- ---- a batch more
 
-  module _ (version next_version : ℤ) (more : List Edit) (next : JoinedData)
+  module _ (version next_version : ℤ) (more : List ContentChange) (next : JoinedData)
       (accepted : entry_refusal limits (units_in encoding) (entry_under uri stored) version more ≡ None)
       (is : IsJoined (units_in encoding) joined more next) (version_is : next_version ≡ version) where
     more_means : meaning (units_in kept.encoding) (text_of (chars kept.text) kept.items) more ≡ Ok is.others
@@ -129,21 +132,22 @@ module _ (uri : List ℕ) (limits : LimitsData) (encoding : Encoding) (joined : 
 
 module _ (uri : List ℕ) (limits : LimitsData) (encoding : Encoding) (joined : JoinedData) (version : ℤ)
     (kept : SquashData) (view : seen uri limits encoding joined version ≡ kept)
-    (made : List Edit) (is : made ≡ canonical (units_in encoding) (chars joined.before) joined.items) where
+    (made : List ContentChange) (is : made ≡ canonical (units_in encoding) (chars joined.before) joined.items) where
   pub batch_is : made ≡ squash_batch kept
   batch_is = is ∙ ap squash_batch view
 
   pub written_refusal : (if nat_lt limits.max_changes (length made) then Some too_many_changes else body_refusal limits
       (change_body uri version made)) ≡ squash_refusal kept
   written_refusal =
-      ap (λ (b : List Edit). if nat_lt limits.max_changes (length b) then Some too_many_changes else body_refusal limits
+      ap (λ (b : List ContentChange). if nat_lt limits.max_changes (length b) then Some too_many_changes else
+      body_refusal limits
       (change_body uri version b)) batch_is
       ∙ ap (λ (k : SquashData). if nat_lt k.limits.max_changes (length (squash_batch kept)) then Some too_many_changes
       else body_refusal k.limits (change_body k.uri k.version (squash_batch kept))) view
 
 -- ---- the message of all batches is accepted on the document as it was, and leaves the one that was reached
 
-module _ (limits : LimitsData) (encoding : Encoding) (entry : DocumentItem) (version : ℤ) (batch : List Edit)
+module _ (limits : LimitsData) (encoding : Encoding) (entry : DocumentItem) (version : ℤ) (batch : List ContentChange)
     (items : List Item)
     (means : meaning (units_in encoding) (chars entry.text) batch ≡ Ok items)
     (newer : is_stale limits version entry.version ≡ false)
@@ -180,14 +184,14 @@ module _ (limits : LimitsData) (encoding : Encoding) (entry : DocumentItem) (ver
 
 -- ---- what a series means: batches that are accepted one after another mean together what they mean as one list
 
-pub run_on : (units : ℕ → ℕ) (old : List ℕ) (batch more : List Edit) (items others : List Item)
+pub run_on : (units : ℕ → ℕ) (old : List ℕ) (batch more : List ContentChange) (items others : List Item)
     → meaning units old batch ≡ Ok items
     → meaning units (text_of old items) more ≡ Ok others → meaning units old (batch ++ more)
     ≡ Ok (then_items items others)
 run_on units old batch more items others one two = then_means units old batch more items others one two
 
 -- Canonical batches that are written singly mean together what the batches that they were written for mean together.
-pub singles_mean : (units : ℕ → ℕ) → ((c : ℕ) → 1 ≤ units c) → (old : List ℕ) (batch more single : List Edit)
+pub singles_mean : (units : ℕ → ℕ) → ((c : ℕ) → 1 ≤ units c) → (old : List ℕ) (batch more single : List ContentChange)
     (items others : List Item) → meaning units old batch ≡ Ok items → meaning units old single ≡ Ok items
     → meaning units (text_of old items) more ≡ Ok others
     → meaning units old (single ++ canonical units (text_of old items) others) ≡ Ok (then_items items others)
@@ -196,7 +200,7 @@ singles_mean units some old batch more single items others one same two =
     (canonical_law units some (text_of old items) more others two).means
 
 -- What a batch makes of a squash is one thing.
-pub after_is : (old : SquashData) (version : ℤ) (batch : List Edit) (new : SquashData)
+pub after_is : (old : SquashData) (version : ℤ) (batch : List ContentChange) (new : SquashData)
     → IsSquashAfter old version batch new → new ≡ squash_after old version batch
 after_is old version batch new adds =
     adds.is ∙ ap (λ (o : List Item). record old { items = then_items old.items o; version = version })
@@ -209,7 +213,7 @@ pub is_reached : (joined : JoinedData) (text : List ℕ) → IsUtf8 text → cha
     → IsReached joined text
 is_reached joined text utf8 is = record { utf8 = utf8; text_is = is }
 
-module _ (kept : SquashData) (entry : DocumentItem) (version : ℤ) (more : List Edit) (utf8 : IsUtf8 entry.text)
+module _ (kept : SquashData) (entry : DocumentItem) (version : ℤ) (more : List ContentChange) (utf8 : IsUtf8 entry.text)
     (at : HasReached kept entry)
     (accepted : entry_refusal kept.limits (units_in kept.encoding) entry version more ≡ None) where
   same_text : entry.text ≡ bytes_left kept.text kept.items
@@ -248,7 +252,8 @@ module _ (kept : SquashData) (entry : DocumentItem) (version : ℤ) (more : List
 
 -- A batch more, by what is kept of the batches before it.
 pub joins_after : (uri : List ℕ) (limits : LimitsData) (encoding : Encoding) (joined next : JoinedData)
-    (before version next_version : ℤ) (kept : SquashData) (more : List Edit) → seen uri limits encoding joined before
+    (before version next_version : ℤ) (kept : SquashData) (more : List ContentChange)
+    → seen uri limits encoding joined before
     ≡ kept
     → add_refusal kept version more ≡ None → IsJoined (units_in encoding) joined more next → next_version ≡ version
     → IsSquashAfter kept version more (seen uri limits encoding next next_version)
@@ -277,10 +282,11 @@ joins_after uri limits encoding joined next before version next_version kept mor
 -- A batch that is accepted is refused only where memory runs out.
 pub memory_alone : (uri : List ℕ) (limits : LimitsData) (encoding : Encoding) (joined : JoinedData) (before : ℤ)
     (kept : SquashData) → seen uri limits encoding joined before ≡ kept
-    → (entry : DocumentItem) (version : ℤ) (more : List Edit) → entry_refusal kept.limits (units_in kept.encoding) entry
+    → (entry : DocumentItem) (version : ℤ) (more : List ContentChange)
+    → entry_refusal kept.limits (units_in kept.encoding) entry
     version more ≡ None
     → (reached : List ℕ) → reached ≡ entry.text
-    → (fault : TextFault) → (fault ≡ NoMemory)
+    → (fault : BatchFault) → (fault ≡ NoMemory)
     ⊎ (text_within limits.max_text reached (meaning (units_in encoding) (chars reached) more) ≡ Err fault)
     → fault ≡ NoMemory
 memory_alone uri limits encoding joined before kept view entry version more accepted reached same fault error =
@@ -303,11 +309,11 @@ module _ (uri : List ℕ) (limits : LimitsData) (encoding : Encoding) (joined ne
     (store : StoreData) (plan : Plan) (given : next_version ≡ plan.version) (text : List ℕ)
     (same : (on : IsPlanOn store plan) → text ≡ on.entry.text) (at : (on : IsPlanOn store plan)
     → HasReached kept on.entry)
-    (joins : (units : ℕ → ℕ) (batch : List Edit) → meaning units (chars text) batch ≡ meant_by text plan.delta
+    (joins : (units : ℕ → ℕ) (batch : List ContentChange) → meaning units (chars text) batch ≡ meant_by text plan.delta
     → IsJoined units joined batch next)
     (reaches : (max_len : ℕ) (left : List ℕ) → text_within max_len text (meant_by text plan.delta) ≡ Ok left
     → IsReached next left)
-    (document : List ℕ) (version : ℤ) (coded : Encoding) (batch : List Edit)
+    (document : List ℕ) (version : ℤ) (coded : Encoding) (batch : List ContentChange)
     (q : IsPlanOf store document version coded batch plan) (coded_is : kept.encoding ≡ coded)
     (limits_are : kept.limits ≡ store.limits) where
   abbrev entry : DocumentItem

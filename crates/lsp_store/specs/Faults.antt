@@ -3,8 +3,8 @@ use Rattle.std.specs.Prelude.{ℕ, ◌≡◌, ◌⊎◌, List, Option, Some, cod
 use Rattle.lsp_frame.specs.declared.written.EncodeFault.{EncodeFault}
 use Rattle.lsp_frame.specs.declared.written.EncodeFault.TheVariants as encode
 use Rattle.lsp_edit.specs.declared.fault.EditFault.TheVariants.{InsideCharacter, ReversedRange}
-use Rattle.lsp_edit.specs.declared.indexed.fault.TextFault.{TextFault}
-use Rattle.lsp_edit.specs.declared.indexed.fault.TextFault.TheVariants as text
+use Rattle.lsp_edit.specs.declared.indexed.fault.BatchFault.{BatchFault}
+use Rattle.lsp_edit.specs.declared.indexed.fault.BatchFault.TheVariants as text
 use Rattle.lsp_edit.specs.Faults.{fault_at}
 use Rattle.lsp_store.specs.declared.fault.StoreFault.{StoreFault}
 use Rattle.lsp_store.specs.declared.fault.StoreFault.TheVariants.{AlreadyOpen, TooManyDocuments, TextTooLong, NotOpen, StaleVersion, TooManyChanges, Edit, BodyTooLong, NoMemory}
@@ -36,7 +36,7 @@ fault_code (BodyTooLong len) = codes "S8"
 fault_code fault = codes "S9"
 
 -- The store's fault of a text's fault.
-abbrev pub store_fault_of : TextFault → StoreFault
+abbrev pub store_fault_of : BatchFault → StoreFault
 store_fault_of (text.Edit fault) = Edit fault
 store_fault_of text.TooLong = TextTooLong
 store_fault_of text.NoMemory = NoMemory

@@ -4,7 +4,7 @@ use Rattle.std.specs.declared.alloc.Global.{Global}
 use Rattle.lsp_frame.specs.Limits.{LimitsData}
 use Rattle.lsp_store.specs.declared.fault.StoreFault.{StoreFault}
 use Rattle.lsp_store.specs.declared.store.stored.Stored.{Stored}
-use Rattle.lsp_edit.specs.Batch.{Edit}
+use Rattle.lsp_edit.specs.Batch.{ContentChange}
 use Rattle.lsp_message.specs.Params.{DocumentItem}
 use Rattle.lsp_store.specs.Table.{Command, IsLeftToMeaning, entry_at, after_command, command_refusal}
 use Rattle.lsp_store.specs.Faults.{IsRefusal}
@@ -39,6 +39,6 @@ IsRefused old command fault = IsRefusal (command_refusal old.limits old.table co
 
 -- A change may take memory only where the document of its URI is open and only what the batch
 -- means can refuse it.
-abbrev pub ChangeMayAllocate : StoreData → List ℕ → ℤ → List Edit → Type 0
+abbrev pub ChangeMayAllocate : StoreData → List ℕ → ℤ → List ContentChange → Type 0
 ChangeMayAllocate old uri version batch =
     IsSomeAnd (entry_at old.table uri) (λ entry. IsLeftToMeaning old.limits entry version batch)

@@ -3,7 +3,7 @@ use Rattle.std.specs.Prelude.{ℕ, ℤ, ◌≡◌, ◌≤◌, zero, suc, List, [
 use Rattle.lsp_text.specs.Units.{units_in}
 use Rattle.lsp_text.specs.declared.encoding.Encoding.{Encoding}
 use Rattle.lsp_edit.specs.declared.delta.Delta.{Delta}
-use Rattle.lsp_edit.specs.Batch.{Edit}
+use Rattle.lsp_edit.specs.Batch.{ContentChange}
 use Rattle.lsp_edit.specs.Delta.{IsDeltaOf, IsOn, bytes_after}
 use Rattle.lsp_message.specs.Params.{DocumentItem}
 use Rattle.lsp_store.specs.declared.store.plan.Plan.{Plan}
@@ -40,7 +40,7 @@ pub record IsPlanOn (store : StoreData) (plan : Plan) : Type 0 where
 
 -- A plan of a batch on the open document of a URI, which accepts it.
 pub record IsPlanOf (store : StoreData) (uri : List ℕ) (version : ℤ) (encoding : Encoding)
-    (batch : List Edit) (plan : Plan) : Type 0 where
+    (batch : List ContentChange) (plan : Plan) : Type 0 where
   pub on : IsPlanOn store plan
   pub is_open : entry_at store.table uri ≡ Some on.entry
   pub accepted : change_refusal store.limits (units_in encoding) store.table uri version batch
@@ -54,7 +54,7 @@ pub record IsPlanOf (store : StoreData) (uri : List ℕ) (version : ℤ) (encodi
 -- The frame of the canonical message of each batch that a plan is of; it is accepted.
 abbrev pub IsMessageOfPlan : StoreData → Plan → List ℕ → Type 0
 IsMessageOfPlan store plan bytes =
-    (uri : List ℕ) (version : ℤ) (encoding : Encoding) (batch : List Edit)
+    (uri : List ℕ) (version : ℤ) (encoding : Encoding) (batch : List ContentChange)
     → IsPlanOf store uri version encoding batch plan
     → (bytes ≡ canonical_frame (units_in encoding) store.table uri version batch)
     × (message_refusal store.limits (units_in encoding) store.table uri version batch ≡ None)
@@ -62,7 +62,7 @@ IsMessageOfPlan store plan bytes =
 -- The body of that message is appended.
 abbrev pub IsBodyOfPlan : StoreData → Plan → List ℕ → List ℕ → Type 0
 IsBodyOfPlan store plan old new =
-    (uri : List ℕ) (version : ℤ) (encoding : Encoding) (batch : List Edit)
+    (uri : List ℕ) (version : ℤ) (encoding : Encoding) (batch : List ContentChange)
     → IsPlanOf store uri version encoding batch plan
     → (new ≡ old ++ canonical_body (units_in encoding) store.table uri version batch)
     × (message_refusal store.limits (units_in encoding) store.table uri version batch ≡ None)
@@ -70,7 +70,7 @@ IsBodyOfPlan store plan old new =
 -- Why the canonical message of each batch that a plan is of is refused, or out of memory.
 abbrev pub IsMessageFault : StoreData → Plan → StoreFault → Type 0
 IsMessageFault store plan fault =
-    (uri : List ℕ) (version : ℤ) (encoding : Encoding) (batch : List Edit)
+    (uri : List ℕ) (version : ℤ) (encoding : Encoding) (batch : List ContentChange)
     → IsPlanOf store uri version encoding batch plan
     → IsRefusal (message_refusal store.limits (units_in encoding) store.table uri version batch)
     fault

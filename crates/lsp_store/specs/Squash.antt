@@ -7,7 +7,7 @@ use Rattle.lsp_frame.specs.Limits.{LimitsData}
 use Rattle.lsp_text.specs.declared.encoding.Encoding.{Encoding}
 use Rattle.lsp_text.specs.Units.{units_in}
 use Rattle.lsp_edit.specs.Items.{Item, plain, text_of}
-use Rattle.lsp_edit.specs.Batch.{Edit, Fault, meaning}
+use Rattle.lsp_edit.specs.Batch.{ContentChange, Fault, meaning}
 use Rattle.lsp_edit.specs.Canonical.{canonical}
 use Rattle.lsp_edit.specs.Compose.{then_items}
 use Rattle.lsp_edit.specs.Indexed.{bytes_left}
@@ -51,7 +51,7 @@ reached_entry squash
     }
 
 -- Why a batch is refused: as a change of the document reached so far.
-abbrev pub add_refusal : SquashData → ℤ → List Edit → Option Refusal
+abbrev pub add_refusal : SquashData → ℤ → List ContentChange → Option Refusal
 add_refusal squash version batch
     = entry_refusal squash.limits (units_in squash.encoding) (reached_entry squash) version batch
 
@@ -66,7 +66,7 @@ items_meant (Ok items) = items
 items_meant (Err fault) = []
 
 -- The squash after an accepted batch, as a function.
-abbrev pub squash_after : SquashData → ℤ → List Edit → SquashData
+abbrev pub squash_after : SquashData → ℤ → List ContentChange → SquashData
 squash_after squash version batch = record squash {
   items = then_items squash.items
       (items_meant (meaning (units_in squash.encoding) (text_of (chars squash.text) squash.items)
@@ -75,7 +75,7 @@ squash_after squash version batch = record squash {
 }
 
 -- The squash after an accepted batch: URI, limits, encoding and the old text stay.
-pub record IsSquashAfter (old : SquashData) (version : ℤ) (batch : List Edit)
+pub record IsSquashAfter (old : SquashData) (version : ℤ) (batch : List ContentChange)
     (new : SquashData) : Type 0 where
   -- the batch is accepted
   pub accepted : add_refusal old version batch ≡ None
@@ -86,7 +86,7 @@ pub record IsSquashAfter (old : SquashData) (version : ℤ) (batch : List Edit)
   pub is : new ≡ record old { items = then_items old.items others; version = version }
   -- So they are the meaning of all batches as one list, if the old ones are that of the batches
   -- before.
-  pub together : (before : List Edit) → meaning (units_in old.encoding) (chars old.text) before
+  pub together : (before : List ContentChange) → meaning (units_in old.encoding) (chars old.text) before
       ≡ Ok old.items
       → meaning (units_in old.encoding) (chars old.text) (before ++ batch) ≡ Ok new.items
 
@@ -94,7 +94,7 @@ pub record IsSquashAfter (old : SquashData) (version : ℤ) (batch : List Edit)
 -- document after it.
 abbrev pub IsSquashOfPlan : StoreData → Plan → SquashData → SquashData → Type 0
 IsSquashOfPlan store plan old new =
-    (uri : List ℕ) (version : ℤ) (encoding : Encoding) (batch : List Edit)
+    (uri : List ℕ) (version : ℤ) (encoding : Encoding) (batch : List ContentChange)
     → (planned : IsPlanOf store uri version encoding batch plan)
     → old.encoding ≡ encoding → old.limits ≡ store.limits
     → IsSquashAfter old version batch new
@@ -103,7 +103,7 @@ IsSquashOfPlan store plan old new =
 -- ---- the message of all batches
 
 -- The canonical batch of all batches.
-abbrev pub squash_batch : SquashData → List Edit
+abbrev pub squash_batch : SquashData → List ContentChange
 squash_batch squash = canonical (units_in squash.encoding) (chars squash.text) squash.items
 
 -- The body of the message of all batches.

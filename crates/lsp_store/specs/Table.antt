@@ -7,7 +7,7 @@ use Rattle.lsp_frame.specs.Limits.{LimitsData}
 use Rattle.lsp_text.specs.declared.encoding.Encoding.{Encoding}
 use Rattle.lsp_text.specs.Units.{units_in}
 use Rattle.lsp_edit.specs.Items.{Item}
-use Rattle.lsp_edit.specs.Batch.{Edit, Fault, meaning}
+use Rattle.lsp_edit.specs.Batch.{ContentChange, Fault, meaning}
 use Rattle.lsp_edit.specs.Indexed.{bytes_left}
 use Rattle.lsp_message.specs.Params.{DocumentItem}
 
@@ -56,7 +56,7 @@ after_open table entry = after_close table entry.uri ++ entry ∷ []
 -- ---- changing (DidChangeTextDocument); a character `c` of a text has `units c` units
 
 -- The bytes of the texts of a batch together.
-abbrev pub batch_bytes : List Edit → ℕ
+abbrev pub batch_bytes : List ContentChange → ℕ
 batch_bytes batch = sum_by (λ change. length (encode_utf8_all change.text)) batch
 
 -- The greatest number of these bytes.
@@ -76,7 +76,7 @@ is_stale limits version current = not limits.lenient && int_le version current
 
 -- Why a batch on a document is refused: a stale version, too many changes or too long ones, or its
 -- meaning.
-abbrev pub entry_refusal : LimitsData → (ℕ → ℕ) → DocumentItem → ℤ → List Edit → Option Refusal
+abbrev pub entry_refusal : LimitsData → (ℕ → ℕ) → DocumentItem → ℤ → List ContentChange → Option Refusal
 entry_refusal limits units entry version batch =
     if is_stale limits version entry.version then Some (stale_version entry.version)
     else if nat_lt limits.max_changes (length batch)
@@ -85,19 +85,19 @@ entry_refusal limits units entry version batch =
 
 -- Only its meaning can refuse a batch: the version isn't stale, and there are not too many changes
 -- nor too long ones.
-abbrev pub IsLeftToMeaning : LimitsData → DocumentItem → ℤ → List Edit → Type 0
+abbrev pub IsLeftToMeaning : LimitsData → DocumentItem → ℤ → List ContentChange → Type 0
 IsLeftToMeaning limits entry version batch =
     (units : ℕ → ℕ) →
     entry_refusal limits units entry version batch ≡
     meaning_refusal limits entry.text (meaning units (chars entry.text) batch)
 
 -- Why a batch on a document that may be open is refused.
-abbrev pub refusal_on : LimitsData → (ℕ → ℕ) → Option DocumentItem → ℤ → List Edit → Option Refusal
+abbrev pub refusal_on : LimitsData → (ℕ → ℕ) → Option DocumentItem → ℤ → List ContentChange → Option Refusal
 refusal_on limits units None version batch = Some not_open
 refusal_on limits units (Some entry) version batch = entry_refusal limits units entry version batch
 
 -- Why a change of the document of a URI is refused.
-abbrev pub change_refusal : LimitsData → (ℕ → ℕ) → List DocumentItem → List ℕ → ℤ → List Edit →
+abbrev pub change_refusal : LimitsData → (ℕ → ℕ) → List DocumentItem → List ℕ → ℤ → List ContentChange →
     Option Refusal
 change_refusal limits units table uri version batch
     = refusal_on limits units (entry_at table uri) version batch
@@ -109,7 +109,7 @@ meant_text text (Ok items) = bytes_left text items
 meant_text text (Err fault) = text
 
 -- A changed document has the new version and the text that the batch means.
-abbrev pub changed : (ℕ → ℕ) → DocumentItem → ℤ → List Edit → DocumentItem
+abbrev pub changed : (ℕ → ℕ) → DocumentItem → ℤ → List ContentChange → DocumentItem
 changed units entry version batch
     = record entry {
       version = version;
@@ -117,7 +117,7 @@ changed units entry version batch
     }
 
 -- A changed document keeps its index in the table.
-abbrev pub after_change : (ℕ → ℕ) → List DocumentItem → List ℕ → ℤ → List Edit → List DocumentItem
+abbrev pub after_change : (ℕ → ℕ) → List DocumentItem → List ℕ → ℤ → List ContentChange → List DocumentItem
 after_change units [] uri version batch = []
 after_change units (entry ∷ table) uri version batch =
     if bytes_eq uri entry.uri then changed units entry version batch ∷ table else
@@ -135,7 +135,7 @@ close_refusal table uri = if is_some (entry_at table uri) then None else Some no
 -- changes; close one, by URI.
 pub data Command : Type 0 where
   opens : DocumentItem → Command
-  changes : List ℕ → ℤ → Encoding → List Edit → Command
+  changes : List ℕ → ℤ → Encoding → List ContentChange → Command
   closes : List ℕ → Command
 
 -- Why a command is refused.

@@ -3,7 +3,7 @@
 ghost use Rattle.std.specs.Prelude.{◌≡◌};
 ghost use Rattle.lsp_store.specs.declared.fault.StoreFault.TheVariants.{NoMemory};
 
-use lsp_edit::{EditFault, TextFault};
+use lsp_edit::{BatchFault, EditFault};
 use lsp_frame::EncodeFault;
 use std::alloc::{AllocError, AllocFailed};
 use thiserror::Error;
@@ -63,16 +63,16 @@ impl StoreFault {
     }
 }
 
-impl From<TextFault> for StoreFault {
+impl From<BatchFault> for StoreFault {
     ghost use Rattle.lsp_store.specs.Faults.{store_fault_of};
 
     ghost from_gives = { λ fault error. error ≡ store_fault_of fault };
 
-    fn from(fault: TextFault) -> StoreFault {
+    fn from(fault: BatchFault) -> StoreFault {
         match fault {
-            TextFault::Edit(fault) => StoreFault::Edit(fault),
-            TextFault::TooLong => StoreFault::TextTooLong,
-            TextFault::NoMemory => StoreFault::NoMemory,
+            BatchFault::Edit(fault) => StoreFault::Edit(fault),
+            BatchFault::TooLong => StoreFault::TextTooLong,
+            BatchFault::NoMemory => StoreFault::NoMemory,
         }
     }
 }

@@ -1,7 +1,7 @@
 //! Batches of changes on one document, as one batch.
 
 ghost use Rattle.std.specs.Prelude.{◌≡◌, None, Err, IfErr, IfOk, OnErr, OnOk, map, string_bytes};
-ghost use Rattle.lsp_edit.specs.Edited.{edit_of};
+ghost use Rattle.lsp_edit.specs.Edited.{content_change};
 ghost use Rattle.lsp_store.specs.declared.fault.StoreFault.TheVariants.{NoMemory};
 ghost use Rattle.lsp_store.specs.Faults.{IsRefusal};
 ghost use Rattle.lsp_store.specs.Squash.{IsSquashAfter, add_refusal, reached_entry, squash_frame, squash_of, squash_refusal};
@@ -94,14 +94,14 @@ impl Squash {
     /// k steps on spans.
     pub fn add(&mut self, version: i32, changes: &[Change]) -> Result<(), StoreFault>
         ensures ok { OnOk result
-            (IsSquashAfter self.old version (map edit_of changes.now) self.new) }
+            (IsSquashAfter self.old version (map content_change changes.now) self.new) }
         ensures unchanged { OnErr result (self.new ≡ self.old) }
         ensures error { IfErr result
-            (IsRefusal (add_refusal self.old version (map edit_of changes.now))) }
+            (IsRefusal (add_refusal self.old version (map content_change changes.now))) }
         // Memory is taken only once nothing but the meaning can refuse the batch.
         ensures memory { result ≡ Err NoMemory
             → IsLeftToMeaning self.old.limits (reached_entry self.old) version
-            (map edit_of changes.now) }
+            (map content_change changes.now) }
     {
         self.reached.change_joined(
             &mut self.joined,

@@ -1,8 +1,8 @@
 //! The open documents, in order of opening.
 
 ghost use Rattle.std.specs.Prelude.{◌≡◌, ◌≤◌, ◌↔◌, ℕ, IsTrue, ℤ, List, [], Err, IfErr, IfOk, OnErr, OnOk, map, length, slice_get};
-ghost use Rattle.lsp_edit.specs.Batch.{Edit};
-ghost use Rattle.lsp_edit.specs.Edited.{edit_of};
+ghost use Rattle.lsp_edit.specs.Batch.{ContentChange};
+ghost use Rattle.lsp_edit.specs.Edited.{content_change};
 ghost use Rattle.lsp_store.specs.declared.fault.StoreFault.TheVariants.{NotOpen, NoMemory};
 ghost use Rattle.lsp_store.specs.Table.{entry_at, changes as changing, closes};
 ghost use Rattle.lsp_store.specs.Opened.{ChangeMayAllocate, IsRefused, Takes};
@@ -126,14 +126,14 @@ impl Store {
         changes: &[Change],
     ) -> Result<(), StoreFault>
         ensures taken { OnOk result
-            (Takes self.old (changing uri.now version encoding (map edit_of changes.now))
+            (Takes self.old (changing uri.now version encoding (map content_change changes.now))
             self.new) }
         ensures unchanged { OnErr result (self.new ≡ self.old) }
         ensures error { IfErr result
-            (IsRefused self.old (changing uri.now version encoding (map edit_of changes.now))) }
+            (IsRefused self.old (changing uri.now version encoding (map content_change changes.now))) }
         // Memory is taken only once nothing but what the batch means can refuse it.
         ensures memory { result ≡ Err NoMemory
-            → ChangeMayAllocate self.old uri.now version (map edit_of changes.now) }
+            → ChangeMayAllocate self.old uri.now version (map content_change changes.now) }
     {
         // `?` isn't proved here.
         match self.plan(uri, version, encoding, changes) {
@@ -159,12 +159,12 @@ impl Store {
         changes: &'a [Change],
     ) -> Result<Plan<'a>, StoreFault>
         ensures planned { IfOk result
-            (IsPlanOf self.now uri.now version encoding (map edit_of changes.now)) }
+            (IsPlanOf self.now uri.now version encoding (map content_change changes.now)) }
         ensures on { IfOk result (IsPlanOn self.now) }
         ensures error { IfErr result
-            (IsRefused self.now (changing uri.now version encoding (map edit_of changes.now))) }
+            (IsRefused self.now (changing uri.now version encoding (map content_change changes.now))) }
         ensures memory { result ≡ Err NoMemory
-            → ChangeMayAllocate self.now uri.now version (map edit_of changes.now) }
+            → ChangeMayAllocate self.now uri.now version (map content_change changes.now) }
     {
         let Some((index, _, stored)) = self.documents.get_full(uri) else {
             return Err(StoreFault::NotOpen);
@@ -197,7 +197,7 @@ impl Store {
         requires on { IsPlanOn self.old plan }
         ensures applied { OnOk result (self.new ≡ after_plan self.old plan.entry) }
         ensures taken { OnOk result ((uri : List ℕ) (version : ℤ) (encoding : Encoding)
-            (batch : List Edit) → IsPlanOf self.old uri version encoding batch plan.entry
+            (batch : List ContentChange) → IsPlanOf self.old uri version encoding batch plan.entry
             → Takes self.old (changing uri version encoding batch) self.new) }
         ensures unchanged { OnErr result (self.new ≡ self.old) }
     {

@@ -4,7 +4,7 @@ ghost use Rattle.std.specs.Prelude.{◌≤◌, IfErr, IfOk, MatchResult, length,
 ghost use Rattle.std.specs.Str.{chars};
 ghost use Rattle.lsp_text.specs.Units.{units_in};
 ghost use Rattle.lsp_edit.specs.Batch.{meaning};
-ghost use Rattle.lsp_edit.specs.Edited.{edit_of};
+ghost use Rattle.lsp_edit.specs.Edited.{content_change};
 ghost use Rattle.lsp_edit.specs.Faults.{IsFaultOfChanges};
 ghost use Rattle.lsp_edit.specs.TextEdits.{IsBatchOfEdits, IsEditsFault};
 ghost use Rattle.lsp_vectors.specs.inside.Answer.{IsLeft};
@@ -33,9 +33,9 @@ pub fn left_by_changes(
     requires size { length text.now ≤ MAX_OLD_TEXT }
     requires fits { sum_by (λ change. string_len change.text) changes.now ≤ MAX_NEW_TEXT }
     ensures { MatchResult result
-        (IsLeft (units_in encoding) text.now (map edit_of changes.now))
+        (IsLeft (units_in encoding) text.now (map content_change changes.now))
         (IsFaultOfChanges
-        (meaning (units_in encoding) (chars text.now) (map edit_of changes.now))) }
+        (meaning (units_in encoding) (chars text.now) (map content_change changes.now))) }
 {
     let plain = compose(alloc, text, encoding, changes)?;
     let text = plain.text()?;
@@ -52,7 +52,7 @@ pub fn batch_of_edits(
 ) -> Result<Vec<Change>, TextEditFault>
     requires { length text.now ≤ MAX_OLD_TEXT }
     ensures batch { IfOk result (λ batch.
-        IsBatchOfEdits (units_in encoding) text.now edits.now (map edit_of batch.items)) }
+        IsBatchOfEdits (units_in encoding) text.now edits.now (map content_change batch.items)) }
     ensures error { IfErr result (λ fault.
         IsEditsFault (units_in encoding) (chars text.now) edits.now fault) }
 {

@@ -8,12 +8,12 @@ ghost use Rattle.std.specs.Prelude.{◌≡◌, ◌≤◌, IfOk, length, map, str
 ghost use Rattle.std.specs.Prelude.{encode_utf8_all};
 ghost use Rattle.lsp_text.specs.LineStarts.{AreLinesOf};
 ghost use Rattle.lsp_text.specs.Units.{units_in};
-ghost use Rattle.lsp_edit.specs.Edited.{edit_of};
+ghost use Rattle.lsp_edit.specs.Edited.{content_change};
 ghost use Rattle.lsp_vectors.specs.inside.Answer.{IsLeft, alike};
 
 use crate::answer::Left;
 use lsp_edit::{
-    Change, EditFault, IndexedText, Joined, MAX_NEW_TEXT, MAX_OLD_TEXT, TextFault, fits,
+    BatchFault, Change, EditFault, IndexedText, Joined, MAX_NEW_TEXT, MAX_OLD_TEXT, fits,
 };
 use lsp_text::plain::{exact_position, place_of, resolved};
 use lsp_text::{Encoding, Lines, Position};
@@ -32,13 +32,13 @@ pub struct Alike {
 }
 
 /// Returns whether what the plain program says of a message is what a kept text says.
-pub fn agree(plain: &Result<Left, EditFault>, kept: &Result<Left, TextFault>) -> bool
+pub fn agree(plain: &Result<Left, EditFault>, kept: &Result<Left, BatchFault>) -> bool
     ensures { result ≡ alike ⟦<Left as PartialEq>⟧.eq ⟦<EditFault as PartialEq>⟧.eq
         plain.now kept.now }
 {
     match (plain, kept) {
         (Ok(plain), Ok(kept)) => plain == kept,
-        (Err(plain), Err(TextFault::Edit(kept))) => plain == kept,
+        (Err(plain), Err(BatchFault::Edit(kept))) => plain == kept,
         _ => false,
     }
 }
@@ -49,10 +49,10 @@ pub fn left_by_kept_text(
     text: &str,
     encoding: Encoding,
     changes: &[Change],
-) -> Result<Left, TextFault>
+) -> Result<Left, BatchFault>
     requires size { length text.now ≤ MAX_OLD_TEXT }
     requires fits { sum_by (λ change. string_len change.text) changes.now ≤ MAX_NEW_TEXT }
-    ensures { IfOk result (IsLeft (units_in encoding) text.now (map edit_of changes.now)) }
+    ensures { IfOk result (IsLeft (units_in encoding) text.now (map content_change changes.now)) }
 {
     let mut kept = IndexedText::new(alloc, String::from_str(alloc, text)?)?;
     let delta = kept.delta(encoding, changes, usize::MAX)?;
@@ -68,14 +68,14 @@ pub fn left_by_joining(
     text: &str,
     encoding: Encoding,
     changes: &[Change],
-) -> Result<Left, TextFault>
+) -> Result<Left, BatchFault>
     requires { length text.now ≤ MAX_OLD_TEXT }
 {
     let mut reached = IndexedText::new(alloc, String::from_str(alloc, text)?)?;
     let mut joined = Joined::new(alloc, String::from_str(alloc, text)?)?;
     let (first, second) = changes.split_at(changes.len() / 2);
     if !fits(first) || !fits(second) {
-        return Err(TextFault::TooLong);
+        return Err(BatchFault::TooLong);
     }
     joined.change(encoding, &mut reached, first, MAX_OLD_TEXT)?;
     joined.change(encoding, &mut reached, second, MAX_OLD_TEXT)?;

@@ -126,7 +126,7 @@ fn edits_in(alloc: Global, edits: Value) -> Result<Option<Vec<TextEdit>>> {
     };
     let mut read = Vec::new(alloc);
     for edit in edits {
-        match edit_in(alloc, edit)? {
+        match content_change_in(alloc, edit)? {
             Some(edit) => read.push(edit)?,
             None => return Ok(None),
         }
@@ -134,7 +134,7 @@ fn edits_in(alloc: Global, edits: Value) -> Result<Option<Vec<TextEdit>>> {
     Ok(Some(read))
 }
 
-fn edit_in(alloc: Global, edit: Value) -> Result<Option<TextEdit>> {
+fn content_change_in(alloc: Global, edit: Value) -> Result<Option<TextEdit>> {
     let Value::Object(mut edit) = edit else {
         return Ok(None);
     };
@@ -145,13 +145,13 @@ fn edit_in(alloc: Global, edit: Value) -> Result<Option<TextEdit>> {
         "contentChanges": [{"range": range, "text": text}]
     })?;
     match params_change(alloc, Some(params)) {
-        Ok(params) => Ok(params.changes.into_iter().next().and_then(edit_of)),
+        Ok(params) => Ok(params.changes.into_iter().next().and_then(content_change)),
         Err(ParamsFault::InvalidParams) => Ok(None),
         Err(ParamsFault::NoMemory) => bail!("out of memory"),
     }
 }
 
-fn edit_of(change: Change) -> Option<TextEdit> {
+fn content_change(change: Change) -> Option<TextEdit> {
     let Change { range, text } = change;
     let range: Range = range?;
     Some(TextEdit {

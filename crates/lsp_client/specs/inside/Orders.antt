@@ -2,7 +2,7 @@
 use Rattle.std.specs.Prelude.{ℕ, List, Option, None, Result}
 use Rattle.std.specs.Str.{chars}
 use Rattle.lsp_frame.specs.Limits.{LimitsData}
-use Rattle.lsp_edit.specs.Batch.{Edit}
+use Rattle.lsp_edit.specs.Batch.{ContentChange}
 use Rattle.lsp_message.specs.declared.agreement.SyncKind.{SyncKind}
 use Rattle.lsp_message.specs.Params.{DocumentItem}
 use Rattle.lsp_store.specs.declared.fault.StoreFault.{StoreFault}
@@ -33,5 +33,5 @@ IsOrderFault s order fault =
     fault
 
 -- The change that replaces the whole text by a text of these bytes.
-abbrev pub whole_change : List ℕ → Edit
+abbrev pub whole_change : List ℕ → ContentChange
 whole_change text = record { range = None; text = chars text }

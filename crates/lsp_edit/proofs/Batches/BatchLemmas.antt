@@ -1,12 +1,12 @@
 -- Batches, one after the other: what the second makes of what the first left.
 use Rattle.std.proofs.Common.{ℕ, suc, ◌≡◌, ◌+◌, List, [], ◌∷◌, ◌++◌, length, Result, Ok, Err, refl, ap, ◌∙◌, subst, arith}
 use Rattle.lsp_edit.specs.Items.{Item}
-use Rattle.lsp_edit.specs.Batch.{Edit, Fault, items_after, after_changes, continue_with}
+use Rattle.lsp_edit.specs.Batch.{ContentChange, Fault, items_after, after_changes, continue_with}
 use Rattle.lsp_edit.specs.laws.Batches.{RangesStay}
 
 module _ (units : ℕ → ℕ) (old : List ℕ) where
   -- a batch after another goes on from what that left
-  pub after_changes-append : (number : ℕ) (items middle : List Item) (first second : List Edit)
+  pub after_changes-append : (number : ℕ) (items middle : List Item) (first second : List ContentChange)
       → after_changes units old number items first ≡ Ok middle → after_changes units old number items (first ++ second)
       ≡ after_changes units old (number + length first) middle second
   after_changes-append number items middle [] second is =
@@ -30,7 +30,7 @@ module _ (units : ℕ → ℕ) (old : List ℕ) where
       rest_after (Err fault) more r = absurd (cc)
 
   -- The number of the first change matters only for a fault.
-  pub any_number : (number other : ℕ) (items last : List Item) (batch : List Edit)
+  pub any_number : (number other : ℕ) (items last : List Item) (batch : List ContentChange)
       → after_changes units old number items batch ≡ Ok last → after_changes units old other items batch ≡ Ok last
   any_number number other items last [] is = cc
   any_number number other items last (change ∷ batch) is =
@@ -44,7 +44,7 @@ module _ (units : ℕ → ℕ) (old : List ℕ) where
       rest_after (Ok next) more r = more next r
       rest_after (Err fault) more r = absurd (cc)
 
-  pub ranges_stay-append : (number : ℕ) (items middle : List Item) (first second : List Edit)
+  pub ranges_stay-append : (number : ℕ) (items middle : List Item) (first second : List ContentChange)
       → after_changes units old number items first ≡ Ok middle → RangesStay units old items first
       → RangesStay units old middle second → RangesStay units old items (first ++ second)
   ranges_stay-append number items middle [] second is stay more = let e : middle ≡ items = cc in
@@ -54,14 +54,14 @@ module _ (units : ℕ → ℕ) (old : List ℕ) where
 
   -- A batch makes one list of items of another, whatever came before, and its ranges denote what they denote in the old
   -- text.
-  pub record Makes (items : List Item) (batch : List Edit) (made : List Item) : Type 0 where
+  pub record Makes (items : List Item) (batch : List ContentChange) (made : List Item) : Type 0 where
     pub leaves : (number : ℕ) → after_changes units old number items batch ≡ Ok made
     pub ranges : RangesStay units old items batch
 
   pub makes_nothing : (items : List Item) → Makes items [] items
   makes_nothing items = record { leaves = λ number. refl; ranges = tt }
 
-  pub makes_joined : (items middle last : List Item) (first second : List Edit) → Makes items first middle
+  pub makes_joined : (items middle last : List Item) (first second : List ContentChange) → Makes items first middle
       → Makes middle second last → Makes items (first ++ second) last
   makes_joined items middle last first second one two = record {
     leaves = λ number. after_changes-append number items middle first second (one.leaves number)

@@ -6,7 +6,7 @@ use Rattle.lsp_text.specs.declared.position.Range.{Range}
 use Rattle.lsp_text.specs.TextLines.{numbers_from}
 use Rattle.lsp_text.specs.Positions.{denoted}
 use Rattle.lsp_edit.specs.Items.{Item, Old, New, plain, character_of, text_of}
-use Rattle.lsp_edit.specs.Batch.{Edit, Fault, Reversed, replaced, changed_in, items_after, after_changes, continue_with, meaning}
+use Rattle.lsp_edit.specs.Batch.{ContentChange, Fault, Reversed, replaced, changed_in, items_after, after_changes, continue_with, meaning}
 use Rattle.lsp_edit.specs.Compose.{item_through, then_items}
 use Rattle.lsp_edit.specs.Canonical.{canonical}
 use Rattle.lsp_edit.specs.Keeps.{Keeps}
@@ -71,7 +71,7 @@ module _ (units : ℕ → ℕ) (old : List ℕ) (first : List Item) where
       map-append (item_through first) (take a items) (map New characters ++ drop b items) in
       rw (front, back, outer, inner, told_new first characters) refl
 
-  then-changed : (items next : List Item) (change : Edit) → items_after units (text_of old first) items change
+  then-changed : (items next : List Item) (change : ContentChange) → items_after units (text_of old first) items change
       ≡ Ok next → items_after units old (then_items first items) change ≡ Ok (then_items first next)
   then-changed items next change is = by_range change.range is
     where
@@ -102,7 +102,8 @@ module _ (units : ℕ → ℕ) (old : List ℕ) (first : List Item) where
           (at_indexes (denoted units (text_of (text_of old first) items) range.start)
           (denoted units (text_of (text_of old first) items) range.stop) r)
 
-  then-changes : (number : ℕ) (items last : List Item) (batch : List Edit) → after_changes units (text_of old first)
+  then-changes : (number : ℕ) (items last : List Item) (batch : List ContentChange)
+      → after_changes units (text_of old first)
       number items batch ≡ Ok last → after_changes units old number (then_items first items) batch
       ≡ Ok (then_items first last)
   then-changes number items last [] is = let e : items ≡ last = cc in
@@ -121,7 +122,7 @@ module _ (units : ℕ → ℕ) (old : List ℕ) (first : List Item) where
       rest_after (Err fault) e more r = absurd (cc)
 
 -- What two batches mean, one after the other.
-pub then_means : (units : ℕ → ℕ) (old : List ℕ) (first second : List Edit) (items others : List Item)
+pub then_means : (units : ℕ → ℕ) (old : List ℕ) (first second : List ContentChange) (items others : List Item)
     → meaning units old first ≡ Ok items → meaning units (text_of old items) second ≡ Ok others
     → meaning units old (first ++ second) ≡ Ok (then_items items others)
 then_means units old first second items others is are =

@@ -15,10 +15,10 @@ use Rattle.lsp_edit.specs.declared.change.Change.{Change}
 use Rattle.lsp_edit.specs.declared.fault.EditFault.{EditFault}
 use Rattle.lsp_edit.specs.declared.plain.Item.{Item as PlainItem}
 use Rattle.lsp_edit.specs.Items.{Item, Old, New, plain, character_of, text_of}
-use Rattle.lsp_edit.specs.Batch.{Edit, items_after, after_changes, changed_in, meaning}
+use Rattle.lsp_edit.specs.Batch.{ContentChange, items_after, after_changes, changed_in, meaning}
 use Rattle.lsp_edit.specs.Compose.{then_items}
-use Rattle.lsp_edit.specs.Canonical.{gaps_from, gaps, is_changed, gap_edit}
-use Rattle.lsp_edit.specs.Edited.{PlainData, both_counts, edit_of, edited_bytes, edited_text}
+use Rattle.lsp_edit.specs.Canonical.{gaps_from, gaps, is_changed, gap_change}
+use Rattle.lsp_edit.specs.Edited.{PlainData, both_counts, content_change, edited_bytes, edited_text}
 use Rattle.lsp_edit.specs.Faults.{places_at, ends_of}
 use Rattle.lsp_edit.specs.Keeps.{Keeps}
 use Rattle.lsp_edit.specs.laws.Batches.{HasExactEnds, AllHaveExactEnds}
@@ -71,7 +71,7 @@ range_made units old items characters range start stop ends =
     rw (ends.low_is, ends.high_is, le-leb ends.low ends.high ends.order) refl
 
 -- How far the changes of items were written: those of the items that are left complete them.
-pub record Writes (units : ℕ → ℕ) (old : List ℕ) (all made : List Edit) (low : ℕ) (text : List ℕ)
+pub record Writes (units : ℕ → ℕ) (old : List ℕ) (all made : List ContentChange) (low : ℕ) (text : List ℕ)
     (rest : List Item) : Type 0 where
   pub error : made ++ changes_of units old (gaps_from low (length old) text rest) ≡ all
   pub ends : AllHaveExactEnds old (gaps_from low (length old) text rest)
@@ -85,7 +85,7 @@ write_begins units old items keeps = record {
   keeps = keeps;
 }
 
-module _ (units : ℕ → ℕ) (old : List ℕ) (all made : List Edit) (low : ℕ) (text : List ℕ) (rest : List Item)
+module _ (units : ℕ → ℕ) (old : List ℕ) (all made : List ContentChange) (low : ℕ) (text : List ℕ) (rest : List Item)
     (writes : Writes units old all made low text rest) where
   pub write_new : (character : ℕ) (more : List Item) → rest ≡ New character ∷ more
       → Writes units old all made low (text ++ character ∷ []) more
@@ -111,7 +111,7 @@ module _ (units : ℕ → ℕ) (old : List ℕ) (all made : List Edit) (low : �
         (record {
           error = append_assoc made (change_at units old (gap_at low index text))
               (changes_of units old (gaps_from (suc index) (length old) [] more))
-              ∙ (ap (λ (es : List Edit). made ++ es)
+              ∙ (ap (λ (es : List ContentChange). made ++ es)
               (sym (changes_of-cons units old (gap_at low index text) (gaps_from (suc index) (length old) [] more)))
               ∙ here.error);
           ends = here.ends.1;
@@ -128,7 +128,7 @@ module _ (units : ℕ → ℕ) (old : List ℕ) (all made : List Edit) (low : �
 
     pub write_end : made ++ change_at units old (gap_at low (length old) text) ≡ all
     write_end =
-        ap (λ (es : List Edit). made ++ es) (sym (changes_of-cons units old (gap_at low (length old) text) []
+        ap (λ (es : List ContentChange). made ++ es) (sym (changes_of-cons units old (gap_at low (length old) text) []
         ∙ append-nil (change_at units old (gap_at low (length old) text)))) ∙ last.error
 
 -- The change of a gap, as it is written.
@@ -140,26 +140,28 @@ module _ (units : ℕ → ℕ) (old : List ℕ) (low high : ℕ) (text : List �
       (λ (l : 0 < length text). or_right (nat_lt low high) (nat_lt 0 (length text)) (lt-ltb 0 (length text) l))
       some
 
-  pub gap_none : (changes : List Change) → high ≤ low → length text ≡ 0 → map edit_of changes ≡ map edit_of changes
+  pub gap_none : (changes : List Change) → high ≤ low → length text ≡ 0
+      → map content_change changes ≡ map content_change changes
       ++ change_at units old (gap_at low high text)
   gap_none changes falls none =
       rw (or_from (nat_lt low high) (nat_lt 0 (length text)) (le-ltb low high falls)
-      (le-ltb 0 (length text) (omega arith))) (sym (append-nil (map edit_of changes)))
+      (le-ltb 0 (length text) (omega arith))) (sym (append-nil (map content_change changes)))
 
   pub gap_one : (changes : List Change) (change : Change) (start stop : Position) → (low < high) ⊎ (0 < length text)
       → change.range ≡ Some (record { start = start; stop = stop }) → string_bytes change.text ≡ encode_utf8_all text
       → start ≡ exact_position units old low → stop ≡ exact_position units old high
-      → map edit_of (changes ++ change ∷ []) ≡ map edit_of changes ++ change_at units old (gap_at low high text)
+      → map content_change (changes ++ change ∷ []) ≡ map content_change changes ++ change_at units old
+      (gap_at low high text)
   gap_one changes change start stop some range same at_start at_stop =
       let own : chars (string_bytes change.text) ≡ text =
       sym (chars_from_encodes text (string_bytes change.text) (IsUtf8-string_bytes change.text) (sym same)) in
-      let e : edit_of change ≡ gap_edit units old (gap_at low high text)
+      let e : content_change change ≡ gap_change units old (gap_at low high text)
       = λ i. record {
         range = (range ∙ ap₂ (λ (x y : Position). Some (record { start = x; stop = y })) at_start at_stop) i;
         text = own i;
       } in
-      map-append edit_of changes (change ∷ [])
-      ∙ rw (gap_some some) (ap (λ (x : Edit). map edit_of changes ++ x ∷ []) e)
+      map-append content_change changes (change ∷ [])
+      ∙ rw (gap_some some) (ap (λ (x : ContentChange). map content_change changes ++ x ∷ []) e)
 
 -- An end of a changed gap is a place of the old text.
 pub end_place : (old : List ℕ) (index place : ℕ) → index ≤ length old → splits_crlf old index ≡ false
@@ -190,7 +192,7 @@ plain_seen before old items changes edited are view = subst (λ (e : PlainData).
 
 -- The fields after a change.
 pub plain_next : (units : ℕ → ℕ) (before old : List ℕ) (items next : List Item) (changes : ℕ) (edited : PlainData)
-    (change : Edit) (more : ℕ) → ArePlain before old items → record {
+    (change : ContentChange) (more : ℕ) → ArePlain before old items → record {
       before = chars before;
       items = items;
       changes = changes;
@@ -213,9 +215,9 @@ plain_next units before old items next changes edited change more are view made 
 pub applying_begins : (units : ℕ → ℕ) (before : List ℕ) (changes : List Change) (edited : PlainData) → IsUtf8 before
     → edited ≡ record { before = chars before; items = plain (chars before); changes = 0 } → length before ≤ 1073741824
     → sum_by (λ change. string_len change.text) changes ≤ 1073741824
-    → Applying units (chars before) (meaning units (chars before) (map edit_of changes)) 0 changes edited
+    → Applying units (chars before) (meaning units (chars before) (map content_change changes)) 0 changes edited
 applying_begins units before changes edited utf8 is size fits = record {
-  left = ap (λ (e : PlainData). after_changes units (chars before) e.changes e.items (map edit_of changes)) is;
+  left = ap (λ (e : PlainData). after_changes units (chars before) e.changes e.items (map content_change changes)) is;
   same = ap (λ (e : PlainData). e.before) is;
   counted = ap (λ (e : PlainData). e.changes) is;
   room = omega (arith, first_bytes before edited utf8 is);

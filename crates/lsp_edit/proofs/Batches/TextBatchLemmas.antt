@@ -13,14 +13,14 @@ use Rattle.lsp_text.proofs.Positions.PlaceLemmas.{take_place, drop_place}
 use Rattle.lsp_edit.specs.declared.change.Change.{Change}
 use Rattle.lsp_edit.specs.declared.fault.EditFault.{EditFault}
 use Rattle.lsp_edit.specs.declared.fault.EditFault.TheVariants.{NoMemory}
-use Rattle.lsp_edit.specs.declared.indexed.fault.TextFault.{TextFault}
-use Rattle.lsp_edit.specs.declared.indexed.fault.TextFault.TheVariants.{Edit as EditOf, TooLong, NoMemory as OutOfMemory}
+use Rattle.lsp_edit.specs.declared.indexed.fault.BatchFault.{BatchFault}
+use Rattle.lsp_edit.specs.declared.indexed.fault.BatchFault.TheVariants.{Edit as EditOf, TooLong, NoMemory as OutOfMemory}
 use Rattle.lsp_edit.specs.Items.{Item, New, plain, character_of, text_of}
-use Rattle.lsp_edit.specs.Batch.{Edit, Fault, InsideStart, InsideStop, Reversed, replaced, changed_in, items_after, after_changes, continue_with, meaning}
+use Rattle.lsp_edit.specs.Batch.{ContentChange, Fault, InsideStart, InsideStop, Reversed, replaced, changed_in, items_after, after_changes, continue_with, meaning}
 use Rattle.lsp_edit.specs.inside.TextBatch.{text_replaced, text_changed, text_after_change, text_after_changes, text_continue_with, IsFaultOf, IsFaultOfBatch}
 use Rattle.lsp_edit.specs.Faults.{fault_at, in_order, ends_of, places_at}
-use Rattle.lsp_edit.specs.Edited.{edit_of}
-use Rattle.lsp_edit.specs.Indexed.{bytes_left, text_within, text_fault_of}
+use Rattle.lsp_edit.specs.Edited.{content_change}
+use Rattle.lsp_edit.specs.Indexed.{bytes_left, text_within, batch_fault_of}
 use Rattle.lsp_edit.proofs.Composing.AppliedLemmas.{AreEnds, ends_told}
 use Rattle.lsp_edit.proofs.Parts.CutLemmas.{text_of-new}
 use Rattle.lsp_edit.proofs.Composing.EditedLemmas.{plain_text}
@@ -57,7 +57,7 @@ change_text units old items new (Some range) =
     replaced_text old items new (denoted units (text_of old items) range.start)
     (denoted units (text_of old items) range.stop)
 
-pub changes_text : (units : ℕ → ℕ) (old : List ℕ) (number : ℕ) (items : List Item) (batch : List Edit)
+pub changes_text : (units : ℕ → ℕ) (old : List ℕ) (number : ℕ) (items : List Item) (batch : List ContentChange)
     → text_after_changes units number (text_of old items) batch
     ≡ text_result old (after_changes units old number items batch)
 changes_text units old number items [] = refl
@@ -75,12 +75,12 @@ changes_text units old number items (change ∷ batch) =
     go_on_text (Ok next) more = more next
     go_on_text (Err fault) more = refl
 
-fault_edit : (number : ℕ) (why : Fault) → EditOf (fault_at number why) ≡ text_fault_of (fault_at number why)
+fault_edit : (number : ℕ) (why : Fault) → EditOf (fault_at number why) ≡ batch_fault_of (fault_at number why)
 fault_edit number InsideStart = refl
 fault_edit number InsideStop = refl
 fault_edit number Reversed = refl
 
-module _ (units : ℕ → ℕ) (before : List ℕ) (batch : List Edit) where
+module _ (units : ℕ → ℕ) (before : List ℕ) (batch : List ContentChange) where
   batch_text : text_after_changes units 0 (chars before) batch ≡ text_result (chars before)
       (meaning units (chars before) batch)
   batch_text = ap (λ (t : List ℕ). text_after_changes units 0 t batch) (sym (plain_text (chars before)))
@@ -113,11 +113,11 @@ module _ (units : ℕ → ℕ) (before : List ℕ) (batch : List Edit) where
 
   pub left_fault : (max_len : ℕ) (fault : EditFault) → IsFaultOfBatch (text_after_changes units 0 (chars before) batch)
       fault
-      → (text_fault_of fault ≡ OutOfMemory) ⊎ (text_within max_len before (meaning units (chars before) batch)
-      ≡ Err (text_fault_of fault))
+      → (batch_fault_of fault ≡ OutOfMemory) ⊎ (text_within max_len before (meaning units (chars before) batch)
+      ≡ Err (batch_fault_of fault))
   left_fault max_len fault error =
       ⊎_elim
-      (λ (memory : fault ≡ NoMemory). inl (ap text_fault_of memory))
+      (λ (memory : fault ≡ NoMemory). inl (ap batch_fault_of memory))
       (λ (t : (number : ℕ) × (why : Fault) × (text_after_changes units 0 (chars before) batch ≡ Err (number, why))
       × (fault ≡ fault_at number why)).
       inr (found (meaning units (chars before) batch) t.0 t.1 t.3 (sym batch_text ∙ t.2)))
@@ -125,12 +125,12 @@ module _ (units : ℕ → ℕ) (before : List ℕ) (batch : List Edit) where
     where
       found : (meant : Result (List Item) (ℕ × Fault)) (number : ℕ) (why : Fault) → fault ≡ fault_at number why
           → ◌≡◌ {A = Result (List ℕ) (ℕ × Fault)} (text_result (chars before) meant) (Err (number, why))
-          → text_within max_len before meant ≡ Err (text_fault_of fault)
+          → text_within max_len before meant ≡ Err (batch_fault_of fault)
       found (Ok items) number why is e = absurd (cc)
       found (Err x) number why is e =
           let f : x ≡ (number, why) = cc in
           ap (λ (y : ℕ × Fault). text_within max_len before (Err y)) f
-          ∙ (ap (λ (y : TextFault). Err y) (fault_edit number why) ∙ ap (λ (y : EditFault). Err (text_fault_of y))
+          ∙ (ap (λ (y : BatchFault). Err y) (fault_edit number why) ∙ ap (λ (y : EditFault). Err (batch_fault_of y))
           (sym is))
 
 -- ---- one change of a range
@@ -244,13 +244,13 @@ module _ (units : ℕ → ℕ) (number : ℕ) (before : List ℕ) (utf8 : IsUtf8
 -- How far a batch was applied: what is left of it leaves the same text, and there is room for it.
 pub record Drafting (units : ℕ → ℕ) (left : Result (List ℕ) (ℕ × Fault)) (number : ℕ) (rest : List Change)
     (draft : List ℕ) : Type 0 where
-  pub same : text_after_changes units number (chars draft) (map edit_of rest) ≡ left
+  pub same : text_after_changes units number (chars draft) (map content_change rest) ≡ left
   pub room : length draft + texts_len rest ≤ 2147483648
 
 module _ (units : ℕ → ℕ) (left : Result (List ℕ) (ℕ × Fault)) (number : ℕ) (change : Change) (rest more : List Change)
     (draft : List ℕ) (is : rest ≡ change ∷ more) (drafting : Drafting units left number rest draft) where
-  same_here : text_continue_with (λ next. text_after_changes units (suc number) next (map edit_of more)) number
-      (text_after_change units (chars draft) (edit_of change)) ≡ left
+  same_here : text_continue_with (λ next. text_after_changes units (suc number) next (map content_change more)) number
+      (text_after_change units (chars draft) (content_change change)) ≡ left
   same_here = rw is at drafting.same
 
   pub draft_room : length draft + string_len change.text ≤ 2147483648
@@ -261,13 +261,14 @@ module _ (units : ℕ → ℕ) (left : Result (List ℕ) (ℕ × Fault)) (number
     sum_by-cons (λ (c : Change). string_len c.text) change more,
   )
 
-  pub drafting_on : (next : List ℕ) → text_after_change units (chars draft) (edit_of change) ≡ Ok (chars next)
+  pub drafting_on : (next : List ℕ) → text_after_change units (chars draft) (content_change change) ≡ Ok (chars next)
       → length next ≤ length draft + string_len change.text → Drafting units left (number + 1) more next
   drafting_on next made longer =
       let n : number + 1 ≡ suc number = omega arith in
-      let l : text_after_changes units (suc number) (chars next) (map edit_of more) ≡ left = rw made at same_here in
+      let l : text_after_changes units (suc number) (chars next) (map content_change more)
+      ≡ left = rw made at same_here in
       record {
-        same = ap (λ (m : ℕ). text_after_changes units m (chars next) (map edit_of more)) n ∙ l;
+        same = ap (λ (m : ℕ). text_after_changes units m (chars next) (map content_change more)) n ∙ l;
         room = omega (
           arith,
           drafting.room,
@@ -277,19 +278,20 @@ module _ (units : ℕ → ℕ) (left : Result (List ℕ) (ℕ × Fault)) (number
         );
       }
 
-  pub draft_faulted : (fault : EditFault) → IsFaultOf number (text_after_change units (chars draft) (edit_of change))
+  pub draft_faulted : (fault : EditFault) → IsFaultOf number (text_after_change units (chars draft)
+      (content_change change))
       fault → IsFaultOfBatch left fault
   draft_faulted fault error =
       ⊎_elim
       (λ (memory : fault ≡ NoMemory). inl memory)
-      (λ (t : (why : Fault) × (text_after_change units (chars draft) (edit_of change) ≡ Err why)
+      (λ (t : (why : Fault) × (text_after_change units (chars draft) (content_change change) ≡ Err why)
       × (fault ≡ fault_at number why)).
       let l : Err (number, t.0) ≡ left = rw t.1 at same_here in
       inr (number, t.0, sym l, t.2))
       error
 
 -- A batch that begins with a whole text leaves the same of every text.
-pub any_text : (units : ℕ → ℕ) (text other new : List ℕ) (batch : List Edit)
+pub any_text : (units : ℕ → ℕ) (text other new : List ℕ) (batch : List ContentChange)
     → text_after_changes units 0 text (record { range = None; text = new } ∷ batch) ≡ text_after_changes units 0 other
     (record { range = None; text = new } ∷ batch)
 any_text units text other new batch = refl

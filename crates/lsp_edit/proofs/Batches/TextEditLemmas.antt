@@ -16,7 +16,7 @@ use Rattle.lsp_edit.specs.declared.text_edits.Placed.{Placed}
 use Rattle.lsp_edit.specs.declared.text_edits.TextEdit.{TextEdit}
 use Rattle.lsp_edit.specs.declared.text_edits.TextEditFault.{TextEditFault}
 use Rattle.lsp_edit.specs.declared.text_edits.TextEditFault.TheVariants.{Overlap}
-use Rattle.lsp_edit.specs.Batch.{Edit, meaning}
+use Rattle.lsp_edit.specs.Batch.{ContentChange, meaning}
 use Rattle.lsp_edit.specs.Canonical.{canonical}
 use Rattle.lsp_edit.specs.Faults.{ends_of, places_at}
 use Rattle.lsp_edit.specs.Items.{Item, Old, New}
@@ -25,7 +25,7 @@ use Rattle.lsp_edit.specs.Parts.{Part, AreParts, index_of, items_of, new_parts}
 use Rattle.lsp_edit.specs.TextEdits.{fault_of}
 use Rattle.lsp_edit.specs.inside.TextEdits.{IsPlaced, ArePlaced, AreApart, old_parts, parts_left, AreLeftByEdits, HasFaultyRange, DoOverlap}
 use Rattle.lsp_edit.proofs.Composing.AppliedLemmas.{AreEnds, ends_told}
-use Rattle.lsp_edit.proofs.Deltas.LayerLemmas.{are_both, items_both}
+use Rattle.lsp_edit.proofs.Deltas.OwnedLemmas.{are_both, items_both}
 use Rattle.lsp_edit.proofs.Composing.EditedLemmas.{index_first}
 use Rattle.lsp_edit.proofs.Parts.IndexLemmas.{index_of-place, index_rises}
 use Rattle.lsp_edit.proofs.Canonical.KeepsLemmas.{keeps_from_lower, new_keeps}
@@ -328,7 +328,7 @@ module _ (before : List ℕ) (utf8 : IsUtf8 before) where
         (subst (λ (n : ℕ). Keeps (chars before) n (items_of (chars before) (parts_left (length before) 0 left.ordered)))
         (index_first (chars before)) (left_keeps 0 left.ordered at_first all_lie left.apart))
 
-    pub batch_means : ((c : ℕ) → 1 ≤ units c) → (batch : List Edit) → batch ≡ canonical units (chars before)
+    pub batch_means : ((c : ℕ) → 1 ≤ units c) → (batch : List ContentChange) → batch ≡ canonical units (chars before)
         (items_of (chars before) parts) → meaning units (chars before) batch ≡ Ok (items_of (chars before) parts)
     batch_means some batch is =
         ap (meaning units (chars before)) is

@@ -6,8 +6,8 @@ use Rattle.lsp_text.specs.declared.position.Range.{Range}
 use Rattle.lsp_text.specs.TextLines.{numbers_from}
 use Rattle.lsp_text.specs.Positions.{denoted}
 use Rattle.lsp_edit.specs.Items.{Item, Old, New, plain, text_of}
-use Rattle.lsp_edit.specs.Batch.{Edit, Fault, Reversed, replaced, changed_in, items_after, after_changes, continue_with, meaning}
-use Rattle.lsp_edit.specs.Canonical.{Gap, gaps_from, gaps, is_changed, gap_edit, canonical}
+use Rattle.lsp_edit.specs.Batch.{ContentChange, Fault, Reversed, replaced, changed_in, items_after, after_changes, continue_with, meaning}
+use Rattle.lsp_edit.specs.Canonical.{Gap, gaps_from, gaps, is_changed, gap_change, canonical}
 use Rattle.lsp_edit.proofs.Canonical.GapLemmas.{gap}
 
 abbrev one_if : Bool → ℕ
@@ -113,7 +113,7 @@ module _ (size : ℕ) where
       rw (le-ltb low low (omega arith)) (omega (arith, none_at_first (suc low) count (omega arith)))
 
   module _ (units : ℕ → ℕ) (old : List ℕ) where
-    change_adds : (items next : List Item) (change : Edit) → items_after units old items change ≡ Ok next
+    change_adds : (items next : List Item) (change : ContentChange) → items_after units old items change ≡ Ok next
         → hunks size false 0 next ≤ suc (hunks size false 0 items)
     change_adds items next change is = by_range change.range is
       where
@@ -141,7 +141,8 @@ module _ (size : ℕ) where
         by_range (Some range) r =
             at_indexes (denoted units (text_of old items) range.start) (denoted units (text_of old items) range.stop) r
 
-    changes_add : (number : ℕ) (items last : List Item) (batch : List Edit) → after_changes units old number items batch
+    changes_add : (number : ℕ) (items last : List Item) (batch : List ContentChange)
+        → after_changes units old number items batch
         ≡ Ok last → hunks size false 0 last ≤ hunks size false 0 items + length batch
     changes_add number items last [] is = let e : items ≡ last = cc in omega (arith, ap (hunks size false 0) e)
     changes_add number items last (change ∷ batch) is =
@@ -172,15 +173,16 @@ hunks_are len low text (New character ∷ items) =
     lt-ltb 0 (length (text ++ character ∷ [])) (simp length-append (omega arith)) in
     hunks_are len low (text ++ character ∷ []) items ∙ ap (λ (b : Bool). hunks len b low items) e
 
-pub no_more_changes : (units : ℕ → ℕ) (old : List ℕ) (batch : List Edit) (items : List Item) → meaning units old batch
+pub no_more_changes : (units : ℕ → ℕ) (old : List ℕ) (batch : List ContentChange) (items : List Item)
+    → meaning units old batch
     ≡ Ok items → length (canonical units old items) ≤ length batch
 no_more_changes units old batch items is =
     let r : length (canonical units old items)
-    ≡ length (map (gap_edit units old) (filter is_changed (gaps old items))) =
-    length-reverse (map (gap_edit units old) (filter is_changed (gaps old items))) in
-    let m : length (map (gap_edit units old) (filter is_changed (gaps old items)))
+    ≡ length (map (gap_change units old) (filter is_changed (gaps old items))) =
+    length-reverse (map (gap_change units old) (filter is_changed (gaps old items))) in
+    let m : length (map (gap_change units old) (filter is_changed (gaps old items)))
     ≡ length (filter is_changed (gaps old items)) =
-    length-map (filter is_changed (gaps old items)) (gap_edit units old) in
+    length-map (filter is_changed (gaps old items)) (gap_change units old) in
     let h : length (filter is_changed (gaps old items)) ≡ hunks (length old) false 0 items =
     hunks_are (length old) 0 [] items in
     let z : hunks (length old) false 0 (plain old) ≡ 0 = none_at_first (length old) 0 (length old) (omega arith) in

@@ -8,7 +8,7 @@ use Rattle.lsp_text.specs.Positions.{denoted}
 use Rattle.lsp_text.proofs.TextLines.LineLemmas.{splits_none_past}
 use Rattle.lsp_text.proofs.Positions.PositionLemmas.{IsWhole, denoted_whole}
 use Rattle.lsp_edit.specs.Items.{Item, Old, New, plain, character_of, text_of}
-use Rattle.lsp_edit.specs.Batch.{Edit, Fault, Reversed, replaced, changed_in, items_after, after_changes, continue_with, meaning}
+use Rattle.lsp_edit.specs.Batch.{ContentChange, Fault, Reversed, replaced, changed_in, items_after, after_changes, continue_with, meaning}
 use Rattle.lsp_edit.specs.Keeps.{Keeps}
 
 -- The index behind the last kept character, where that before the items was `low`.
@@ -150,7 +150,7 @@ module _ (old : List ℕ) where
           (rest_keeps 0 (take start items) (drop start items) split_start)))
 
   -- A change keeps what the items before it keep.
-  pub after_change_keeps : (units : ℕ → ℕ) (items next : List Item) (change : Edit) → Keeps old 0 items
+  pub after_change_keeps : (units : ℕ → ℕ) (items next : List Item) (change : ContentChange) → Keeps old 0 items
       → items_after units old items change ≡ Ok next → Keeps old 0 next
   after_change_keeps units items next change keeps is = by_range change.range is
     where
@@ -182,7 +182,7 @@ module _ (old : List ℕ) where
           (denoted_whole units (text_of old items) range.stop)
           r
 
-  pub after_changes_keeps : (units : ℕ → ℕ) (number : ℕ) (items last : List Item) (batch : List Edit)
+  pub after_changes_keeps : (units : ℕ → ℕ) (number : ℕ) (items last : List Item) (batch : List ContentChange)
       → Keeps old 0 items → after_changes units old number items batch ≡ Ok last → Keeps old 0 last
   after_changes_keeps units number items last [] keeps is = let e : items ≡ last = cc in subst (Keeps old 0) e keeps
   after_changes_keeps units number items last (change ∷ batch) keeps is =
@@ -198,6 +198,7 @@ module _ (old : List ℕ) where
       rest_after (Err fault) e more r = absurd (cc)
 
   -- What a batch means keeps both characters of each CRLF or neither.
-  pub meaning_keeps : (units : ℕ → ℕ) (batch : List Edit) (items : List Item) → meaning units old batch ≡ Ok items
+  pub meaning_keeps : (units : ℕ → ℕ) (batch : List ContentChange) (items : List Item)
+      → meaning units old batch ≡ Ok items
       → Keeps old 0 items
   meaning_keeps units batch items is = after_changes_keeps units 0 (plain old) items batch (plain_keeps old) is

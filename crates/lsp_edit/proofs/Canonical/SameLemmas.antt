@@ -1,8 +1,8 @@
 -- Two batches have equal canonical batches exactly if they do the same, and the canonical batch is its own.
 use Rattle.std.proofs.Common.{ℕ, ◌≡◌, ◌≤◌, ◌↔◌, List, length, map, reverse, filter, Result, Ok, sym, ap, ap₂, ◌∙◌}
 use Rattle.lsp_edit.specs.Items.{Item}
-use Rattle.lsp_edit.specs.Batch.{Edit, Fault, meaning}
-use Rattle.lsp_edit.specs.Canonical.{kept, gap_texts, DoTheSame, Gap, is_changed, gap_edit, canonical}
+use Rattle.lsp_edit.specs.Batch.{ContentChange, Fault, meaning}
+use Rattle.lsp_edit.specs.Canonical.{kept, gap_texts, DoTheSame, Gap, is_changed, gap_change, canonical}
 use Rattle.lsp_edit.specs.inside.Canonical.{gaps_told}
 use Rattle.lsp_edit.proofs.Canonical.GapLemmas.{gaps_are}
 use Rattle.lsp_edit.proofs.Canonical.KeepsLemmas.{meaning_keeps}
@@ -10,12 +10,12 @@ use Rattle.lsp_edit.proofs.Canonical.RebuiltLemmas.{canonical_makes}
 
 module _ (units : ℕ → ℕ) (some : (c : ℕ) → 1 ≤ units c) (old : List ℕ) where
   -- the canonical batch of what a batch means has the same meaning
-  pub canonical_means : (batch : List Edit) (items : List Item) → meaning units old batch ≡ Ok items
+  pub canonical_means : (batch : List ContentChange) (items : List Item) → meaning units old batch ≡ Ok items
       → meaning units old (canonical units old items) ≡ Ok items
   canonical_means batch items is =
       (canonical_makes units some old items (meaning_keeps old units batch items is)).leaves 0
 
-  pub equal_exactly : (batch other : List Edit) (items others : List Item) → meaning units old batch ≡ Ok items
+  pub equal_exactly : (batch other : List ContentChange) (items others : List Item) → meaning units old batch ≡ Ok items
       → meaning units old other ≡ Ok others → (canonical units old items ≡ canonical units old others)
       ↔ DoTheSame items others
   equal_exactly batch other items others is are = (
@@ -29,13 +29,13 @@ module _ (units : ℕ → ℕ) (some : (c : ℕ) → 1 ≤ units c) (old : List 
         record { same_kept = ap kept e; same_texts = ap gap_texts e },
     λ same.
         ap
-        (λ (gs : List Gap). reverse (map (gap_edit units old) (filter is_changed gs)))
+        (λ (gs : List Gap). reverse (map (gap_change units old) (filter is_changed gs)))
         (gaps_are old items
         ∙ (ap₂ (gaps_told (length old)) same.same_kept same.same_texts ∙ sym (gaps_are old others))),
   )
 
   -- the canonical batch of the canonical batch is itself
-  pub canonical_again : (batch : List Edit) (items again : List Item) → meaning units old batch ≡ Ok items
+  pub canonical_again : (batch : List ContentChange) (items again : List Item) → meaning units old batch ≡ Ok items
       → meaning units old (canonical units old items) ≡ Ok again → canonical units old again ≡ canonical units old items
   canonical_again batch items again is more =
       let one : meaning units old (canonical units old items) ≡ Ok items = canonical_means batch items is in

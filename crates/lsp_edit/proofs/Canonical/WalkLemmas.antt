@@ -11,10 +11,10 @@ use Rattle.lsp_text.proofs.Positions.PlaceLemmas.{place_end, IsIndexAt, index_at
 use Rattle.lsp_text.specs.declared.position.Position.{Position}
 use Rattle.lsp_text.specs.Positions.{exact_position}
 use Rattle.lsp_edit.specs.declared.change.Change.{Change}
-use Rattle.lsp_edit.specs.Edited.{edit_of}
+use Rattle.lsp_edit.specs.Edited.{content_change}
 use Rattle.lsp_edit.specs.Items.{Item, Old, New}
-use Rattle.lsp_edit.specs.Batch.{Edit}
-use Rattle.lsp_edit.specs.Canonical.{Gap, gaps_from, gaps, is_changed, gap_edit}
+use Rattle.lsp_edit.specs.Batch.{ContentChange}
+use Rattle.lsp_edit.specs.Canonical.{Gap, gaps_from, gaps, is_changed, gap_change}
 use Rattle.lsp_edit.specs.inside.Gaps.{gap_between, gap_change}
 use Rattle.lsp_edit.specs.laws.Batches.{HasExactEnds, AllHaveExactEnds}
 use Rattle.lsp_edit.specs.Parts.{Part, OldPart, NewPart, index_of, part_of, parts_of, items_in, items_of, IsPartOf, AreParts}
@@ -24,11 +24,11 @@ use Rattle.lsp_edit.proofs.Composing.EditedLemmas.{index_first}
 use Rattle.lsp_edit.proofs.Parts.IndexLemmas.{index_of-place, index_rises, indexes_less}
 
 -- the changes of gaps, from the first to the last
-abbrev pub changes_of : (ℕ → ℕ) → List ℕ → List Gap → List Edit
-changes_of units old gs = map (gap_edit units old) (filter is_changed gs)
+abbrev pub changes_of : (ℕ → ℕ) → List ℕ → List Gap → List ContentChange
+changes_of units old gs = map (gap_change units old) (filter is_changed gs)
 
 pub changes_of-cons : (units : ℕ → ℕ) (old : List ℕ) (g : Gap) (gs : List Gap) → changes_of units old (g ∷ gs)
-    ≡ cond (is_changed g) (gap_edit units old g ∷ []) [] ++ changes_of units old gs
+    ≡ cond (is_changed g) (gap_change units old g ∷ []) [] ++ changes_of units old gs
 changes_of-cons units old g gs =
     ⊎_elim
     (λ (e : is_changed g ≡ true). rw e refl)
@@ -77,9 +77,9 @@ gap_unchanged before low high text falls none =
     (le-ltb 0 (length (chars text)) (omega arith))
 
 pub gap_skipped : (before : List ℕ) (units : ℕ → ℕ) (low high : ℕ) (changes : List Change) (text : List ℕ) → high ≤ low
-    → length text ≡ 0 → map edit_of changes ≡ map edit_of changes ++ gap_change units before low high text
+    → length text ≡ 0 → map content_change changes ≡ map content_change changes ++ gap_change units before low high text
 gap_skipped before units low high changes text falls none =
-    rw (gap_unchanged before low high text falls none) (sym (append-nil (map edit_of changes)))
+    rw (gap_unchanged before low high text falls none) (sym (append-nil (map content_change changes)))
 
 module _ (before : List ℕ) (utf8 : IsUtf8 before) where
   gap_changed : (low high : ℕ) (text : List ℕ) → IsUtf8 text → IsCharBoundary before low → IsCharBoundary before high
@@ -123,21 +123,22 @@ module _ (before : List ℕ) (utf8 : IsUtf8 before) where
       → start ≡ exact_position units (chars before) k)
       → ((k : ℕ) → k ≤ length (chars before) → place_of (chars before) k ≡ high
       → stop ≡ exact_position units (chars before) k)
-      → map edit_of (changes ++ change ∷ []) ≡ map edit_of changes ++ gap_change units before low high
+      → map content_change (changes ++ change ∷ []) ≡ map content_change changes ++ gap_change units before low high
       (string_bytes change.text)
   gap_put units low high changes change start stop at_low at_high changed range low_exact high_exact =
       let s : start ≡ exact_position units (chars before) (index_of (chars before) low) =
       position_exact units low start at_low low_exact in
       let t : stop ≡ exact_position units (chars before) (index_of (chars before) high) =
       position_exact units high stop at_high high_exact in
-      let e : edit_of change ≡ gap_edit units (chars before) (gap_between before low high (string_bytes change.text))
+      let e : content_change change ≡ gap_change units (chars before) (gap_between before low high
+      (string_bytes change.text))
       = λ i. record {
         range = (range ∙ ap₂ (λ (x y : Position). Some (record { start = x; stop = y })) s t) i;
         text = chars (string_bytes change.text);
       } in
-      map-append edit_of changes (change ∷ [])
+      map-append content_change changes (change ∷ [])
       ∙ rw (gap_changed low high (string_bytes change.text) (IsUtf8-string_bytes change.text) at_low at_high changed)
-      (ap (λ (x : Edit). map edit_of changes ++ x ∷ []) e)
+      (ap (λ (x : ContentChange). map content_change changes ++ x ∷ []) e)
 
 -- whether a text has bytes
 pub text_some : {Z : Type 0} (text : String Z) → false ≡ (string_len text == 0) → 0 < length (string_bytes text)
@@ -152,7 +153,7 @@ pub text_none : {Z : Type 0} (text : String Z) → true ≡ (string_len text == 
 text_none text e = sym text.bytes.ok.0 ∙ eqb-true (string_len text) 0 (sym e)
 
 -- How far the changes of parts were written: those of the parts that are left complete them.
-pub record Walks (units : ℕ → ℕ) (before : List ℕ) (all made : List Edit) (low : ℕ) (text : List ℕ)
+pub record Walks (units : ℕ → ℕ) (before : List ℕ) (all made : List ContentChange) (low : ℕ) (text : List ℕ)
     (parts : List Part) : Type 0 where
   pub error : made ++ changes_of units (chars before) (gaps_on (chars before) (index_of (chars before) low)
       (chars text) (items_of (chars before) parts)) ≡ all
@@ -178,7 +179,7 @@ module _ (units : ℕ → ℕ) (before : List ℕ) (utf8 : IsUtf8 before) where
       place_end (chars before) ∙ ap length (encodes-chars before utf8) in
       ap (index_of (chars before)) (sym e) ∙ index_of-place (chars before) (length (chars before)) (omega arith)
 
-  module _ (all made : List Edit) (low : ℕ) (text : List ℕ) (text_utf8 : IsUtf8 text) (rest : List Part)
+  module _ (all made : List ContentChange) (low : ℕ) (text : List ℕ) (text_utf8 : IsUtf8 text) (rest : List Part)
       (walks : Walks units before all made low text rest) where
     -- behind a part of a new text
     pub walk_new : (bytes : List ℕ) (more : List Part) → rest ≡ NewPart bytes ∷ more
@@ -265,13 +266,13 @@ module _ (units : ℕ → ℕ) (before : List ℕ) (utf8 : IsUtf8 before) where
           ≡ gap_change units before low from text ++ changes_of units (chars before)
           (gaps_on (chars before) (index_of (chars before) to) (chars []) (items_of (chars before) more))
           = ap (changes_of units (chars before)) first_gap
-          ∙ (cons ∙ ap (λ (es : List Edit). gap_change units before low from text ++ es)
+          ∙ (cons ∙ ap (λ (es : List ContentChange). gap_change units before low from text ++ es)
           (rows ∙ ap (changes_of units (chars before)) empty_chars)) in
           record {
             error = append_assoc made (gap_change units before low from text)
                 (changes_of units (chars before) (gaps_on (chars before) (index_of (chars before) to) (chars [])
                 (items_of (chars before) more)))
-                ∙ (ap (λ (es : List Edit). made ++ es) (sym both) ∙ here.error);
+                ∙ (ap (λ (es : List ContentChange). made ++ es) (sym both) ∙ here.error);
             ends = subst (AllHaveExactEnds (chars before)) empty_chars
                 (row_ends (chars before) (suc (index_of (chars before) from)) count (items_of (chars before) more)
                 here_ends.1);
@@ -303,7 +304,8 @@ module _ (units : ℕ → ℕ) (before : List ℕ) (utf8 : IsUtf8 before) where
           ≡ gap_change units before low (length before) text
           = changes_of-cons units (chars before) (gap_between before low (length before) text) []
           ∙ append-nil (gap_change units before low (length before) text) in
-          ap (λ (es : List Edit). made ++ es) (sym (ap (λ (g : Gap). changes_of units (chars before) (g ∷ [])) last_gap
+          ap (λ (es : List ContentChange). made ++ es) (sym (ap (λ (g : Gap). changes_of units (chars before)
+          (g ∷ [])) last_gap
           ∙ one)) ∙ last.error
 
       pub walk_end_ends : (low < length before) ⊎ (0 < length text) → IsPlace (chars before) low
@@ -333,13 +335,13 @@ walk_begins units before utf8 parts are ends =
       are = are;
     }
 
-pub walk_turned : (changes : List Change) → map edit_of (reverse changes) ≡ reverse (map edit_of changes)
+pub walk_turned : (changes : List Change) → map content_change (reverse changes) ≡ reverse (map content_change changes)
 walk_turned [] = refl
 walk_turned (change ∷ changes) =
-    ap (map edit_of) (reverse-append (change ∷ []) changes)
-    ∙ (map-append edit_of (reverse changes) (change ∷ [])
-    ∙ (ap (λ (es : List Edit). es ++ edit_of change ∷ []) (walk_turned changes)
-    ∙ sym (reverse-append (edit_of change ∷ []) (map edit_of changes))))
+    ap (map content_change) (reverse-append (change ∷ []) changes)
+    ∙ (map-append content_change (reverse changes) (change ∷ [])
+    ∙ (ap (λ (es : List ContentChange). es ++ content_change change ∷ []) (walk_turned changes)
+    ∙ sym (reverse-append (content_change change ∷ []) (map content_change changes))))
 
 -- the parts that are left of spans
 pub rest_is : (spans : List Span) (i : ℕ) (default : Span) (first : Part) → i < length spans

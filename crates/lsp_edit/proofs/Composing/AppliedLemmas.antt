@@ -14,13 +14,13 @@ use Rattle.lsp_edit.specs.declared.change.Change.{Change}
 use Rattle.lsp_edit.specs.declared.fault.EditFault.{EditFault}
 use Rattle.lsp_edit.specs.declared.fault.EditFault.TheVariants.{NoMemory}
 use Rattle.lsp_edit.specs.Items.{Item, New, character_of, text_of}
-use Rattle.lsp_edit.specs.Batch.{Edit, InsideStart, InsideStop, Reversed, replaced, items_after}
+use Rattle.lsp_edit.specs.Batch.{ContentChange, InsideStart, InsideStop, Reversed, replaced, items_after}
 use Rattle.lsp_edit.specs.Faults.{fault_at, IsFaultOfChange, in_order, ends_of, places_at}
 use Rattle.lsp_edit.specs.inside.Faults.{IsPlaces}
 use Rattle.lsp_edit.specs.Keeps.{Keeps}
 use Rattle.lsp_edit.specs.Parts.{Part, items_of, bytes_of, AreParts, NoneTouch, new_parts}
 use Rattle.lsp_edit.specs.inside.Parts.{AreCut, AreOrdered, replaced_parts}
-use Rattle.lsp_edit.specs.Edited.{ArePieces, Applied, PlainData, edit_of, edited_text, edited_bytes, next_number}
+use Rattle.lsp_edit.specs.Edited.{ArePieces, Applied, PlainData, content_change, edited_text, edited_bytes, next_number}
 use Rattle.lsp_edit.proofs.Canonical.KeepsLemmas.{after_change_keeps}
 use Rattle.lsp_edit.proofs.Parts.CutLemmas.{text_of-new, part_ordered}
 use Rattle.lsp_edit.proofs.Parts.CutPartsLemmas.{cut_parts, parts_bytes}
@@ -110,7 +110,8 @@ abbrev pub seen : List ℕ → List Part → ℕ → PlainData
 seen before parts changes = record { before = chars before; items = items_of (chars before) parts; changes = changes }
 
 -- The fields after a change.
-pub record IsNext (units : ℕ → ℕ) (before : List ℕ) (parts : List Part) (changes : ℕ) (change : Edit) (next : List Part)
+pub record IsNext (units : ℕ → ℕ) (before : List ℕ) (parts : List Part) (changes : ℕ) (change : ContentChange)
+    (next : List Part)
     (len : ℕ) : Type 0 where
   pub made : items_after units (chars before) (items_of (chars before) parts) change
       ≡ Ok (items_of (chars before) next)
@@ -122,7 +123,7 @@ module _ (units : ℕ → ℕ) (before : List ℕ) (parts : List Part) (len chan
   now_long : len ≡ length (encode_utf8_all (text_of (chars before) (items_of (chars before) parts)))
   now_long = are.long ∙ ap length (parts_bytes before (IsUtf8-from_is_utf8 before are.utf8) parts are.are)
 
-  next_of : (change : Edit) (next : List Part) (next_len : ℕ)
+  next_of : (change : ContentChange) (next : List Part) (next_len : ℕ)
       → items_after units (chars before) (items_of (chars before) parts) change ≡ Ok (items_of (chars before) next)
       → AreParts before next → NoneTouch next
       → next_len ≡ length (bytes_of before next) → next_len ≤ 2147483648 → length next ≤ length parts + 2
@@ -328,7 +329,8 @@ room_told before parts len changes more edited are is room =
     are.long ∙ ap length (parts_bytes before (IsUtf8-from_is_utf8 before are.utf8) parts are.are) in
     omega (arith, n, ap (λ (e : PlainData). length (edited_bytes e)) is)
 
-pub next_told : (units : ℕ → ℕ) (before : List ℕ) (parts : List Part) (changes : ℕ) (change : Edit) (next : List Part)
+pub next_told : (units : ℕ → ℕ) (before : List ℕ) (parts : List Part) (changes : ℕ) (change : ContentChange)
+    (next : List Part)
     (len : ℕ) → IsNext units before parts changes change next len
     → (edited : PlainData) → seen before parts changes ≡ edited → (made : List Part) → made ≡ next → (count : ℕ)
     → count ≡ next_number changes → Applied units edited change (seen before made count)
@@ -339,7 +341,8 @@ next_told units before parts changes change next len is edited view made same co
       counted = counted;
     })
 
-pub next_holds : (units : ℕ → ℕ) (before : List ℕ) (parts : List Part) (changes : ℕ) (change : Edit) (next : List Part)
+pub next_holds : (units : ℕ → ℕ) (before : List ℕ) (parts : List Part) (changes : ℕ) (change : ContentChange)
+    (next : List Part)
     (len : ℕ) → IsNext units before parts changes change next len
     → (made : List Part) → made ≡ next → (count : ℕ) → count ≡ next_number changes → ArePieces before made len count
 next_holds units before parts changes change next len is made same count counted = rw (same, counted) is.are
@@ -403,7 +406,7 @@ module _ (units : ℕ → ℕ) (range : Range) (before : List ℕ) (parts : List
       }
 
 pub edit_is : (change : Change) (range : Option Range) (bytes : List ℕ) → change.range ≡ range
-    → bytes ≡ string_bytes change.text → record { range = range; text = chars bytes } ≡ edit_of change
+    → bytes ≡ string_bytes change.text → record { range = range; text = chars bytes } ≡ content_change change
 edit_is change range bytes ranged same = λ i. record { range = sym ranged i; text = chars (same i) }
 
 -- what callers see keeps each CRLF of the old text whole

@@ -10,9 +10,9 @@ use Rattle.lsp_text.specs.Positions.{denoted}
 use Rattle.lsp_edit.specs.declared.change.Change.{Change}
 use Rattle.lsp_edit.specs.declared.fault.EditFault.{EditFault}
 use Rattle.lsp_edit.specs.Items.{Item, New, character_of, text_of}
-use Rattle.lsp_edit.specs.Batch.{Edit, Fault, Reversed, replaced, changed_in, items_after, after_changes, continue_with}
+use Rattle.lsp_edit.specs.Batch.{ContentChange, Fault, Reversed, replaced, changed_in, items_after, after_changes, continue_with}
 use Rattle.lsp_edit.specs.Faults.{IsFaultOfChange, IsFaultOfChanges, fault_at}
-use Rattle.lsp_edit.specs.Edited.{Applied, PlainData, edit_of, edited_bytes}
+use Rattle.lsp_edit.specs.Edited.{Applied, PlainData, content_change, edited_bytes}
 use Rattle.lsp_edit.proofs.Parts.CutLemmas.{text_of-new}
 use Rattle.lsp_edit.proofs.Composing.AppliedLemmas.{bytes_split}
 
@@ -37,7 +37,7 @@ replaced_longer text characters a b order =
     (encode_utf8_all (drop b text)) in
     omega (arith, ap (λ (cs : List ℕ). length (encode_utf8_all cs)) back)
 
-pub change_longer : (units : ℕ → ℕ) (old : List ℕ) (items next : List Item) (change : Edit)
+pub change_longer : (units : ℕ → ℕ) (old : List ℕ) (items next : List Item) (change : ContentChange)
     → items_after units old items change ≡ Ok next → length (encode_utf8_all (text_of old next))
     ≤ length (encode_utf8_all (text_of old items)) + length (encode_utf8_all change.text)
 change_longer units old items next change is = by_range change.range is
@@ -82,7 +82,7 @@ texts_len changes = sum_by (λ change. string_len change.text) changes
 -- How far a batch was applied: what is left gives its meaning, and there is room for it.
 pub record Applying (units : ℕ → ℕ) (before : List ℕ) (meant : Result (List Item) (ℕ × Fault)) (done : ℕ)
     (rest : List Change) (edited : PlainData) : Type 0 where
-  pub left : after_changes units before edited.changes edited.items (map edit_of rest) ≡ meant
+  pub left : after_changes units before edited.changes edited.items (map content_change rest) ≡ meant
   pub same : edited.before ≡ before
   pub counted : edited.changes ≡ done
   pub room : length (edited_bytes edited) + texts_len rest ≤ 2147483648
@@ -90,30 +90,31 @@ pub record Applying (units : ℕ → ℕ) (before : List ℕ) (meant : Result (L
 module _ (units : ℕ → ℕ) (before : List ℕ) (meant : Result (List Item) (ℕ × Fault)) (done : ℕ) (change : Change)
     (rest more : List Change) (edited : PlainData) (is : rest ≡ change ∷ more)
     (applying : Applying units before meant done rest edited) where
-  left_here : continue_with (λ next. after_changes units before (suc edited.changes) next (map edit_of more))
-      edited.changes (items_after units before edited.items (edit_of change)) ≡ meant
+  left_here : continue_with (λ next. after_changes units before (suc edited.changes) next (map content_change more))
+      edited.changes (items_after units before edited.items (content_change change)) ≡ meant
   left_here = rw is at applying.left
 
   pub room_here : length (edited_bytes edited) + string_len change.text ≤ 2147483648
   room_here = omega (arith, applying.room, ap texts_len is, sum_by-cons (λ (c : Change). string_len c.text) change more)
 
-  pub applying_on : (next : PlainData) → done < 18446744073709551615 → Applied units edited (edit_of change) next
+  pub applying_on : (next : PlainData) → done < 18446744073709551615 → Applied units edited (content_change change) next
       → Applying units before meant (done + 1) more next
   applying_on next small applied =
-      let made : items_after units before edited.items (edit_of change) ≡ Ok next.items =
-      ap (λ (b : List ℕ). items_after units b edited.items (edit_of change)) (sym applying.same) ∙ applied.changed in
-      let l : after_changes units before (suc edited.changes) next.items (map edit_of more) ≡ meant =
+      let made : items_after units before edited.items (content_change change) ≡ Ok next.items =
+      ap (λ (b : List ℕ). items_after units b edited.items (content_change change)) (sym applying.same)
+      ∙ applied.changed in
+      let l : after_changes units before (suc edited.changes) next.items (map content_change more) ≡ meant =
       rw made at left_here in
       let n : next.changes ≡ suc edited.changes = applied.counted ∙ omega (arith, applying.counted) in
       let longer : length (encode_utf8_all (text_of edited.before next.items))
       ≤ length (encode_utf8_all (text_of edited.before edited.items))
       + length (encode_utf8_all (chars (string_bytes change.text)))
-      = change_longer units edited.before edited.items next.items (edit_of change) applied.changed in
+      = change_longer units edited.before edited.items next.items (content_change change) applied.changed in
       let own : length (encode_utf8_all (chars (string_bytes change.text))) ≡ string_len change.text =
       ap length (encodes-chars (string_bytes change.text) (IsUtf8-string_bytes change.text))
       ∙ sym change.text.bytes.ok.0 in
       record {
-        left = ap (λ (m : ℕ). after_changes units before m next.items (map edit_of more)) n ∙ l;
+        left = ap (λ (m : ℕ). after_changes units before m next.items (map content_change more)) n ∙ l;
         same = applied.same ∙ applying.same;
         counted = omega (arith, n, applying.counted);
         room = omega (
@@ -128,15 +129,15 @@ module _ (units : ℕ → ℕ) (before : List ℕ) (meant : Result (List Item) (
       }
 
   pub faulted : (fault : EditFault)
-      → IsFaultOfChange edited.changes (items_after units edited.before edited.items (edit_of change)) fault
+      → IsFaultOfChange edited.changes (items_after units edited.before edited.items (content_change change)) fault
       → IsFaultOfChanges meant fault
   faulted fault error =
       ⊎_elim
       (λ (memory : fault ≡ EditFault.NoMemory). inl memory)
-      (λ (t : (why : Fault) × (items_after units edited.before edited.items (edit_of change) ≡ Err why)
+      (λ (t : (why : Fault) × (items_after units edited.before edited.items (content_change change) ≡ Err why)
       × (fault ≡ fault_at edited.changes why)).
-      let made : items_after units before edited.items (edit_of change) ≡ Err t.0 =
-      ap (λ (b : List ℕ). items_after units b edited.items (edit_of change)) (sym applying.same) ∙ t.1 in
+      let made : items_after units before edited.items (content_change change) ≡ Err t.0 =
+      ap (λ (b : List ℕ). items_after units b edited.items (content_change change)) (sym applying.same) ∙ t.1 in
       let l : Err (edited.changes, t.0) ≡ meant = rw made at left_here in
       inr (edited.changes, t.0, sym l, t.2))
       error

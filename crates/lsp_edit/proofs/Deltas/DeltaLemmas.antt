@@ -3,11 +3,11 @@ use Rattle.std.proofs.Common.{ℕ, ◌≡◌, ◌+◌, ◌-◌, ◌≤◌, true,
 use Rattle.std.proofs.lemmas.Bool.{cases_Bool}
 use Rattle.std.specs.List.{replace_range}
 use Rattle.std.specs.Str.{IsCharBoundary, chars}
-use Rattle.lsp_edit.specs.declared.indexed.fault.TextFault.TheVariants.{TooLong}
+use Rattle.lsp_edit.specs.declared.indexed.fault.BatchFault.TheVariants.{TooLong}
 use Rattle.lsp_edit.specs.Items.{Item, plain, text_of}
-use Rattle.lsp_edit.specs.Batch.{Edit, Fault, items_after, continue_with, meaning}
+use Rattle.lsp_edit.specs.Batch.{ContentChange, Fault, items_after, continue_with, meaning}
 use Rattle.lsp_edit.specs.Canonical.{gaps}
-use Rattle.lsp_edit.specs.Edited.{ArePieces, edit_of}
+use Rattle.lsp_edit.specs.Edited.{ArePieces, content_change}
 use Rattle.lsp_edit.specs.Indexed.{alone, bytes_left, text_within}
 use Rattle.lsp_edit.specs.laws.Batches.{AllHaveExactEnds}
 use Rattle.lsp_edit.specs.declared.delta.Delta.{Delta}
@@ -144,7 +144,7 @@ module _ (units : ℕ → ℕ) (before : List ℕ) (start stop : ℕ) (new : Lis
 -- A delta means what some batch means.
 pub record HasBatch (before : List ℕ) (delta : Delta) : Type 0 where
   pub units : ℕ → ℕ
-  pub batch : List Edit
+  pub batch : List ContentChange
   pub means : meaning units (chars before) batch ≡ meant_by before delta
 
 pub has_batch : (before : List ℕ) (delta : Delta) → IsOn before delta → HasBatch before delta
@@ -156,6 +156,6 @@ has_batch before (Put put) on = record {
 }
 has_batch before (Left encoding changes left) on = record {
   units = units_in encoding;
-  batch = map edit_of changes.now;
+  batch = map content_change changes.now;
   means = refl;
 }

@@ -10,12 +10,12 @@ use Rattle.lsp_text.specs.Text.{place_of}
 use Rattle.lsp_text.proofs.Positions.PlaceLemmas.{take_place, drop_place, place_boundary, place_rises}
 use Rattle.lsp_edit.specs.declared.fault.EditFault.{EditFault}
 use Rattle.lsp_edit.specs.declared.fault.EditFault.TheVariants as edit
-use Rattle.lsp_edit.specs.declared.indexed.fault.TextFault.{TextFault}
-use Rattle.lsp_edit.specs.declared.indexed.fault.TextFault.TheVariants.{Edit as EditOf, TooLong, NoMemory}
+use Rattle.lsp_edit.specs.declared.indexed.fault.BatchFault.{BatchFault}
+use Rattle.lsp_edit.specs.declared.indexed.fault.BatchFault.TheVariants.{Edit as EditOf, TooLong, NoMemory}
 use Rattle.lsp_edit.specs.Items.{Item, New, plain, character_of, text_of}
 use Rattle.lsp_edit.specs.Batch.{Fault, InsideStart, InsideStop, Reversed, items_after, meaning}
 use Rattle.lsp_edit.specs.Faults.{fault_at, ends_of, places_at}
-use Rattle.lsp_edit.specs.Indexed.{alone, bytes_left, text_within, text_fault_of}
+use Rattle.lsp_edit.specs.Indexed.{alone, bytes_left, text_within, batch_fault_of}
 use Rattle.lsp_edit.specs.Delta.{put_items}
 use Rattle.lsp_edit.specs.Parts.{index_of}
 use Rattle.lsp_edit.proofs.Parts.IndexLemmas.{index_of-place}
@@ -124,22 +124,22 @@ module _ (units : ℕ → ℕ) (before : List ℕ) (utf8 : IsUtf8 before) (range
       high_place,
     )
 
-  fault_edit : (number : ℕ) (why : Fault) → EditOf (fault_at number why) ≡ text_fault_of (fault_at number why)
+  fault_edit : (number : ℕ) (why : Fault) → EditOf (fault_at number why) ≡ batch_fault_of (fault_at number why)
   fault_edit number InsideStart = refl
   fault_edit number InsideStop = refl
   fault_edit number Reversed = refl
 
   pub range_fault : (max_len : ℕ) (fault : EditFault) → Err fault ≡ places_at 0 (chars before)
       (ends_of units (chars before) range)
-      → (text_fault_of fault ≡ NoMemory) ⊎ (text_within max_len before (meaning units (chars before) (alone range new))
-      ≡ Err (text_fault_of fault))
+      → (batch_fault_of fault ≡ NoMemory) ⊎ (text_within max_len before (meaning units (chars before) (alone range new))
+      ≡ Err (batch_fault_of fault))
   range_fault max_len fault error =
       ⊎_elim
-      (λ (e : fault ≡ edit.NoMemory). inl (ap text_fault_of e))
+      (λ (e : fault ≡ edit.NoMemory). inl (ap batch_fault_of e))
       (λ (why : (w : Fault)
       × (items_after units (chars before) (plain (chars before)) (record { range = Some range; text = chars new })
       ≡ Err w) × (fault ≡ fault_at 0 w)).
-      inr (rw (why.1, why.2) (ap (λ (f : TextFault). Err f) (fault_edit 0 why.0))))
+      inr (rw (why.1, why.2) (ap (λ (f : BatchFault). Err f) (fault_edit 0 why.0))))
       (fault_told units (chars before) (plain (chars before)) (chars new) range 0 fault
       (inr (subst (λ (t : List ℕ). ◌≡◌ {A = Result (ℕ × ℕ) EditFault} (Err fault)
       (places_at 0 t (ends_of units t range))) (sym (plain_text (chars before))) error)))

@@ -2,9 +2,9 @@
 use Rattle.std.proofs.Common.{◌≡◌, ◌≤◌, ◌<◌, ℕ, List, length, Result, Ok, Err, sym, refl, ap, ◌∙◌, arith}
 use Rattle.std.proofs.lemmas.Bool.{lt-ltb, le-ltb}
 use Rattle.std.specs.Str.{IsUtf8, chars}
-use Rattle.lsp_edit.specs.declared.indexed.fault.TextFault.TheVariants.{TooLong}
+use Rattle.lsp_edit.specs.declared.indexed.fault.BatchFault.TheVariants.{TooLong}
 use Rattle.lsp_edit.specs.Items.{Item}
-use Rattle.lsp_edit.specs.Batch.{Edit, Fault, meaning}
+use Rattle.lsp_edit.specs.Batch.{ContentChange, Fault, meaning}
 use Rattle.lsp_edit.specs.Canonical.{canonical}
 use Rattle.lsp_edit.specs.Edited.{PlainData, Means, edited_bytes}
 use Rattle.lsp_edit.specs.Indexed.{IsCanonicalBatch, bytes_left, text_within}
@@ -23,7 +23,7 @@ module _ (before : List ℕ) (meant : Result (List Item) (ℕ × Fault)) (change
   pub left_within : length (edited_bytes edited) ≤ max_len → text_within max_len before meant ≡ Ok (edited_bytes edited)
   left_within fits = rw (is.means, ← left_is, le-ltb max_len (length (edited_bytes edited)) fits) refl
 
-  pub batch_is : IsUtf8 before → (encoding : Encoding) (batch answered : List Edit)
+  pub batch_is : IsUtf8 before → (encoding : Encoding) (batch answered : List ContentChange)
       → meant ≡ meaning (units_in encoding) (chars before) batch → length (edited_bytes edited) ≤ max_len → answered
       ≡ canonical (units_in encoding) edited.before edited.items
       → IsCanonicalBatch (units_in encoding) max_len before batch answered

@@ -1,261 +1,28 @@
--- Spans that own their texts, and rows of them over one another.
-use Rattle.std.proofs.Common.{ℕ, ◌≡◌, ◌+◌, ◌-◌, ◌<◌, ◌≤◌, true, List, [], ◌∷◌, ◌++◌, length, map, take, drop, get_or, refl, sym, ap, ap₂, ◌∙◌, subst, arith, ⊎_elim, nat_lt, false, append_assoc, append-nil, encode_utf8_all, Result, Ok, Err}
+-- Layers that are joined, and how they are folded into one row.
+use Rattle.std.proofs.Common.{ℕ, ◌≡◌, ◌+◌, ◌-◌, ◌<◌, ◌≤◌, true, List, [], ◌∷◌, ◌++◌, length, map, drop, get_or, refl, sym, ap, ◌∙◌, subst, arith, ⊎_elim, nat_lt, false, encode_utf8_all, Result, Ok, Err}
 use Rattle.std.specs.Str.{chars, IsUtf8}
 use Rattle.std.proofs.lemmas.Bool.{cases_Bool}
-use Rattle.std.proofs.lemmas.List.{drop_more, drop_all, map-append, take-append-drop}
-use Rattle.std.proofs.lemmas.List.Concat.{flat_map-append}
-use Rattle.std.proofs.lemmas.Str.{encodes-chars, chars_from_encodes, chars-append, IsUtf8-append, IsUtf8-between, IsUtf8-nil, IsUtf8-from_is_utf8, is_utf8-from_IsUtf8, IsCharBoundary-start}
+use Rattle.std.proofs.lemmas.List.{drop_more, drop_all, map-append}
+use Rattle.std.proofs.lemmas.Str.{chars_from_encodes, IsUtf8-append, IsUtf8-between, IsUtf8-nil, IsUtf8-from_is_utf8, IsCharBoundary-start}
 use Rattle.lsp_edit.specs.declared.joined.layer.Layer.{Layer}
-use Rattle.lsp_edit.specs.declared.joined.layer.OwnedSpan.{OwnedSpan}
-use Rattle.lsp_edit.specs.declared.joined.layer.OwnedSpan.TheVariants.{Old as OldSpan}
-use Rattle.lsp_edit.specs.declared.indexed.fault.TextFault.{TextFault}
-use Rattle.lsp_edit.specs.declared.indexed.fault.TextFault.TheVariants.{TooLong}
-use Rattle.lsp_edit.specs.Items.{Item, New, plain, text_of}
-use Rattle.lsp_edit.specs.Batch.{Edit, Fault, meaning}
+use Rattle.lsp_edit.specs.declared.indexed.fault.BatchFault.{BatchFault}
+use Rattle.lsp_edit.specs.declared.indexed.fault.BatchFault.TheVariants.{TooLong}
+use Rattle.lsp_edit.specs.Items.{Item, plain, text_of}
+use Rattle.lsp_edit.specs.Batch.{ContentChange, meaning}
 use Rattle.lsp_edit.specs.Compose.{then_items}
-use Rattle.lsp_edit.specs.Layers.{AllOver, layer_parts, IsOver, items_over, owned_part, owned_parts}
-use Rattle.lsp_edit.specs.inside.Layers.{AreSameItems, IsLayer}
-use Rattle.lsp_edit.specs.Edited.{PlainData, Means, before_bytes}
+use Rattle.lsp_edit.specs.Layers.{AllOver, layer_parts, IsOver, items_over}
+use Rattle.lsp_edit.specs.inside.Layers.{IsLayer}
 use Rattle.lsp_edit.specs.Indexed.{bytes_left, text_within}
 use Rattle.lsp_edit.specs.Joined.{IsJoined, IsReached, JoinedData, joined_text}
 use Rattle.lsp_edit.specs.Keeps.{Keeps}
-use Rattle.lsp_edit.specs.Parts.{Part, OldPart, NewPart, AreParts, Ascend, IsPartOf, bytes_in, bytes_of, items_in, items_of, new_parts}
+use Rattle.lsp_edit.specs.Parts.{Part, OldPart, NewPart, AreParts, Ascend, IsPartOf, bytes_in, bytes_of, items_of}
 use Rattle.lsp_edit.specs.inside.Parts.{AreThrough, through_parts, whole_parts}
-use Rattle.lsp_edit.proofs.Batches.ComposeLemmas.{text_of-then, then_associative, then_keeps}
+use Rattle.lsp_edit.proofs.Batches.ComposeLemmas.{text_of-then, then_keeps}
 use Rattle.lsp_edit.proofs.Parts.CutPartsLemmas.{parts_bytes}
 use Rattle.lsp_edit.proofs.Composing.EditedLemmas.{index_first, plain_text, whole_is}
 use Rattle.lsp_edit.proofs.Canonical.KeepsLemmas.{meaning_keeps, plain_keeps}
-use Rattle.lsp_edit.proofs.Parts.PutLemmas.{new_items}
 use Rattle.lsp_edit.proofs.Parts.ThroughLemmas.{are_through, ascending, through_items}
-
--- the owned spans from an index on
-pub owned_rest : (spans : List OwnedSpan) (i : ℕ) (default : OwnedSpan) → i < length spans → owned_parts (drop i spans)
-    ≡ owned_part (get_or spans i default) ∷ owned_parts (drop (i + 1) spans)
-owned_rest spans i default within = ap owned_parts (drop_more spans i default within)
-
-pub owned_none : (spans : List OwnedSpan) (i : ℕ) → length spans ≤ i → owned_parts (drop i spans) ≡ []
-owned_none spans i past = ap owned_parts (drop_all i spans past)
-
--- ---- parts of a text in two lists
-
-pub are_split : (old : List ℕ) (parts more : List Part) → AreParts old (parts ++ more) → AreParts old parts
-    × AreParts old more
-are_split old [] more are = (tt, are)
-are_split old (part ∷ parts) more are = let ih : AreParts old parts × AreParts old more =
-    are_split old parts more are.1 in ((are.0, ih.0), ih.1)
-
-pub are_both : (old : List ℕ) (parts more : List Part) → AreParts old parts → AreParts old more
-    → AreParts old (parts ++ more)
-are_both old [] more are were = were
-are_both old (part ∷ parts) more are were = (are.0, are_both old parts more are.1 were)
-
-pub items_both : (old : List ℕ) (parts more : List Part) → items_of (chars old) (parts ++ more)
-    ≡ items_of (chars old) parts ++ items_of (chars old) more
-items_both old parts more = flat_map-append (items_in (chars old)) parts more
-
--- ---- texts that are copied, neighbours as one
-
-pub same_begins : (whole : List Part) → AreSameItems ([] ++ (new_parts [] ++ whole)) whole
-same_begins whole old are = (are, refl)
-
-pub same_old : (whole done : List Part) (text : List ℕ) (part : Part) (rest : List Part)
-    → AreSameItems (done ++ (new_parts text ++ (part ∷ rest))) whole
-    → AreSameItems (((done ++ new_parts text) ++ part ∷ []) ++ (new_parts [] ++ rest)) whole
-same_old whole done text part rest same =
-    let e : done ++ (new_parts text ++ (part ∷ rest)) ≡ ((done ++ new_parts text) ++ part ∷ []) ++ rest
-    = sym (append_assoc (done ++ new_parts text) (part ∷ []) rest ∙ append_assoc done (new_parts text) (part ∷ rest)) in
-    subst (λ (ps : List Part). AreSameItems ps whole) e same
-
-pub same_old_on : (whole : List Part) (spans made : List OwnedSpan) (text filled : List ℕ) (from to : ℕ)
-    (rest more : List Part) → AreSameItems (owned_parts spans ++ (new_parts text ++ rest)) whole
-    → rest ≡ OldPart from to ∷ more
-    → owned_parts made ≡ owned_parts spans ++ new_parts filled → filled ≡ text
-    → AreSameItems (owned_parts (made ++ OldSpan from to ∷ []) ++ (new_parts [] ++ more)) whole
-same_old_on whole spans made text filled from to rest more same rest_is made_is filled_is =
-    let e : owned_parts (made ++ OldSpan from to ∷ []) ≡ (owned_parts spans ++ new_parts text) ++ OldPart from to ∷ []
-    = map-append owned_part made (OldSpan from to ∷ []) ∙ ap (λ (ps : List Part). ps ++ OldPart from to ∷ [])
-    (made_is ∙ ap (λ (t : List ℕ). owned_parts spans ++ new_parts t) filled_is) in
-    subst (λ (ps : List Part). AreSameItems (ps ++ (new_parts [] ++ more)) whole) (sym e)
-    (same_old whole (owned_parts spans) text (OldPart from to) more
-    (subst (λ (ps : List Part). AreSameItems (owned_parts spans ++ (new_parts text ++ ps)) whole) rest_is same))
-
-pub same_new : (whole done : List Part) (text bytes : List ℕ) (rest : List Part) → IsUtf8 text
-    → AreSameItems (done ++ (new_parts text ++ (NewPart bytes ∷ rest))) whole
-    → AreSameItems (done ++ (new_parts (text ++ bytes) ++ rest)) whole
-same_new whole done text bytes rest utf8 same old are =
-    let before : AreParts old (done ++ (new_parts text ++ (NewPart bytes ∷ rest)))
-    × (items_of (chars old) (done ++ (new_parts text ++ (NewPart bytes ∷ rest))) ≡ items_of (chars old) whole) =
-    same old are in
-    let outer : AreParts old done × AreParts old (new_parts text ++ (NewPart bytes ∷ rest)) =
-    are_split old done (new_parts text ++ (NewPart bytes ∷ rest)) before.0 in
-    let inner : AreParts old (new_parts text) × AreParts old (NewPart bytes ∷ rest) =
-    are_split old (new_parts text) (NewPart bytes ∷ rest) outer.1 in
-    let bytes_utf8 : IsUtf8 bytes = IsUtf8-from_is_utf8 bytes inner.1.0.1 in
-    let one : (items_of (chars old) (new_parts text) ≡ map New (chars text)) × AreParts old (new_parts text) =
-    new_items old text (is_utf8-from_IsUtf8 text utf8) in
-    let both : (items_of (chars old) (new_parts (text ++ bytes)) ≡ map New (chars (text ++ bytes)))
-    × AreParts old (new_parts (text ++ bytes))
-    = new_items old (text ++ bytes) (is_utf8-from_IsUtf8 (text ++ bytes) (IsUtf8-append text bytes utf8 bytes_utf8)) in
-    let letters : map New (chars (text ++ bytes)) ≡ map New (chars text) ++ map New (chars bytes) =
-    ap (map New) (chars-append text bytes utf8) ∙ map-append New (chars text) (chars bytes) in
-    let ends : items_of (chars old) (new_parts (text ++ bytes) ++ rest)
-    ≡ items_of (chars old) (new_parts text ++ (NewPart bytes ∷ rest))
-    = items_both old (new_parts (text ++ bytes)) rest
-    ∙ (ap (λ (i : List Item). i ++ items_of (chars old) rest) (both.0 ∙ letters)
-    ∙ (append_assoc (map New (chars text)) (map New (chars bytes)) (items_of (chars old) rest)
-    ∙ (ap (λ (i : List Item). i ++ items_of (chars old) (NewPart bytes ∷ rest)) (sym one.0)
-    ∙ sym (items_both old (new_parts text) (NewPart bytes ∷ rest))))) in (
-      are_both old done (new_parts (text ++ bytes) ++ rest) outer.0 (are_both old (new_parts (text ++ bytes)) rest
-          both.1 inner.1.1),
-      items_both old done (new_parts (text ++ bytes) ++ rest)
-          ∙ (ap (λ (i : List Item). items_of (chars old) done ++ i) ends
-          ∙ (sym (items_both old done (new_parts text ++ (NewPart bytes ∷ rest))) ∙ before.1)),
-    )
-
-pub same_ends : (whole done : List Part) (text : List ℕ) → AreSameItems (done ++ (new_parts text ++ [])) whole
-    → AreSameItems (done ++ new_parts text) whole
-same_ends whole done text same =
-    subst (λ (ps : List Part). AreSameItems (done ++ ps) whole) (append-nil (new_parts text)) same
-
--- ---- what a batch makes of a text
-
-pub delta_is : (reached : List ℕ) (meant : Result (List Item) (ℕ × Fault)) (count : ℕ) (edited : PlainData)
-    (parts owned : List Part) → IsUtf8 reached → Means (chars reached) meant count edited
-    → items_of edited.before parts ≡ edited.items → AreParts (before_bytes edited) parts → AreSameItems owned parts
-    → IsLayer meant reached owned
-delta_is reached meant count edited parts owned utf8 means items are same =
-    let bytes : before_bytes edited ≡ reached = ap encode_utf8_all means.same ∙ encodes-chars reached utf8 in
-    let kept : AreParts reached owned × (items_of (chars reached) owned ≡ items_of (chars reached) parts) =
-    same reached (subst (λ (b : List ℕ). AreParts b parts) bytes are) in
-    record {
-      utf8 = utf8;
-      are = kept.0;
-      means = means.means ∙ ap Ok (sym (kept.1 ∙ (ap (λ (t : List ℕ). items_of t parts) (sym means.same) ∙ items)));
-    }
-
--- ---- rows over one another
-
-pub items_over-append : (old : List ℕ) (items : List Item) (rows more : List (List Part))
-    → items_over old items (rows ++ more) ≡ items_over old (items_over old items rows) more
-items_over-append old items [] more = refl
-items_over-append old items (parts ∷ rows) more =
-    items_over-append old (then_items items (items_of (text_of old items) parts)) rows more
-
-pub all_split : (old : List ℕ) (items : List Item) (rows more : List (List Part)) → AllOver old items (rows ++ more)
-    → AllOver old items rows × AllOver old (items_over old items rows) more
-all_split old items [] more all = (tt, all)
-all_split old items (parts ∷ rows) more all =
-    let next : List Item = then_items items (items_of (text_of old items) parts) in
-    let ih : AllOver old next rows × AllOver old (items_over old next rows) more = all_split old next rows more all.1 in
-    ((all.0, ih.0), ih.1)
-
-pub all_both : (old : List ℕ) (items : List Item) (rows more : List (List Part)) → AllOver old items rows
-    → AllOver old (items_over old items rows) more → AllOver old items (rows ++ more)
-all_both old items [] more all others = others
-all_both old items (parts ∷ rows) more all others =
-    (all.0, all_both old (then_items items (items_of (text_of old items) parts)) rows more all.1 others)
-
--- parts `second` over the text that `first` leaves
-module _ (old : List ℕ) (items : List Item) (first second : List Part) (a : IsOver old items first)
-    (b : IsOver old (then_items items (items_of (text_of old items) first)) second) where
-  over : chars b.middle ≡ text_of (chars a.middle) (items_of (chars a.middle) first)
-  over = b.text_is ∙ (text_of-then old items (items_of (text_of old items) first)
-      ∙ ap (λ (t : List ℕ). text_of t (items_of t first)) (sym a.text_is))
-
-  pub over_through : AreThrough first second
-  over_through = are_through a.middle b.middle a.utf8 b.utf8 first a.are over second b.are
-
-  pub over_order : Ascend 0 second
-  over_order =
-      ascending b.middle b.utf8 0 second (IsCharBoundary-start b.middle b.utf8) b.are
-      (subst (λ (n : ℕ). Keeps (chars b.middle) n (items_of (chars b.middle) second))
-      (sym (index_first (chars b.middle))) b.keeps)
-
-  module _ (both : List Part) (same : AreSameItems both (through_parts first second)) where
-    through : (items_of (chars a.middle) (through_parts first second) ≡ then_items (items_of (chars a.middle) first)
-        (items_of (chars b.middle) second)) × AreParts a.middle (through_parts first second)
-    through = through_items a.middle b.middle a.utf8 b.utf8 first a.are over second b.are
-
-    both_items : items_of (chars a.middle) both ≡ then_items (items_of (chars a.middle) first)
-        (items_of (chars b.middle) second)
-    both_items = (same a.middle through.1).1 ∙ through.0
-
-    pub both_over : IsOver old items both
-    both_over = record {
-      middle = a.middle;
-      utf8 = a.utf8;
-      text_is = a.text_is;
-      are = (same a.middle through.1).0;
-      keeps = subst (Keeps (chars a.middle) 0) (sym both_items)
-          (then_keeps (λ c. 1) (λ c. omega arith) (chars a.middle) (items_of (chars a.middle) first)
-          (items_of (chars b.middle) second) a.keeps
-          (subst (λ (t : List ℕ). Keeps t 0 (items_of (chars b.middle) second)) over b.keeps));
-    }
-
-    pub both_are : then_items items (items_of (text_of old items) both)
-        ≡ then_items (then_items items (items_of (text_of old items) first))
-        (items_of (text_of old (then_items items (items_of (text_of old items) first))) second)
-    both_are =
-        ap (then_items items) (ap (λ (t : List ℕ). items_of t both) (sym a.text_is)
-        ∙ (both_items ∙ ap₂ (λ (t u : List ℕ). then_items (items_of t first) (items_of u second)) a.text_is b.text_is))
-        ∙ sym (then_associative items (items_of (text_of old items) first)
-        (items_of (text_of old (then_items items (items_of (text_of old items) first))) second))
-
--- ---- the last two layers become one
-
-pub two_last : {X : Type 0} (xs : List X) (len : ℕ) (x y : X) → 2 ≤ len → length xs ≡ len → x ≡ get_or xs (len - 2) x
-    → y ≡ get_or xs (len - 1) y → xs ≡ take (len - 2) xs ++ (x ∷ y ∷ [])
-two_last xs len x y some long first second =
-    let one : drop (len - 2) xs ≡ x ∷ drop (len - 2 + 1) xs = drop_more xs (len - 2) x (omega (arith, some, long))
-    ∙ ap (λ z. z ∷ drop (len - 2 + 1) xs) (sym first) in
-    let next : len - 2 + 1 ≡ len - 1 = omega (arith, some) in
-    let two : drop (len - 1) xs ≡ y ∷ [] = drop_more xs (len - 1) y (omega (arith, some, long))
-    ∙ (ap (λ z. z ∷ drop (len - 1 + 1) xs) (sym second)
-    ∙ ap (λ zs. y ∷ zs) (drop_all (len - 1 + 1) xs (omega (arith, some, long)))) in
-    sym (take-append-drop (len - 2) xs) ∙ ap (λ zs. take (len - 2) xs ++ zs)
-    (one ∙ ap (λ zs. x ∷ zs) (ap (λ (k : ℕ). drop k xs) next ∙ two))
-
-module _ (old : List ℕ) (items : List Item) (layers front : List Layer) (first second : Layer)
-    (is : layers ≡ front ++ (first ∷ second ∷ [])) (all : AllOver old items (map layer_parts layers)) where
-  rows : map layer_parts layers ≡ map layer_parts front ++ (layer_parts first ∷ layer_parts second ∷ [])
-  rows = ap (map layer_parts) is ∙ map-append layer_parts front (first ∷ second ∷ [])
-
-  abbrev below : List Item
-  below = items_over old items (map layer_parts front)
-
-  split : AllOver old items (map layer_parts front) × AllOver old below (layer_parts first ∷ layer_parts second ∷ [])
-  split = all_split old items (map layer_parts front) (layer_parts first ∷ layer_parts second ∷ [])
-      (subst (AllOver old items) rows all)
-
-  pub last_through : AreThrough (layer_parts first) (layer_parts second)
-  last_through = over_through old below (layer_parts first) (layer_parts second) split.1.0 split.1.1.0
-
-  pub last_order : Ascend 0 (layer_parts second)
-  last_order = over_order old below (layer_parts first) (layer_parts second) split.1.0 split.1.1.0
-
-  module _ (both : Layer)
-      (same : AreSameItems (layer_parts both) (through_parts (layer_parts first) (layer_parts second)))
-      (now : List Layer) (now_is : now ≡ front ++ both ∷ []) where
-    rows_now : map layer_parts now ≡ map layer_parts front ++ layer_parts both ∷ []
-    rows_now = ap (map layer_parts) now_is ∙ map-append layer_parts front (both ∷ [])
-
-    pub last_all : AllOver old items (map layer_parts now)
-    last_all =
-        subst (AllOver old items) (sym rows_now)
-        (all_both old items (map layer_parts front) (layer_parts both ∷ []) split.0 (
-          both_over old below (layer_parts first) (layer_parts second) split.1.0 split.1.1.0 (layer_parts both) same,
-          tt,
-        ))
-
-    pub last_same : items_over old items (map layer_parts now) ≡ items_over old items (map layer_parts layers)
-    last_same =
-        ap (items_over old items) rows_now
-        ∙ (items_over-append old items (map layer_parts front) (layer_parts both ∷ [])
-        ∙ (both_are old below (layer_parts first) (layer_parts second) split.1.0 split.1.1.0 (layer_parts both) same
-        ∙ (sym (items_over-append old items (map layer_parts front) (layer_parts first ∷ layer_parts second ∷ []))
-        ∙ ap (items_over old items) (sym rows))))
-
--- ---- a batch more
+use Rattle.lsp_edit.proofs.Deltas.OwnedLemmas.{items_over-append, all_both, over, rows}
 
 -- what callers see of the fields
 abbrev pub joined_seen : List ℕ → List Layer → JoinedData
@@ -267,7 +34,7 @@ joined_seen before layers = record {
 module _ (before : List ℕ) (layers : List Layer)
     (all : AllOver (chars before) (plain (chars before)) (map layer_parts layers)) (old : JoinedData)
     (view : joined_seen before layers ≡ old)
-    (reached : List ℕ) (at : IsReached old reached) (units : ℕ → ℕ) (batch : List Edit) (layer : Layer)
+    (reached : List ℕ) (at : IsReached old reached) (units : ℕ → ℕ) (batch : List ContentChange) (layer : Layer)
     (is : IsLayer (meaning units (chars reached) batch) reached (layer_parts layer))
     (now : List Layer) (now_is : now ≡ layers ++ layer ∷ []) where
   abbrev items_then : List Item
@@ -345,12 +112,13 @@ within_is : (max_len : ℕ) (reached : List ℕ) (items : List Item) (left : Lis
 within_is max_len reached items left is =
     ⊎_elim
     (λ (e : nat_lt max_len (length (bytes_left reached items)) ≡ true). absurd
-    (let bad : ◌≡◌ {A = Result (List ℕ) TextFault} (Err TooLong) (Ok left) = rw e at is in cc))
-    (λ (e : nat_lt max_len (length (bytes_left reached items)) ≡ false). let same : ◌≡◌ {A = Result (List ℕ) TextFault}
+    (let bad : ◌≡◌ {A = Result (List ℕ) BatchFault} (Err TooLong) (Ok left) = rw e at is in cc))
+    (λ (e : nat_lt max_len (length (bytes_left reached items)) ≡ false). let same : ◌≡◌ {A = Result (List ℕ) BatchFault}
     (Ok (bytes_left reached items)) (Ok left) = rw e at is in cc)
     (cases_Bool (nat_lt max_len (length (bytes_left reached items))))
 
-pub left_reached : (units : ℕ → ℕ) (old new : JoinedData) (batch : List Edit) (reached left : List ℕ) (max_len : ℕ)
+pub left_reached : (units : ℕ → ℕ) (old new : JoinedData) (batch : List ContentChange) (reached left : List ℕ)
+    (max_len : ℕ)
     (parts : List Part) → IsReached old reached
     → (is : IsLayer (meaning units (chars reached) batch) reached parts) → new ≡ record old {
       items = then_items old.items (items_of (chars reached) parts);

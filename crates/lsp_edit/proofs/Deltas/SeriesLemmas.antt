@@ -3,10 +3,10 @@ use Rattle.std.proofs.Common.{ℕ, ◌≡◌, ◌≤◌, true, false, List, [], 
 use Rattle.std.specs.Str.{chars, IsUtf8}
 use Rattle.std.proofs.lemmas.Bool.{cases_Bool, ltb-false}
 use Rattle.std.proofs.lemmas.Str.{encodes-chars}
-use Rattle.lsp_edit.specs.declared.indexed.fault.TextFault.{TextFault}
-use Rattle.lsp_edit.specs.declared.indexed.fault.TextFault.TheVariants.{TooLong}
+use Rattle.lsp_edit.specs.declared.indexed.fault.BatchFault.{BatchFault}
+use Rattle.lsp_edit.specs.declared.indexed.fault.BatchFault.TheVariants.{TooLong}
 use Rattle.lsp_edit.specs.Items.{Item, plain, text_of}
-use Rattle.lsp_edit.specs.Batch.{Edit, Fault, meaning}
+use Rattle.lsp_edit.specs.Batch.{ContentChange, Fault, meaning}
 use Rattle.lsp_text.specs.declared.encoding.Encoding.{Encoding}
 use Rattle.lsp_text.specs.Units.{units_in}
 use Rattle.lsp_edit.specs.Canonical.{canonical}
@@ -17,9 +17,10 @@ use Rattle.lsp_edit.proofs.Batches.ComposeLemmas.{then_means}
 use Rattle.lsp_edit.proofs.Batches.LawLemmas.{canonical_law, units_some}
 
 -- The changes `done` of a batch are joined, and `rest` are to come.
-pub record IsSeries (units : ℕ → ℕ) (before : List ℕ) (batch : List Edit) (joined : JoinedData) (reached : List ℕ)
-    (rest : List Edit) : Type 0 where
-  pub done : List Edit
+pub record IsSeries (units : ℕ → ℕ) (before : List ℕ) (batch : List ContentChange) (joined : JoinedData)
+    (reached : List ℕ)
+    (rest : List ContentChange) : Type 0 where
+  pub done : List ContentChange
   pub all : done ++ rest ≡ batch
   pub utf8 : IsUtf8 before
   pub same : joined.before ≡ before
@@ -27,7 +28,8 @@ pub record IsSeries (units : ℕ → ℕ) (before : List ℕ) (batch : List Edit
   pub at : IsReached joined reached
   pub short : length reached ≤ 1073741824
 
-pub series_begins : (units : ℕ → ℕ) (before : List ℕ) (batch : List Edit) (joined : JoinedData) (reached : List ℕ)
+pub series_begins : (units : ℕ → ℕ) (before : List ℕ) (batch : List ContentChange) (joined : JoinedData)
+    (reached : List ℕ)
     → IsUtf8 before → joined ≡ record { before = before; items = plain (chars before) } → IsReached joined reached
     → length reached ≤ 1073741824
     → IsSeries units before batch joined reached batch
@@ -47,15 +49,15 @@ left_short max_len reached left meant items is within =
     let error : text_within max_len reached (Ok items) ≡ Ok left = rw is at within in
     ⊎_elim
     (λ (e : nat_lt max_len (length (bytes_left reached items)) ≡ true). absurd
-    (let bad : ◌≡◌ {A = Result (List ℕ) TextFault} (Err TooLong) (Ok left) = rw e at error in cc))
+    (let bad : ◌≡◌ {A = Result (List ℕ) BatchFault} (Err TooLong) (Ok left) = rw e at error in cc))
     (λ (e : nat_lt max_len (length (bytes_left reached items)) ≡ false).
-    let same : ◌≡◌ {A = Result (List ℕ) TextFault} (Ok (bytes_left reached items)) (Ok left) = rw e at error in
+    let same : ◌≡◌ {A = Result (List ℕ) BatchFault} (Ok (bytes_left reached items)) (Ok left) = rw e at error in
     let bytes : bytes_left reached items ≡ left = cc in
     omega (arith, ap length bytes, ltb-false max_len (length (bytes_left reached items)) e))
     (cases_Bool (nat_lt max_len (length (bytes_left reached items))))
 
-module _ (units : ℕ → ℕ) (before : List ℕ) (batch : List Edit) where
-  pub series_next : (joined new : JoinedData) (reached left : List ℕ) (series rest more : List Edit)
+module _ (units : ℕ → ℕ) (before : List ℕ) (batch : List ContentChange) where
+  pub series_next : (joined new : JoinedData) (reached left : List ℕ) (series rest more : List ContentChange)
       → IsSeries units before batch joined reached rest → rest ≡ series ++ more → IsJoined units joined series new
       → IsReached new left
       → text_within 1073741824 reached (meaning units (chars reached) series) ≡ Ok left
@@ -67,7 +69,7 @@ module _ (units : ℕ → ℕ) (before : List ℕ) (batch : List Edit) where
       ap (λ (t : List ℕ). meaning units t series) is.at.text_is ∙ next.means in
       record {
         done = is.done ++ series;
-        all = append_assoc is.done series more ∙ (ap (λ (r : List Edit). is.done ++ r) (sym parts) ∙ is.all);
+        all = append_assoc is.done series more ∙ (ap (λ (r : List ContentChange). is.done ++ r) (sym parts) ∙ is.all);
         utf8 = is.utf8;
         same = ap (λ (j : JoinedData). j.before) next.is ∙ is.same;
         means = then_means units (chars before) is.done series joined.items next.others is.means
@@ -77,12 +79,12 @@ module _ (units : ℕ → ℕ) (before : List ℕ) (batch : List Edit) where
         short = left_short 1073741824 reached left _ next.others here within;
       }
 
-  pub series_ends : (max_len : ℕ) (joined : JoinedData) (reached : List ℕ) (rest : List Edit)
+  pub series_ends : (max_len : ℕ) (joined : JoinedData) (reached : List ℕ) (rest : List ContentChange)
       → IsSeries units before batch joined reached rest → rest ≡ [] → length reached ≤ max_len
       → IsWhole units max_len before batch joined
   series_ends max_len joined reached rest is none fits =
       let done : is.done ≡ batch =
-      sym (append-nil is.done) ∙ (ap (λ (r : List Edit). is.done ++ r) (sym none) ∙ is.all) in
+      sym (append-nil is.done) ∙ (ap (λ (r : List ContentChange). is.done ++ r) (sym none) ∙ is.all) in
       let left : bytes_left before joined.items ≡ reached
       = ap (λ (b : List ℕ). encode_utf8_all (text_of (chars b) joined.items)) (sym is.same)
       ∙ (ap encode_utf8_all (sym is.at.text_is) ∙ encodes-chars reached is.at.utf8) in
@@ -94,7 +96,7 @@ module _ (units : ℕ → ℕ) (before : List ℕ) (batch : List Edit) where
       }
 
 -- The canonical batch of one batch that was joined series by series.
-pub whole_batch : (encoding : Encoding) (max_len : ℕ) (before : List ℕ) (batch answered : List Edit)
+pub whole_batch : (encoding : Encoding) (max_len : ℕ) (before : List ℕ) (batch answered : List ContentChange)
     (joined : JoinedData) → IsWhole (units_in encoding) max_len before batch joined
     → answered ≡ canonical (units_in encoding) (chars joined.before) joined.items → IsCanonicalBatch (units_in encoding)
     max_len before batch answered

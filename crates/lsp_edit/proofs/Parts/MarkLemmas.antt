@@ -6,7 +6,7 @@ use Rattle.lsp_edit.specs.declared.pieces.span.Span.{Span}
 use Rattle.lsp_edit.specs.declared.pieces.span.Span.TheVariants.{Old as OldSpan}
 use Rattle.lsp_edit.specs.Parts.{part_of, parts_of}
 use Rattle.lsp_edit.specs.inside.Parts.{AreOrdered, EndAfter, IsMark, IsOrdered, span_len}
-use Rattle.lsp_edit.proofs.Parts.PassedLemmas.{Passing, drop_ordered, ends_behind, first_ordered, passing_begins, span_passing}
+use Rattle.lsp_edit.proofs.Parts.PassingLemmas.{Passing, drop_ordered, ends_behind, first_ordered, passing_begins, span_passing}
 use Rattle.lsp_edit.proofs.Canonical.WalkLemmas.{rest_is}
 
 before_more : (spans : List Span) (index : ℕ) (default : Span) → index < length spans

@@ -1,8 +1,8 @@
 -- The change of a gap that is known by byte offsets.
 use Rattle.std.specs.Prelude.{ℕ, if◌then◌else◌, List, [], ◌∷◌}
 use Rattle.std.specs.Str.{chars}
-use Rattle.lsp_edit.specs.Batch.{Edit}
-use Rattle.lsp_edit.specs.Canonical.{Gap, is_changed, gap_edit}
+use Rattle.lsp_edit.specs.Batch.{ContentChange}
+use Rattle.lsp_edit.specs.Canonical.{Gap, is_changed, gap_change}
 use Rattle.lsp_edit.specs.Parts.{index_of}
 
 -- The gap between two byte offsets of the text with the bytes `before`, and the text that replaces
@@ -16,7 +16,7 @@ gap_between before low high text
     }
 
 -- Its change, if it is changed.
-abbrev pub gap_change : (ℕ → ℕ) → List ℕ → ℕ → ℕ → List ℕ → List Edit
+abbrev pub gap_change : (ℕ → ℕ) → List ℕ → ℕ → ℕ → List ℕ → List ContentChange
 gap_change units before low high text =
     if is_changed (gap_between before low high text) then
-    gap_edit units (chars before) (gap_between before low high text) ∷ [] else []
+    gap_change units (chars before) (gap_between before low high text) ∷ [] else []

@@ -5,7 +5,7 @@ use Rattle.lsp_text.specs.declared.position.Range.{Range}
 use Rattle.lsp_text.specs.Positions.{denoted}
 use Rattle.lsp_edit.specs.declared.fault.EditFault.{EditFault}
 use Rattle.lsp_edit.specs.declared.fault.EditFault.TheVariants.{NoMemory}
-use Rattle.lsp_edit.specs.Batch.{Edit, Fault, InsideStart, InsideStop, Reversed}
+use Rattle.lsp_edit.specs.Batch.{ContentChange, Fault, InsideStart, InsideStop, Reversed}
 use Rattle.lsp_edit.specs.Faults.{fault_at}
 
 -- The text with the characters between two indexes replaced by new ones.
@@ -22,7 +22,7 @@ text_changed units text new (Some range)
     = text_replaced text new (denoted units text range.start) (denoted units text range.stop)
 
 -- The text after a change.
-abbrev pub text_after_change : (ℕ → ℕ) → List ℕ → Edit → Result (List ℕ) Fault
+abbrev pub text_after_change : (ℕ → ℕ) → List ℕ → ContentChange → Result (List ℕ) Fault
 text_after_change units text change = text_changed units text change.text change.range
 
 -- The text after the rest of a batch, if `number` changes came before. Or the first change that has
@@ -34,7 +34,7 @@ text_continue_with rest number (Err fault) = Err (number, fault)
 
 -- The text after these changes, numbered from `number`; or the first change that has no result, and
 -- why.
-abbrev pub text_after_changes : (ℕ → ℕ) → ℕ → List ℕ → List Edit → Result (List ℕ) (ℕ × Fault)
+abbrev pub text_after_changes : (ℕ → ℕ) → ℕ → List ℕ → List ContentChange → Result (List ℕ) (ℕ × Fault)
 text_after_changes units number text [] = Ok text
 text_after_changes units number text (change ∷ changes) =
     text_continue_with (λ next. text_after_changes units (suc number) next changes) number

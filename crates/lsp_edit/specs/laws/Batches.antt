@@ -4,7 +4,7 @@ use Rattle.lsp_text.specs.declared.position.Range.{Range}
 use Rattle.lsp_text.specs.TextLines.{splits_crlf}
 use Rattle.lsp_text.specs.Positions.{denoted}
 use Rattle.lsp_edit.specs.Items.{Item, Old, plain, text_of}
-use Rattle.lsp_edit.specs.Batch.{Edit, items_after, meaning}
+use Rattle.lsp_edit.specs.Batch.{ContentChange, items_after, meaning}
 use Rattle.lsp_edit.specs.Canonical.{DoTheSame, Gap, gaps, is_changed, canonical}
 use Rattle.lsp_edit.specs.Compose.{then_items}
 
@@ -40,7 +40,7 @@ DenotesAlike units old met (Some range) =
     × (denoted units old range.stop ≡ Some stop) × (denoted units met range.stop ≡ Some stop)
 
 -- Each range of a batch denotes in the text that it meets what it denotes in the old text.
-abbrev pub RangesStay : (ℕ → ℕ) → List ℕ → List Item → List Edit → Type 0
+abbrev pub RangesStay : (ℕ → ℕ) → List ℕ → List Item → List ContentChange → Type 0
 RangesStay units old items [] = Unit {0}
 RangesStay units old items (change ∷ batch) =
     DenotesAlike units old (text_of old items) change.range
@@ -52,7 +52,7 @@ RangesStay units old items (change ∷ batch) =
 -- has no more changes, and its texts are no longer than the final text, whatever a character
 -- weighs. It equals the canonical batch of another meaning exactly if both do the same, and it is
 -- its own canonical batch.
-pub record IsCanonical (units : ℕ → ℕ) (old : List ℕ) (batch : List Edit)
+pub record IsCanonical (units : ℕ → ℕ) (old : List ℕ) (batch : List ContentChange)
     (items : List Item) : Type 0 where
   pub pairs : KeepsPairs old items
   pub ends : AllHaveExactEnds old (gaps old items)
@@ -62,7 +62,7 @@ pub record IsCanonical (units : ℕ → ℕ) (old : List ℕ) (batch : List Edit
   pub short : (weight : ℕ → ℕ) →
       sum_by (λ change. sum_by weight change.text) (canonical units old items)
       ≤ sum_by weight (text_of old items)
-  pub exactly : (other : List Edit) (others : List Item) → meaning units old other ≡ Ok others
+  pub exactly : (other : List ContentChange) (others : List Item) → meaning units old other ≡ Ok others
       → (canonical units old items ≡ canonical units old others) ↔ DoTheSame items others
   pub again : (more : List Item) → meaning units old (canonical units old items) ≡ Ok more →
       canonical units old more ≡ canonical units old items
@@ -71,13 +71,13 @@ pub record IsCanonical (units : ℕ → ℕ) (old : List ℕ) (batch : List Edit
 abbrev pub CanonicalLaw : Type 0
 CanonicalLaw =
     (units : ℕ → ℕ) → ((c : ℕ) → 1 ≤ units c) →
-    (old : List ℕ) (batch : List Edit) (items : List Item)
+    (old : List ℕ) (batch : List ContentChange) (items : List Item)
     → meaning units old batch ≡ Ok items → IsCanonical units old batch items
 
 -- Two batches, one after the other, mean the composition of their meanings.
 abbrev pub ThenLaw : Type 0
 ThenLaw =
-    (units : ℕ → ℕ) (old : List ℕ) (first second : List Edit) (items others : List Item) →
+    (units : ℕ → ℕ) (old : List ℕ) (first second : List ContentChange) (items others : List Item) →
     meaning units old first ≡ Ok items
     → meaning units (text_of old items) second ≡ Ok others →
     meaning units old (first ++ second) ≡ Ok (then_items items others)

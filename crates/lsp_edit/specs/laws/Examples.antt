@@ -5,13 +5,13 @@ use Rattle.lsp_text.specs.declared.encoding.Encoding.TheVariants.{Utf16}
 use Rattle.lsp_text.specs.Units.{units_in}
 use Rattle.lsp_text.specs.Positions.{denoted}
 use Rattle.lsp_edit.specs.Items.{Item, text_of}
-use Rattle.lsp_edit.specs.Batch.{Edit, Fault, InsideStart, InsideStop, Reversed, meaning}
+use Rattle.lsp_edit.specs.Batch.{ContentChange, Fault, InsideStart, InsideStop, Reversed, meaning}
 use Rattle.lsp_edit.specs.Canonical.{canonical}
 use Rattle.lsp_edit.specs.Compose.{then_items}
 use Rattle.lsp_edit.specs.TextEdits.{LocatedEdit, items_left}
 
 -- A change from one line and character to another.
-abbrev pub change : ℕ → ℕ → ℕ → ℕ → List ℕ → Edit
+abbrev pub change : ℕ → ℕ → ℕ → ℕ → List ℕ → ContentChange
 change line character stop_line stop_character text =
     record {
       range = Some (record {
@@ -22,13 +22,13 @@ change line character stop_line stop_character text =
     }
 
 -- A change of the whole text.
-abbrev pub whole : List ℕ → Edit
+abbrev pub whole : List ℕ → ContentChange
 whole text = record { range = None; text = text }
 
 -- What a batch leaves: its text and its canonical batch.
 pub record Left : Type 0 where
   pub text : List ℕ
-  pub batch : List Edit
+  pub batch : List ContentChange
 
 -- What a meaning leaves.
 abbrev pub left_of : List ℕ → Result (List Item) (ℕ × Fault) → Result Left (ℕ × Fault)
@@ -37,11 +37,11 @@ left_of old (Ok items)
 left_of old (Err fault) = Err fault
 
 -- What a batch leaves of a text.
-abbrev pub leaves : List ℕ → List Edit → Result Left (ℕ × Fault)
+abbrev pub leaves : List ℕ → List ContentChange → Result Left (ℕ × Fault)
 leaves old batch = left_of old (meaning (units_in Utf16) old batch)
 
 -- What it should leave.
-abbrev pub left : List ℕ → List Edit → Result Left (ℕ × Fault)
+abbrev pub left : List ℕ → List ContentChange → Result Left (ℕ × Fault)
 left text batch = Ok (record { text = text; batch = batch })
 
 -- What two batches leave, one after the other, as one over the old text of the first.

@@ -3,18 +3,18 @@
 ghost use Rattle.std.specs.Prelude.{◌≡◌, ◌<◌, ◌≤◌, IfErr, IfOk, IsOk, OnOk, Err, length, map, string_len, sum_by};
 ghost use Rattle.std.specs.Str.{IsUtf8, chars};
 ghost use Rattle.lsp_text.specs.Units.{units_in};
-ghost use Rattle.lsp_edit.specs.declared.indexed.fault.TextFault.TheVariants.{TooLong, NoMemory};
+ghost use Rattle.lsp_edit.specs.declared.indexed.fault.BatchFault.TheVariants.{TooLong, NoMemory};
 ghost use Rattle.lsp_edit.specs.Batch.{meaning};
 ghost use Rattle.lsp_edit.specs.Layers.{layer_parts};
 ghost use Rattle.lsp_edit.specs.inside.Layers.{IsLayer};
-ghost use Rattle.lsp_edit.specs.Edited.{Means, edit_of, edited_bytes};
-ghost use Rattle.lsp_edit.specs.Indexed.{IsCanonicalBatch, IsTextFaultOf, text_within};
+ghost use Rattle.lsp_edit.specs.Edited.{Means, content_change, edited_bytes};
+ghost use Rattle.lsp_edit.specs.Indexed.{IsCanonicalBatch, IsBatchFaultOf, text_within};
 ghost use Rattle.lsp_edit.specs.TextEdits.{IsBatchOfEdits, IsEditsFault};
 
 use crate::change::{Change, MAX_NEW_TEXT};
 use crate::composed::{MAX_OLD_TEXT, compose_old};
 use crate::indexed::IndexedText;
-use crate::indexed::fault::TextFault;
+use crate::indexed::fault::BatchFault;
 use crate::joined::layer::Layer;
 use crate::joined::{Joined, SERIES};
 use crate::pieces::Pieces;
@@ -29,18 +29,18 @@ impl IndexedText {
         encoding: Encoding,
         changes: &'a [Change],
         max_len: usize,
-    ) -> Result<Pieces<'a>, TextFault>
+    ) -> Result<Pieces<'a>, BatchFault>
         requires size { length self.now ≤ MAX_OLD_TEXT }
         requires fits { sum_by (λ change. string_len change.text) changes.now ≤ MAX_NEW_TEXT }
         ensures utf8 { OnOk result (IsUtf8 self.now) }
         ensures means { IfOk result (λ pieces.
             Means (chars self.now) (meaning (units_in encoding) (chars self.now)
-            (map edit_of changes.now)) (length changes.now) pieces.edited) }
+            (map content_change changes.now)) (length changes.now) pieces.edited) }
         ensures within { IfOk result (λ pieces. length (edited_bytes pieces.edited) ≤ max_len) }
         ensures ok { OnOk result (IsOk (text_within max_len self.now
-            (meaning (units_in encoding) (chars self.now) (map edit_of changes.now)))) }
-        ensures error { IfErr result (IsTextFaultOf (units_in encoding) max_len self.now
-            (map edit_of changes.now)) }
+            (meaning (units_in encoding) (chars self.now) (map content_change changes.now)))) }
+        ensures error { IfErr result (IsBatchFaultOf (units_in encoding) max_len self.now
+            (map content_change changes.now)) }
     {
         let alloc = *self.allocator();
         let pieces = compose_old(alloc, self.as_old(), encoding, changes)?;
@@ -60,14 +60,14 @@ impl IndexedText {
         encoding: Encoding,
         changes: &[Change],
         max_len: usize,
-    ) -> Result<Vec<Change>, TextFault>
+    ) -> Result<Vec<Change>, BatchFault>
         requires size { length self.now ≤ MAX_OLD_TEXT }
         requires fits { sum_by (λ change. string_len change.text) changes.now ≤ MAX_NEW_TEXT }
         ensures batch { IfOk result
             (λ batch. IsCanonicalBatch (units_in encoding) max_len self.now
-            (map edit_of changes.now) (map edit_of batch.items)) }
-        ensures error { IfErr result (IsTextFaultOf (units_in encoding) max_len self.now
-            (map edit_of changes.now)) }
+            (map content_change changes.now) (map content_change batch.items)) }
+        ensures error { IfErr result (IsBatchFaultOf (units_in encoding) max_len self.now
+            (map content_change changes.now)) }
     {
         if changes.len() >= 2 * SERIES {
             let alloc = *self.allocator();
@@ -91,7 +91,7 @@ impl IndexedText {
         edits: &[TextEdit],
     ) -> Result<Vec<Change>, TextEditFault>
         ensures batch { IfOk result (λ batch.
-            IsBatchOfEdits (units_in encoding) self.now edits.now (map edit_of batch.items)) }
+            IsBatchOfEdits (units_in encoding) self.now edits.now (map content_change batch.items)) }
         ensures error { IfErr result (λ fault.
             IsEditsFault (units_in encoding) (chars self.now) edits.now fault) }
     {
@@ -108,16 +108,16 @@ impl IndexedText {
         encoding: Encoding,
         changes: &[Change],
         max_len: usize,
-    ) -> Result<Layer, TextFault>
+    ) -> Result<Layer, BatchFault>
         requires size { length self.now ≤ MAX_OLD_TEXT }
         requires fits { sum_by (λ change. string_len change.text) changes.now ≤ MAX_NEW_TEXT }
         ensures ok { IfOk result (λ delta. IsLayer
-            (meaning (units_in encoding) (chars self.now) (map edit_of changes.now)) self.now
+            (meaning (units_in encoding) (chars self.now) (map content_change changes.now)) self.now
             (layer_parts delta)) }
         ensures within { OnOk result (IsOk (text_within max_len self.now
-            (meaning (units_in encoding) (chars self.now) (map edit_of changes.now)))) }
-        ensures error { IfErr result (IsTextFaultOf (units_in encoding) max_len self.now
-            (map edit_of changes.now)) }
+            (meaning (units_in encoding) (chars self.now) (map content_change changes.now)))) }
+        ensures error { IfErr result (IsBatchFaultOf (units_in encoding) max_len self.now
+            (map content_change changes.now)) }
     {
         let alloc = *self.allocator();
         let pieces = self.composed(encoding, changes, max_len)?;
@@ -126,13 +126,13 @@ impl IndexedText {
 }
 
 /// Fails if the text of pieces has more than `max_len` bytes. Takes no memory.
-fn may_have_len(pieces: &Pieces<'_>, max_len: usize) -> Result<(), TextFault>
+fn may_have_len(pieces: &Pieces<'_>, max_len: usize) -> Result<(), BatchFault>
     ensures ok { OnOk result (length (edited_bytes pieces.now.edited) ≤ max_len) }
     ensures error { IfErr result (λ fault. (fault ≡ TooLong)
         × (max_len < length (edited_bytes pieces.now.edited))) }
 {
     if pieces.text_len() > max_len {
-        return Err(TextFault::TooLong);
+        return Err(BatchFault::TooLong);
     }
     Ok(())
 }

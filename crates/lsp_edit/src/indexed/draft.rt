@@ -3,10 +3,10 @@
 ghost use Rattle.std.specs.Prelude.{◌≡◌, ◌+◌, ◌<◌, ◌≤◌, ℕ, IfErr, IfOk, OnOk, Err, Ok, Some, length, map, string_len, sum_by};
 ghost use Rattle.std.specs.Str.{IsUtf8, chars};
 ghost use Rattle.lsp_text.specs.Units.{units_in};
-ghost use Rattle.lsp_edit.specs.declared.indexed.fault.TextFault.TheVariants.{TooLong, NoMemory};
+ghost use Rattle.lsp_edit.specs.declared.indexed.fault.BatchFault.TheVariants.{TooLong, NoMemory};
 ghost use Rattle.lsp_edit.specs.Batch.{meaning};
-ghost use Rattle.lsp_edit.specs.Edited.{edit_of};
-ghost use Rattle.lsp_edit.specs.Indexed.{IsTextFaultOf, text_within};
+ghost use Rattle.lsp_edit.specs.Edited.{content_change};
+ghost use Rattle.lsp_edit.specs.Indexed.{IsBatchFaultOf, text_within};
 ghost use Rattle.lsp_edit.specs.inside.TextBatch.{IsFaultOf, IsFaultOfBatch, text_after_change, text_after_changes};
 
 use crate::change::{Change, MAX_NEW_TEXT};
@@ -14,7 +14,7 @@ use crate::composed::MAX_OLD_TEXT;
 use crate::ends::ends;
 use crate::fault::EditFault;
 use crate::indexed::IndexedText;
-use crate::indexed::fault::TextFault;
+use crate::indexed::fault::BatchFault;
 use crate::pieces::MAX_TEXT;
 use lsp_text::{Encoding, Range};
 use std::alloc::{AllocError, Global};
@@ -56,11 +56,11 @@ impl IndexedText {
     fn after(self, encoding: Encoding, number: usize, change: &Change) -> Result<Self, EditFault>
         requires { length self + string_len change.now.text ≤ MAX_TEXT }
         ensures ok { IfOk result
-            (λ next. text_after_change (units_in encoding) (chars self) (edit_of change.now)
+            (λ next. text_after_change (units_in encoding) (chars self) (content_change change.now)
             ≡ Ok (chars next)) }
         ensures error { IfErr result
             (IsFaultOf number
-            (text_after_change (units_in encoding) (chars self) (edit_of change.now))) }
+            (text_after_change (units_in encoding) (chars self) (content_change change.now))) }
         ensures longer { IfOk result
             (λ next. length next ≤ length self + string_len change.now.text) }
     {
@@ -75,11 +75,11 @@ impl IndexedText {
     fn after_all(self, encoding: Encoding, changes: &[Change]) -> Result<Self, EditFault>
         requires { length self + sum_by (λ change. string_len change.text) changes.now ≤ MAX_TEXT }
         ensures ok { IfOk result
-            (λ left. text_after_changes (units_in encoding) 0 (chars self) (map edit_of changes.now)
+            (λ left. text_after_changes (units_in encoding) 0 (chars self) (map content_change changes.now)
             ≡ Ok (chars left)) }
         ensures error { IfErr result
             (IsFaultOfBatch
-            (text_after_changes (units_in encoding) 0 (chars self) (map edit_of changes.now))) }
+            (text_after_changes (units_in encoding) 0 (chars self) (map content_change changes.now))) }
     {
         let mut draft = self;
         for (number, change) in changes.iter().enumerate() {
@@ -92,8 +92,8 @@ impl IndexedText {
     /// change replaces all.
     fn begun(&self, changes: &[Change]) -> Result<Self, AllocError>
         ensures meaning { IfOk result (λ draft. (units : ℕ → ℕ) →
-            text_after_changes units 0 (chars draft) (map edit_of changes.now)
-            ≡ text_after_changes units 0 (chars self.now) (map edit_of changes.now)) }
+            text_after_changes units 0 (chars draft) (map content_change changes.now)
+            ≡ text_after_changes units 0 (chars self.now) (map content_change changes.now)) }
         ensures short { IfOk result (λ draft. length draft ≤ length self.now) }
     {
         let alloc = *self.allocator();
@@ -112,10 +112,10 @@ impl IndexedText {
         requires fits { sum_by (λ change. string_len change.text) changes.now ≤ MAX_NEW_TEXT }
         ensures ok { IfOk result
             (λ left. text_after_changes (units_in encoding) 0 (chars self.now)
-            (map edit_of changes.now) ≡ Ok (chars left)) }
+            (map content_change changes.now) ≡ Ok (chars left)) }
         ensures error { IfErr result
             (IsFaultOfBatch
-            (text_after_changes (units_in encoding) 0 (chars self.now) (map edit_of changes.now))) }
+            (text_after_changes (units_in encoding) 0 (chars self.now) (map content_change changes.now))) }
     {
         let draft = self.begun(changes)?;
         draft.after_all(encoding, changes)
@@ -128,14 +128,14 @@ impl IndexedText {
         encoding: Encoding,
         changes: &[Change],
         max_len: usize,
-    ) -> Result<Self, TextFault>
+    ) -> Result<Self, BatchFault>
         requires size { length self.now ≤ MAX_OLD_TEXT }
         requires fits { sum_by (λ change. string_len change.text) changes.now ≤ MAX_NEW_TEXT }
         ensures ok { IfOk result
             (λ left. text_within max_len self.now
-            (meaning (units_in encoding) (chars self.now) (map edit_of changes.now)) ≡ Ok left) }
-        ensures error { IfErr result (IsTextFaultOf (units_in encoding) max_len self.now
-            (map edit_of changes.now)) }
+            (meaning (units_in encoding) (chars self.now) (map content_change changes.now)) ≡ Ok left) }
+        ensures error { IfErr result (IsBatchFaultOf (units_in encoding) max_len self.now
+            (map content_change changes.now)) }
     {
         let draft = self.left_by(encoding, changes)?;
         may_be_left(&draft, max_len)?;
@@ -144,13 +144,13 @@ impl IndexedText {
 }
 
 /// Fails if the text that a batch leaves has more than `max_len` bytes. Takes no memory.
-fn may_be_left(draft: &IndexedText, max_len: usize) -> Result<(), TextFault>
+fn may_be_left(draft: &IndexedText, max_len: usize) -> Result<(), BatchFault>
     ensures ok { OnOk result (length draft.now ≤ max_len) }
     ensures utf8 { IsUtf8 draft.now }
     ensures error { IfErr result (λ fault. (fault ≡ TooLong) × (max_len < length draft.now)) }
 {
     if draft.len() > max_len {
-        return Err(TextFault::TooLong);
+        return Err(BatchFault::TooLong);
     }
     Ok(())
 }

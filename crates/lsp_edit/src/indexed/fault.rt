@@ -1,8 +1,8 @@
 //! Why a batch of changes on an `IndexedText` is refused.
 
 ghost use Rattle.std.specs.Prelude.{◌≡◌};
-ghost use Rattle.lsp_edit.specs.declared.indexed.fault.TextFault.TheVariants.{NoMemory};
-ghost use Rattle.lsp_edit.specs.Indexed.{text_fault_of};
+ghost use Rattle.lsp_edit.specs.declared.indexed.fault.BatchFault.TheVariants.{NoMemory};
+ghost use Rattle.lsp_edit.specs.Indexed.{batch_fault_of};
 
 use crate::fault::EditFault;
 use std::alloc::AllocError;
@@ -10,7 +10,7 @@ use thiserror::Error;
 
 /// Why a batch of changes is refused. The text is unchanged then.
 #[derive(Clone, Copy, Debug, PartialEq, Eq, Error)]
-pub enum TextFault {
+pub enum BatchFault {
     /// A change has no result: an end of its range lies inside a character, or the range is
     /// reversed.
     #[error("{0}")]
@@ -23,21 +23,21 @@ pub enum TextFault {
     NoMemory,
 }
 
-impl From<EditFault> for TextFault {
-    ghost from_gives = { λ fault error. error ≡ text_fault_of fault };
+impl From<EditFault> for BatchFault {
+    ghost from_gives = { λ fault error. error ≡ batch_fault_of fault };
 
-    fn from(fault: EditFault) -> TextFault {
+    fn from(fault: EditFault) -> BatchFault {
         match fault {
-            EditFault::NoMemory => TextFault::NoMemory,
-            fault => TextFault::Edit(fault),
+            EditFault::NoMemory => BatchFault::NoMemory,
+            fault => BatchFault::Edit(fault),
         }
     }
 }
 
-impl From<AllocError> for TextFault {
+impl From<AllocError> for BatchFault {
     ghost from_gives = { λ _ error. error ≡ NoMemory };
 
-    fn from(_: AllocError) -> TextFault {
-        TextFault::NoMemory
+    fn from(_: AllocError) -> BatchFault {
+        BatchFault::NoMemory
     }
 }

@@ -4,7 +4,7 @@ ghost use Rattle.std.specs.Prelude.{◌≡◌, ◌≢◌, ◌+◌, ◌≤◌, �
 ghost use Rattle.std.specs.Str.{chars};
 ghost use Rattle.lsp_text.specs.Units.{units_in};
 ghost use Rattle.lsp_edit.specs.declared.fault.EditFault.TheVariants.{NoMemory};
-ghost use Rattle.lsp_edit.specs.Edited.{Applied, edit_of, edited_bytes};
+ghost use Rattle.lsp_edit.specs.Edited.{Applied, content_change, edited_bytes};
 ghost use Rattle.lsp_edit.specs.Edited.{edited_text};
 ghost use Rattle.lsp_edit.specs.Faults.{IsFaultOfChange, ends_of, places_at};
 ghost use Rattle.lsp_edit.specs.inside.Faults.{IsPlaces};
@@ -95,15 +95,15 @@ impl<'a> Pieces<'a> {
     pub fn apply(&mut self, encoding: Encoding, change: &'a Change) -> Result<(), EditFault>
         requires { length (edited_bytes self.old.edited) + string_len change.now.text ≤ MAX_TEXT }
         ensures applied { OnOk result (Applied (units_in encoding) self.old.edited
-            (edit_of change.now) self.new.edited) }
+            (content_change change.now) self.new.edited) }
         ensures unchanged { OnErr result (self.new ≡ self.old) }
         ensures error { IfErr result (λ fault. IsFaultOfChange self.old.edited.changes
             (items_after (units_in encoding) self.old.edited.before self.old.edited.items
-            (edit_of change.now)) fault) }
+            (content_change change.now)) fault) }
         // Before the first change a range is resolved without memory.
         ensures memory { result ≡ Err NoMemory → self.old.edited.changes ≡ 0
             → IsOk (items_after (units_in encoding) self.old.edited.before self.old.edited.items
-            (edit_of change.now)) }
+            (content_change change.now)) }
     {
         match change.range {
             None => self.apply_to_all(&change.text),

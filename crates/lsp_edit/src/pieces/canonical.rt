@@ -5,7 +5,7 @@ ghost use Rattle.std.specs.Str.{chars};
 ghost use Rattle.lsp_text.specs.LineStarts.{IsPlace};
 ghost use Rattle.lsp_text.specs.Units.{units_in};
 ghost use Rattle.lsp_edit.specs.Canonical.{canonical, gaps};
-ghost use Rattle.lsp_edit.specs.Edited.{edit_of};
+ghost use Rattle.lsp_edit.specs.Edited.{content_change};
 ghost use Rattle.lsp_edit.specs.inside.Gaps.{gap_change};
 ghost use Rattle.lsp_edit.specs.laws.Batches.{AllHaveExactEnds};
 ghost use Rattle.lsp_edit.specs.Parts.{AreParts, items_of, parts_of};
@@ -31,7 +31,7 @@ fn put_gap(
     requires high { IsCharBoundary before.now high }
     requires ends { (low < high) ⊎ (0 < length (string_bytes text)) → IsPlace (chars before.now) low
         × IsPlace (chars before.now) high }
-    ensures { OnOk result (map edit_of changes.new.items ≡ map edit_of changes.old.items
+    ensures { OnOk result (map content_change changes.new.items ≡ map content_change changes.old.items
         ++ gap_change (units_in encoding) before.now low high (string_bytes text)) }
 {
     if low < high || !text.is_empty() {
@@ -55,7 +55,7 @@ pub fn canonical_of(
     requires parts { AreParts before.now (parts_of spans.now) }
     requires ends { AllHaveExactEnds (chars before.now)
         (gaps (chars before.now) (items_of (chars before.now) (parts_of spans.now))) }
-    ensures { IfOk result (λ changes. map edit_of changes.items
+    ensures { IfOk result (λ changes. map content_change changes.items
         ≡ canonical (units_in encoding) (chars before.now)
         (items_of (chars before.now) (parts_of spans.now))) }
 {

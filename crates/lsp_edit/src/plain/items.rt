@@ -7,7 +7,7 @@ ghost use Rattle.lsp_text.specs.TextLines.{numbers_from};
 ghost use Rattle.lsp_text.specs.Units.{units_in};
 ghost use Rattle.lsp_edit.specs.Items.{Old as OldItem, New as NewItem, character_of as spec_character_of, text_of as spec_text_of};
 ghost use Rattle.lsp_edit.specs.Canonical.{canonical as spec_canonical, is_changed};
-ghost use Rattle.lsp_edit.specs.Edited.{edit_of};
+ghost use Rattle.lsp_edit.specs.Edited.{content_change};
 ghost use Rattle.lsp_edit.specs.Keeps.{Keeps};
 ghost use Rattle.lsp_edit.specs.laws.Batches.{HasExactEnds};
 ghost use Rattle.lsp_edit.specs.Plain.{item_of, items_in_order};
@@ -143,7 +143,7 @@ fn put_gap(
     requires old { old.now ≡ chars before.now }
     requires ends { is_changed (gap_at low high text.now) ≡ true →
         HasExactEnds (chars before.now) (gap_at low high text.now) }
-    ensures { OnOk result (map edit_of changes.new.items ≡ map edit_of changes.old.items
+    ensures { OnOk result (map content_change changes.new.items ≡ map content_change changes.old.items
         ++ change_at (units_in encoding) (chars before.now) (gap_at low high text.now)) }
 {
     if low < high || !text.is_empty() {
@@ -170,7 +170,7 @@ pub(crate) fn gaps_written(
     requires old { old.now ≡ chars before.now }
     requires keeps { Keeps (chars before.now) 0 (items_in_order items.now) }
     ensures { IfOk result
-        (λ changes. map edit_of changes.items
+        (λ changes. map content_change changes.items
         ≡ spec_canonical (units_in encoding) (chars before.now) (items_in_order items.now)) }
 {
     let mut changes = Vec::new(alloc);

@@ -1,6 +1,6 @@
 //! The text of each fault.
 
-use lsp_edit::{EditFault, Side, TextFault};
+use lsp_edit::{BatchFault, EditFault, Side};
 use std::alloc::{AllocError, Global};
 use std::process::Abort;
 use std::test::Fail;
@@ -27,13 +27,13 @@ static EDIT_FAULTS: [(EditFault, &str); 4] = [
     (EditFault::NoMemory, "out of memory"),
 ];
 
-static TEXT_FAULTS: [(TextFault, &str); 3] = [
+static TEXT_FAULTS: [(BatchFault, &str); 3] = [
     (
-        TextFault::Edit(EditFault::ReversedRange { change: 2 }),
+        BatchFault::Edit(EditFault::ReversedRange { change: 2 }),
         "change at index 2: the range is reversed",
     ),
-    (TextFault::TooLong, "the text is too long"),
-    (TextFault::NoMemory, "out of memory"),
+    (BatchFault::TooLong, "the text is too long"),
+    (BatchFault::NoMemory, "out of memory"),
 ];
 
 fn prints_edit_fault(alloc: Global, row: &(EditFault, &str)) -> Result<bool, AllocError> {
@@ -42,7 +42,7 @@ fn prints_edit_fault(alloc: Global, row: &(EditFault, &str)) -> Result<bool, All
     Ok(text.as_str() == row.1)
 }
 
-fn prints_text_fault(alloc: Global, row: &(TextFault, &str)) -> Result<bool, AllocError> {
+fn prints_text_fault(alloc: Global, row: &(BatchFault, &str)) -> Result<bool, AllocError> {
     let fault = row.0;
     let text = format!(in alloc; "{fault}")?;
     Ok(text.as_str() == row.1)

@@ -3,7 +3,7 @@
 
 use super::long_batches::{self, has_its_lines};
 use super::{BATCHES, FAULTS, applied, canonical_of, kept};
-use lsp_edit::{Change, IndexedText, MAX_OLD_TEXT, TextFault};
+use lsp_edit::{BatchFault, Change, IndexedText, MAX_OLD_TEXT};
 use lsp_samples::edits::{ALL, Edit, batch, change};
 use std::alloc::{AllocError, Global};
 use std::test::Fail;
@@ -238,7 +238,7 @@ fn fails(
     alloc: Global,
     before: &str,
     edits: &[Edit],
-    fault: TextFault,
+    fault: BatchFault,
     frame: Frame,
 ) -> Result<bool, AllocError> {
     let mut text = kept_in(alloc, before, frame)?;
@@ -255,7 +255,7 @@ fn fails(
 /// after the others.
 fn first_other_fault(alloc: Global, frame: Frame) -> Result<Option<usize>, AllocError> {
     for (index, (before, edits, fault)) in FAULTS.iter().enumerate() {
-        if !fails(alloc, before, edits, TextFault::Edit(*fault), frame)? {
+        if !fails(alloc, before, edits, BatchFault::Edit(*fault), frame)? {
             return Ok(Some(index));
         }
     }

@@ -4,7 +4,7 @@ ghost use Rattle.std.specs.Prelude.{◌≡◌, IfOk, OnErr, OnOk};
 ghost use Rattle.lsp_edit.specs.Joined.{IsReached};
 
 use super::{kept, kept_again};
-use lsp_edit::{Change, IndexedText, Joined, MAX_OLD_TEXT, TextFault, fits};
+use lsp_edit::{BatchFault, Change, IndexedText, Joined, MAX_OLD_TEXT, fits};
 use lsp_samples::edits::{Edit, batch, batch_again};
 use lsp_text::Encoding;
 use std::alloc::{AllocError, Global};
@@ -36,11 +36,11 @@ static ROWS: [Row; 4] = [
 ];
 
 /// No batch yet, on a copy of a text.
-fn no_batch(alloc: Global, before: &str) -> Result<Joined, TextFault>
+fn no_batch(alloc: Global, before: &str) -> Result<Joined, BatchFault>
     ensures { IfOk result (λ joined. IsReached joined before.now) }
 {
     if before.len() > MAX_OLD_TEXT {
-        return Err(TextFault::TooLong);
+        return Err(BatchFault::TooLong);
     }
     Ok(Joined::new(alloc, String::from_str(alloc, before)?)?)
 }
@@ -50,22 +50,22 @@ fn change(
     joined: &mut Joined,
     reached: &mut IndexedText,
     changes: &[Change],
-) -> Result<(), TextFault>
+) -> Result<(), BatchFault>
     requires { IsReached joined.old reached.old }
     ensures { OnOk result (IsReached joined.new reached.new) }
 {
     if reached.len() > MAX_OLD_TEXT || !fits(changes) {
-        return Err(TextFault::TooLong);
+        return Err(BatchFault::TooLong);
     }
     joined.change(Encoding::Utf16, reached, changes, 9)
 }
 
 /// Joins a batch on the text that was reached.
-fn add(joined: &mut Joined, reached: &IndexedText, changes: &[Change]) -> Result<(), TextFault>
+fn add(joined: &mut Joined, reached: &IndexedText, changes: &[Change]) -> Result<(), BatchFault>
     requires { IsReached joined.old reached.now }
 {
     if reached.len() > MAX_OLD_TEXT || !fits(changes) {
-        return Err(TextFault::TooLong);
+        return Err(BatchFault::TooLong);
     }
     joined.add(Encoding::Utf16, reached, changes, 9)
 }
@@ -77,7 +77,7 @@ fn add_both(
     before: &str,
     first: &[Change],
     second: &[Change],
-) -> Result<(), TextFault>
+) -> Result<(), BatchFault>
     requires { IsReached joined.old before.now }
 {
     let mut reached = kept(alloc, before)?;
@@ -91,7 +91,7 @@ fn joined(
     before: &str,
     first: &[Change],
     second: &[Change],
-) -> Result<Vec<Change>, TextFault> {
+) -> Result<Vec<Change>, BatchFault> {
     let mut joined = no_batch(alloc, before)?;
     add_both(&mut joined, alloc, before, first, second)?;
     Ok(joined.canonical(Encoding::Utf16)?)
@@ -103,7 +103,7 @@ fn joined_over(
     before: &str,
     first: &[Change],
     second: &[Change],
-) -> Result<Vec<Change>, TextFault> {
+) -> Result<Vec<Change>, BatchFault> {
     let kept = kept(alloc, before)?;
     let mut joined = Joined::over(alloc, &kept)?;
     add_both(&mut joined, alloc, before, first, second)?;
@@ -146,12 +146,12 @@ fn add_delta(
     joined: &mut Joined,
     reached: &IndexedText,
     changes: &[Change],
-) -> Result<(), TextFault>
+) -> Result<(), BatchFault>
     requires { IsReached joined.old reached.now }
     ensures { OnErr result (joined.new ≡ joined.old) }
 {
     if reached.len() > MAX_OLD_TEXT || !fits(changes) {
-        return Err(TextFault::TooLong);
+        return Err(BatchFault::TooLong);
     }
     let delta = reached.delta(Encoding::Utf16, changes, 9)?;
     joined.add_delta(reached, &delta)?;
@@ -177,7 +177,7 @@ fn is_added(
     reached: &IndexedText,
     changes: &[Change],
     refused: &mut usize,
-) -> Result<bool, TextFault>
+) -> Result<bool, BatchFault>
     requires { IsReached joined.old reached.now }
 {
     if add_delta(joined, reached, changes).is_ok() {
@@ -196,7 +196,7 @@ fn is_joined_again(
     edits: &[Edit],
     count: usize,
     refused: &mut usize,
-) -> Result<bool, TextFault> {
+) -> Result<bool, BatchFault> {
     let changes = batch_again(alloc, edits, refused)?;
     let kept = kept_again(alloc, "abc", refused)?;
     let mut joined = over_again(alloc, &kept, refused)?;

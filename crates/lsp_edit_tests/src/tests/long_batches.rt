@@ -2,7 +2,7 @@
 //! changes where they fail. Ranges are counted in UTF-16.
 
 use super::{applied, kept, kept_again};
-use lsp_edit::{Change, EditFault, IndexedText, MAX_OLD_TEXT, MAX_TEXT, Side, TextFault};
+use lsp_edit::{BatchFault, Change, EditFault, IndexedText, MAX_OLD_TEXT, MAX_TEXT, Side};
 use lsp_samples::edits::{ALL, Edit, batch, batch_again};
 use lsp_text::{Encoding, Lines, Position};
 use std::alloc::{AllocError, Global};
@@ -60,13 +60,13 @@ pub(super) static BATCHES: [Row; 12] = [
 ];
 
 /// A text, a batch, and why it has no result.
-pub(super) type Faulty = (&'static str, &'static [Edit], TextFault);
+pub(super) type Faulty = (&'static str, &'static [Edit], BatchFault);
 
 pub(super) static FAULTS: [Faulty; 3] = [
     (
         "\u{E9}\u{1F600}b",
         &[(0, 0, 0, 1, "x"), (0, 2, 0, 3, "")],
-        TextFault::Edit(EditFault::InsideCharacter {
+        BatchFault::Edit(EditFault::InsideCharacter {
             change: 1,
             side: Side::Start,
         }),
@@ -74,12 +74,12 @@ pub(super) static FAULTS: [Faulty; 3] = [
     (
         "abc\n",
         &[(0, 3, 0, 3, "d"), (0, 0, 0, 0, "x"), (0, 2, 0, 1, "")],
-        TextFault::Edit(EditFault::ReversedRange { change: 2 }),
+        BatchFault::Edit(EditFault::ReversedRange { change: 2 }),
     ),
     (
         "abc\n",
         &[(0, 3, 0, 3, "0123456789"), (0, 0, 0, 0, "x")],
-        TextFault::TooLong,
+        BatchFault::TooLong,
     ),
 ];
 
@@ -157,7 +157,7 @@ static SEVERAL: [Edit; 3] = [
 /// applied again.
 fn is_applied(text: &mut IndexedText, changes: &[Change], refused: &mut usize) -> bool {
     let answer = applied(text, changes, MAX_LEN + 10);
-    if answer != Err(TextFault::NoMemory) {
+    if answer != Err(BatchFault::NoMemory) {
         return answer == Ok(());
     }
     *refused = refused.saturating_add(1);

@@ -3,7 +3,7 @@
 
 use super::{applied, are_applied, canonical_again, kept_again, plain, start_again};
 use lsp_edit::{
-    Change, EditFault, IndexedText, MAX_OLD_TEXT, Pieces, TextFault, compose_buffer, fits,
+    BatchFault, Change, EditFault, IndexedText, MAX_OLD_TEXT, Pieces, compose_buffer, fits,
 };
 use lsp_samples::edits::{Edit, batch_again};
 use lsp_text::Encoding;
@@ -166,10 +166,10 @@ fn is_changed(
     changes: &[Change],
     texts: &(&str, &str),
     refused: &mut usize,
-) -> Result<bool, TextFault> {
+) -> Result<bool, BatchFault> {
     if let Err(fault) = applied(kept, changes, 100) {
         *refused = refused.saturating_add(1);
-        if fault != TextFault::NoMemory || !kept.text().is_text(texts.0) {
+        if fault != BatchFault::NoMemory || !kept.text().is_text(texts.0) {
             return Ok(false);
         }
         applied(kept, changes, 100)?;
@@ -183,7 +183,7 @@ fn is_changed_by(
     edits: &[Edit],
     texts: &(&str, &str),
     refused: &mut usize,
-) -> Result<bool, TextFault> {
+) -> Result<bool, BatchFault> {
     let changes = batch_again(alloc, edits, refused)?;
     is_changed(kept, &changes, texts, refused)
 }
@@ -193,7 +193,7 @@ fn is_changed_by_each(
     alloc: Global,
     kept: &mut IndexedText,
     refused: &mut usize,
-) -> Result<bool, TextFault> {
+) -> Result<bool, BatchFault> {
     for (edit, texts) in EDITS.iter().zip(TEXTS.iter()) {
         if !is_changed_by(alloc, kept, &[*edit], texts, refused)? {
             return Ok(false);
@@ -203,7 +203,7 @@ fn is_changed_by_each(
 }
 
 /// Returns whether the lines of the first text come and go with the changes.
-fn has_its_lines(alloc: Global, refused: &mut usize) -> Result<bool, TextFault> {
+fn has_its_lines(alloc: Global, refused: &mut usize) -> Result<bool, BatchFault> {
     let mut kept = kept_again(alloc, BEFORE, refused)?;
     Ok(is_changed_by_each(alloc, &mut kept, refused)? && kept.text().line_count() == 2)
 }
@@ -217,7 +217,7 @@ fn refused_change_of_a_kept_text(rt: HostRuntime) -> Result<(), Fail> {
 }
 
 /// Returns whether the first text is changed by both changes at once.
-fn is_changed_at_once(alloc: Global, refused: &mut usize) -> Result<bool, TextFault> {
+fn is_changed_at_once(alloc: Global, refused: &mut usize) -> Result<bool, BatchFault> {
     let mut kept = kept_again(alloc, BEFORE, refused)?;
     is_changed_by(alloc, &mut kept, &EDITS, &(BEFORE, AFTER), refused)
 }
@@ -236,7 +236,7 @@ fn is_canonical(
     changes: &[Change],
     wanted: &[Change],
     refused: &mut usize,
-) -> Result<bool, TextFault> {
+) -> Result<bool, BatchFault> {
     let kept = kept_again(alloc, BEFORE, refused)?;
     let canonical = canonical_again(&kept, changes, 100, refused)?;
     Ok(canonical.as_slice() == wanted && kept.text().is_text(BEFORE))

@@ -2,7 +2,7 @@
 //! same fault.
 
 use super::{canonical_again, canonical_of, kept, kept_again};
-use lsp_edit::{Change, EditFault, IndexedText, MAX_OLD_TEXT, TextFault, compose_buffer, fits};
+use lsp_edit::{BatchFault, Change, EditFault, IndexedText, MAX_OLD_TEXT, compose_buffer, fits};
 use lsp_text::{Encoding, Position, Range};
 use std::alloc::{AllocError, Global};
 use std::test::Fail;
@@ -39,9 +39,9 @@ fn at_once(
     alloc: Global,
     text: &IndexedText,
     changes: &[Change],
-) -> Result<Vec<Change>, TextFault> {
+) -> Result<Vec<Change>, BatchFault> {
     if text.len() > MAX_OLD_TEXT || !fits(changes) {
-        return Err(TextFault::TooLong);
+        return Err(BatchFault::TooLong);
     }
     let pieces = compose_buffer(alloc, text.text(), Encoding::Utf16, changes)?;
     Ok(pieces.canonical(Encoding::Utf16)?)
@@ -90,7 +90,7 @@ fn fault_of(
     alloc: Global,
     changes: &[Change],
     max_len: usize,
-) -> Result<Option<TextFault>, AllocError> {
+) -> Result<Option<BatchFault>, AllocError> {
     let text = kept(alloc, LINES)?;
     Ok(canonical_of(&text, changes, max_len).err())
 }
@@ -98,7 +98,7 @@ fn fault_of(
 #[test]
 fn a_fault_of_a_long_batch_has_its_number(rt: HostRuntime) -> Result<(), Fail> {
     let changes = changes_to_a_reversed_one(rt.alloc())?;
-    let fault = TextFault::Edit(EditFault::ReversedRange { change: 2_500 });
+    let fault = BatchFault::Edit(EditFault::ReversedRange { change: 2_500 });
     assert!(rt; fault_of(rt.alloc(), &changes, MAX_OLD_TEXT)? == Some(fault));
     Ok(())
 }
@@ -106,7 +106,7 @@ fn a_fault_of_a_long_batch_has_its_number(rt: HostRuntime) -> Result<(), Fail> {
 #[test]
 fn a_long_batch_may_leave_too_much(rt: HostRuntime) -> Result<(), Fail> {
     let changes = changes(rt.alloc(), 2_500)?;
-    assert!(rt; fault_of(rt.alloc(), &changes, 100)? == Some(TextFault::TooLong));
+    assert!(rt; fault_of(rt.alloc(), &changes, 100)? == Some(BatchFault::TooLong));
     Ok(())
 }
 
@@ -154,7 +154,7 @@ fn deletes_the_first_line(text: &IndexedText, answer: &[Change]) -> bool {
     }
 }
 
-fn are_one_deletion(alloc: Global, refused: &mut usize) -> Result<bool, TextFault> {
+fn are_one_deletion(alloc: Global, refused: &mut usize) -> Result<bool, BatchFault> {
     let text = kept_again(alloc, LINES, refused)?;
     let changes = deletions_again(alloc, refused)?;
     let answer = canonical_again(&text, &changes, MAX_OLD_TEXT, refused)?;

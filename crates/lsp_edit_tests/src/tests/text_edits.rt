@@ -2,7 +2,7 @@
 //! leave, and their faults. In UTF-16.
 
 use super::{applied, kept};
-use lsp_edit::{Change, MAX_OLD_TEXT, Side, TextEdit, TextEditFault, TextFault};
+use lsp_edit::{BatchFault, Change, MAX_OLD_TEXT, Side, TextEdit, TextEditFault};
 use lsp_samples::edits::{Edit, batch, text_edits};
 use lsp_text::Encoding;
 use std::alloc::{AllocError, Global};
@@ -180,7 +180,7 @@ fn as_batch(alloc: Global, text: &str, edits: &[TextEdit]) -> Result<Vec<Change>
 }
 
 /// Returns the text that a batch leaves of another.
-fn left(alloc: Global, text: &str, changes: &[Change]) -> Result<String, TextFault> {
+fn left(alloc: Global, text: &str, changes: &[Change]) -> Result<String, BatchFault> {
     let mut kept = kept(alloc, text)?;
     applied(&mut kept, changes, MAX_OLD_TEXT)?;
     Ok(kept.text().to_string(alloc)?)

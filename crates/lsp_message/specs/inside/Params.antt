@@ -2,11 +2,11 @@
 use Rattle.std.specs.Prelude.{List, Option, IsSomeAnd}
 use Rattle.serde_json.specs.Data.{Items, Members}
 use Rattle.lsp_message.specs.Values.{each_of}
-use Rattle.lsp_message.specs.Params.{EditData, edit_in, change_by, HasChanges}
+use Rattle.lsp_message.specs.Params.{ContentChangeData, content_change_in, change_by, HasChanges}
 
 -- The changes that the items of an array are; none if one of them is no change.
-abbrev pub edits_in : Items → Option (List EditData)
-edits_in items = each_of edit_in items
+abbrev pub edits_in : Items → Option (List ContentChangeData)
+edits_in items = each_of content_change_in items
 
 -- Reading these members and items may take memory.
 abbrev pub MembersMayAllocate : Members → Items → Type 0

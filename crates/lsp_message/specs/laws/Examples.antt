@@ -2,11 +2,11 @@
 use Rattle.std.specs.Prelude.{ℕ, ◌≡◌, pos, negsuc, List, Option, Some, None, option_and_then, codes}
 use Rattle.serde_json.specs.Data.{null, number, unsigned, negative}
 use Rattle.lsp_message.specs.Message.{whole, given, failed, request, response, not_json, not_a_message, message, json_of, reading}
-use Rattle.lsp_message.specs.Params.{EditData, version_in, coordinate_in, edit_in}
+use Rattle.lsp_message.specs.Params.{ContentChangeData, version_in, coordinate_in, content_change_in}
 
 -- The change that a body of JSON is.
-abbrev pub edit_read : List ℕ → Option EditData
-edit_read body = option_and_then edit_in (json_of body)
+abbrev pub edit_read : List ℕ → Option ContentChangeData
+edit_read body = option_and_then content_change_in (json_of body)
 
 -- The rows of the table.
 pub record HoldsOnExamples : Type 0 where

@@ -4,7 +4,7 @@ use Rattle.serde_json.specs.Data.{Num, Data, null, number, string, object, Items
 use Rattle.serde_json.specs.Find.{get_member, as_object, as_str, as_i64}
 use Rattle.lsp_message.specs.Values.{text_in, is_null, is_missing}
 use Rattle.lsp_message.specs.Message.{IdData, whole, text, given, failed, request, notification, response, not_a_message, message, id_in, id_found, message_of}
-use Rattle.lsp_message.specs.Params.{open_by, change_by, close_by, edit_by}
+use Rattle.lsp_message.specs.Params.{open_by, change_by, close_by, content_change_by}
 
 -- The member `jsonrpc`, if there is one.
 abbrev pub version_of : Members → Option Data
@@ -143,4 +143,4 @@ pub record NamedLaw : Type 0 where
   pub closed : (ms others : Members) → AgreeOn (codes "uri" ∷ []) ms others →
       close_by ms ≡ close_by others
   pub edits : (ms others : Members) → AgreeOn (codes "text" ∷ codes "range" ∷ []) ms others →
-      edit_by ms ≡ edit_by others
+      content_change_by ms ≡ content_change_by others

@@ -7,7 +7,7 @@ use Rattle.lsp_text.specs.declared.position.Range.{Range}
 use Rattle.lsp_message.specs.Agreement.{offers_of, announced_of}
 use Rattle.lsp_message.specs.Message.{IdData, whole, text, given, failed, MessageData, request, notification, response, message, reading}
 use Rattle.lsp_message.specs.Outgoing.{OutgoingData, body_of, initialize, initialized, did_open, did_change, did_close, shutdown, exit, initialize_result, shutdown_result, error_reply}
-use Rattle.lsp_message.specs.Params.{DocumentItem, EditData, ChangeData, open_of, change_of, close_of}
+use Rattle.lsp_message.specs.Params.{DocumentItem, ContentChangeData, ChangeData, open_of, change_of, close_of}
 use Rattle.lsp_message.specs.Written.{initialize_params, open_params, change_params, close_params, initialize_value}
 
 -- ---- messages as the types hold them: numbers in their ranges, and texts in UTF-8
@@ -35,7 +35,7 @@ pub record IsProperRange (r : Range) : Type 0 where
   pub stop : IsProperPosition r.stop
 
 -- The range, if there is one, is such a range, and the text is UTF-8.
-pub record IsProperEdit (e : EditData) : Type 0 where
+pub record IsProperEdit (e : ContentChangeData) : Type 0 where
   pub range : IfSome e.range IsProperRange
   pub text : IsUtf8 e.text
 

@@ -8,7 +8,7 @@ use Rattle.lsp_frame.specs.Limits.{LimitsData, AreInRange}
 use Rattle.lsp_text.specs.declared.encoding.Encoding.{Encoding}
 use Rattle.lsp_text.specs.Units.{units_in}
 use Rattle.lsp_edit.specs.Items.{Item}
-use Rattle.lsp_edit.specs.Batch.{Edit, meaning}
+use Rattle.lsp_edit.specs.Batch.{ContentChange, meaning}
 use Rattle.lsp_edit.specs.Canonical.{canonical}
 use Rattle.lsp_edit.specs.laws.Batches.{IsCanonical}
 use Rattle.lsp_edit.proofs.Batches.LawLemmas.{canonical_law, units_some}
@@ -26,7 +26,9 @@ use Rattle.lsp_store.specs.Limits.{AreWithin}
 use Rattle.lsp_store.proofs.Tables.FirstLemmas.{first_none, later_none}
 use Rattle.lsp_store.proofs.Messages.MessageLemmas.{Accepts, accepted_parts, batch_at, proper}
 use Rattle.lsp_store.proofs.Messages.ScalarLemmas.{canonical_texts}
-use Rattle.lsp_store.proofs.LawLemmas.{MayChange, change_parts, within_at, within_changed, found_changed, greater_limits_law, canonical_batch_law, whole_text_law}
+use Rattle.lsp_store.proofs.LawLemmas.{found_changed, whole_text_law}
+use Rattle.lsp_store.proofs.WithinLemmas.{within_at, within_changed}
+use Rattle.lsp_store.proofs.GreaterLemmas.{MayChange, change_parts, greater_limits_law, canonical_batch_law}
 use Rattle.lsp_server.specs.declared.phase.Phase.{Phase}
 use Rattle.lsp_server.specs.declared.phase.Phase.TheVariants.{Running}
 use Rattle.lsp_server.specs.Answer as answer
@@ -73,7 +75,7 @@ sent_short limits kind table command e =
 
 -- what is true of the batch that is sent in place of one that was accepted
 pub record IsSentBatch (small great : LimitsData) (encoding : Encoding) (table : List DocumentItem) (uri : List ℕ)
-    (version : ℤ) (batch other_batch : List Edit) : Type 0 where
+    (version : ℤ) (batch other_batch : List ContentChange) : Type 0 where
   pub done : IsReplacedBy great (units_in encoding) table uri version batch other_batch
   pub texts : AreTexts other_batch
   pub proper_message : IsProper (change_message uri version other_batch)
@@ -89,7 +91,7 @@ whole_proper uri version bytes u v b =
     }
 
 module _ (small great : LimitsData) (encoding : Encoding) (table : List DocumentItem) (uri : List ℕ) (version : ℤ)
-    (batch : List Edit) (ranges : AreInRange small) (within : AreWithin small great)
+    (batch : List ContentChange) (ranges : AreInRange small) (within : AreWithin small great)
     (kept : AllWithin small table) (edits : IsProperEdits uri version batch)
     (may : change_refusal small (units_in encoding) table uri version batch ≡ None) where
   parts : MayChange small (units_in encoding) table uri version batch
@@ -98,7 +100,8 @@ module _ (small great : LimitsData) (encoding : Encoding) (table : List Document
   entry_within : IsWithin small parts.entry
   entry_within = within_at small table uri parts.entry kept parts.is_open
 
-  laws : (some : List Edit) (items : List Item) → meaning (units_in encoding) (chars parts.entry.text) some ≡ Ok items
+  laws : (some : List ContentChange) (items : List Item) → meaning (units_in encoding)
+      (chars parts.entry.text) some ≡ Ok items
       → IsCanonical (units_in encoding) (chars parts.entry.text) some items
   laws some items means = canonical_law (units_in encoding) (units_some encoding) (chars parts.entry.text) some items
       means
@@ -121,7 +124,7 @@ module _ (small great : LimitsData) (encoding : Encoding) (table : List Document
         (laws batch parts_accepts.items parts_accepts.means) (scalars-chars parts.entry.text entry_within.utf8)
         edits.texts parts_accepts.means);
     proper_message =
-        subst (λ (b : List Edit). IsProper (change_message uri version b)) (sym canonical_is)
+        subst (λ (b : List ContentChange). IsProper (change_message uri version b)) (sym canonical_is)
         (proper small encoding table uri version parts.entry parts.is_open laws edits.name edits.fits entry_within.utf8
         (omega (arith, entry_within.short, ranges.greatest_text)) body_of-unique batch parts_accepts.items edits.texts
         parts_accepts.means);
@@ -145,7 +148,7 @@ module _ (small great : LimitsData) (encoding : Encoding) (table : List Document
       tt,
     );
     proper_message =
-        subst (λ (b : List Edit). IsProper (change_message uri version b)) (sym whole_is)
+        subst (λ (b : List ContentChange). IsProper (change_message uri version b)) (sym whole_is)
         (whole_proper uri version (changed (units_in encoding) parts.entry version batch).text edits.name edits.fits
         left.utf8);
   }
@@ -244,20 +247,21 @@ module _ (small great : LimitsData) (encoding : Encoding) (kind : SyncKind) (s :
       record { written = ap (step_on s) (read_close p is) ∙ done; given = done }
 
   -- a batch that does the same as the one that was given
-  change_done : (uri : List ℕ) (version : ℤ) (batch other : List Edit) → AreTexts other
+  change_done : (uri : List ℕ) (version : ℤ) (batch other : List ContentChange) → AreTexts other
       → IsReplacedBy great (units_in encoding) s.table uri version batch other
       → step_on s (incoming.did_change
       (Some (record { uri = uri; version = version; changes = map written_edit other })))
       ≡ done_by s (after_change (units_in encoding) s.table uri version batch)
   change_done uri version batch other texts is =
       run_change s (record { uri = uri; version = version; changes = map written_edit other }) running
-      ∙ (ap (λ (b : List Edit). command_step s (changes uri version (session_encoding s) b)) (edits_back other texts)
+      ∙ (ap (λ (b : List ContentChange). command_step s (changes uri version (session_encoding s) b))
+      (edits_back other texts)
       ∙ (ap (λ (e : Encoding). command_step s (changes uri version e other)) encoding_is
       ∙ (obeys_done s (changes uri version encoding other) (accepted_here (changes uri version encoding other)
       is.accepted)
       ∙ ap (done_by s) is.leaves)))
 
-  change_served : (uri : List ℕ) (version : ℤ) (batch : List Edit) → IsProperEdits uri version batch
+  change_served : (uri : List ℕ) (version : ℤ) (batch : List ContentChange) → IsProperEdits uri version batch
       → order_refusal small kind s.table (changes uri version encoding batch) ≡ None
       → IsServedAs s kind (changes uri version encoding batch)
   unfolding sent_body
@@ -265,7 +269,7 @@ module _ (small great : LimitsData) (encoding : Encoding) (kind : SyncKind) (s :
       let accepted : change_refusal small (units_in encoding) s.table uri version batch ≡ None =
       may_command small kind s.table (changes uri version encoding batch) may in
       let t = batch_sent small great encoding s.table uri version batch ranges within kept is accepted kind in
-      let other_batch : List Edit = sent_batch kind (units_in encoding) s.table uri version batch in
+      let other_batch : List ContentChange = sent_batch kind (units_in encoding) s.table uri version batch in
       record {
         written = ap (step_on s) (read_change (record {
           uri = uri;

@@ -9,7 +9,7 @@ use Rattle.lsp_message.specs.Outgoing.{OutgoingData}
 use Rattle.lsp_message.specs.Params.{DocumentItem}
 use Rattle.lsp_store.specs.Table.{Command, opens, changes, closes, table_after}
 use Rattle.lsp_store.specs.laws.Tables.{AllWithin, HasTexts}
-use Rattle.lsp_store.proofs.LawLemmas.{within_law}
+use Rattle.lsp_store.proofs.WithinLemmas.{within_law}
 use Rattle.lsp_server.specs.declared.phase.Phase as server_phase
 use Rattle.lsp_server.specs.declared.phase.Phase.TheVariants as server_phases
 use Rattle.lsp_server.specs.Choice.{encoding_chosen, announced_kind}

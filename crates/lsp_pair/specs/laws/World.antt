@@ -3,7 +3,7 @@
 use Rattle.std.specs.Prelude.{ℕ, ℤ, ◌+◌, List, [], ◌∷◌, ◌++◌, take, map, slice_get, FitsSigned, IsUtf8, Option, Some, None, Result, Ok, Err, ⊤}
 use Rattle.std.specs.Int.{w32}
 use Rattle.lsp_text.specs.declared.encoding.Encoding.{Encoding}
-use Rattle.lsp_edit.specs.Batch.{Edit}
+use Rattle.lsp_edit.specs.Batch.{ContentChange}
 use Rattle.lsp_message.specs.Message.{message}
 use Rattle.lsp_message.specs.Outgoing as outgoing
 use Rattle.lsp_message.specs.Outgoing.{OutgoingData}
@@ -194,7 +194,7 @@ world_of setting events = world_from setting beginning events
 -- ---- events as their types contain them: versions in 32 bits, texts in UTF-8
 
 -- The version is in the range of `i32`, the URI is UTF-8, and the texts are lists of scalar values.
-pub record IsProperEdits (uri : List ℕ) (version : ℤ) (batch : List Edit) : Type 0 where
+pub record IsProperEdits (uri : List ℕ) (version : ℤ) (batch : List ContentChange) : Type 0 where
   pub name : IsUtf8 uri
   pub fits : FitsSigned w32 version
   pub texts : AreTexts batch

@@ -5,7 +5,7 @@ use Rattle.serde_json.specs.Data.{Data, null as null_data, Members}
 use Rattle.serde_json.specs.Find.{get_member, as_object, as_array}
 use Rattle.lsp_message.specs.Seen.{edit_view}
 use Rattle.lsp_message.specs.Values.{is_null, member_at, members_in, array_in, each_of}
-use Rattle.lsp_message.specs.Params.{position_in, range_of, edit_in}
+use Rattle.lsp_message.specs.Params.{position_in, range_of, content_change_in}
 use Rattle.lsp_reader.specs.declared.opening.Opening.{Opening}
 use Rattle.lsp_reader.specs.declared.opening.Opening.TheVariants as opening
 use Rattle.lsp_reader.specs.declared.scalar.Scalar.{Scalar}
@@ -73,7 +73,7 @@ abbrev pub IsParamsOf : ParamsMembers → Option Data → Type 0
 IsParamsOf p value =
     IsDocumentIn p.document (members_in (member_at (codes "textDocument") value))
     × (option_map (λ v. map edit_view v.items) p.changes
-    ≡ option_and_then (each_of edit_in) (array_in (member_at (codes "contentChanges") value)))
+    ≡ option_and_then (each_of content_change_in) (array_in (member_at (codes "contentChanges") value)))
 
 -- These are what is kept of the members of a message.
 abbrev pub IsMessageOf : MessageMembers → Members → Type 0

@@ -8,7 +8,7 @@ use Rattle.lsp_frame.specs.Limits.{AreInRange}
 use Rattle.lsp_text.specs.Units.{units_in}
 use Rattle.lsp_text.specs.declared.encoding.Encoding.{Encoding}
 use Rattle.lsp_edit.specs.Items.{Item, text_of}
-use Rattle.lsp_edit.specs.Batch.{Edit, meaning}
+use Rattle.lsp_edit.specs.Batch.{ContentChange, meaning}
 use Rattle.lsp_edit.specs.Canonical.{canonical}
 use Rattle.lsp_edit.specs.Compose.{then_items}
 use Rattle.lsp_edit.specs.laws.Batches.{IsCanonical}
@@ -33,7 +33,7 @@ use Rattle.lsp_replay.proofs.Records.PutLemmas.{put, change_puts}
 use Rattle.lsp_replay.proofs.Canonical.SettledLemmas.{asks_back}
 
 -- what a document's URI, version and text must be
-pub record IsProperAt (t : ServerData) (uri : List ℕ) (version : ℤ) (entry : DocumentItem) (batch : List Edit)
+pub record IsProperAt (t : ServerData) (uri : List ℕ) (version : ℤ) (entry : DocumentItem) (batch : List ContentChange)
     (items : List Item) : Type 0 where
   pub found : entry_at t.table uri ≡ Some entry
   pub utf8 : IsUtf8 entry.text
@@ -48,7 +48,7 @@ pub record IsProperAt (t : ServerData) (uri : List ℕ) (version : ℤ) (entry :
       (length (canonical (units_in (session_encoding t)) (chars entry.text) items)) ≡ false
 
 -- the batch, and the change that asks for it
-abbrev pub canonical_at : ServerData → DocumentItem → List Item → List Edit
+abbrev pub canonical_at : ServerData → DocumentItem → List Item → List ContentChange
 canonical_at t entry items = canonical (units_in (session_encoding t)) (chars entry.text) items
 
 abbrev pub canonical_change : ServerData → List ℕ → ℤ → DocumentItem → List Item → ChangeData
@@ -75,12 +75,14 @@ pub record IsCanonicalChange (t : ServerData) (uri : List ℕ) (version : ℤ) (
         version = version;
       }
 
-module _ (t : ServerData) (uri : List ℕ) (version : ℤ) (entry : DocumentItem) (batch : List Edit) (items : List Item)
+module _ (t : ServerData) (uri : List ℕ) (version : ℤ) (entry : DocumentItem) (batch : List ContentChange)
+    (items : List Item)
     (ranges : AreInRange t.config.limits) (at : IsProperAt t uri version entry batch items) where
   units : ℕ → ℕ
   units = units_in (session_encoding t)
 
-  laws : (some : List Edit) (others : List Item) → meaning (units_in (session_encoding t)) (chars entry.text) some
+  laws : (some : List ContentChange) (others : List Item) → meaning (units_in (session_encoding t))
+      (chars entry.text) some
       ≡ Ok others → IsCanonical (units_in (session_encoding t)) (chars entry.text) some others
   laws some others means = canonical_law (units_in (session_encoding t)) (units_some (session_encoding t))
       (chars entry.text) some others means
@@ -121,7 +123,7 @@ module _ (t : ServerData) (uri : List ℕ) (version : ℤ) (entry : DocumentItem
       ap (λ (table : List DocumentItem). record t { table = table })
       (change_puts (units_in (session_encoding t)) t.table uri version
       (map edit_from_data (map written_edit (canonical_at t entry items))) entry at.found
-      ∙ ap (λ (b : List Edit). put t.table uri version
+      ∙ ap (λ (b : List ContentChange). put t.table uri version
       (meant_text entry.text (meaning (units_in (session_encoding t)) (chars entry.text) b))) back
       ∙ ap (λ m. put t.table uri version (meant_text entry.text m)) law.means)
 
@@ -137,7 +139,7 @@ module _ (t : ServerData) (uri : List ℕ) (version : ℤ) (entry : DocumentItem
         version = version;
       }
   joins_on squash encoding text =
-      ap (λ (b : List Edit). record squash {
+      ap (λ (b : List ContentChange). record squash {
         items = then_items squash.items
             (items_meant (meaning (units_in squash.encoding) (text_of (chars squash.text) squash.items) b));
         version = version;

@@ -8,7 +8,7 @@ use Rattle.lsp_frame.proofs.LawLemmas.{injective_law}
 use Rattle.lsp_text.specs.Units.{units_in}
 use Rattle.lsp_text.specs.declared.encoding.Encoding.{Encoding}
 use Rattle.lsp_edit.specs.Items.{Item}
-use Rattle.lsp_edit.specs.Batch.{Edit, meaning}
+use Rattle.lsp_edit.specs.Batch.{ContentChange, meaning}
 use Rattle.lsp_edit.specs.Canonical.{canonical}
 use Rattle.lsp_edit.specs.laws.Batches.{IsCanonical}
 use Rattle.lsp_edit.proofs.Batches.LawLemmas.{canonical_law, units_some}
@@ -21,7 +21,7 @@ use Rattle.lsp_store.proofs.Tables.FirstLemmas.{first_none}
 use Rattle.lsp_store.proofs.Messages.MessageLemmas.{Accepts, accepted_parts, body_within, is_settled, is_read}
 use Rattle.lsp_store.proofs.Messages.ScalarLemmas.{canonical_texts}
 use Rattle.lsp_store.specs.laws.Tables.{IsWithin}
-use Rattle.lsp_store.proofs.LawLemmas.{within_at}
+use Rattle.lsp_store.proofs.WithinLemmas.{within_at}
 use Rattle.lsp_server.specs.declared.phase.Phase.{Phase}
 use Rattle.lsp_server.specs.declared.phase.Phase.TheVariants.{New, Running, Down, Ended}
 use Rattle.lsp_server.specs.Incoming.{did_change, incoming_of}
@@ -35,7 +35,7 @@ use Rattle.lsp_replay.proofs.Records.StateLemmas.{IsHeldState}
 -- ---- refusals
 
 open_one : (limits : LimitsData) (units : ℕ → ℕ) (table : List DocumentItem) (uri : List ℕ) (version : ℤ)
-    (batch : List Edit) → change_refusal limits units table uri version batch ≡ None
+    (batch : List ContentChange) → change_refusal limits units table uri version batch ≡ None
     → (entry : DocumentItem) × (entry_at table uri ≡ Some entry)
 open_one limits units table uri version batch e = by (entry_at table uri) refl e
   where
@@ -46,7 +46,7 @@ open_one limits units table uri version batch e = by (entry_at table uri) refl e
 
 -- ---- a batch is read back as it was written
 
-pub asks_back : (uri : List ℕ) (version : ℤ) (batch : List Edit) → IsReadAgain uri version batch
+pub asks_back : (uri : List ℕ) (version : ℤ) (batch : List ContentChange) → IsReadAgain uri version batch
     → incoming_of (reading (change_body uri version batch))
     ≡ did_change (Some (record { uri = uri; version = version; changes = map written_edit batch }))
 unfolding change_body
@@ -89,7 +89,7 @@ module _ (server : ServerData) (p : ChangeData) (ranges : AreInRange server.conf
   abbrev encoding : Encoding
   encoding = session_encoding server
 
-  abbrev batch : List Edit
+  abbrev batch : List ContentChange
   batch = map edit_from_data p.changes
 
   abbrev entry : DocumentItem
@@ -101,7 +101,8 @@ module _ (server : ServerData) (p : ChangeData) (ranges : AreInRange server.conf
   text_held : IsWithin server.config.limits entry
   text_held = within_at server.config.limits server.table p.uri entry received.table is_open
 
-  laws : (some : List Edit) (items : List Item) → meaning (units_in encoding) (chars entry.text) some ≡ Ok items
+  laws : (some : List ContentChange) (items : List Item) → meaning (units_in encoding) (chars entry.text) some
+      ≡ Ok items
       → IsCanonical (units_in encoding) (chars entry.text) some items
   laws some items means = canonical_law (units_in encoding) (units_some encoding) (chars entry.text) some items means
 
@@ -111,7 +112,7 @@ module _ (server : ServerData) (p : ChangeData) (ranges : AreInRange server.conf
   accepts : Accepts server.config.limits (units_in encoding) entry p.version batch
   accepts = accepted_parts server.config.limits (units_in encoding) entry p.version batch may_here
 
-  abbrev settled : List Edit
+  abbrev settled : List ContentChange
   settled = canonical_batch (units_in encoding) server.table p.uri batch
 
   body_fits : body_refusal server.config.limits (canonical_body (units_in encoding) server.table p.uri p.version batch)

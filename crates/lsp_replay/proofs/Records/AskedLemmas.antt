@@ -16,7 +16,7 @@ use Rattle.serde_json.specs.Read.{read}
 use Rattle.lsp_message.specs.Values.{member_at, text_in, array_in, each_of, whole_in}
 use Rattle.lsp_message.specs.Message as msg
 use Rattle.lsp_message.specs.Message.{IdData, whole, text, OutcomeData, Reading, MessageData, id_in, json_of, message_of, reading}
-use Rattle.lsp_message.specs.Params.{DocumentItem, EditData, ChangeData, open_of, open_by, change_of, change_by, document_in, document_and_changes, edit_by, edit_in, range_of, version_in, version_from}
+use Rattle.lsp_message.specs.Params.{DocumentItem, ContentChangeData, ChangeData, open_of, open_by, change_of, change_by, document_in, document_and_changes, content_change_by, content_change_in, range_of, version_in, version_from}
 use Rattle.lsp_message.specs.laws.Sent.{IsProperId}
 use Rattle.lsp_server.specs.Incoming.{IncomingData, not_json, not_a_message, response, initialize, shutdown, other_request, exit, did_open, did_change, did_close, other_notification, incoming_by, incoming_of}
 use Rattle.lsp_server.specs.Step.{edit_from_data}
@@ -201,16 +201,16 @@ opened_held : (params : Option Data) → OnSome IsHeld params → OnSome IsTextO
 opened_held params received = on_then MembersAreHeld IsTextOpened open_by open_held (document_in params)
     (document_held params received)
 
-abbrev IsEditHeld : EditData → Type 0
+abbrev IsEditHeld : ContentChangeData → Type 0
 IsEditHeld e = IsUtf8 e.text
 
-abbrev AreEditsHeld : List EditData → Type 0
+abbrev AreEditsHeld : List ContentChangeData → Type 0
 AreEditsHeld [] = ⊤
 AreEditsHeld (e ∷ es) = IsEditHeld e × AreEditsHeld es
 
-edit_held : (d : Data) → IsHeld d → OnSome IsEditHeld (edit_in d)
+edit_held : (d : Data) → IsHeld d → OnSome IsEditHeld (content_change_in d)
 edit_held d received =
-    on_then MembersAreHeld IsEditHeld edit_by
+    on_then MembersAreHeld IsEditHeld content_change_by
     (λ ms h. on_then IsUtf8 IsEditHeld _
     (λ t u. on_then (λ range. ⊤) IsEditHeld _ (λ range i. u) (range_of (get_member (codes "range") ms))
     (any (range_of (get_member (codes "range") ms))))
@@ -218,14 +218,15 @@ edit_held d received =
     (held_text (get_member (codes "text") ms) (held_member (codes "text") ms h)))
     (as_object d) (object_held d received)
 
-edits_held : (ds : Items) → ItemsAreHeld ds → OnSome AreEditsHeld (each_of edit_in ds)
+edits_held : (ds : Items) → ItemsAreHeld ds → OnSome AreEditsHeld (each_of content_change_in ds)
 edits_held no_items received = tt
 edits_held (item d ds) received =
     on_then IsEditHeld AreEditsHeld _
-    (λ e u. on_then AreEditsHeld AreEditsHeld _ (λ es us. (u, us)) (each_of edit_in ds) (edits_held ds received.1))
-    (edit_in d) (edit_held d received.0)
+    (λ e u. on_then AreEditsHeld AreEditsHeld _ (λ es us. (u, us)) (each_of content_change_in ds)
+    (edits_held ds received.1))
+    (content_change_in d) (edit_held d received.0)
 
-texts_of_edits : (es : List EditData) → AreEditsHeld es → AreTexts (map edit_from_data es)
+texts_of_edits : (es : List ContentChangeData) → AreEditsHeld es → AreTexts (map edit_from_data es)
 texts_of_edits [] received = tt
 texts_of_edits (e ∷ es) received = (scalars-chars e.text received.0, texts_of_edits es received.1)
 
@@ -247,7 +248,7 @@ change_held ms ds received also =
       uri = u;
       version = fits;
       texts = texts_of_edits es us;
-    }) (each_of edit_in ds) (edits_held ds also))
+    }) (each_of content_change_in ds) (edits_held ds also))
     (version_in (get_member (codes "version") ms)) (version_fits (get_member (codes "version") ms)))
     (text_in (get_member (codes "uri") ms))
     (held_text (get_member (codes "uri") ms) (held_member (codes "uri") ms received))

@@ -3,7 +3,7 @@ use Rattle.std.proofs.Common.{◌≡◌, ℕ, ℤ, true, false, List, [], ◌∷
 use Rattle.std.specs.Prelude.{if◌then◌else◌}
 use Rattle.std.proofs.lemmas.Bool.{cases_Bool}
 use Rattle.std.specs.Str.{chars}
-use Rattle.lsp_edit.specs.Batch.{Edit, meaning}
+use Rattle.lsp_edit.specs.Batch.{ContentChange, meaning}
 use Rattle.lsp_message.specs.Params.{DocumentItem}
 use Rattle.lsp_store.specs.Table.{after_change, entry_at, meant_text}
 
@@ -15,7 +15,7 @@ put (entry ∷ table) uri version text =
       text = text;
     } ∷ table else entry ∷ put table uri version text
 
-pub change_puts : (units : ℕ → ℕ) (table : List DocumentItem) (uri : List ℕ) (version : ℤ) (batch : List Edit)
+pub change_puts : (units : ℕ → ℕ) (table : List DocumentItem) (uri : List ℕ) (version : ℤ) (batch : List ContentChange)
     (entry : DocumentItem) → entry_at table uri ≡ Some entry
     → after_change units table uri version batch
     ≡ put table uri version (meant_text entry.text (meaning units (chars entry.text) batch))

@@ -7,7 +7,7 @@ use Rattle.lsp_text.specs.Units.{units_in}
 use Rattle.lsp_message.specs.Params.{DocumentItem, ChangeData}
 use Rattle.lsp_store.specs.Table.{Refusal, already_open, too_many_documents, text_too_long, after_close, is_taken, open_refusal, change_refusal, close_refusal, unless_refused}
 use Rattle.lsp_store.specs.laws.Tables.{AllWithin}
-use Rattle.lsp_store.proofs.LawLemmas.{within_end, within_change, within_close}
+use Rattle.lsp_store.proofs.WithinLemmas.{within_end, within_change, within_close}
 use Rattle.lsp_server.specs.declared.phase.Phase.{Phase}
 use Rattle.lsp_server.specs.declared.phase.Phase.TheVariants.{New, Running, Down, Ended}
 use Rattle.lsp_server.specs.Incoming.{IncomingData, not_json, not_a_message, response, initialize, shutdown, other_request, exit, did_open, did_change, did_close, other_notification}

@@ -3,7 +3,7 @@ use Rattle.std.proofs.Common.{◌≡◌, ℕ, Bool, true, false, List, [], ◌�
 use Rattle.std.specs.Prelude.{ℤ, ◌&&◌, if◌then◌else◌}
 use Rattle.std.proofs.lemmas.Slice.Eq.{bytes_eq-Decides}
 use Rattle.lsp_text.specs.Units.{units_in}
-use Rattle.lsp_edit.specs.Batch.{Edit}
+use Rattle.lsp_edit.specs.Batch.{ContentChange}
 use Rattle.lsp_message.specs.Message.{reading}
 use Rattle.lsp_message.specs.Params.{DocumentItem}
 use Rattle.lsp_store.specs.Table.{Refusal, entry_at, changed, after_open, after_change, after_close, close_refusal, change_refusal, open_refusal, unless_refused}
@@ -35,7 +35,7 @@ differs : (uri other entry : List ℕ) → bytes_eq uri other ≡ false → byte
     ≡ false
 differs uri other entry differ same = ap (bytes_eq uri) (sym ((bytes_eq-Decides other entry).0 same)) ∙ differ
 
-same_changed : (units : ℕ → ℕ) (table : List DocumentItem) (other : List ℕ) (version : ℤ) (batch : List Edit)
+same_changed : (units : ℕ → ℕ) (table : List DocumentItem) (other : List ℕ) (version : ℤ) (batch : List ContentChange)
     (uri : List ℕ) → bytes_eq uri other ≡ false → entry_at (after_change units table other version batch) uri
     ≡ entry_at table uri
 same_changed units [] other version batch uri differ = refl

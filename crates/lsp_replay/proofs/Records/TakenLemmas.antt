@@ -13,7 +13,7 @@ use Rattle.lsp_store.specs.Faults.{refusal_fault}
 use Rattle.lsp_store.specs.Opened.{StoreData}
 use Rattle.lsp_store.specs.Plan.{IsBodyOfPlan, IsMessageFault, IsMessageOfPlan, IsPlanOf, IsPlanOn}
 use Rattle.lsp_store.specs.Message.{canonical_body}
-use Rattle.lsp_edit.specs.Batch.{Edit}
+use Rattle.lsp_edit.specs.Batch.{ContentChange}
 use Rattle.lsp_store.specs.Squash.{HasReached, IsSquashOfPlan, SquashData, squash_of}
 use Rattle.lsp_store.specs.Table.{Refusal, changed as changed_entry}
 use Rattle.lsp_text.specs.Units.{units_in}
@@ -320,7 +320,8 @@ module _ (server : ServerData) (p : ChangeData) (plan : Plan) (q : IsPlanOfChang
   -- what is said of a plan on the store is said of its change
   module _ (store : StoreData) (same : store ≡ store_of server) where
     pub plan_written : (a : Appended) (old new : List ℕ)
-        → ((uri : List ℕ) (version : ℤ) (encoding : Encoding) (batch : List Edit) → IsPlanOf store uri version encoding
+        → ((uri : List ℕ) (version : ℤ) (encoding : Encoding) (batch : List ContentChange)
+        → IsPlanOf store uri version encoding
         batch plan
         → IsAppended store.limits.max_body (Some (canonical_body (units_in encoding) store.table uri version batch))
         (Some a) old new)
@@ -333,7 +334,7 @@ module _ (server : ServerData) (p : ChangeData) (plan : Plan) (q : IsPlanOfChang
         (Some (canonical_body (units_in (session_encoding server)) d.table p.uri p.version
         (map edit_from_data p.changes))) (Some a) old new) same written)
 
-    pub plan_kept : (Q : Type 0) → ((uri : List ℕ) (version : ℤ) (encoding : Encoding) (batch : List Edit)
+    pub plan_kept : (Q : Type 0) → ((uri : List ℕ) (version : ℤ) (encoding : Encoding) (batch : List ContentChange)
         → IsPlanOf store uri version encoding batch plan → Q) → Q
     plan_kept Q kept = kept p.uri p.version (session_encoding server) (map edit_from_data p.changes)
         (plan_on_store (store_of server) store p (session_encoding server) plan same q)
@@ -406,7 +407,7 @@ module _ (server : ServerData) (p : ChangeData) (plan : Plan) (q : IsPlanOfChang
         plan_longer next squash at uri (subst (λ (d : StoreData). IsSquashOfPlan d plan squash next) same added)
 
 module _ (store : StoreData) (plan : Plan) where
-  pub body_appended : (old new : List ℕ) (uri : List ℕ) (version : ℤ) (encoding : Encoding) (batch : List Edit)
+  pub body_appended : (old new : List ℕ) (uri : List ℕ) (version : ℤ) (encoding : Encoding) (batch : List ContentChange)
       → IsPlanOf store uri version encoding batch plan → IsBodyOfPlan store plan old new
       → IsAppended store.limits.max_body (Some (canonical_body (units_in encoding) store.table uri version batch))
       (Some Body) old new
@@ -414,7 +415,7 @@ module _ (store : StoreData) (plan : Plan) where
       let both = body uri version encoding batch q in
       (both.0, within store.limits _ _ q.accepted both.1)
 
-  pub body_kept : (old new : List ℕ) (uri : List ℕ) (version : ℤ) (encoding : Encoding) (batch : List Edit)
+  pub body_kept : (old new : List ℕ) (uri : List ℕ) (version : ℤ) (encoding : Encoding) (batch : List ContentChange)
       → IsPlanOf store uri version encoding batch plan → IsBodyOfPlan store plan old new → length old ≤ length new
   body_kept old new uri version encoding batch q body =
       let both = body uri version encoding batch q in
@@ -425,7 +426,8 @@ module _ (store : StoreData) (plan : Plan) where
       )
 
   pub body_too_long : (fault : StoreFault) → fault ≢ NoMemory → IsMessageFault store plan fault
-      → (uri : List ℕ) (version : ℤ) (encoding : Encoding) (batch : List Edit) → IsPlanOf store uri version encoding
+      → (uri : List ℕ) (version : ℤ) (encoding : Encoding) (batch : List ContentChange)
+      → IsPlanOf store uri version encoding
       batch plan
       → store.limits.max_body < length (canonical_body (units_in encoding) store.table uri version batch)
   body_too_long fault other why uri version encoding batch q =

@@ -4,7 +4,7 @@ use Rattle.std.specs.Prelude.{if◌then◌else◌, ℤ}
 use Rattle.std.proofs.lemmas.Slice.Eq.{bytes_eq-Decides}
 use Rattle.lsp_text.specs.Units.{units_in}
 use Rattle.lsp_text.specs.declared.encoding.Encoding.{Encoding}
-use Rattle.lsp_edit.specs.Batch.{Edit}
+use Rattle.lsp_edit.specs.Batch.{ContentChange}
 use Rattle.lsp_message.specs.Message.{reading}
 use Rattle.lsp_message.specs.Params.{DocumentItem, CloseData}
 use Rattle.lsp_store.specs.Table.{Refusal, entry_at, changed, after_open, after_change, after_close, close_refusal, change_refusal, open_refusal, unless_refused}
@@ -45,7 +45,7 @@ last_found (x ∷ table) entry uri is e = by (bytes_eq uri x.uri) (last_found ta
     by true later f = let wrong : Some x ≡ None = f in cc
     by false later f = later f
 
-stays_changed : (units : ℕ → ℕ) (table : List DocumentItem) (other : List ℕ) (version : ℤ) (batch : List Edit)
+stays_changed : (units : ℕ → ℕ) (table : List DocumentItem) (other : List ℕ) (version : ℤ) (batch : List ContentChange)
     (uri : List ℕ) → Stays table (after_change units table other version batch) uri
 stays_changed units [] other version batch uri e = refl
 stays_changed units (x ∷ table) other version batch uri e =

@@ -15,13 +15,13 @@ use Rattle.lsp_text.proofs.Positions.PositionLemmas.{denoted_whole}
 use Rattle.lsp_text.proofs.Positions.ResolveLemmas.{chars_part}
 use Rattle.lsp_edit.specs.declared.change.Change.{Change}
 use Rattle.lsp_edit.specs.Items.{New, text_of}
-use Rattle.lsp_edit.specs.Batch.{Edit, Fault, InsideStart, InsideStop, Reversed, meaning}
-use Rattle.lsp_edit.specs.Edited.{edit_of}
+use Rattle.lsp_edit.specs.Batch.{ContentChange, Fault, InsideStart, InsideStop, Reversed, meaning}
+use Rattle.lsp_edit.specs.Edited.{content_change}
 use Rattle.lsp_edit.specs.Faults.{ends_of, fault_at, places_at}
-use Rattle.lsp_edit.specs.Indexed.{alone, text_fault_of, text_within}
+use Rattle.lsp_edit.specs.Indexed.{alone, batch_fault_of, text_within}
 use Rattle.lsp_edit.specs.declared.fault.EditFault.{EditFault}
-use Rattle.lsp_edit.specs.declared.indexed.fault.TextFault.{TextFault}
-use Rattle.lsp_edit.specs.declared.indexed.fault.TextFault.TheVariants.{NoMemory}
+use Rattle.lsp_edit.specs.declared.indexed.fault.BatchFault.{BatchFault}
+use Rattle.lsp_edit.specs.declared.indexed.fault.BatchFault.TheVariants.{NoMemory}
 use Rattle.lsp_edit.proofs.Composing.AppliedLemmas.{ends_told}
 use Rattle.lsp_edit.proofs.Deltas.InPlaceLemmas.{range_fault, range_too_long, range_within, replaced_len}
 use Rattle.lsp_edit.proofs.Parts.CutLemmas.{text_of-new}
@@ -106,15 +106,15 @@ long_text change = ap length (encodes-chars (string_bytes change.text) (IsUtf8-s
     ∙ sym change.text.bytes.ok.0
 
 module _ (units : ℕ → ℕ) (text : List ℕ) (change : Change) where
-  pub nothing_left : 1073741824 < string_len change.text → left_by units text (edit_of change) ≡ None
+  pub nothing_left : 1073741824 < string_len change.text → left_by units text (content_change change) ≡ None
   nothing_left long =
       let e : nat_lt 1073741824 (length (encode_utf8_all (chars (string_bytes change.text)))) ≡ true =
       lt-ltb 1073741824 (length (encode_utf8_all (chars (string_bytes change.text))))
       (omega (arith, long, long_text change)) in
       rw e refl
 
-  left_of : string_len change.text ≤ 1073741824 → left_by units text (edit_of change)
-      ≡ result_ok (text_within 1073741824 text (meaning units (chars text) (edit_of change ∷ [])))
+  left_of : string_len change.text ≤ 1073741824 → left_by units text (content_change change)
+      ≡ result_ok (text_within 1073741824 text (meaning units (chars text) (content_change change ∷ [])))
   left_of fits =
       let e : nat_lt 1073741824 (length (encode_utf8_all (chars (string_bytes change.text)))) ≡ false =
       le-ltb 1073741824 (length (encode_utf8_all (chars (string_bytes change.text))))
@@ -123,7 +123,7 @@ module _ (units : ℕ → ℕ) (text : List ℕ) (change : Change) where
 
   -- a whole text is what is left
   pub all_left : (new : List ℕ) → string_len change.text ≤ 1073741824 → change.range ≡ None
-      → new ≡ string_bytes change.text → left_by units text (edit_of change) ≡ Some new
+      → new ≡ string_bytes change.text → left_by units text (content_change change) ≡ Some new
   all_left new fits whole is =
       let same : encode_utf8_all (text_of (chars text) (map New (chars (string_bytes change.text))))
       ≡ string_bytes change.text =
@@ -137,13 +137,13 @@ module _ (units : ℕ → ℕ) (text : List ℕ) (change : Change) where
   pub range_left : (range : Range) (left : Option (List ℕ)) → string_len change.text ≤ 1073741824
       → change.range ≡ Some range
       → result_ok (text_within 1073741824 text (meaning units (chars text) (alone range (string_bytes change.text))))
-      ≡ left → left_by units text (edit_of change) ≡ left
+      ≡ left → left_by units text (content_change change) ≡ left
   range_left range left fits ranged is = left_of fits ∙ rw ranged is
 
 -- ---- a range and its text
 
 module _ (units : ℕ → ℕ) (text : List ℕ) (utf8 : IsUtf8 text) (range : Range) (new : List ℕ) (new_utf8 : IsUtf8 new) where
-  no_memory : (number : ℕ) (why : Fault) → text_fault_of (fault_at number why) ≡ NoMemory → ⊥
+  no_memory : (number : ℕ) (why : Fault) → batch_fault_of (fault_at number why) ≡ NoMemory → ⊥
   no_memory number InsideStart is = absurd (cc)
   no_memory number InsideStop is = absurd (cc)
   no_memory number Reversed is = absurd (cc)
@@ -157,9 +157,9 @@ module _ (units : ℕ → ℕ) (text : List ℕ) (utf8 : IsUtf8 text) (range : R
       by (Ok ends) e = absurd (let wrong : Some (slice_range (chars text) ends.0 ends.1) ≡ None = rw e at none in cc)
       by (Err why) e =
           ⊎_elim
-          (λ (m : text_fault_of (fault_at 0 why) ≡ NoMemory). absurd (no_memory 0 why m))
+          (λ (m : batch_fault_of (fault_at 0 why) ≡ NoMemory). absurd (no_memory 0 why m))
           (λ (is : text_within 1073741824 text (meaning units (chars text) (alone range new))
-          ≡ Err (text_fault_of (fault_at 0 why))). ap (λ (r : Result (List ℕ) TextFault). result_ok r) is)
+          ≡ Err (batch_fault_of (fault_at 0 why))). ap (λ (r : Result (List ℕ) BatchFault). result_ok r) is)
           (range_fault units text utf8 range new new_utf8 1073741824 (fault_at 0 why)
           (rw e refl))
 
@@ -175,27 +175,27 @@ module _ (units : ℕ → ℕ) (text : List ℕ) (utf8 : IsUtf8 text) (range : R
     pub range_put : longer ≤ 1073741824
         → result_ok (text_within 1073741824 text (meaning units (chars text) (alone range new)))
         ≡ Some (replace_range text start stop new)
-    range_put fits = ap (λ (r : Result (List ℕ) TextFault). result_ok r)
+    range_put fits = ap (λ (r : Result (List ℕ) BatchFault). result_ok r)
         (range_within units text utf8 range new new_utf8 start stop places 1073741824 (omega (arith, len, fits)))
 
     pub range_long : 1073741824 < longer
         → result_ok (text_within 1073741824 text (meaning units (chars text) (alone range new))) ≡ None
-    range_long above = ap (λ (r : Result (List ℕ) TextFault). result_ok r)
+    range_long above = ap (λ (r : Result (List ℕ) BatchFault). result_ok r)
         (range_too_long units text utf8 range new new_utf8 start stop places 1073741824 (omega (arith, len, above)))
 
     pub range_len : longer ≤ 1073741824 → length (replace_range text start stop new) ≤ 1073741824
     range_len fits = omega (arith, len, fits)
 
 -- A change, by what the reader returns of it.
-pub edits_read : (changes : List Change) → map edit_from_data (map edit_view changes) ≡ map edit_of changes
+pub edits_read : (changes : List Change) → map edit_from_data (map edit_view changes) ≡ map content_change changes
 edits_read [] = refl
-edits_read (change ∷ changes) = ap (λ (edits : List Edit). edit_of change ∷ edits) (edits_read changes)
+edits_read (change ∷ changes) = ap (λ (edits : List ContentChange). content_change change ∷ edits) (edits_read changes)
 
 nothing_after : (left : Option (List ℕ)) → notes_after (λ (next : List ℕ). []) left ≡ []
 nothing_after None = refl
 nothing_after (Some next) = refl
 
-one_change : (terms : Terms) (text : List ℕ) (change : Edit) → notes_from terms 0 text (change ∷ [])
+one_change : (terms : Terms) (text : List ℕ) (change : ContentChange) → notes_from terms 0 text (change ∷ [])
     ≡ change_notes terms (chars text) 0 change
 one_change terms text change =
     ap (λ (notes : List Note). change_notes terms (chars text) 0 change ++ notes)
@@ -203,40 +203,43 @@ one_change terms text change =
     ∙ append-nil (change_notes terms (chars text) 0 change)
 
 pub one_noted : (terms : Terms) (text : List ℕ) (changes : List Change) (change : Change) → length changes ≡ 1
-    → change ≡ get_or changes 0 change → batch_notes terms text (map edit_of changes) ≡ change_notes terms (chars text)
-    0 (edit_of change)
+    → change ≡ get_or changes 0 change → batch_notes terms text (map content_change changes)
+    ≡ change_notes terms (chars text)
+    0 (content_change change)
 one_noted terms text [] change one is = absurd (omega (arith, one))
 one_noted terms text (first ∷ []) change one is =
-    one_change terms text (edit_of first) ∙ ap (λ (c : Change). change_notes terms (chars text) 0 (edit_of c)) (sym is)
+    one_change terms text (content_change first) ∙ ap (λ (c : Change). change_notes terms (chars text) 0
+    (content_change c)) (sym is)
 one_noted terms text (first ∷ second ∷ more) change one is = absurd (omega (arith, one))
 
 -- How far changes were noted: what there is to note of the rest leads to all.
 pub record Noting (terms : Terms) (all : List Note) (index : ℕ) (rest : List Change) (left : List ℕ)
     (notes : List Note) : Type 0 where
-  pub noted : notes ++ notes_from terms index left (map edit_of rest) ≡ all
+  pub noted : notes ++ notes_from terms index left (map content_change rest) ≡ all
   pub size : length left ≤ 1073741824
 
 module _ (terms : Terms) (all : List Note) (index : ℕ) (change : Change) (rest more : List Change) (left : List ℕ)
     (notes next : List Note) (is : rest ≡ change ∷ more) (noting : Noting terms all index rest left notes)
-    (pushed : next ≡ notes ++ change_notes terms (chars left) index (edit_of change)) where
-  here : next ++ notes_after (λ (text : List ℕ). notes_from terms (suc index) text (map edit_of more))
-      (left_by terms.units left (edit_of change)) ≡ all
+    (pushed : next ≡ notes ++ change_notes terms (chars left) index (content_change change)) where
+  here : next ++ notes_after (λ (text : List ℕ). notes_from terms (suc index) text (map content_change more))
+      (left_by terms.units left (content_change change)) ≡ all
   here =
       ap (λ (ns : List Note). ns ++ notes_after (λ (text : List ℕ). notes_from terms (suc index) text
-      (map edit_of more)) (left_by terms.units left (edit_of change))) pushed
-      ∙ append_assoc notes (change_notes terms (chars left) index (edit_of change)) _
+      (map content_change more)) (left_by terms.units left (content_change change))) pushed
+      ∙ append_assoc notes (change_notes terms (chars left) index (content_change change)) _
       ∙ (rw is at noting.noted)
 
-  pub noting_on : (text : List ℕ) → left_by terms.units left (edit_of change) ≡ Some text → length text ≤ 1073741824
+  pub noting_on : (text : List ℕ) → left_by terms.units left (content_change change) ≡ Some text
+      → length text ≤ 1073741824
       → Noting terms all (index + 1) more text next
   noting_on text leaves size =
       let n : index + 1 ≡ suc index = omega arith in
       record {
-        noted = ap (λ (m : ℕ). next ++ notes_from terms m text (map edit_of more)) n ∙ (rw leaves at here);
+        noted = ap (λ (m : ℕ). next ++ notes_from terms m text (map content_change more)) n ∙ (rw leaves at here);
         size = size;
       }
 
-  pub noting_ends : left_by terms.units left (edit_of change) ≡ None → next ≡ all
+  pub noting_ends : left_by terms.units left (content_change change) ≡ None → next ≡ all
   noting_ends leaves = sym (append-nil next) ∙ (rw leaves at here)
 
 pub noting_done : (terms : Terms) (all : List Note) (index : ℕ) (rest : List Change) (left : List ℕ) (notes : List Note)

@@ -13,7 +13,8 @@ use Rattle.lsp_log.specs.declared.record.Version.{Version}
 use Rattle.lsp_log.specs.declared.record.Sender.TheVariants.{Client}
 use Rattle.lsp_log.specs.Log.{Record, record_bytes, mark_of}
 use Rattle.lsp_log.specs.declared.record.Sender.{Sender}
-use Rattle.lsp_store.proofs.LawLemmas.{MayChange, change_parts, within_at}
+use Rattle.lsp_store.proofs.WithinLemmas.{within_at}
+use Rattle.lsp_store.proofs.GreaterLemmas.{MayChange, change_parts}
 use Rattle.lsp_store.specs.laws.Tables.{IsWithin}
 use Rattle.lsp_replay.proofs.Squash.JoiningLemmas.{uri_at}
 use Rattle.lsp_replay.proofs.Squash.SingleLemmas.{IsSingle, is_single, single_record}

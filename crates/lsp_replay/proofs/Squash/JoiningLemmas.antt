@@ -7,7 +7,7 @@ use Rattle.std.specs.Str.{chars}
 use Rattle.lsp_frame.specs.Limits.{LimitsData}
 use Rattle.lsp_text.specs.Units.{units_in}
 use Rattle.lsp_text.specs.declared.encoding.Encoding.{Encoding}
-use Rattle.lsp_edit.specs.Batch.{Edit, Fault, meaning}
+use Rattle.lsp_edit.specs.Batch.{ContentChange, Fault, meaning}
 use Rattle.lsp_edit.specs.Items.{Item}
 use Rattle.lsp_message.specs.Message.{IdData}
 use Rattle.lsp_message.specs.Params.{DocumentItem, ChangeData}
@@ -46,7 +46,7 @@ meaning_not : (limits : LimitsData) (text : List ℕ) (meant : Result (List Item
 meaning_not limits text (Err fault) = tt
 meaning_not limits text (Ok items) = if_not _ (Some text_too_long) None tt tt
 
-on_not : (limits : LimitsData) (units : ℕ → ℕ) (found : Option DocumentItem) (version : ℤ) (batch : List Edit)
+on_not : (limits : LimitsData) (units : ℕ → ℕ) (found : Option DocumentItem) (version : ℤ) (batch : List ContentChange)
     → IsNotTooLong (refusal_on limits units found version batch)
 on_not limits units None version batch = tt
 on_not limits units (Some entry) version batch =
@@ -74,7 +74,7 @@ refused_not (Some refusal) body len not (inr e) = absurd (other refusal not e)
     other (edit number why) not e = cc
 
 pub too_long_accepted : (limits : LimitsData) (units : ℕ → ℕ) (table : List DocumentItem) (uri : List ℕ) (version : ℤ)
-    (batch : List Edit) (body : Option Refusal) (len : ℕ)
+    (batch : List ContentChange) (body : Option Refusal) (len : ℕ)
     → IsRefusal (else_refused (change_refusal limits units table uri version batch) body) (BodyTooLong len)
     → change_refusal limits units table uri version batch ≡ None
 too_long_accepted limits units table uri version batch body len error =

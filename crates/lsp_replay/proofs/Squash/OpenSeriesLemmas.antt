@@ -8,7 +8,7 @@ use Rattle.std.proofs.lemmas.Str.{chars-encodes, scalars-chars}
 use Rattle.lsp_frame.specs.Limits.{AreInRange}
 use Rattle.lsp_text.specs.Units.{units_in}
 use Rattle.lsp_edit.specs.Items.{Item, plain, text_of}
-use Rattle.lsp_edit.specs.Batch.{Edit, meaning}
+use Rattle.lsp_edit.specs.Batch.{ContentChange, meaning}
 use Rattle.lsp_edit.specs.Canonical.{canonical}
 use Rattle.lsp_edit.specs.Compose.{then_items}
 use Rattle.lsp_edit.proofs.Batches.ComposeLemmas.{text_of-then, then_means}
@@ -39,7 +39,7 @@ pub record IsOpenFrom (t : ServerData) (squash : SquashData) (now : ServerData) 
   pub found : entry_at t.table squash.uri ≡ Some entry
   pub received : IsWithin t.config.limits entry
   pub is : squash ≡ with_items (squash_of t.config.limits (session_encoding t) entry) squash.items squash.version
-  pub batch : List Edit
+  pub batch : List ContentChange
   pub means : meaning (units_in (session_encoding t)) (chars entry.text) batch ≡ Ok squash.items
   pub texts : AreTexts batch
   pub newer : is_stale t.config.limits squash.version entry.version ≡ false
@@ -50,7 +50,8 @@ pub record IsOpenFrom (t : ServerData) (squash : SquashData) (now : ServerData) 
 
 -- ---- items
 
-plain_then : (units : ℕ → ℕ) (old : List ℕ) (batch : List Edit) (items : List Item) → meaning units old batch ≡ Ok items
+plain_then : (units : ℕ → ℕ) (old : List ℕ) (batch : List ContentChange) (items : List Item)
+    → meaning units old batch ≡ Ok items
     → then_items (plain old) items ≡ items
 plain_then units old batch items means =
     let on : meaning units (text_of old (plain old)) batch ≡ Ok items = ap (λ t. meaning units t batch) (plain_text old)
@@ -59,12 +60,13 @@ plain_then units old batch items means =
     sym (then_means units old [] batch (plain old) items refl on) ∙ means in
     cc
 
-texts_more : (batch more : List Edit) → AreTexts batch → AreTexts more → AreTexts (batch ++ more)
+texts_more : (batch more : List ContentChange) → AreTexts batch → AreTexts more → AreTexts (batch ++ more)
 texts_more [] more texts also = also
 texts_more (change ∷ batch) more texts also = (texts.0, texts_more batch more texts.1 also)
 
 -- the characters of a text that a batch leaves
-left_chars : (units : ℕ → ℕ) (text : List ℕ) (batch : List Edit) (items : List Item) → IsUtf8 text → AreTexts batch
+left_chars : (units : ℕ → ℕ) (text : List ℕ) (batch : List ContentChange) (items : List Item) → IsUtf8 text
+    → AreTexts batch
     → meaning units (chars text) batch ≡ Ok items
     → chars (bytes_left text items) ≡ text_of (chars text) items
 left_chars units text batch items utf8 texts means =
@@ -257,7 +259,7 @@ module _ (t : ServerData) (squash : SquashData) (now : ServerData) (from : IsOpe
     texts = from.texts;
     newer = from.newer;
     short = from.short;
-    few = subst (λ (b : List Edit). nat_lt t.config.limits.max_changes (length b) ≡ false) one_batch few;
+    few = subst (λ (b : List ContentChange). nat_lt t.config.limits.max_changes (length b) ≡ false) one_batch few;
   }
 
   pub one_message : IsCanonicalChange t squash.uri squash.version from.entry squash.items

@@ -7,7 +7,7 @@ use Rattle.lsp_message.specs.Message.{reading}
 use Rattle.lsp_message.specs.Params.{ChangeData, DocumentItem}
 use Rattle.lsp_store.specs.Squash.{SquashData, squash_frame, squash_refusal}
 use Rattle.lsp_store.specs.Table.{Refusal, entry_at}
-use Rattle.lsp_store.proofs.LawLemmas.{change_parts}
+use Rattle.lsp_store.proofs.GreaterLemmas.{change_parts}
 use Rattle.lsp_text.specs.Units.{units_in}
 use Rattle.lsp_server.specs.Answer.{reply, changed, dropped, ignored, refused, exits, already_ended}
 use Rattle.lsp_server.specs.Incoming.{incoming_of}

@@ -19,7 +19,8 @@ use Rattle.lsp_store.specs.Message.{change_body}
 use Rattle.lsp_store.specs.Squash.{SquashData, items_meant}
 use Rattle.lsp_store.specs.Table.{entry_at, meant_text}
 use Rattle.lsp_replay.proofs.Records.PutLemmas.{put, change_puts}
-use Rattle.lsp_store.proofs.LawLemmas.{MayChange, change_parts, within_at}
+use Rattle.lsp_store.proofs.WithinLemmas.{within_at}
+use Rattle.lsp_store.proofs.GreaterLemmas.{MayChange, change_parts}
 use Rattle.lsp_store.proofs.Messages.MessageLemmas.{Accepts, accepted_parts}
 use Rattle.lsp_store.specs.laws.Tables.{IsWithin}
 use Rattle.lsp_server.specs.Incoming.{incoming_of}

@@ -3,7 +3,7 @@
 ghost use Rattle.std.specs.Prelude.{◌≡◌, ◌≤◌, ◌++◌, OnOk, length, map, option_map};
 ghost use Rattle.std.specs.Str.{bytes_eq, chars};
 ghost use Rattle.lsp_text.specs.Units.{units_in};
-ghost use Rattle.lsp_edit.specs.Edited.{edit_of};
+ghost use Rattle.lsp_edit.specs.Edited.{content_change};
 ghost use Rattle.lsp_replay.specs.Notes.{batch_notes, change_notes, end_notes, is_same, length_at, length_notes};
 ghost use Rattle.lsp_replay.specs.Notes.{notes_from, range_notes, same_notes, taken_as, whole_notes};
 ghost use Rattle.lsp_replay.specs.inside.Noting.{terms_view};
@@ -48,7 +48,7 @@ pub fn push_batch_notes(
 ) -> Result<(), AllocError>
     requires { length text.now ≤ 1073741824 }
     ensures { OnOk result (notes.new.items ≡ notes.old.items
-        ++ batch_notes (terms_view terms.now) text.now (map edit_of changes.now)) }
+        ++ batch_notes (terms_view terms.now) text.now (map content_change changes.now)) }
 {
     match changes {
         [] => {
@@ -70,7 +70,7 @@ fn push_several(
 ) -> Result<(), AllocError>
     requires { length text.now ≤ 1073741824 }
     ensures { OnOk result (notes.new.items ≡ notes.old.items
-        ++ notes_from (terms_view terms.now) 0 text.now (map edit_of changes.now)) }
+        ++ notes_from (terms_view terms.now) 0 text.now (map content_change changes.now)) }
 {
     let mut left = text.clone_in(alloc)?;
     for (index, change) in changes.iter().enumerate() {
@@ -92,7 +92,7 @@ fn push_change_notes(
     change: &Change,
 ) -> Result<(), AllocError>
     ensures { OnOk result (notes.new.items ≡ notes.old.items
-        ++ change_notes (terms_view terms.now) (chars text.now) index (edit_of change.now)) }
+        ++ change_notes (terms_view terms.now) (chars text.now) index (content_change change.now)) }
 {
     let encoding = terms.encoding;
     let replaced = replaced_by(alloc, text, encoding, change.range)?;

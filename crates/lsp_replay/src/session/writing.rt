@@ -4,7 +4,7 @@ ghost use Rattle.std.specs.Prelude.{ℕ, ℤ, ◌≡◌, ◌≤◌, vec_len, Lis
 ghost use Rattle.lsp_log.specs.declared.record.Head.{Head};
 ghost use Rattle.lsp_text.specs.Units.{units_in};
 ghost use Rattle.lsp_text.specs.declared.encoding.Encoding.{Encoding};
-ghost use Rattle.lsp_edit.specs.Batch.{Edit};
+ghost use Rattle.lsp_edit.specs.Batch.{ContentChange};
 ghost use Rattle.lsp_message.specs.Seen.{change_view};
 ghost use Rattle.lsp_store.specs.Message.{canonical_body};
 ghost use Rattle.lsp_store.specs.Plan.{IsPlanOf, IsPlanOn};
@@ -34,12 +34,12 @@ pub enum Appended {
 fn append_body(store: &Store, plan: &Plan<'_>, output: &mut Vec<u8>) -> Result<Appended, AllocError>
     requires on { IsPlanOn store.now plan.now }
     ensures appended { IfOk result (λ appended.
-        (uri : List ℕ) (version : ℤ) (encoding : Encoding) (batch : List Edit)
+        (uri : List ℕ) (version : ℤ) (encoding : Encoding) (batch : List ContentChange)
         → IsPlanOf store.now uri version encoding batch plan.now
         → IsAppended store.now.limits.max_body
         (Some (canonical_body (units_in encoding) store.now.table uri version batch))
         (Some appended) output.old.items output.new.items) }
-    ensures kept { (uri : List ℕ) (version : ℤ) (encoding : Encoding) (batch : List Edit)
+    ensures kept { (uri : List ℕ) (version : ℤ) (encoding : Encoding) (batch : List ContentChange)
         → IsPlanOf store.now uri version encoding batch plan.now
         → vec_len output.old ≤ vec_len output.new }
 {

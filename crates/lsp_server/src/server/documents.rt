@@ -16,7 +16,7 @@ impl Server {
     ghost use Rattle.std.specs.Prelude.{◌≡◌, ◌≢◌, ◌↔◌, Some, None, Err, IfOk, IsErrOf, OnErr, OnOk, map, option_map, string_bytes};
     ghost use Rattle.lsp_message.specs.Seen.{open_view, change_view, close_view};
     ghost use Rattle.lsp_reader.specs.Incoming.{did_open, did_change, did_close};
-    ghost use Rattle.lsp_edit.specs.Edited.{edit_of};
+    ghost use Rattle.lsp_edit.specs.Edited.{content_change};
     ghost use Rattle.lsp_message.specs.Params.{ChangeData};
     ghost use Rattle.lsp_store.specs.Opened.{ChangeMayAllocate};
     ghost use Rattle.lsp_store.specs.Table.{opens};
@@ -101,7 +101,7 @@ impl Server {
         // it.
         ensures memory { result ≡ Err ServerFault.NoMemory → (self.now.phase ≡ Running)
             × ChangeMayAllocate (store_of self.now) (string_bytes params.now.uri) params.now.version
-            (map edit_of params.now.changes.items) }
+            (map content_change params.now.changes.items) }
     {
         match self.phase {
             Phase::New | Phase::Down => Ok(PlannedChange::Answered(Answer::Dropped)),
@@ -117,7 +117,7 @@ impl Server {
         ensures planned { IfOk result (IsPlannedAs self.now (change_view params.now)) }
         ensures memory { OnErr result (ChangeMayAllocate (store_of self.now)
             (string_bytes params.now.uri) params.now.version
-            (map edit_of params.now.changes.items)) }
+            (map content_change params.now.changes.items)) }
     {
         let encoding = self.encoding.unwrap_or(Encoding::Utf16);
         let (version, changes) = (params.version, &params.changes);

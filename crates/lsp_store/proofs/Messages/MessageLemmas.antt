@@ -17,13 +17,13 @@ use Rattle.lsp_text.specs.declared.encoding.Encoding.{Encoding}
 use Rattle.lsp_text.specs.declared.encoding.Encoding.TheVariants.{Utf8, Utf16, Utf32}
 use Rattle.lsp_edit.specs.declared.change.Change.{Change}
 use Rattle.lsp_edit.specs.Items.{Item, text_of}
-use Rattle.lsp_edit.specs.Batch.{Edit, Fault, meaning}
+use Rattle.lsp_edit.specs.Batch.{ContentChange, Fault, meaning}
 use Rattle.lsp_edit.specs.Canonical.{canonical}
-use Rattle.lsp_edit.specs.Edited.{edit_of}
+use Rattle.lsp_edit.specs.Edited.{content_change}
 use Rattle.lsp_edit.specs.laws.Batches.{IsCanonical}
 use Rattle.lsp_edit.specs.Indexed.{bytes_left}
 use Rattle.lsp_message.specs.Outgoing.{OutgoingData, initialize, initialized, did_open, did_change, did_close, shutdown, exit, initialize_result, shutdown_result, error_reply, body_of}
-use Rattle.lsp_message.specs.Params.{DocumentItem, EditData}
+use Rattle.lsp_message.specs.Params.{DocumentItem, ContentChangeData}
 use Rattle.lsp_message.specs.Seen.{edit_view}
 use Rattle.lsp_message.specs.Seen as seen
 use Rattle.lsp_message.specs.laws.Sent.{IsProper, IsReadAsSent, IsReadBack}
@@ -41,30 +41,30 @@ use Rattle.lsp_store.proofs.Messages.ScalarLemmas.{canonical_texts}
 -- ---- what is written
 
 -- changes as they are held are written as their edits are
-written_same : (changes : List Change) → map edit_view changes ≡ map written_edit (map edit_of changes)
+written_same : (changes : List Change) → map edit_view changes ≡ map written_edit (map content_change changes)
 written_same [] = refl
 written_same (c ∷ changes) = rw (encodes-chars (string_bytes c.text) (IsUtf8-string_bytes c.text), written_same changes)
     refl
 
 pub body_written : (uri given : List ℕ) (version error : ℤ) (changes : List Change) → uri ≡ given → error ≡ version
     → body_of (did_change (record { uri = uri; version = error; changes = map edit_view changes }))
-    ≡ change_body given version (map edit_of changes)
+    ≡ change_body given version (map content_change changes)
 unfolding change_body
 body_written uri given version error changes same is = rw (same, is, written_same changes) refl
 
 -- what is appended, and what is written into an empty buffer
 pub body_pushed : (old new uri : List ℕ) (version error : ℤ) (changes : List Change)
     → new ≡ old ++ body_of (seen.did_change_of uri error changes) → error ≡ version
-    → new ≡ old ++ change_body uri version (map edit_of changes)
+    → new ≡ old ++ change_body uri version (map content_change changes)
 body_pushed old new uri version error changes is same =
     is ∙ ap (λ body. old ++ body) (body_written uri uri version error changes refl same)
 
 pub body_begun : (old new uri : List ℕ) (version error : ℤ) (changes : List Change) → old ≡ []
     → new ≡ old ++ body_of (seen.did_change_of uri error changes) → error ≡ version
-    → new ≡ change_body uri version (map edit_of changes)
+    → new ≡ change_body uri version (map content_change changes)
 body_begun old new uri version error changes none is same =
     body_pushed old new uri version error changes is same
-    ∙ ap (λ front. front ++ change_body uri version (map edit_of changes)) none
+    ∙ ap (λ front. front ++ change_body uri version (map content_change changes)) none
 
 pub encode_refused : (limits : LimitsData) (body : List ℕ) (fault : EncodeFault)
     → IsEncodeFault limits.max_body (length body) fault → IsRefusal (body_refusal limits body)
@@ -78,12 +78,12 @@ pub body_within : (limits : LimitsData) (body : List ℕ) → length body ≤ li
 body_within limits body within = rw (le-ltb limits.max_body (length body) within) refl
 
 -- the texts of changes hold scalar values
-pub texts_held : (changes : List Change) → AreTexts (map edit_of changes)
+pub texts_held : (changes : List Change) → AreTexts (map content_change changes)
 texts_held [] = tt
 texts_held (c ∷ changes) = (scalars-chars (string_bytes c.text) (IsUtf8-string_bytes c.text), texts_held changes)
 
 -- a batch is known by what is written of it
-abbrev changes_in : OutgoingData → List EditData
+abbrev changes_in : OutgoingData → List ContentChangeData
 changes_in (initialize offers) = []
 changes_in initialized = []
 changes_in (did_open p) = []
@@ -95,15 +95,15 @@ changes_in (initialize_result id encoding kind) = []
 changes_in (shutdown_result id) = []
 changes_in (error_reply id error) = []
 
-written_one : (batch other : List Edit) → map written_edit batch ≡ map written_edit other → batch ≡ other
+written_one : (batch other : List ContentChange) → map written_edit batch ≡ map written_edit other → batch ≡ other
 written_one [] [] e = refl
 written_one [] (d ∷ other) e = absurd (cc)
 written_one (c ∷ batch) [] e = absurd (cc)
 written_one (c ∷ batch) (d ∷ other) e =
     let first : written_edit c ≡ written_edit d = cc in
     let rest : map written_edit batch ≡ map written_edit other = cc in
-    let range : c.range ≡ d.range = ap (λ (x : EditData). x.range) first in
-    let text : c.text ≡ d.text = encodes_same c.text d.text (ap (λ (x : EditData). x.text) first) in
+    let range : c.range ≡ d.range = ap (λ (x : ContentChangeData). x.range) first in
+    let text : c.text ≡ d.text = encodes_same c.text d.text (ap (λ (x : ContentChangeData). x.text) first) in
     let same : c ≡ d = λ i. record { range = range i; text = text i } in
     rw (same, written_one batch other rest) refl
 
@@ -121,7 +121,8 @@ first_told None later fault error = ⊎_elim (λ (e : fault ≡ NoMemory). inl e
     error
 
 -- What an accepted batch means on a document.
-pub record Accepts (limits : LimitsData) (units : ℕ → ℕ) (entry : DocumentItem) (version : ℤ) (batch : List Edit) : Type
+pub record Accepts (limits : LimitsData) (units : ℕ → ℕ) (entry : DocumentItem) (version : ℤ)
+    (batch : List ContentChange) : Type
     0 where
   pub newer : is_stale limits version entry.version ≡ false
   pub few : length batch ≤ limits.max_changes
@@ -144,7 +145,8 @@ meaning_parts limits text (Ok items) e =
     ))
     (cases_Bool (nat_lt limits.max_text (length (bytes_left text items))))
 
-pub accepted_parts : (limits : LimitsData) (units : ℕ → ℕ) (entry : DocumentItem) (version : ℤ) (batch : List Edit)
+pub accepted_parts : (limits : LimitsData) (units : ℕ → ℕ) (entry : DocumentItem) (version : ℤ)
+    (batch : List ContentChange)
     → entry_refusal limits units entry version batch ≡ None → Accepts limits units entry version batch
 accepted_parts limits units entry version batch e =
     ⊎_elim (λ (stale : is_stale limits version entry.version ≡ true). let bad : Some (stale_version entry.version)
@@ -170,14 +172,16 @@ accepted_parts limits units entry version batch e =
         (cases_Bool (nat_lt limits.max_changes (length batch) || nat_lt greatest_batch (batch_bytes batch)))
 
 -- Of an accepted batch only its meaning could be refused.
-pub accepted_left : (limits : LimitsData) (units : ℕ → ℕ) (entry : DocumentItem) (version : ℤ) (batch : List Edit)
+pub accepted_left : (limits : LimitsData) (units : ℕ → ℕ) (entry : DocumentItem) (version : ℤ)
+    (batch : List ContentChange)
     → entry_refusal limits units entry version batch ≡ None → IsLeftToMeaning limits entry version batch
 accepted_left limits units entry version batch is = λ u.
     let a = accepted_parts limits units entry version batch is in
     refused_meaning limits u entry version batch a.newer (or_from _ _ (le-ltb limits.max_changes (length batch) a.few)
     (le-ltb greatest_batch (batch_bytes batch) a.fits))
 
-pub accepted_from : (limits : LimitsData) (units : ℕ → ℕ) (entry : DocumentItem) (version : ℤ) (batch : List Edit)
+pub accepted_from : (limits : LimitsData) (units : ℕ → ℕ) (entry : DocumentItem) (version : ℤ)
+    (batch : List ContentChange)
     → Accepts limits units entry version batch → entry_refusal limits units entry version batch ≡ None
 accepted_from limits units entry version batch a =
     let few : (nat_lt limits.max_changes (length batch) || nat_lt greatest_batch (batch_bytes batch)) ≡ false =
@@ -185,7 +189,8 @@ accepted_from limits units entry version batch a =
     rw (a.newer, few, a.means, le-ltb limits.max_text (length (bytes_left entry.text a.items)) a.short) refl
 
 -- what a batch leaves is told by what it makes of the document
-pub leaves_same : (units : ℕ → ℕ) (table : List DocumentItem) (uri : List ℕ) (version : ℤ) (batch other : List Edit)
+pub leaves_same : (units : ℕ → ℕ) (table : List DocumentItem) (uri : List ℕ) (version : ℤ)
+    (batch other : List ContentChange)
     (entry : DocumentItem) → entry_at table uri ≡ Some entry → changed units entry version batch
     ≡ changed units entry version other
     → after_change units table uri version batch ≡ after_change units table uri version other
@@ -204,18 +209,20 @@ leaves_same units (first ∷ table) uri version batch other entry found same =
 
 module _ (limits : LimitsData) (encoding : Encoding) (table : List DocumentItem) (uri : List ℕ) (version : ℤ)
     (entry : DocumentItem) (is_open : entry_at table uri ≡ Some entry)
-    (laws : (batch : List Edit) (items : List Item) → meaning (units_in encoding) (chars entry.text) batch ≡ Ok items
+    (laws : (batch : List ContentChange) (items : List Item) → meaning (units_in encoding)
+    (chars entry.text) batch ≡ Ok items
     → IsCanonical (units_in encoding) (chars entry.text) batch items) where
-  pub batch_at : (batch : List Edit) (items : List Item) → meaning (units_in encoding) (chars entry.text) batch
+  pub batch_at : (batch : List ContentChange) (items : List Item) → meaning (units_in encoding) (chars entry.text) batch
       ≡ Ok items → canonical_batch (units_in encoding) table uri batch ≡ canonical (units_in encoding)
       (chars entry.text) items
   batch_at batch items means = rw (is_open, means) refl
 
-  refusal_at : (batch : List Edit) → change_refusal limits (units_in encoding) table uri version batch
+  refusal_at : (batch : List ContentChange) → change_refusal limits (units_in encoding) table uri version batch
       ≡ entry_refusal limits (units_in encoding) entry version batch
   refusal_at batch = rw is_open refl
 
-  module _ (batch : List Edit) (may : entry_refusal limits (units_in encoding) entry version batch ≡ None) where
+  module _ (batch : List ContentChange) (may : entry_refusal limits (units_in encoding) entry version batch
+      ≡ None) where
     pub accepts : Accepts limits (units_in encoding) entry version batch
     accepts = accepted_parts limits (units_in encoding) entry version batch may
 
@@ -231,7 +238,8 @@ module _ (limits : LimitsData) (encoding : Encoding) (table : List DocumentItem)
         → IsRefusal (message_refusal limits (units_in encoding) table uri version batch) fault
     message_refused fault error = rw (refusal_at batch, may) error
 
-    pub canonical_is : (answered : List Edit) (items : List Item) → meaning (units_in encoding) (chars entry.text) batch
+    pub canonical_is : (answered : List ContentChange) (items : List Item)
+        → meaning (units_in encoding) (chars entry.text) batch
         ≡ Ok items → answered ≡ canonical (units_in encoding) (chars entry.text) items
         → canonical_batch (units_in encoding) table uri batch ≡ answered
     canonical_is answered items means is = batch_at batch items means ∙ sym is
@@ -251,8 +259,9 @@ module _ (limits : LimitsData) (encoding : Encoding) (table : List DocumentItem)
         let weigh : batch_bytes (canonical (units_in encoding) (chars entry.text) accepts.items)
         ≤ sum_by (λ change. sum_by len_utf8 change.text) (canonical (units_in encoding) (chars entry.text)
         accepts.items)
-        = sum_by-le-sum_by (λ (e : Edit). length (encode_utf8_all e.text)) (λ (e : Edit). sum_by len_utf8 e.text)
-        (canonical (units_in encoding) (chars entry.text) accepts.items) (λ (e : Edit). omega (
+        = sum_by-le-sum_by (λ (e : ContentChange). length (encode_utf8_all e.text)) (λ
+        (e : ContentChange). sum_by len_utf8 e.text)
+        (canonical (units_in encoding) (chars entry.text) accepts.items) (λ (e : ContentChange). omega (
           arith,
           bytes_sum e.text,
         )) in
@@ -297,9 +306,9 @@ module _ (limits : LimitsData) (encoding : Encoding) (table : List DocumentItem)
     settled_of small within = record {
       accepted =
           rw (refusal_at (canonical (units_in encoding) (chars entry.text) accepts.items), settled_accepted small)
-          (ap (λ (b : List Edit). body_refusal limits (change_body uri version b)) settled_batch ∙ within);
+          (ap (λ (b : List ContentChange). body_refusal limits (change_body uri version b)) settled_batch ∙ within);
       leaves = settled_leaves;
-      same_frame = ap (λ (b : List Edit). frame (change_body uri version b)) settled_batch;
+      same_frame = ap (λ (b : List ContentChange). frame (change_body uri version b)) settled_batch;
     }
 
     pub is_settled : limits.max_text ≤ 1073741824
@@ -307,7 +316,7 @@ module _ (limits : LimitsData) (encoding : Encoding) (table : List DocumentItem)
         → IsCanonicalOf limits (units_in encoding) table uri version batch
         (canonical_batch (units_in encoding) table uri batch)
     is_settled small within =
-        subst (λ (b : List Edit). IsCanonicalOf limits (units_in encoding) table uri version batch b)
+        subst (λ (b : List ContentChange). IsCanonicalOf limits (units_in encoding) table uri version batch b)
         (sym (batch_at batch accepts.items accepts.means)) (settled_of small within)
 
   -- ---- of messages that the types hold
@@ -318,7 +327,7 @@ module _ (limits : LimitsData) (encoding : Encoding) (table : List DocumentItem)
     old_small : sum_by len_utf8 (chars entry.text) < 2 ^ 32
     old_small = omega (arith, bytes_sum (chars entry.text), ap length (encodes-chars entry.text text_utf8), text_short)
 
-    pub proper : (batch : List Edit) (items : List Item) → AreTexts batch
+    pub proper : (batch : List ContentChange) (items : List Item) → AreTexts batch
         → meaning (units_in encoding) (chars entry.text) batch ≡ Ok items
         → IsProper (change_message uri version (canonical (units_in encoding) (chars entry.text) items))
     proper batch items texts means = record {
@@ -331,7 +340,7 @@ module _ (limits : LimitsData) (encoding : Encoding) (table : List DocumentItem)
           (scalars-chars entry.text text_utf8) texts means);
     }
 
-    one_batch : (batch other : List Edit) → IsProper (change_message uri version batch)
+    one_batch : (batch other : List ContentChange) → IsProper (change_message uri version batch)
         → IsProper (change_message uri version other) → change_body uri version batch ≡ change_body uri version other
         → batch ≡ other
     unfolding change_body
@@ -339,7 +348,7 @@ module _ (limits : LimitsData) (encoding : Encoding) (table : List DocumentItem)
         written_one batch other
         (ap changes_in (unique (change_message uri version batch) (change_message uri version other) p q e))
 
-    pub exactly_alike : (batch other : List Edit) → AreTexts batch → AreTexts other
+    pub exactly_alike : (batch other : List ContentChange) → AreTexts batch → AreTexts other
         → entry_refusal limits (units_in encoding) entry version batch ≡ None → entry_refusal limits (units_in encoding)
         entry version other ≡ None
         → length (canonical_frame (units_in encoding) table uri version batch) < 2 ^ 64
@@ -386,10 +395,11 @@ module _ (limits : LimitsData) (encoding : Encoding) (table : List DocumentItem)
             let same : canonical (units_in encoding) (chars entry.text) alike.items ≡ canonical (units_in encoding)
             (chars entry.text) alike.others
             = ((laws batch alike.items means).exactly other alike.others other_means).1 alike.same in
-            ap (λ (x : List Edit). frame (change_body uri version x)) (batch_at batch alike.items means
+            ap (λ (x : List ContentChange). frame (change_body uri version x)) (batch_at batch alike.items means
             ∙ (same ∙ sym (batch_at other alike.others other_means)))
 
-    pub is_read : (batch : List Edit) → AreTexts batch → entry_refusal limits (units_in encoding) entry version batch
+    pub is_read : (batch : List ContentChange) → AreTexts batch → entry_refusal limits
+        (units_in encoding) entry version batch
         ≡ None
         → ((m : OutgoingData) → IsProper m → IsReadAsSent m) → ((m : OutgoingData) → IsProper m → IsReadBack m)
         → IsReadAgain uri version (canonical_batch (units_in encoding) table uri batch)
@@ -411,4 +421,4 @@ module _ (limits : LimitsData) (encoding : Encoding) (table : List DocumentItem)
           as_sent = read_as m p;
           back = read_back m p;
         } in
-        subst (λ (b : List Edit). IsReadAgain uri version b) (sym (batch_at batch a.items a.means)) read
+        subst (λ (b : List ContentChange). IsReadAgain uri version b) (sym (batch_at batch a.items a.means)) read

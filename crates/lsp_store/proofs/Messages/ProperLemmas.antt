@@ -11,8 +11,8 @@ use Rattle.lsp_text.specs.TextLines.{starts_line, line_at, line_start}
 use Rattle.lsp_text.specs.Units.{units_between}
 use Rattle.lsp_text.specs.Positions.{exact_position}
 use Rattle.lsp_edit.specs.Items.{Item}
-use Rattle.lsp_edit.specs.Batch.{Edit}
-use Rattle.lsp_edit.specs.Canonical.{Gap, gaps, is_changed, gap_edit, canonical}
+use Rattle.lsp_edit.specs.Batch.{ContentChange}
+use Rattle.lsp_edit.specs.Canonical.{Gap, gaps, is_changed, gap_change, canonical}
 use Rattle.lsp_edit.specs.laws.Batches.{AllHaveExactEnds, HasExactEnds}
 use Rattle.lsp_message.specs.laws.Sent.{IsProperPosition, IsProperRange, IsProperEdit}
 use Rattle.lsp_store.specs.Message.{AreTexts, written_edit}
@@ -56,20 +56,20 @@ module _ (units : ℕ → ℕ) (few : (c : ℕ) → units c ≤ len_utf8 c) (old
   }
 
   -- the ranges of changes fit
-  abbrev RangesFit : List Edit → Type 0
+  abbrev RangesFit : List ContentChange → Type 0
   RangesFit [] = ⊤
   RangesFit (change ∷ batch) = (IfSome change.range IsProperRange) × RangesFit batch
 
-  fit-append : (xs ys : List Edit) → RangesFit xs → RangesFit ys → RangesFit (xs ++ ys)
+  fit-append : (xs ys : List ContentChange) → RangesFit xs → RangesFit ys → RangesFit (xs ++ ys)
   fit-append [] ys p q = q
   fit-append (x ∷ xs) ys p q = (p.0, fit-append xs ys p.1 q)
 
-  fit-reverse : (xs : List Edit) → RangesFit xs → RangesFit (reverse xs)
+  fit-reverse : (xs : List ContentChange) → RangesFit xs → RangesFit (reverse xs)
   fit-reverse [] p = tt
   fit-reverse (x ∷ xs) p =
       rw (reverse-append (x ∷ []) xs) (fit-append (reverse xs) (x ∷ []) (fit-reverse xs p.1) (p.0, tt))
 
-  fit-gaps : (gs : List Gap) → AllHaveExactEnds old gs → RangesFit (map (gap_edit units old) (filter is_changed gs))
+  fit-gaps : (gs : List Gap) → AllHaveExactEnds old gs → RangesFit (map (gap_change units old) (filter is_changed gs))
   fit-gaps [] ends = tt
   fit-gaps (g ∷ gs) ends =
       ⊎_elim
@@ -85,7 +85,8 @@ module _ (units : ℕ → ℕ) (few : (c : ℕ) → units c ≤ len_utf8 c) (old
       (λ (not : is_changed g ≡ false). rw not (fit-gaps gs ends.1))
       (cases_Bool (is_changed g))
 
-  all_proper : (batch : List Edit) → RangesFit batch → AreTexts batch → All IsProperEdit (map written_edit batch)
+  all_proper : (batch : List ContentChange) → RangesFit batch → AreTexts batch
+      → All IsProperEdit (map written_edit batch)
   all_proper [] fit texts = All-nil IsProperEdit
   all_proper (change ∷ batch) fit texts =
       All-cons IsProperEdit (written_edit change) (map written_edit batch) (record {
@@ -97,5 +98,5 @@ module _ (units : ℕ → ℕ) (few : (c : ℕ) → units c ≤ len_utf8 c) (old
       → AreTexts (canonical units old items) → All IsProperEdit (map written_edit (canonical units old items))
   canonical_proper items ends texts =
       all_proper (canonical units old items)
-      (fit-reverse (map (gap_edit units old) (filter is_changed (gaps old items))) (fit-gaps (gaps old items) ends))
+      (fit-reverse (map (gap_change units old) (filter is_changed (gaps old items))) (fit-gaps (gaps old items) ends))
       texts

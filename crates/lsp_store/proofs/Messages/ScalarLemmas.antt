@@ -9,7 +9,7 @@ use Rattle.lsp_text.specs.TextLines.{numbers_from}
 use Rattle.lsp_text.specs.declared.position.Range.{Range}
 use Rattle.lsp_text.specs.Positions.{denoted}
 use Rattle.lsp_edit.specs.Items.{Item, Old, New, plain, text_of}
-use Rattle.lsp_edit.specs.Batch.{Edit, Fault, InsideStart, InsideStop, Reversed, replaced, changed_in, items_after, after_changes, continue_with, meaning}
+use Rattle.lsp_edit.specs.Batch.{ContentChange, Fault, InsideStart, InsideStop, Reversed, replaced, changed_in, items_after, after_changes, continue_with, meaning}
 use Rattle.lsp_edit.specs.Canonical.{canonical}
 use Rattle.lsp_edit.specs.laws.Batches.{IsCanonical}
 use Rattle.lsp_store.specs.Message.{AreTexts}
@@ -76,7 +76,8 @@ scalar-changed units old items characters (Some range) next p all e =
     scalar-replaced items characters (denoted units (text_of old items) range.start)
     (denoted units (text_of old items) range.stop) next p all e
 
-scalar-changes : (units : ℕ → ℕ) (old : List ℕ) (number : ℕ) (items : List Item) (batch : List Edit) (next : List Item)
+scalar-changes : (units : ℕ → ℕ) (old : List ℕ) (number : ℕ) (items : List Item) (batch : List ContentChange)
+    (next : List Item)
     → NewAreScalar items → AreTexts batch → after_changes units old number items batch ≡ Ok next → NewAreScalar next
 scalar-changes units old number items [] next p texts e =
     let same : ◌≡◌ {A = Result (List Item) (ℕ × Fault)} (Ok items) (Ok next) = e in
@@ -94,7 +95,7 @@ scalar-changes units old number items (change ∷ batch) next p texts e =
     by rest (Err fault) is e = let bad : ◌≡◌ {A = Result (List Item) (ℕ × Fault)} (Err (number, fault)) (Ok next) = e in
         absurd (cc)
 
-pub scalar-meaning : (units : ℕ → ℕ) (old : List ℕ) (batch : List Edit) (items : List Item) → AreTexts batch
+pub scalar-meaning : (units : ℕ → ℕ) (old : List ℕ) (batch : List ContentChange) (items : List Item) → AreTexts batch
     → meaning units old batch ≡ Ok items → NewAreScalar items
 scalar-meaning units old batch items texts e =
     scalar-changes units old 0 (plain old) batch items (scalar-old (numbers_from 0 (length old))) texts e
@@ -132,13 +133,13 @@ all_from_none (c ∷ text) none =
     absurd (omega (arith, none, sum_by-cons stray c text, one)))
     (cases_Bool (scalar c))
 
-texts_from_none : (batch : List Edit) → sum_by (λ change. sum_by stray change.text) batch ≤ 0 → AreTexts batch
+texts_from_none : (batch : List ContentChange) → sum_by (λ change. sum_by stray change.text) batch ≤ 0 → AreTexts batch
 texts_from_none [] none = tt
 texts_from_none (change ∷ batch) none =
-    let sum = sum_by-cons (λ (e : Edit). sum_by stray e.text) change batch in
+    let sum = sum_by-cons (λ (e : ContentChange). sum_by stray e.text) change batch in
     (all_from_none change.text (omega (arith, none, sum)), texts_from_none batch (omega (arith, none, sum)))
 
-pub canonical_texts : (units : ℕ → ℕ) (old : List ℕ) (batch : List Edit) (items : List Item)
+pub canonical_texts : (units : ℕ → ℕ) (old : List ℕ) (batch : List ContentChange) (items : List Item)
     → IsCanonical units old batch items → all_scalars old ≡ true → AreTexts batch → meaning units old batch ≡ Ok items
     → AreTexts (canonical units old items)
 canonical_texts units old batch items law all texts means =

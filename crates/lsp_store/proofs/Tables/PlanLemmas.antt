@@ -13,7 +13,7 @@ use Rattle.lsp_text.specs.declared.encoding.Encoding.{Encoding}
 use Rattle.lsp_text.specs.Units.{units_in}
 use Rattle.lsp_edit.specs.declared.delta.Delta.{Delta}
 use Rattle.lsp_edit.specs.Items.{Item}
-use Rattle.lsp_edit.specs.Batch.{Edit, meaning}
+use Rattle.lsp_edit.specs.Batch.{ContentChange, meaning}
 use Rattle.lsp_edit.specs.Canonical.{canonical}
 use Rattle.lsp_edit.specs.Delta.{IsDeltaOf, IsOn, bytes_after, delta_encoding, meant_by}
 use Rattle.lsp_edit.proofs.Deltas.OnceLemmas.{IsWithin, within_told}
@@ -127,7 +127,8 @@ index_found test xs index is =
     absurd (cc))
     (cases_Bool (nat_lt (position_or_len test xs) (length xs)))
 
-module _ (units : ℕ → ℕ) (uri : List ℕ) (version : ℤ) (batch : List Edit) (key : String Global) (stored : Stored)
+module _ (units : ℕ → ℕ) (uri : List ℕ) (version : ℤ) (batch : List ContentChange) (key : String Global)
+    (stored : Stored)
     (delta : Delta) where
   pub after_planned : (is : (u : List ℕ) → changed units (entry_under u stored) version batch
       ≡ planned (entry_under u stored) version delta) (es : List (String Global × Stored)) (index : ℕ)
@@ -158,7 +159,8 @@ module _ (units : ℕ → ℕ) (uri : List ℕ) (version : ℤ) (batch : List Ed
 
 module _ (limits : LimitsData) (es : List (String Global × Stored)) (kept : StoreData)
     (view : seen limits es ≡ kept) where
-  module _ (uri : List ℕ) (version given : ℤ) (given_is : given ≡ version) (encoding : Encoding) (batch : List Edit)
+  module _ (uri : List ℕ) (version given : ℤ) (given_is : given ≡ version) (encoding : Encoding)
+      (batch : List ContentChange)
       (index : ℕ) (key : String Global) (stored : Stored) (delta : Delta) where
     pub plan_is : Some index ≡ position (at_uri uri) (map (λ e. e.0) es) → Some key ≡ lookup_key (at_uri uri) es
         → Some stored ≡ lookup (at_uri uri) es → slice_get es index ≡ Some (key, stored)
@@ -251,13 +253,14 @@ entry_uri (first ∷ table) uri entry found =
     (λ (not : bytes_eq uri first.uri ≡ false). entry_uri table uri entry (rw not at found))
     (cases_Bool (bytes_eq uri first.uri))
 
-module _ (kept : StoreData) (uri : List ℕ) (version : ℤ) (encoding : Encoding) (batch : List Edit) (plan : Plan)
+module _ (kept : StoreData) (uri : List ℕ) (version : ℤ) (encoding : Encoding) (batch : List ContentChange)
+    (plan : Plan)
     (q : IsPlanOf kept uri version encoding batch plan) where
   within : IsWithin q.on.entry.text (meaning (units_in encoding) (chars q.on.entry.text) batch)
       (bytes_after q.on.entry.text plan.delta)
   within = within_told kept.limits.max_text q.on.entry.text _ _ q.delta.is
 
-  module _ (text : List ℕ) (same : q.on.entry.text ≡ text) (answered : List Edit)
+  module _ (text : List ℕ) (same : q.on.entry.text ≡ text) (answered : List ContentChange)
       (is : (items : List Item) → meant_by text plan.delta ≡ Ok items → answered
       ≡ canonical (units_in (delta_encoding plan.delta)) (chars text) items) where
     meant : meant_by text plan.delta ≡ Ok within.items
@@ -278,7 +281,7 @@ module _ (kept : StoreData) (uri : List ℕ) (version : ℤ) (encoding : Encodin
     planned_body key key_is given given_is =
         ap (λ (u : List ℕ). change_body u given answered) (sym key_is ∙ entry_uri kept.table uri q.on.entry q.is_open)
         ∙ (ap (λ (v : ℤ). change_body uri v answered) (given_is ∙ q.version_is)
-        ∙ ap (λ (b : List Edit). change_body uri version b) (planned_is ∙ sym batch_there))
+        ∙ ap (λ (b : List ContentChange). change_body uri version b) (planned_is ∙ sym batch_there))
 
   module _ (limits : LimitsData) (limits_is : limits ≡ kept.limits) (body : List ℕ)
       (body_is : body ≡ canonical_body (units_in encoding) kept.table uri version batch) where
@@ -301,7 +304,7 @@ module _ (kept : StoreData) (uri : List ℕ) (version : ℤ) (encoding : Encodin
     planned_refused fault why = subst (λ (r : Option Refusal). IsRefusal r fault) (sym message_is) why
 
 -- A plan that was applied is its command.
-pub plan_takes : (kept new : StoreData) (uri : List ℕ) (version : ℤ) (encoding : Encoding) (batch : List Edit)
+pub plan_takes : (kept new : StoreData) (uri : List ℕ) (version : ℤ) (encoding : Encoding) (batch : List ContentChange)
     (plan : Plan) → IsPlanOf kept uri version encoding batch plan → new ≡ after_plan kept plan
     → Takes kept (changes uri version encoding batch) new
 plan_takes kept new uri version encoding batch plan p is =

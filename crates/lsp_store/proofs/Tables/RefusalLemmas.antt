@@ -7,30 +7,30 @@ use Rattle.std.proofs.lemmas.Str.{IsUtf8-string_bytes, encodes-chars}
 use Rattle.std.specs.Str.{chars}
 use Rattle.lsp_frame.specs.Limits.{LimitsData}
 use Rattle.lsp_edit.specs.declared.change.Change.{Change}
-use Rattle.lsp_edit.specs.declared.indexed.fault.TextFault.{TextFault}
-use Rattle.lsp_edit.specs.declared.indexed.fault.TextFault.TheVariants as text
+use Rattle.lsp_edit.specs.declared.indexed.fault.BatchFault.{BatchFault}
+use Rattle.lsp_edit.specs.declared.indexed.fault.BatchFault.TheVariants as text
 use Rattle.lsp_edit.specs.Items.{Item}
 use Rattle.lsp_edit.specs.Faults.{fault_at}
 use Rattle.lsp_edit.specs.Indexed.{bytes_left, text_within}
-use Rattle.lsp_edit.specs.Batch.{Edit, Fault, meaning}
-use Rattle.lsp_edit.specs.Edited.{edit_of}
+use Rattle.lsp_edit.specs.Batch.{ContentChange, Fault, meaning}
+use Rattle.lsp_edit.specs.Edited.{content_change}
 use Rattle.lsp_store.specs.declared.fault.StoreFault.TheVariants.{StaleVersion, TooManyChanges}
 use Rattle.lsp_store.specs.Faults.{refusal_fault, store_fault_of, IsRefusal}
 use Rattle.lsp_message.specs.Params.{DocumentItem}
 use Rattle.lsp_store.specs.Table.{too_many_changes, batch_bytes, greatest_batch, is_stale, entry_refusal, meaning_refusal, meant_text}
 
 -- the changes of a batch have together so many bytes
-pub batch_bytes-changes : (changes : List Change) → batch_bytes (map edit_of changes)
+pub batch_bytes-changes : (changes : List Change) → batch_bytes (map content_change changes)
     ≡ sum_by (λ change. string_len change.text) changes
 batch_bytes-changes [] = refl
 batch_bytes-changes (c ∷ cs) =
-    sum_by-cons (λ (e : Edit). length (encode_utf8_all e.text)) (edit_of c) (map edit_of cs)
-    ∙ (ap (λ n. n + batch_bytes (map edit_of cs))
+    sum_by-cons (λ (e : ContentChange). length (encode_utf8_all e.text)) (content_change c) (map content_change cs)
+    ∙ (ap (λ n. n + batch_bytes (map content_change cs))
     (ap length (encodes-chars (string_bytes c.text) (IsUtf8-string_bytes c.text)) ∙ sym c.text.bytes.ok.0)
     ∙ (ap (λ n. string_len c.text + n) (batch_bytes-changes cs)
     ∙ sym (sum_by-cons (λ (c : Change). string_len c.text) c cs)))
 
-module _ (limits : LimitsData) (units : ℕ → ℕ) (entry : DocumentItem) (version : ℤ) (batch : List Edit)
+module _ (limits : LimitsData) (units : ℕ → ℕ) (entry : DocumentItem) (version : ℤ) (batch : List ContentChange)
     (newer : is_stale limits version entry.version ≡ false) where
   pub refused_many : (nat_lt limits.max_changes (length batch) || nat_lt greatest_batch (batch_bytes batch)) ≡ true
       → entry_refusal limits units entry version batch ≡ Some too_many_changes
@@ -42,40 +42,43 @@ module _ (limits : LimitsData) (units : ℕ → ℕ) (entry : DocumentItem) (ver
   refused_meaning few = rw (newer, few) refl
 
 pub stale_refused : (limits : LimitsData) (units : ℕ → ℕ) (entry : DocumentItem) (version given held : ℤ)
-    (batch : List Edit) → given ≡ version → held ≡ entry.version → is_stale limits given entry.version ≡ true
+    (batch : List ContentChange) → given ≡ version → held ≡ entry.version → is_stale limits given entry.version ≡ true
     → option_map refusal_fault (entry_refusal limits units entry version batch) ≡ Some (StaleVersion held)
 stale_refused limits units entry version given held batch same current stale = rw (rw same at stale, current) refl
 
 -- ---- the same, of the changes that a call was given
 
-abbrev too_much : LimitsData → List Edit → Bool
+abbrev too_much : LimitsData → List ContentChange → Bool
 too_much limits batch = nat_lt limits.max_changes (length batch) || nat_lt greatest_batch (batch_bytes batch)
 
 module _ (limits : LimitsData) (changes : List Change) where
-  many_told : limits.max_changes < length changes → too_much limits (map edit_of changes) ≡ true
+  many_told : limits.max_changes < length changes → too_much limits (map content_change changes) ≡ true
   many_told many =
-      or_left _ _ (lt-ltb limits.max_changes (length (map edit_of changes))
-      (omega (arith, many, length-map changes edit_of)))
+      or_left _ _ (lt-ltb limits.max_changes (length (map content_change changes))
+      (omega (arith, many, length-map changes content_change)))
 
-  long_told : 1073741824 < sum_by (λ change. string_len change.text) changes → too_much limits (map edit_of changes)
+  long_told : 1073741824 < sum_by (λ change. string_len change.text) changes
+      → too_much limits (map content_change changes)
       ≡ true
-  long_told long = or_right (nat_lt limits.max_changes (length (map edit_of changes))) _
-      (lt-ltb greatest_batch (batch_bytes (map edit_of changes)) (omega (arith, long, batch_bytes-changes changes)))
+  long_told long = or_right (nat_lt limits.max_changes (length (map content_change changes))) _
+      (lt-ltb greatest_batch (batch_bytes (map content_change changes)) (omega
+      (arith, long, batch_bytes-changes changes)))
 
   fit_told : length changes ≤ limits.max_changes → sum_by (λ change. string_len change.text) changes ≤ 1073741824
-      → too_much limits (map edit_of changes) ≡ false
+      → too_much limits (map content_change changes) ≡ false
   fit_told few fits =
-      or_from _ _ (le-ltb limits.max_changes (length (map edit_of changes))
-      (omega (arith, few, length-map changes edit_of)))
-      (le-ltb greatest_batch (batch_bytes (map edit_of changes)) (omega (arith, fits, batch_bytes-changes changes)))
+      or_from _ _ (le-ltb limits.max_changes (length (map content_change changes))
+      (omega (arith, few, length-map changes content_change)))
+      (le-ltb greatest_batch (batch_bytes (map content_change changes)) (omega
+      (arith, fits, batch_bytes-changes changes)))
 
   module _ (units : ℕ → ℕ) (entry : DocumentItem) (version given stored : ℤ) (given_is : given ≡ version)
       (held_is : stored ≡ entry.version) (newer : is_stale limits given stored ≡ false) where
     pub many_refused : limits.max_changes < length changes
-        → option_map refusal_fault (entry_refusal limits units entry version (map edit_of changes))
+        → option_map refusal_fault (entry_refusal limits units entry version (map content_change changes))
         ≡ Some TooManyChanges
     many_refused many =
-        ap (option_map refusal_fault) (refused_many limits units entry version (map edit_of changes)
+        ap (option_map refusal_fault) (refused_many limits units entry version (map content_change changes)
         (rw (given_is, held_is) at newer) (many_told many))
 
     over : (fits : Bool) → (IsTrue fits ↔ (sum_by (λ change. string_len change.text) changes ≤ 1073741824))
@@ -87,17 +90,18 @@ module _ (limits : LimitsData) (changes : List Change) where
         (cases_lt 1073741824 (sum_by (λ change. string_len change.text) changes))
 
     pub long_refused : (fits : Bool) → (IsTrue fits ↔ (sum_by (λ change. string_len change.text) changes ≤ 1073741824))
-        → fits ≡ false → option_map refusal_fault (entry_refusal limits units entry version (map edit_of changes))
+        → fits ≡ false → option_map refusal_fault (entry_refusal limits units entry version
+        (map content_change changes))
         ≡ Some TooManyChanges
     long_refused fits is not =
-        ap (option_map refusal_fault) (refused_many limits units entry version (map edit_of changes)
+        ap (option_map refusal_fault) (refused_many limits units entry version (map content_change changes)
         (rw (given_is, held_is) at newer) (long_told (over fits is not)))
 
     pub fit_accepted : length changes ≤ limits.max_changes → sum_by (λ change. string_len change.text) changes
         ≤ 1073741824
-        → entry_refusal limits units entry version (map edit_of changes) ≡ meaning_refusal limits entry.text
-        (meaning units (chars entry.text) (map edit_of changes))
-    fit_accepted few fits = refused_meaning limits units entry version (map edit_of changes)
+        → entry_refusal limits units entry version (map content_change changes) ≡ meaning_refusal limits entry.text
+        (meaning units (chars entry.text) (map content_change changes))
+    fit_accepted few fits = refused_meaning limits units entry version (map content_change changes)
         (rw (given_is, held_is) at newer) (fit_told few fits)
 
 -- ---- what a batch means on a text, within the limit
@@ -107,51 +111,51 @@ module _ (limits : LimitsData) (before : List ℕ) where
       → text_within limits.max_text before meant ≡ Ok bytes → (meaning_refusal limits before meant ≡ None)
       × (meant_text before meant ≡ bytes)
   meaning_accepted (Err fault) bytes is =
-      let bad : ◌≡◌ {A = Result (List ℕ) TextFault} (Err (text.Edit (fault_at fault.0 fault.1))) (Ok bytes) = is in
+      let bad : ◌≡◌ {A = Result (List ℕ) BatchFault} (Err (text.Edit (fault_at fault.0 fault.1))) (Ok bytes) = is in
       absurd (cc)
   meaning_accepted (Ok items) bytes is =
       ⊎_elim
       (λ (above : nat_lt limits.max_text (length (bytes_left before items)) ≡ true).
-      let bad : ◌≡◌ {A = Result (List ℕ) TextFault} (Err text.TooLong) (Ok bytes) = rw above at is in absurd (cc))
+      let bad : ◌≡◌ {A = Result (List ℕ) BatchFault} (Err text.TooLong) (Ok bytes) = rw above at is in absurd (cc))
       (λ (within : nat_lt limits.max_text (length (bytes_left before items)) ≡ false).
-      let same : ◌≡◌ {A = Result (List ℕ) TextFault} (Ok (bytes_left before items)) (Ok bytes) = rw within at is in
+      let same : ◌≡◌ {A = Result (List ℕ) BatchFault} (Ok (bytes_left before items)) (Ok bytes) = rw within at is in
       (rw within refl, cc))
       (cases_Bool (nat_lt limits.max_text (length (bytes_left before items))))
 
   pub meaning_short : (meant : Result (List Item) (ℕ × Fault)) (bytes : List ℕ)
       → text_within limits.max_text before meant ≡ Ok bytes → length bytes ≤ limits.max_text
   meaning_short (Err fault) bytes is =
-      let bad : ◌≡◌ {A = Result (List ℕ) TextFault} (Err (text.Edit (fault_at fault.0 fault.1))) (Ok bytes) = is in
+      let bad : ◌≡◌ {A = Result (List ℕ) BatchFault} (Err (text.Edit (fault_at fault.0 fault.1))) (Ok bytes) = is in
       absurd (cc)
   meaning_short (Ok items) bytes is =
       ⊎_elim
       (λ (above : nat_lt limits.max_text (length (bytes_left before items)) ≡ true).
-      let bad : ◌≡◌ {A = Result (List ℕ) TextFault} (Err text.TooLong) (Ok bytes) = rw above at is in absurd (cc))
+      let bad : ◌≡◌ {A = Result (List ℕ) BatchFault} (Err text.TooLong) (Ok bytes) = rw above at is in absurd (cc))
       (λ (within : nat_lt limits.max_text (length (bytes_left before items)) ≡ false).
-      let same : ◌≡◌ {A = Result (List ℕ) TextFault} (Ok (bytes_left before items)) (Ok bytes) = rw within at is in
+      let same : ◌≡◌ {A = Result (List ℕ) BatchFault} (Ok (bytes_left before items)) (Ok bytes) = rw within at is in
       let bytes_are : bytes_left before items ≡ bytes = cc in
       omega (arith, ltb-false limits.max_text (length (bytes_left before items)) within, ap length bytes_are))
       (cases_Bool (nat_lt limits.max_text (length (bytes_left before items))))
 
-  pub meaning_told : (meant : Result (List Item) (ℕ × Fault)) (fault : TextFault)
+  pub meaning_told : (meant : Result (List Item) (ℕ × Fault)) (fault : BatchFault)
       → text_within limits.max_text before meant ≡ Err fault
       → option_map refusal_fault (meaning_refusal limits before meant) ≡ Some (store_fault_of fault)
   meaning_told (Err cause) fault is =
-      let same : ◌≡◌ {A = Result (List ℕ) TextFault} (Err (text.Edit (fault_at cause.0 cause.1))) (Err fault) = is in
+      let same : ◌≡◌ {A = Result (List ℕ) BatchFault} (Err (text.Edit (fault_at cause.0 cause.1))) (Err fault) = is in
       let error : text.Edit (fault_at cause.0 cause.1) ≡ fault = cc in
-      ap (λ (f : TextFault). Some (store_fault_of f)) error
+      ap (λ (f : BatchFault). Some (store_fault_of f)) error
   meaning_told (Ok items) fault is =
       ⊎_elim
       (λ (above : nat_lt limits.max_text (length (bytes_left before items)) ≡ true).
-      let same : ◌≡◌ {A = Result (List ℕ) TextFault} (Err text.TooLong) (Err fault) = rw above at is in
+      let same : ◌≡◌ {A = Result (List ℕ) BatchFault} (Err text.TooLong) (Err fault) = rw above at is in
       let error : text.TooLong ≡ fault = cc in
-      rw above (ap (λ (f : TextFault). Some (store_fault_of f)) error))
+      rw above (ap (λ (f : BatchFault). Some (store_fault_of f)) error))
       (λ (within : nat_lt limits.max_text (length (bytes_left before items)) ≡ false).
-      let bad : ◌≡◌ {A = Result (List ℕ) TextFault} (Ok (bytes_left before items)) (Err fault) = rw within at is in
+      let bad : ◌≡◌ {A = Result (List ℕ) BatchFault} (Ok (bytes_left before items)) (Err fault) = rw within at is in
       absurd (cc))
       (cases_Bool (nat_lt limits.max_text (length (bytes_left before items))))
 
-  pub text_told : (meant : Result (List Item) (ℕ × Fault)) (fault : TextFault) → (fault ≡ text.NoMemory)
+  pub text_told : (meant : Result (List Item) (ℕ × Fault)) (fault : BatchFault) → (fault ≡ text.NoMemory)
       ⊎ (text_within limits.max_text before meant ≡ Err fault) → IsRefusal (meaning_refusal limits before meant)
       (store_fault_of fault)
   text_told meant fault error =
@@ -160,12 +164,12 @@ module _ (limits : LimitsData) (before : List ℕ) where
 
   -- A batch that is accepted is refused only where memory runs out.
   pub only_memory : (meant : Result (List Item) (ℕ × Fault)) (items : List Item) → meant ≡ Ok items
-      → length (bytes_left before items) ≤ limits.max_text → (fault : TextFault)
+      → length (bytes_left before items) ≤ limits.max_text → (fault : BatchFault)
       → (fault ≡ text.NoMemory) ⊎ (text_within limits.max_text before meant ≡ Err fault) → fault ≡ text.NoMemory
   only_memory meant items is within fault error =
       ⊎_elim (λ (e : fault ≡ text.NoMemory). e)
       (λ (e : text_within limits.max_text before meant ≡ Err fault).
-      let bad : ◌≡◌ {A = Result (List ℕ) TextFault} (Ok (bytes_left before items)) (Err fault) =
+      let bad : ◌≡◌ {A = Result (List ℕ) BatchFault} (Ok (bytes_left before items)) (Err fault) =
       rw (is, le-ltb limits.max_text (length (bytes_left before items)) within) at e in absurd (cc))
       error
 

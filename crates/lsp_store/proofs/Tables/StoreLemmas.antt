@@ -8,7 +8,7 @@ use Rattle.std.specs.declared.alloc.Global.{Global}
 use Rattle.lsp_frame.specs.Limits.{LimitsData}
 use Rattle.lsp_text.specs.declared.encoding.Encoding.{Encoding}
 use Rattle.lsp_text.specs.Units.{units_in}
-use Rattle.lsp_edit.specs.Batch.{Edit}
+use Rattle.lsp_edit.specs.Batch.{ContentChange}
 use Rattle.lsp_store.specs.declared.fault.StoreFault.{StoreFault}
 use Rattle.lsp_store.specs.declared.fault.StoreFault.TheVariants.{AlreadyOpen, TooManyDocuments, TextTooLong, NotOpen}
 use Rattle.lsp_store.specs.declared.store.stored.Stored.{Stored}
@@ -131,7 +131,7 @@ module _ (limits : LimitsData) (es : List (String Global × Stored)) (kept : Sto
 
   -- ---- changing
 
-  module _ (uri : List ℕ) (version : ℤ) (encoding : Encoding) (batch : List Edit) where
+  module _ (uri : List ℕ) (version : ℤ) (encoding : Encoding) (batch : List ContentChange) where
     pub change_absent : None ≡ lookup (at_uri uri) es → IsRefused kept (changes uri version encoding batch) NotOpen
     change_absent absent = inr (rw (← get_none uri absent) refl)
 
@@ -193,7 +193,7 @@ module _ (limits : LimitsData) (es : List (String Global × Stored)) (kept : Sto
       })
 
 -- An open document, on which nothing but its meaning refuses a batch.
-pub may_take : (kept : StoreData) (uri : List ℕ) (version : ℤ) (batch : List Edit) (entry : DocumentItem)
+pub may_take : (kept : StoreData) (uri : List ℕ) (version : ℤ) (batch : List ContentChange) (entry : DocumentItem)
     → entry_at kept.table uri ≡ Some entry
     → IsLeftToMeaning kept.limits entry version batch → ChangeMayAllocate kept uri version batch
 may_take kept uri version batch entry is_open left = rw is_open left

@@ -5,7 +5,7 @@ use Rattle.std.proofs.lemmas.Slice.Eq.{bytes_eq-Decides}
 use Rattle.std.proofs.lemmas.List.{map-append}
 use Rattle.std.specs.Map.{lookup, lookup_key, set_value, remove_entry}
 use Rattle.std.specs.declared.alloc.Global.{Global}
-use Rattle.lsp_edit.specs.Batch.{Edit}
+use Rattle.lsp_edit.specs.Batch.{ContentChange}
 use Rattle.lsp_store.specs.declared.store.stored.Stored.{Stored}
 use Rattle.lsp_message.specs.Params.{DocumentItem}
 use Rattle.lsp_store.specs.Table.{entry_at, after_change, after_close, after_open, changed}
@@ -48,7 +48,7 @@ entry_found uri (e ∷ es) key stored at found =
     (entry_found uri es key stored (rw not at at) (rw not at found))) (cases_Bool (bytes_eq uri (string_bytes e.0)))
 
 -- what is put at a URI is the changed document, which keeps its place
-pub table-set_value : (units : ℕ → ℕ) (uri : List ℕ) (version : ℤ) (batch : List Edit)
+pub table-set_value : (units : ℕ → ℕ) (uri : List ℕ) (version : ℤ) (batch : List ContentChange)
     (es : List (String Global × Stored)) (stored next : Stored) → Some stored ≡ lookup (at_uri uri) es
     → entry_under uri next ≡ changed units (entry_under uri stored) version batch
     → map entry_of (set_value (at_uri uri) es next) ≡ after_change units (map entry_of es) uri version batch

@@ -3,7 +3,7 @@ use Rattle.std.specs.Prelude.{ℕ, ℤ, ◌≡◌, ◌≤◌, List, [], ◌∷�
 use Rattle.lsp_frame.specs.Limits.{LimitsData, AreInRange}
 use Rattle.lsp_text.specs.declared.encoding.Encoding.{Encoding}
 use Rattle.lsp_text.specs.Units.{units_in}
-use Rattle.lsp_edit.specs.Batch.{Edit}
+use Rattle.lsp_edit.specs.Batch.{ContentChange}
 use Rattle.lsp_message.specs.Params.{DocumentItem}
 use Rattle.lsp_store.specs.Table.{Command, opens, changes, closes, entry_at, change_refusal, after_change, command_refusal, table_after, table_of}
 use Rattle.lsp_store.specs.Message.{AreTexts, canonical_batch, whole_batch}
@@ -21,7 +21,7 @@ GreaterLimitsLaw =
 -- Another batch is accepted within these limits, and has the result of the batch.
 pub record IsReplacedBy (limits : LimitsData) (units : ℕ → ℕ) (table : List DocumentItem)
     (uri : List ℕ)
-    (version : ℤ) (batch other : List Edit) : Type 0 where
+    (version : ℤ) (batch other : List ContentChange) : Type 0 where
   pub accepted : change_refusal limits units table uri version other ≡ None
   pub leaves : after_change units table uri version other
       ≡ after_change units table uri version batch
@@ -30,7 +30,7 @@ pub record IsReplacedBy (limits : LimitsData) (units : ℕ → ℕ) (table : Lis
 abbrev pub CanonicalBatchLaw : Type 0
 CanonicalBatchLaw =
     (small great : LimitsData) (encoding : Encoding) (table : List DocumentItem) (uri : List ℕ)
-    (version : ℤ) (batch : List Edit) → AreInRange small → AreWithin small great
+    (version : ℤ) (batch : List ContentChange) → AreInRange small → AreWithin small great
     → change_refusal small (units_in encoding) table uri version batch ≡ None
     → IsReplacedBy great (units_in encoding) table uri version batch
     (canonical_batch (units_in encoding) table uri batch)
@@ -66,7 +66,7 @@ WithinLaw =
 abbrev pub WholeTextLaw : Type 0
 WholeTextLaw =
     (small great : LimitsData) (encoding : Encoding) (table : List DocumentItem) (uri : List ℕ)
-    (version : ℤ) (batch : List Edit) → AreInRange small → AreWithin small great
+    (version : ℤ) (batch : List ContentChange) → AreInRange small → AreWithin small great
     → AllWithin small table → AreTexts batch
     → change_refusal small (units_in encoding) table uri version batch ≡ None
     → IsReplacedBy great (units_in encoding) table uri version batch

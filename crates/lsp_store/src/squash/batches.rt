@@ -2,8 +2,8 @@
 
 ghost use Rattle.std.specs.Prelude.{◌≡◌, None, IfErr, IfOk, OnErr, OnOk, map, string_bytes};
 ghost use Rattle.lsp_text.specs.Units.{units_in};
-ghost use Rattle.lsp_edit.specs.declared.indexed.fault.TextFault.TheVariants.{NoMemory};
-ghost use Rattle.lsp_edit.specs.Edited.{edit_of};
+ghost use Rattle.lsp_edit.specs.declared.indexed.fault.BatchFault.TheVariants.{NoMemory};
+ghost use Rattle.lsp_edit.specs.Edited.{content_change};
 ghost use Rattle.lsp_store.specs.Faults.{IsRefusal};
 ghost use Rattle.lsp_store.specs.Plan.{IsPlanOn};
 ghost use Rattle.lsp_store.specs.Squash.{HasReached, IsSquashAfter, IsSquashOfPlan, squash_frame, squash_of, squash_refusal};
@@ -14,7 +14,7 @@ use crate::store::Store;
 use crate::store::canonical::batch_frame;
 use crate::store::document::Document;
 use crate::store::plan::Plan;
-use lsp_edit::{Change, Joined, TextFault};
+use lsp_edit::{BatchFault, Change, Joined};
 use lsp_frame::Limits;
 use lsp_text::Encoding;
 use std::alloc::{AllocError, Global};
@@ -35,7 +35,7 @@ pub struct Batches {
 }
 
 /// Converts the fault of an accepted batch, which fails only where memory runs out.
-fn out_of_memory(_fault: TextFault) -> AllocError
+fn out_of_memory(_fault: BatchFault) -> AllocError
     requires { _fault ≡ NoMemory }
 {
     AllocError
@@ -104,11 +104,11 @@ impl Batches {
         requires reached { HasReached self.old document.now }
         requires accepted { entry_refusal self.old.limits (units_in self.old.encoding) document.now
             version
-            (map edit_of changes.now) ≡ None }
+            (map content_change changes.now) ≡ None }
         ensures ok { OnOk result
-            (IsSquashAfter self.old version (map edit_of changes.now) self.new) }
+            (IsSquashAfter self.old version (map content_change changes.now) self.new) }
         ensures reached { OnOk result (HasReached self.new
-            (changed (units_in self.old.encoding) document.now version (map edit_of changes.now))) }
+            (changed (units_in self.old.encoding) document.now version (map content_change changes.now))) }
         ensures unchanged { OnErr result (self.new ≡ self.old) }
     {
         document.show_utf8();

@@ -2,7 +2,7 @@
 
 ghost use Rattle.std.specs.Prelude.{◌≡◌, ℕ, List, None, Err, IfErr, OnErr, OnOk, map};
 ghost use Rattle.lsp_text.specs.Units.{units_in};
-ghost use Rattle.lsp_edit.specs.Edited.{edit_of};
+ghost use Rattle.lsp_edit.specs.Edited.{content_change};
 ghost use Rattle.lsp_edit.specs.Joined.{IsJoined, IsReached};
 ghost use Rattle.lsp_store.specs.declared.fault.StoreFault.TheVariants.{NoMemory};
 ghost use Rattle.lsp_store.specs.Faults.{IsRefusal};
@@ -29,20 +29,20 @@ impl Stored {
         requires { IsReached joined.old self.old.text }
         ensures accepted { OnOk result
             ((uri : List ℕ) → entry_refusal limits.now (units_in encoding)
-            (entry_under uri self.old) version (map edit_of changes.now) ≡ None) }
+            (entry_under uri self.old) version (map content_change changes.now) ≡ None) }
         ensures joined { OnOk result
-            (IsJoined (units_in encoding) joined.old (map edit_of changes.now) joined.new) }
+            (IsJoined (units_in encoding) joined.old (map content_change changes.now) joined.new) }
         ensures reached { OnOk result (IsReached joined.new self.new.text) }
         ensures version { OnOk result (self.new.version ≡ version) }
         ensures unchanged { OnErr result (self.new ≡ self.old) }
         ensures joined_unchanged { OnErr result (joined.new ≡ joined.old) }
         ensures error { IfErr result (λ fault. (uri : List ℕ) → IsRefusal (entry_refusal limits.now
-            (units_in encoding) (entry_under uri self.old) version (map edit_of changes.now))
+            (units_in encoding) (entry_under uri self.old) version (map content_change changes.now))
             fault) }
         // Memory is taken only once nothing but the meaning can refuse the batch.
         ensures memory { result ≡ Err NoMemory → (uri : List ℕ)
             → IsLeftToMeaning limits.now (entry_under uri self.old) version
-            (map edit_of changes.now) }
+            (map content_change changes.now) }
     {
         self.check_change(limits, version, changes)?;
         joined.change(encoding, &mut self.text, changes, limits.max_text())?;

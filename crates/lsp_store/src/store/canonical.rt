@@ -3,8 +3,8 @@
 ghost use Rattle.std.specs.Prelude.{◌≡◌, ◌<◌, ◌≤◌, ◌↔◌, ◌+◌, ◌-◌, ◌++◌, if◌then◌else◌, nat_lt, List, None, Some, Err, IfErr, IfOk, OnErr, OnOk, length, map, string_bytes, take, ℕ, ℤ};
 ghost use Rattle.lsp_frame.specs.Frame.{frame};
 ghost use Rattle.lsp_text.specs.Units.{units_in};
-ghost use Rattle.lsp_edit.specs.Batch.{Edit};
-ghost use Rattle.lsp_edit.specs.Edited.{edit_of};
+ghost use Rattle.lsp_edit.specs.Batch.{ContentChange};
+ghost use Rattle.lsp_edit.specs.Edited.{content_change};
 ghost use Rattle.lsp_message.specs.Outgoing.{OutgoingData, body_of};
 ghost use Rattle.lsp_message.specs.laws.Sent.{IsProper, IsReadAsSent, IsReadBack};
 ghost use Rattle.lsp_store.specs.declared.fault.StoreFault.TheVariants.{BodyTooLong, NoMemory, TooManyChanges};
@@ -49,12 +49,12 @@ fn change_frame(
     changes: Vec<Change>,
 ) -> Result<Vec<u8>, StoreFault>
     ensures framed { IfOk result
-        (λ bytes. bytes.items ≡ frame (change_body uri.now version (map edit_of changes.items))) }
+        (λ bytes. bytes.items ≡ frame (change_body uri.now version (map content_change changes.items))) }
     ensures within { OnOk result
-        (body_refusal limits.now (change_body uri.now version (map edit_of changes.items)) ≡ None) }
+        (body_refusal limits.now (change_body uri.now version (map content_change changes.items)) ≡ None) }
     ensures error { IfErr result
         (IsRefusal (body_refusal limits.now
-        (change_body uri.now version (map edit_of changes.items)))) }
+        (change_body uri.now version (map content_change changes.items)))) }
     ensures read_as { OnOk result ((m : OutgoingData) → IsProper m → IsReadAsSent m) }
     ensures read_back { OnOk result ((m : OutgoingData) → IsProper m → IsReadBack m) }
     ensures unique { OnOk result ((m n : OutgoingData) → IsProper m → IsProper n →
@@ -75,14 +75,14 @@ pub fn batch_frame(
     changes: Vec<Change>,
 ) -> Result<Vec<u8>, StoreFault>
     ensures framed { IfOk result
-        (λ bytes. bytes.items ≡ frame (change_body uri.now version (map edit_of changes.items))) }
+        (λ bytes. bytes.items ≡ frame (change_body uri.now version (map content_change changes.items))) }
     ensures few { OnOk result (length changes.items ≤ limits.now.max_changes) }
     ensures within { OnOk result
-        (body_refusal limits.now (change_body uri.now version (map edit_of changes.items)) ≡ None) }
+        (body_refusal limits.now (change_body uri.now version (map content_change changes.items)) ≡ None) }
     ensures error { IfErr result (IsRefusal
-        (if nat_lt limits.now.max_changes (length (map edit_of changes.items)) then
+        (if nat_lt limits.now.max_changes (length (map content_change changes.items)) then
         Some too_many_changes else
-        body_refusal limits.now (change_body uri.now version (map edit_of changes.items)))) }
+        body_refusal limits.now (change_body uri.now version (map content_change changes.items)))) }
     ensures memory { result ≡ Err NoMemory → length changes.items ≤ limits.now.max_changes }
 {
     check_batch_length(limits, &changes)?;
@@ -98,12 +98,12 @@ fn push_body(
     changes: Vec<Change>,
 ) -> Result<(), StoreFault>
     ensures body { OnOk result (bytes.new.items
-        ≡ bytes.old.items ++ change_body uri.now version (map edit_of changes.items)) }
+        ≡ bytes.old.items ++ change_body uri.now version (map content_change changes.items)) }
     ensures within { OnOk result
-        (body_refusal limits.now (change_body uri.now version (map edit_of changes.items)) ≡ None) }
+        (body_refusal limits.now (change_body uri.now version (map content_change changes.items)) ≡ None) }
     ensures error { IfErr result
         (IsRefusal (body_refusal limits.now
-        (change_body uri.now version (map edit_of changes.items)))) }
+        (change_body uri.now version (map content_change changes.items)))) }
     ensures unchanged { OnErr result (bytes.new.items ≡ bytes.old.items) }
 {
     let start = bytes.len();
@@ -157,41 +157,41 @@ impl Store {
         ensures framed { IfOk result
             (λ bytes. bytes.items
             ≡ canonical_frame (units_in encoding) self.now.table uri.now version
-            (map edit_of changes.now)) }
+            (map content_change changes.now)) }
         ensures accepted { OnOk result
             (message_refusal self.now.limits (units_in encoding) self.now.table uri.now version
-            (map edit_of changes.now) ≡ None) }
+            (map content_change changes.now) ≡ None) }
         ensures error { IfErr result
             (IsRefusal (message_refusal self.now.limits (units_in encoding) self.now.table uri.now
-            version (map edit_of changes.now))) }
+            version (map content_change changes.now))) }
         // Memory is taken only once nothing but what the batch means, or its message's length, can
         // refuse it.
         ensures memory { result ≡ Err NoMemory
-            → ChangeMayAllocate self.now uri.now version (map edit_of changes.now) }
+            → ChangeMayAllocate self.now uri.now version (map content_change changes.now) }
         // The canonical batch is that of what the batch means; `batch_laws` has what holds of it.
         ensures canonical { OnOk result
-            (IsCanonicalOn (units_in encoding) self.now.table uri.now (map edit_of changes.now)) }
+            (IsCanonicalOn (units_in encoding) self.now.table uri.now (map content_change changes.now)) }
         // Every other batch that is accepted here has the same canonical message exactly if both
         // batches do the same.
-        ensures exactly { OnOk result ((other : List Edit) → AreTexts other
+        ensures exactly { OnOk result ((other : List ContentChange) → AreTexts other
             → change_refusal self.now.limits (units_in encoding) self.now.table uri.now version
             other ≡ None
             → (canonical_frame (units_in encoding) self.now.table uri.now version
-            (map edit_of changes.now)
+            (map content_change changes.now)
             ≡ canonical_frame (units_in encoding) self.now.table uri.now version other)
-            ↔ DoAlike (units_in encoding) self.now.table uri.now (map edit_of changes.now) other) }
+            ↔ DoAlike (units_in encoding) self.now.table uri.now (map content_change changes.now) other) }
         // The canonical batch is accepted here, has the same result, and has the same canonical
         // message.
         ensures again { OnOk result
             (IsCanonicalOf self.now.limits (units_in encoding) self.now.table uri.now version
-            (map edit_of changes.now)
+            (map content_change changes.now)
             (canonical_batch (units_in encoding) self.now.table uri.now
-            (map edit_of changes.now))) }
+            (map content_change changes.now))) }
         // The receiver reads that batch, under this URI and version.
         ensures read { OnOk result
             (IsReadAgain uri.now version
             (canonical_batch (units_in encoding) self.now.table uri.now
-            (map edit_of changes.now))) }
+            (map content_change changes.now))) }
     {
         let Some(stored) = self.documents.get(uri) else {
             return Err(StoreFault::NotOpen);
@@ -217,15 +217,15 @@ impl Store {
     ) -> Result<(), StoreFault>
         ensures body { OnOk result (bytes.new.items ≡ bytes.old.items
             ++ canonical_body (units_in encoding) self.now.table uri.now version
-            (map edit_of changes.now)) }
+            (map content_change changes.now)) }
         ensures accepted { OnOk result
             (message_refusal self.now.limits (units_in encoding) self.now.table
-            uri.now version (map edit_of changes.now) ≡ None) }
+            uri.now version (map content_change changes.now) ≡ None) }
         ensures error { IfErr result (IsRefusal (message_refusal self.now.limits (units_in encoding)
-            self.now.table uri.now version (map edit_of changes.now))) }
+            self.now.table uri.now version (map content_change changes.now))) }
         ensures unchanged { OnErr result (bytes.new.items ≡ bytes.old.items) }
         ensures memory { result ≡ Err NoMemory
-            → ChangeMayAllocate self.now uri.now version (map edit_of changes.now) }
+            → ChangeMayAllocate self.now uri.now version (map content_change changes.now) }
     {
         let Some(stored) = self.documents.get(uri) else {
             return Err(StoreFault::NotOpen);
@@ -239,8 +239,8 @@ impl Store {
     fn planned_batch(&self, plan: &Plan<'_>) -> Result<(&str, i32, Vec<Change>), AllocError>
         requires on { IsPlanOn self.now plan.now }
         ensures { IfOk result (λ planned. (uri : List ℕ) (version : ℤ) (encoding : Encoding)
-            (batch : List Edit) → IsPlanOf self.now uri version encoding batch plan.now
-            → change_body planned.0.now planned.1 (map edit_of planned.2.items)
+            (batch : List ContentChange) → IsPlanOf self.now uri version encoding batch plan.now
+            → change_body planned.0.now planned.1 (map content_change planned.2.items)
             ≡ canonical_body (units_in encoding) self.now.table uri version batch) }
     {
         let Some((uri, stored)) = self.documents.get_index(plan.index) else {

@@ -9,7 +9,7 @@ ghost use Rattle.lsp_text.specs.Text.{place_of};
 ghost use Rattle.lsp_text.specs.TextLines.{line_ends};
 ghost use Rattle.lsp_text.specs.Units.{units_in};
 ghost use Rattle.lsp_buffer.specs.Contents.{IsContentOf};
-ghost use Rattle.lsp_edit.specs.Edited.{edit_of};
+ghost use Rattle.lsp_edit.specs.Edited.{content_change};
 ghost use Rattle.lsp_edit.specs.TextEdits.{IsBatchOfEdits, IsEditsFault};
 ghost use Rattle.lsp_store.specs.UnitsBefore.{HasUnitsBefore};
 ghost use Rattle.lsp_store.specs.Opened.{entry_under};
@@ -167,7 +167,7 @@ impl<'a> Document<'a> {
         edits: &[TextEdit],
     ) -> Result<Vec<Change>, TextEditFault>
         ensures batch { IfOk result (λ batch.
-            IsBatchOfEdits (units_in encoding) self.now.text edits.now (map edit_of batch.items)) }
+            IsBatchOfEdits (units_in encoding) self.now.text edits.now (map content_change batch.items)) }
         ensures error { IfErr result (λ fault.
             IsEditsFault (units_in encoding) (chars self.now.text) edits.now fault) }
     {

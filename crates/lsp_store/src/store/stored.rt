@@ -20,7 +20,7 @@ pub struct Stored {
 impl Stored {
     ghost use Rattle.std.specs.Prelude.{◌≡◌, ◌≢◌, ℕ, List, Some, None, Err, IfErr, IfOk, OnErr, OnOk, map, option_map, string_bytes, string_len};
     ghost use Rattle.lsp_text.specs.Units.{units_in};
-    ghost use Rattle.lsp_edit.specs.Edited.{edit_of};
+    ghost use Rattle.lsp_edit.specs.Edited.{content_change};
     ghost use Rattle.lsp_edit.specs.Indexed.{IsCanonicalBatch};
     ghost use Rattle.lsp_edit.specs.Delta.{IsDeltaOf, IsOn, bytes_after};
     ghost use Rattle.lsp_store.specs.Plan.{planned};
@@ -71,11 +71,11 @@ impl Stored {
     ) -> Result<(), StoreFault>
         ensures may { OnOk result ((uri : List ℕ)
             → IsLeftToMeaning limits.now (entry_under uri self.now) version
-            (map edit_of changes.now)) }
+            (map content_change changes.now)) }
         ensures error { IfErr result (λ fault. (units : ℕ → ℕ) (uri : List ℕ) →
             option_map refusal_fault
             (entry_refusal limits.now units (entry_under uri self.now) version
-            (map edit_of changes.now)) ≡ Some fault) }
+            (map content_change changes.now)) ≡ Some fault) }
         ensures fits { OnOk result
             (sum_by (λ change. string_len change.text) changes.now ≤ 1073741824) }
         ensures memory { result ≢ Err NoMemory }
@@ -100,17 +100,17 @@ impl Stored {
     ) -> Result<Delta<'a>, StoreFault>
         ensures accepted { OnOk result ((uri : List ℕ) →
             entry_refusal limits.now (units_in encoding) (entry_under uri self.now) version
-            (map edit_of changes.now) ≡ None) }
+            (map content_change changes.now) ≡ None) }
         ensures delta { IfOk result (IsDeltaOf (units_in encoding) limits.now.max_text self.now.text
-            (map edit_of changes.now)) }
+            (map content_change changes.now)) }
         ensures short { limits.now.max_text ≤ 1073741824 }
         ensures error { IfErr result (λ fault. (uri : List ℕ) →
             IsRefusal (entry_refusal limits.now (units_in encoding) (entry_under uri self.now)
-            version (map edit_of changes.now)) fault) }
+            version (map content_change changes.now)) fault) }
         // Memory is taken only once nothing but the meaning can refuse the batch.
         ensures memory { result ≡ Err NoMemory → (uri : List ℕ)
             → IsLeftToMeaning limits.now (entry_under uri self.now) version
-            (map edit_of changes.now) }
+            (map content_change changes.now) }
     {
         let max_len = limits.max_text();
         self.check_change(limits, version, changes)?;
@@ -146,18 +146,18 @@ impl Stored {
     ) -> Result<Vec<Change>, StoreFault>
         ensures accepted { OnOk result ((uri : List ℕ) →
             entry_refusal limits.now (units_in encoding) (entry_under uri self.now) version
-            (map edit_of changes.now) ≡ None) }
+            (map content_change changes.now) ≡ None) }
         ensures batch { IfOk result (λ batch.
             IsCanonicalBatch (units_in encoding) limits.now.max_text self.now.text
-            (map edit_of changes.now) (map edit_of batch.items)) }
+            (map content_change changes.now) (map content_change batch.items)) }
         ensures short { (length self.now.text ≤ 1073741824) × (limits.now.max_text ≤ 1073741824) }
         ensures error { IfErr result (λ fault. (uri : List ℕ) →
             IsRefusal (entry_refusal limits.now (units_in encoding) (entry_under uri self.now)
-            version (map edit_of changes.now)) fault) }
+            version (map content_change changes.now)) fault) }
         // Memory is taken only once nothing but the meaning can refuse the batch.
         ensures memory { result ≡ Err NoMemory → (uri : List ℕ)
             → IsLeftToMeaning limits.now (entry_under uri self.now) version
-            (map edit_of changes.now) }
+            (map content_change changes.now) }
     {
         let max_text = limits.max_text();
         self.check_change(limits, version, changes)?;

@@ -1,5 +1,6 @@
 use Rattle.lsp_frame.proofs.FaultLemmas.{decided_hopeless}
-use Rattle.lsp_frame.proofs.StreamLemmas.{same_frame, same_read, decided_more}
+use Rattle.lsp_frame.proofs.StreamLemmas.{decided_more}
+use Rattle.lsp_frame.proofs.FramedLemmas.{same_frame, same_read}
 use Rattle.lsp_frame.proofs.WrittenLemmas.{written_is_frame}
 use Rattle.lsp_frame.proofs.DecisionLemmas.{decision_law, all_frames_law}
 use Rattle.lsp_frame.proofs.LawLemmas.{one_frame_law, bound_law, frames_law, fault_law, injective_law}

@@ -1,7 +1,7 @@
 use Rattle.std.proofs.Common.{◌≡◌, ◌-◌, ◌<◌, ◌∷◌, ◌++◌, [], length, map, option_map, Some, None, sym, ap, ◌∙◌, arith}
 use Rattle.json.specs.Json.{parse_map, after_end_array}
 use Rattle.serde_json.specs.Data.{no_items}
-use Rattle.lsp_message.specs.Params.{edit_in}
+use Rattle.lsp_message.specs.Params.{content_change_in}
 use Rattle.lsp_message.specs.Seen.{edit_view}
 use Rattle.lsp_reader.specs.inside.Reading.{items_at}
 use Rattle.lsp_reader.proofs.Grammar.{items_at-more, items_at-refused, items_at-end}
@@ -28,7 +28,8 @@ items-preserved-in-Continue-branch-3 c =
     let read = done.ok in
     let less : length r < length l.reader = rw (← going.1) done.shorter in
     let turn = items_at-more depth n l.reader r read.0 (omega (arith, l.invariant.2)) going.0 (rw (← going.1) read.1) in
-    let edit : Some (edit_view c.in-Some.change) ≡ edit_in read.0 = ap (option_map edit_view) (sym c.in-Some.is)
+    let edit : Some (edit_view c.in-Some.change) ≡ content_change_in read.0 = ap (option_map edit_view)
+    (sym c.in-Some.is)
     ∙ read.2 in
     let longer : map edit_view c.push.new.self.items ≡ map edit_view l.found.items ++ edit_view c.in-Some.change ∷ [] =
     ap (map edit_view) c.in_ok-push-in-Some.ensures.items ∙ map_push edit_view l.found.items c.in-Some.change in (
@@ -54,7 +55,7 @@ items-preserved c =
     let read = done.ok in
     let less : length r < length l.reader = rw (← going.1) done.shorter in
     let turn = items_at-more depth n l.reader r read.0 (omega (arith, l.invariant.2)) going.0 (rw (← going.1) read.1) in
-    let none : None ≡ edit_in read.0 = ap (option_map edit_view) (sym c.in-None.is) ∙ read.2 in (
+    let none : None ≡ content_change_in read.0 = ap (option_map edit_view) (sym c.in-None.is) ∙ read.2 in (
       n - 1,
       before ++ read.0 ∷ [],
       omega (arith, l.invariant.2),

@@ -3,7 +3,8 @@ use Rattle.std.proofs.lemmas.List.{length-take}
 use Rattle.std.specs.Io.KnownBytes.{Consumes}
 use Rattle.std.proofs.lemmas.Result.{err_from_is_err_and}
 use Rattle.lsp_replay.specs.Engine.{state_of}
-use Rattle.lsp_replay.proofs.Runs.RunLemmas.{runs_at_start, runs_on, runs_more, ran_stopped, ran_into_fault, ran_finished, ran_unread, ran_unopened, ran_refused, called_fault, piece_not_read, piece_whole, end_whole, told_result, both_at_start, both_writes, both_reads, rose_more, told_fault, read_not_write, read_not_ended, n_is_zero, zero_is, not_at_end, passed_fault, passed_result, in_time}
+use Rattle.lsp_replay.proofs.Runs.RunLemmas.{called_fault, piece_not_read, told_result, both_at_start, both_writes, both_reads, rose_more, told_fault, read_not_write, read_not_ended, n_is_zero, zero_is, passed_fault, passed_result, in_time}
+use Rattle.lsp_replay.proofs.Runs.PieceLemmas.{runs_at_start, runs_on, runs_more, ran_stopped, ran_into_fault, ran_finished, ran_unread, ran_unopened, ran_refused, piece_whole, end_whole, not_at_end}
 use Rattle.lsp_replay.proofs.engine.run_on.Goals as goal
 
 pub returns-in_err-opening-clause-run : goal.returns-in_err-opening-clause-run

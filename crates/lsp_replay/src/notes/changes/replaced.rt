@@ -5,7 +5,7 @@ ghost use Rattle.std.specs.Result.{result_ok};
 ghost use Rattle.std.specs.Str.{IsCharBoundary, chars};
 ghost use Rattle.lsp_text.specs.Units.{units_in};
 ghost use Rattle.lsp_edit.specs.Batch.{meaning};
-ghost use Rattle.lsp_edit.specs.Edited.{edit_of};
+ghost use Rattle.lsp_edit.specs.Edited.{content_change};
 ghost use Rattle.lsp_edit.specs.Faults.{ends_of, places_at};
 ghost use Rattle.lsp_edit.specs.Indexed.{alone, text_within};
 ghost use Rattle.lsp_replay.specs.Notes.{left_by, replaced_by};
@@ -66,7 +66,7 @@ pub(super) fn leave(
     change: &Change,
 ) -> Result<bool, AllocError>
     requires { length text.old ≤ 1073741824 }
-    ensures left { IfOk result (λ is_left. left_by (units_in encoding) text.old (edit_of change.now)
+    ensures left { IfOk result (λ is_left. left_by (units_in encoding) text.old (content_change change.now)
         ≡ (if is_left then Some text.new else None)) }
     ensures size { OnOk result (length text.new ≤ 1073741824) }
 {

@@ -1,4 +1,6 @@
-use Rattle.lsp_store.proofs.LawLemmas.{greater_limits_law, canonical_batch_law, whole_text_law, within_law, unique_law, table_law, last_law}
+use Rattle.lsp_store.proofs.LawLemmas.{whole_text_law, unique_law, table_law, last_law}
+use Rattle.lsp_store.proofs.WithinLemmas.{within_law}
+use Rattle.lsp_store.proofs.GreaterLemmas.{greater_limits_law, canonical_batch_law}
 use Rattle.lsp_store.proofs.laws.store_laws.Goals as goal
 
 pub returns : goal.returns

@@ -2,7 +2,7 @@ use Rattle.std.proofs.Common.{◌≡◌, ◌∙◌, ap, map, rules, w32, to_z, o
 use Rattle.std.proofs.lemmas.Int.{to_z-of_z}
 use Rattle.std.proofs.lemmas.Result.{err_from_is_err_and}
 use Rattle.lsp_frame.specs.Frame.{frame}
-use Rattle.lsp_edit.specs.Edited.{edit_of}
+use Rattle.lsp_edit.specs.Edited.{content_change}
 use Rattle.lsp_store.specs.Table as documents
 use Rattle.lsp_store.specs.Table.{Command, command_refusal}
 use Rattle.lsp_client.specs.Step.{ClientData, agreement}
@@ -31,13 +31,14 @@ returns-in_err-frame-clause-error c =
     let limits = ap (λ (x : ClientData). x.limits) c.self.view_is in
     let table = ap (λ (x : ClientData). x.table) c.self.view_is in
     let command : Command = documents.changes c.args.uri.now c.args.version (agreement s).encoding
-    (map edit_of c.args.changes.now) in
+    (map content_change c.args.changes.now) in
     let planned = rw version at c.in_ok-plan.ensures.planned in
     let may : command_refusal s.limits s.table command ≡ None =
     rw (c.agreement-encoding.ensures, limits, table) at planned.accepted in
     let left = planned_whole _ _ _ _ _ _ planned _ (c.in_ok-text.ensures planned.on) in
     let body = whole_sent c.self.inside.store.table s c.agreement-encoding.result c.args.uri.now c.args.version
-    (map edit_of c.args.changes.now) (whole_change (string_bytes c.in_ok-text.text)) table c.agreement-encoding.ensures
+    (map content_change c.args.changes.now) (whole_change (string_bytes c.in_ok-text.text)) table
+    c.agreement-encoding.ensures
     c.requires
     left in
     let p = err_from_is_err_and c.from_residual-in_err-frame.result c.from_residual-in_err-frame.ensures.1 in
@@ -54,13 +55,14 @@ returns-clause-ok c =
     let limits = ap (λ (x : ClientData). x.limits) c.self.view_is in
     let table = ap (λ (x : ClientData). x.table) c.self.view_is in
     let command : Command = documents.changes c.args.uri.now c.args.version (agreement s).encoding
-    (map edit_of c.args.changes.now) in
+    (map content_change c.args.changes.now) in
     let planned = rw version at c.in_ok-plan.ensures.planned in
     let left = planned_whole _ _ _ _ _ _ planned _ (c.in_ok-text.ensures planned.on) in
     let taken = c.in_ok-apply.ensures.taken c.args.uri.now c.args.version c.agreement-encoding.result.encoding
-    (map edit_of c.args.changes.now) planned in
+    (map content_change c.args.changes.now) planned in
     let body = whole_sent c.self.inside.store.table s c.agreement-encoding.result c.args.uri.now c.args.version
-    (map edit_of c.args.changes.now) (whole_change (string_bytes c.in_ok-text.text)) table c.agreement-encoding.ensures
+    (map content_change c.args.changes.now) (whole_change (string_bytes c.in_ok-text.text)) table
+    c.agreement-encoding.ensures
     c.requires
     left in
     order_sent c.self.inside.offers c.self.inside.phase c.self.inside.agreed c.self.inside.store c.apply.new.self s

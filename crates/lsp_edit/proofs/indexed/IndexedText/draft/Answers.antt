@@ -1,7 +1,7 @@
 use Rattle.std.proofs.Common.{inr, map}
 use Rattle.std.proofs.lemmas.Result.{err_from_is_err_and}
 use Rattle.lsp_text.specs.Units.{units_in}
-use Rattle.lsp_edit.specs.Edited.{edit_of}
+use Rattle.lsp_edit.specs.Edited.{content_change}
 use Rattle.lsp_edit.proofs.Batches.TextBatchLemmas.{left_fault, left_too_long, left_within}
 use Rattle.lsp_edit.proofs.indexed.IndexedText.draft.Goals as goal
 
@@ -11,7 +11,7 @@ returns-in_err-draft-clause-error c =
     rw (
       p.1,
       p.2,
-    ) (left_fault (units_in c.args.encoding) c.args.self.now (map edit_of c.args.changes.now) c.args.max_len _
+    ) (left_fault (units_in c.args.encoding) c.args.self.now (map content_change c.args.changes.now) c.args.max_len _
     c.in_err-draft.ensures.error)
 
 pub returns-in_err-may_be_left-clause-error : goal.returns-in_err-may_be_left-clause-error
@@ -19,10 +19,11 @@ returns-in_err-may_be_left-clause-error c =
     let p = err_from_is_err_and c.from_residual-in_err-may_be_left.result
     c.from_residual-in_err-may_be_left.ensures.1 in
     rw (p.1, p.2, c.in_err-may_be_left.ensures.error.0)
-    (inr (left_too_long (units_in c.args.encoding) c.args.self.now (map edit_of c.args.changes.now) c.in_ok-draft.draft
+    (inr (left_too_long (units_in c.args.encoding) c.args.self.now (map content_change c.args.changes.now)
+    c.in_ok-draft.draft
     c.in_err-may_be_left.ensures.utf8 c.in_ok-draft.ensures.ok c.args.max_len c.in_err-may_be_left.ensures.error.1))
 
 pub returns-clause-ok : goal.returns-clause-ok
 returns-clause-ok c =
-    left_within (units_in c.args.encoding) c.args.self.now (map edit_of c.args.changes.now) c.in_ok-draft.draft
+    left_within (units_in c.args.encoding) c.args.self.now (map content_change c.args.changes.now) c.in_ok-draft.draft
     c.in_ok-may_be_left.ensures.utf8 c.in_ok-draft.ensures.ok c.args.max_len c.in_ok-may_be_left.ensures.ok

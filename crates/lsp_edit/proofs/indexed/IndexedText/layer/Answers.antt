@@ -1,4 +1,4 @@
-use Rattle.lsp_edit.proofs.Deltas.LayerLemmas.{delta_is}
+use Rattle.lsp_edit.proofs.Deltas.OwnedLemmas.{delta_is}
 use Rattle.lsp_edit.proofs.indexed.IndexedText.layer.Goals as goal
 
 pub returns-clause-ok : goal.returns-clause-ok

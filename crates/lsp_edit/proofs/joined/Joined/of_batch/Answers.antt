@@ -4,8 +4,8 @@ use Rattle.std.proofs.lemmas.List.{map-append, nil_from_length}
 use Rattle.std.proofs.lemmas.List.Sums.{sum_by-append}
 use Rattle.lsp_text.specs.Units.{units_in}
 use Rattle.lsp_edit.specs.declared.change.Change.{Change}
-use Rattle.lsp_edit.specs.Batch.{Edit}
-use Rattle.lsp_edit.specs.Edited.{edit_of}
+use Rattle.lsp_edit.specs.Batch.{ContentChange}
+use Rattle.lsp_edit.specs.Edited.{content_change}
 use Rattle.lsp_edit.specs.Joined.{IsReached}
 use Rattle.lsp_edit.proofs.Deltas.SeriesLemmas.{IsSeries, series_begins, series_ends, series_next}
 use Rattle.lsp_edit.proofs.joined.Joined.of_batch.Goals as goal
@@ -13,13 +13,13 @@ use Rattle.lsp_edit.proofs.joined.Joined.of_batch.Goals as goal
 pub loop-series-init : goal.loop-series-init
 loop-series-init c =
     let rest : chunks_rest c.into_iter-series-iterator.result ≡ c.args.changes.now = search rules in
-    let batch : List Edit = map edit_of c.args.changes.now in
+    let batch : List ContentChange = map content_change c.args.changes.now in
     let at : IsReached c.in_ok-joined.joined c.in_ok-reached.reached
     = subst (IsReached c.in_ok-joined.joined) (sym c.in_ok-reached.ensures.copy) c.in_ok-joined.ensures.reached in (
       search rules,
       rw rest c.requires.fits,
       subst (λ (r : List Change). IsSeries (units_in c.args.encoding) c.args.before.now batch c.in_ok-joined.joined
-          c.in_ok-reached.reached (map edit_of r)) (sym rest)
+          c.in_ok-reached.reached (map content_change r)) (sym rest)
           (series_begins (units_in c.args.encoding) c.args.before.now batch c.in_ok-joined.joined
           c.in_ok-reached.reached
           c.in_ok-reached.ensures.utf8 c.in_ok-joined.ensures.joined at
@@ -35,18 +35,20 @@ loop-series-preserved c =
     = ap (sum_by f) steps.1.0 ∙ sum_by-append f c.in-Some.series.now (chunks_rest c.next.new.self) in (
       omega (arith, steps.0, c.loop-series.invariant.0),
       omega (arith, sum, c.loop-series.invariant.1),
-      series_next (units_in c.args.encoding) c.args.before.now (map edit_of c.args.changes.now) c.loop-series.joined
+      series_next (units_in c.args.encoding) c.args.before.now (map content_change c.args.changes.now)
+          c.loop-series.joined
           c.change.new.self c.loop-series.reached c.change.new.reached
-          (map edit_of c.in-Some.series.now) (map edit_of (chunks_rest c.loop-series.series-iterator))
-          (map edit_of (chunks_rest c.next.new.self)) c.loop-series.invariant.2
-          (ap (map edit_of) steps.1.0 ∙ map-append edit_of c.in-Some.series.now (chunks_rest c.next.new.self))
+          (map content_change c.in-Some.series.now) (map content_change (chunks_rest c.loop-series.series-iterator))
+          (map content_change (chunks_rest c.next.new.self)) c.loop-series.invariant.2
+          (ap (map content_change) steps.1.0 ∙ map-append content_change c.in-Some.series.now
+          (chunks_rest c.next.new.self))
           c.in_ok-change.ensures.ok c.in_ok-change.ensures.reached c.in_ok-change.ensures.changed,
     )
 
 pub returns : goal.returns
 returns c =
-    series_ends (units_in c.args.encoding) c.args.before.now (map edit_of c.args.changes.now) c.args.max_len
-    c.loop-series.joined c.loop-series.reached (map edit_of (chunks_rest c.loop-series.series-iterator))
+    series_ends (units_in c.args.encoding) c.args.before.now (map content_change c.args.changes.now) c.args.max_len
+    c.loop-series.joined c.loop-series.reached (map content_change (chunks_rest c.loop-series.series-iterator))
     c.loop-series.invariant.2
-    (ap (map edit_of) (nil_from_length _ c.in-None.ensures.steps.1.0))
+    (ap (map content_change) (nil_from_length _ c.in-None.ensures.steps.1.0))
     (omega (arith, c.if-len-max_len.false, c.len.ensures.len))

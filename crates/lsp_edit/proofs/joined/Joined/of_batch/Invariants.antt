@@ -2,7 +2,7 @@ use Rattle.std.proofs.Common.{◌≤◌, ◌<◌, map, sum_by, string_len}
 use Rattle.std.specs.Slice.Iter.{chunks_rest, chunks_size}
 use Rattle.lsp_text.specs.Units.{units_in}
 use Rattle.lsp_edit.specs.declared.change.Change.{Change}
-use Rattle.lsp_edit.specs.Edited.{edit_of}
+use Rattle.lsp_edit.specs.Edited.{content_change}
 use Rattle.lsp_edit.proofs.Deltas.SeriesLemmas.{IsSeries}
 use Rattle.lsp_edit.proofs.joined.Joined.of_batch.Given as goal
 
@@ -10,5 +10,5 @@ abbrev pub invariant-loop-series : goal.invariant-loop-series
 invariant-loop-series l =
     (0 < chunks_size l.series-iterator)
     × (sum_by (λ (change : Change). string_len change.text) (chunks_rest l.series-iterator) ≤ 1073741824)
-    × IsSeries (units_in l.encoding) l.before (map edit_of l.changes) l.joined l.reached
-    (map edit_of (chunks_rest l.series-iterator))
+    × IsSeries (units_in l.encoding) l.before (map content_change l.changes) l.joined l.reached
+    (map content_change (chunks_rest l.series-iterator))

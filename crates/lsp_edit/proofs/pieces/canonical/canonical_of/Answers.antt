@@ -1,7 +1,7 @@
 use Rattle.std.proofs.Common.{ℕ, ◌++◌, map, reverse, string_bytes, ap, ◌∙◌}
 use Rattle.std.proofs.lemmas.Str.{IsUtf8-string_bytes}
 use Rattle.lsp_text.specs.Units.{units_in}
-use Rattle.lsp_edit.specs.Edited.{edit_of}
+use Rattle.lsp_edit.specs.Edited.{content_change}
 use Rattle.lsp_edit.specs.inside.Gaps.{gap_change}
 use Rattle.lsp_edit.specs.Parts.{OldPart, NewPart, part_of, parts_of}
 use Rattle.lsp_edit.proofs.Canonical.WalkLemmas.{walk_begins, walk_new, walk_old, walk_old_ends, walk_end, walk_end_ends, walk_turned, rest_is, rest_none}
@@ -60,7 +60,7 @@ returns c =
     rw c.reverse.ensures.items
     (walk_turned c.put_gap-2.new.changes.items
     ∙ ap reverse (c.in_ok-put_gap.ensures
-    ∙ (ap (λ (high : ℕ). map edit_of c.loop-span.changes.items ++ gap_change (units_in c.args.encoding)
+    ∙ (ap (λ (high : ℕ). map content_change c.loop-span.changes.items ++ gap_change (units_in c.args.encoding)
     c.args.before.now c.loop-span.low high (string_bytes c.loop-span.text)) c.len-end.ensures.len
     ∙ walk_end (units_in c.args.encoding) c.args.before.now c.len-end.ensures.utf8 _ _ _ _
     (IsUtf8-string_bytes c.loop-span.text) _ c.loop-span.invariant (rest_none c.args.spans.now c.loop-span.span-index

@@ -2,7 +2,7 @@ use Rattle.std.proofs.Common.{drop, map, string_bytes}
 use Rattle.std.specs.Str.{chars}
 use Rattle.lsp_text.specs.Units.{units_in}
 use Rattle.lsp_edit.specs.Canonical.{gaps}
-use Rattle.lsp_edit.specs.Edited.{edit_of}
+use Rattle.lsp_edit.specs.Edited.{content_change}
 use Rattle.lsp_edit.specs.Parts.{items_of, parts_of}
 use Rattle.lsp_edit.proofs.Canonical.WalkLemmas.{Walks, changes_of}
 use Rattle.lsp_edit.proofs.pieces.canonical.canonical_of.Given as goal
@@ -14,7 +14,7 @@ invariant-loop-span l =
     l.before
     (changes_of (units_in l.encoding) (chars l.before)
     (gaps (chars l.before) (items_of (chars l.before) (parts_of l.spans))))
-    (map edit_of l.changes.items)
+    (map content_change l.changes.items)
     l.low
     (string_bytes l.text)
     (parts_of (drop l.span-index l.spans))

@@ -1,5 +1,5 @@
 use Rattle.std.proofs.Common.{arith}
-use Rattle.lsp_edit.proofs.Parts.PassedLemmas.{ended_behind}
+use Rattle.lsp_edit.proofs.Parts.PassingLemmas.{ended_behind}
 use Rattle.lsp_edit.proofs.pieces.replace.ended_by.Goals as goal
 
 pub returns-clause-front : goal.returns-clause-front

@@ -1,7 +1,7 @@
 use Rattle.std.proofs.Common.{take, drop}
 use Rattle.lsp_edit.specs.Parts.{parts_of}
 use Rattle.lsp_edit.specs.inside.Parts.{IsMark}
-use Rattle.lsp_edit.proofs.Parts.PassedLemmas.{Passing}
+use Rattle.lsp_edit.proofs.Parts.PassingLemmas.{Passing}
 use Rattle.lsp_edit.proofs.pieces.replace.passed_by.Given as goal
 
 abbrev pub invariant-loop-next : goal.invariant-loop-next

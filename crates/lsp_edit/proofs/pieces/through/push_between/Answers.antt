@@ -1,5 +1,5 @@
 use Rattle.std.proofs.Common.{arith}
-use Rattle.lsp_edit.proofs.Parts.PassedLemmas.{span_passed}
+use Rattle.lsp_edit.proofs.Parts.PassingLemmas.{span_passed}
 use Rattle.lsp_edit.proofs.pieces.through.push_between.Goals as goal
 
 pub loop-index-preserved : goal.loop-index-preserved

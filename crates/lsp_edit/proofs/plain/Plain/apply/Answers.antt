@@ -3,7 +3,7 @@ use Rattle.std.specs.Str.{chars}
 use Rattle.std.proofs.lemmas.Str.{encodes-chars, IsUtf8-string_bytes}
 use Rattle.lsp_text.specs.Units.{units_in}
 use Rattle.lsp_edit.specs.Batch.{items_after, changed_in}
-use Rattle.lsp_edit.specs.Edited.{edit_of}
+use Rattle.lsp_edit.specs.Edited.{content_change}
 use Rattle.lsp_edit.specs.Items.{Item, New}
 use Rattle.lsp_edit.specs.Plain.{items_in_order}
 use Rattle.lsp_edit.proofs.Batches.PlainLemmas.{plain_next}
@@ -13,7 +13,7 @@ use Rattle.lsp_edit.proofs.plain.Plain.apply.Goals.{in-None+in_ok-items-in-None,
 pub invariant_of-self : goal.invariant_of-self
 invariant_of-self c =
     let made : items_after (units_in c.args.encoding) c.args.self.now.before c.args.self.now.items
-    (edit_of c.args.change.now) ≡ Ok (items_in_order c.match-change.items.items)
+    (content_change c.args.change.now) ≡ Ok (items_in_order c.match-change.items.items)
     = elim c.match-change.branch [
       | in-None+in_ok-items-in-None w ↦
           let text : w.deref-in-None.result.now ≡ chars (string_bytes c.args.change.now.text) =
@@ -29,7 +29,8 @@ invariant_of-self c =
           (ap (λ (characters : List ℕ). changed_in (units_in c.args.encoding) c.args.self.now.before
           c.args.self.now.items characters (Some w.in-Some.range)) (sym text) ∙ w.in_ok-items-in-Some.ensures)
     ] in
-    plain_next (units_in c.args.encoding) _ _ _ _ c.self.inside.changes c.args.self.now (edit_of c.args.change.now)
+    plain_next (units_in c.args.encoding) _ _ _ _ c.self.inside.changes c.args.self.now
+    (content_change c.args.change.now)
     (string_len c.args.change.now.text) c.self.invariant c.self.view_is made
     (ap length (encodes-chars (string_bytes c.args.change.now.text) (IsUtf8-string_bytes c.args.change.now.text))
     ∙ sym c.args.change.now.text.bytes.ok.0)

@@ -4,7 +4,7 @@ use Rattle.lsp_text.specs.Units.{units_in}
 use Rattle.lsp_edit.specs.Items.{Old, New}
 use Rattle.lsp_edit.specs.Plain.{item_of, items_in_order}
 use Rattle.lsp_edit.specs.inside.Plain.{gap_at, change_at}
-use Rattle.lsp_edit.specs.Edited.{edit_of}
+use Rattle.lsp_edit.specs.Edited.{content_change}
 use Rattle.lsp_edit.proofs.Batches.PlainLemmas.{write_begins, write_new, write_old, write_end, item_rest, item_none}
 use Rattle.lsp_edit.proofs.Canonical.WalkLemmas.{walk_turned}
 use Rattle.lsp_edit.proofs.plain.items.gaps_written.Goals as goal
@@ -46,7 +46,8 @@ returns c =
     rw c.reverse.ensures.items
     (walk_turned c.put_gap-2.new.changes.items
     ∙ ap reverse (c.in_ok-put_gap.ensures
-    ∙ (ap₂ (λ (n : ℕ) (text : List ℕ). map edit_of c.loop-item.changes.items ++ change_at (units_in c.args.encoding)
+    ∙ (ap₂ (λ (n : ℕ) (text : List ℕ). map content_change c.loop-item.changes.items ++ change_at
+    (units_in c.args.encoding)
     (chars c.args.before.now) (gap_at c.loop-item.low n text)) (ap length c.requires.old) c.deref-2.ensures.value
     ∙ write_end (units_in c.args.encoding) (chars c.args.before.now) _ _ _ _ _ c.loop-item.invariant
     (item_none c.args.items.now c.loop-item.item-index c.loop-item-test.false))))

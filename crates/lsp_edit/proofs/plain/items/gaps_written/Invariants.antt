@@ -2,7 +2,7 @@ use Rattle.std.proofs.Common.{drop, map}
 use Rattle.std.specs.Str.{chars}
 use Rattle.lsp_text.specs.Units.{units_in}
 use Rattle.lsp_edit.specs.Canonical.{gaps}
-use Rattle.lsp_edit.specs.Edited.{edit_of}
+use Rattle.lsp_edit.specs.Edited.{content_change}
 use Rattle.lsp_edit.specs.Plain.{items_in_order}
 use Rattle.lsp_edit.proofs.Canonical.WalkLemmas.{changes_of}
 use Rattle.lsp_edit.proofs.Batches.PlainLemmas.{Writes}
@@ -14,7 +14,7 @@ invariant-loop-item l =
     (units_in l.encoding)
     (chars l.before)
     (changes_of (units_in l.encoding) (chars l.before) (gaps (chars l.before) (items_in_order l.items)))
-    (map edit_of l.changes.items)
+    (map content_change l.changes.items)
     l.low
     l.text.items
     (items_in_order (drop l.item-index l.items))

@@ -3,7 +3,7 @@ use Rattle.std.proofs.lemmas.Result.{err_from_is_err_and}
 use Rattle.std.proofs.lemmas.List.{length-take, length-drop}
 use Rattle.std.proofs.KnownBytes.{Appends-nil}
 use Rattle.lsp_log.specs.Splitting.{IsSplitterFault}
-use Rattle.lsp_replay.proofs.Runs.EngineLemmas.{went_fed, fed_fault}
+use Rattle.lsp_replay.proofs.Runs.WroteRecordLemmas.{went_fed, fed_fault}
 use Rattle.lsp_replay.proofs.engine.records.take_piece.Goals as goal
 
 pub returns-in_err-at-clause-error : goal.returns-in_err-at-clause-error

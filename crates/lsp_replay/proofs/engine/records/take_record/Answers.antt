@@ -1,5 +1,5 @@
 use Rattle.std.proofs.lemmas.Result.{err_from_is_err_and}
-use Rattle.lsp_replay.proofs.Runs.EngineLemmas.{taken_fault, taken_went}
+use Rattle.lsp_replay.proofs.Runs.WroteRecordLemmas.{taken_fault, taken_went}
 use Rattle.lsp_replay.proofs.engine.records.take_record.Goals as goal
 
 pub returns-in_err-end-in-Some-clause-error : goal.returns-in_err-end-in-Some-clause-error

@@ -1,5 +1,5 @@
 use Rattle.std.proofs.Common.{◌++◌, drop, map}
-use Rattle.lsp_edit.specs.Edited.{edit_of}
+use Rattle.lsp_edit.specs.Edited.{content_change}
 use Rattle.lsp_replay.specs.Notes.{notes_from}
 use Rattle.lsp_replay.specs.inside.Noting.{terms_view}
 use Rattle.lsp_replay.proofs.Reports.NoteLemmas.{Noting}
@@ -7,5 +7,6 @@ use Rattle.lsp_replay.proofs.notes.changes.push_several.Given as goal
 
 abbrev pub invariant-loop-index : goal.invariant-loop-index
 invariant-loop-index l =
-    Noting (terms_view l.terms) (l.fn.notes.items ++ notes_from (terms_view l.terms) 0 l.text (map edit_of l.changes))
+    Noting (terms_view l.terms) (l.fn.notes.items ++ notes_from (terms_view l.terms) 0 l.text
+    (map content_change l.changes))
     l.index (drop l.index l.changes) l.left l.notes.items

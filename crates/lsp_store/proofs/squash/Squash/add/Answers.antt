@@ -1,7 +1,7 @@
 use Rattle.std.proofs.Common.{◌≡◌, Err, map, rules, w32, to_z, of_z, string_bytes}
 use Rattle.std.proofs.lemmas.Int.{to_z-of_z}
 use Rattle.std.proofs.lemmas.Result.{err_from_is_err_and}
-use Rattle.lsp_edit.specs.Edited.{edit_of}
+use Rattle.lsp_edit.specs.Edited.{content_change}
 use Rattle.lsp_store.specs.declared.fault.StoreFault.TheVariants.{NoMemory}
 use Rattle.lsp_store.proofs.SquashLemmas.{add_error, adds, left_to_meaning}
 use Rattle.lsp_store.proofs.squash.Squash.add.Goals as goal
@@ -13,7 +13,7 @@ returns-in_err-change_joined-clause-error c =
     rw (p.1, p.2)
     (add_error (string_bytes c.self.inside.uri) c.self.inside.limits c.self.inside.encoding c.self.inside.joined
     c.self.inside.reached c.self.invariant c.args.self.now c.self.view_is c.args.version
-    (map edit_of c.args.changes.now) _
+    (map content_change c.args.changes.now) _
     (rw version at (c.in_err-change_joined.ensures.error (string_bytes c.self.inside.uri))))
 
 pub returns-clause-ok : goal.returns-clause-ok
@@ -21,7 +21,7 @@ returns-clause-ok c =
     let version : to_z w32 (of_z w32 c.args.version) ≡ c.args.version = to_z-of_z w32 c.args.version (search rules) in
     adds (string_bytes c.self.inside.uri) c.self.inside.limits c.self.inside.encoding c.self.inside.joined
     c.self.inside.reached c.self.invariant c.args.self.now c.self.view_is c.args.version _
-    (map edit_of c.args.changes.now) _
+    (map content_change c.args.changes.now) _
     (rw version at (c.in_ok-change_joined.ensures.accepted (string_bytes c.self.inside.uri)))
     c.in_ok-change_joined.ensures.joined
     (rw version at c.in_ok-change_joined.ensures.version)
@@ -36,5 +36,5 @@ returns-in_err-change_joined-clause-memory c = λ e.
     let no_memory : c.change_joined.result ≡ Err NoMemory = cc in
     left_to_meaning (string_bytes c.self.inside.uri) c.self.inside.limits c.self.inside.encoding c.self.inside.joined
     c.self.inside.reached c.self.invariant c.args.self.now c.self.view_is c.args.version
-    (map edit_of c.args.changes.now)
+    (map content_change c.args.changes.now)
     (rw version at (c.change_joined.ensures.memory no_memory (string_bytes c.self.inside.uri)))

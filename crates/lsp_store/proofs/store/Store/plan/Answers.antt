@@ -1,6 +1,6 @@
 use Rattle.std.proofs.Common.{◌≡◌, Err, Some, ap, map, rules, w32, to_z, of_z}
 use Rattle.std.proofs.lemmas.Int.{to_z-of_z}
-use Rattle.lsp_edit.specs.Edited.{edit_of}
+use Rattle.lsp_edit.specs.Edited.{content_change}
 use Rattle.lsp_store.specs.declared.fault.StoreFault.{StoreFault}
 use Rattle.lsp_store.specs.declared.fault.StoreFault.TheVariants.{NoMemory}
 use Rattle.lsp_store.specs.Opened.{entry_under}
@@ -12,13 +12,14 @@ use Rattle.lsp_store.proofs.store.Store.plan.Goals as goal
 pub returns-in_default-clause-error : goal.returns-in_default-clause-error
 returns-in_default-clause-error c =
     change_absent c.self.inside.limits c.self.inside.documents.entries c.args.self.now c.self.view_is c.args.uri.now
-    c.args.version c.args.encoding (map edit_of c.args.changes.now) c.in_default.ensures.value
+    c.args.version c.args.encoding (map content_change c.args.changes.now) c.in_default.ensures.value
 
 pub returns-in-Ok-clause-planned : goal.returns-in-Ok-clause-planned
 returns-in-Ok-clause-planned c =
     let version : to_z w32 (of_z w32 c.args.version) ≡ c.args.version = to_z-of_z w32 c.args.version (search rules) in
     plan_is c.self.inside.limits c.self.inside.documents.entries c.args.self.now c.self.view_is c.args.uri.now
-    c.args.version _ version c.args.encoding (map edit_of c.args.changes.now) c.in-Some.index c.in-Some.field-0-1.now
+    c.args.version _ version c.args.encoding (map content_change c.args.changes.now) c.in-Some.index
+    c.in-Some.field-0-1.now
     c.in-Some.stored.now c.in-Ok.delta
     c.in-Some.ensures.index c.in-Some.ensures.key c.in-Some.ensures.value c.in-Some.ensures.entry
     (rw version at c.in-Ok.ensures.accepted)
@@ -32,7 +33,8 @@ pub returns-in-Err-clause-error : goal.returns-in-Err-clause-error
 returns-in-Err-clause-error c =
     let version : to_z w32 (of_z w32 c.args.version) ≡ c.args.version = to_z-of_z w32 c.args.version (search rules) in
     change_refused c.self.inside.limits c.self.inside.documents.entries c.args.self.now c.self.view_is c.args.uri.now
-    c.args.version c.args.encoding (map edit_of c.args.changes.now) c.in-Some.stored.now c.in-Some.ensures.value _
+    c.args.version c.args.encoding (map content_change c.args.changes.now) c.in-Some.stored.now
+    c.in-Some.ensures.value _
     (rw version at (c.in-Err.ensures.error c.args.uri.now))
 
 pub returns-in-Err-clause-memory : goal.returns-in-Err-clause-memory
@@ -46,10 +48,10 @@ returns-in-Err-clause-memory c = λ e.
     let limits : c.self.inside.limits ≡ c.args.self.now.limits =
     limits_are c.self.inside.limits c.self.inside.documents.entries c.args.self.now c.self.view_is in
     let left : IsLeftToMeaning c.args.self.now.limits (entry_under c.args.uri.now c.in-Some.stored.now) c.args.version
-    (map edit_of c.args.changes.now) =
+    (map content_change c.args.changes.now) =
     rw (
       version,
       limits,
     ) at (c.in-Err.ensures.memory (ap (λ (fault : StoreFault). Err fault) no_memory) c.args.uri.now) in
-    may_take c.args.self.now c.args.uri.now c.args.version (map edit_of c.args.changes.now)
+    may_take c.args.self.now c.args.uri.now c.args.version (map content_change c.args.changes.now)
     (entry_under c.args.uri.now c.in-Some.stored.now) is_open left

@@ -2,7 +2,7 @@ use Rattle.std.proofs.Common.{◌≡◌, map, None, Some, Err, rules, w32, to_z,
 use Rattle.std.proofs.lemmas.Int.{to_z-of_z}
 use Rattle.std.proofs.lemmas.Result.{err_from_is_err_and}
 use Rattle.lsp_text.specs.Units.{units_in}
-use Rattle.lsp_edit.specs.Edited.{edit_of}
+use Rattle.lsp_edit.specs.Edited.{content_change}
 use Rattle.lsp_store.specs.declared.fault.StoreFault.TheVariants.{NoMemory}
 use Rattle.lsp_store.specs.Opened.{entry_under}
 use Rattle.lsp_store.specs.Table.{IsLeftToMeaning, entry_at, entry_refusal}
@@ -14,7 +14,7 @@ use Rattle.lsp_store.proofs.store.Store.push_canonical_body.Goals as goal
 pub returns-in_default-clause-error : goal.returns-in_default-clause-error
 returns-in_default-clause-error c =
     first_told _ _ _ (change_absent c.self.inside.limits c.self.inside.documents.entries c.args.self.now c.self.view_is
-    c.args.uri.now c.args.version c.args.encoding (map edit_of c.args.changes.now) c.in_default.ensures.value)
+    c.args.uri.now c.args.version c.args.encoding (map content_change c.args.changes.now) c.in_default.ensures.value)
 
 pub returns-in_err-batch-clause-error : goal.returns-in_err-batch-clause-error
 returns-in_err-batch-clause-error c =
@@ -22,7 +22,8 @@ returns-in_err-batch-clause-error c =
     let p = err_from_is_err_and c.from_residual.result c.from_residual.ensures.1 in
     rw (p.1, p.2)
     (first_told _ _ _ (change_refused c.self.inside.limits c.self.inside.documents.entries c.args.self.now
-    c.self.view_is c.args.uri.now c.args.version c.args.encoding (map edit_of c.args.changes.now) c.in-Some.stored.now
+    c.self.view_is c.args.uri.now c.args.version c.args.encoding (map content_change c.args.changes.now)
+    c.in-Some.stored.now
     c.in-Some.ensures.value _
     (rw version at (c.in_err-batch.ensures.error c.args.uri.now))))
 
@@ -36,20 +37,21 @@ returns-in_err-push_body-clause-error c =
     let limits : c.self.inside.limits ≡ c.args.self.now.limits =
     limits_are c.self.inside.limits c.self.inside.documents.entries c.args.self.now c.self.view_is in
     let may : entry_refusal c.args.self.now.limits (units_in c.args.encoding)
-    (entry_under c.args.uri.now c.in-Some.stored.now) c.args.version (map edit_of c.args.changes.now) ≡ None =
+    (entry_under c.args.uri.now c.in-Some.stored.now) c.args.version (map content_change c.args.changes.now) ≡ None =
     rw (version, limits) at (c.in_ok-batch.ensures.accepted c.args.uri.now) in
     let made = c.in_ok-batch.ensures.batch in
     let batch : canonical_batch (units_in c.args.encoding) c.args.self.now.table c.args.uri.now
-    (map edit_of c.args.changes.now) ≡ map edit_of c.in_ok-batch.batch.items =
+    (map content_change c.args.changes.now) ≡ map content_change c.in_ok-batch.batch.items =
     canonical_is c.args.self.now.limits c.args.encoding c.args.self.now.table c.args.uri.now c.args.version
-    (entry_under c.args.uri.now c.in-Some.stored.now) is_open made.law (map edit_of c.args.changes.now) may _ made.items
+    (entry_under c.args.uri.now c.in-Some.stored.now) is_open made.law
+    (map content_change c.args.changes.now) may _ made.items
     made.means made.is in
     let p = err_from_is_err_and c.from_residual-in_err-push_body.result c.from_residual-in_err-push_body.ensures.1 in
     rw (
       p.1,
       p.2,
     ) (message_refused c.args.self.now.limits c.args.encoding c.args.self.now.table c.args.uri.now c.args.version
-    (entry_under c.args.uri.now c.in-Some.stored.now) is_open made.law (map edit_of c.args.changes.now) may _
+    (entry_under c.args.uri.now c.in-Some.stored.now) is_open made.law (map content_change c.args.changes.now) may _
     (rw (batch, ← limits) (rw version at c.in_err-push_body.ensures.error)))
 
 pub returns-in_err-batch-clause-memory : goal.returns-in_err-batch-clause-memory
@@ -67,9 +69,9 @@ returns-in_err-batch-clause-memory c = λ e.
     let limits : c.self.inside.limits ≡ c.args.self.now.limits =
     limits_are c.self.inside.limits c.self.inside.documents.entries c.args.self.now c.self.view_is in
     let left : IsLeftToMeaning c.args.self.now.limits (entry_under c.args.uri.now c.in-Some.stored.now) c.args.version
-    (map edit_of c.args.changes.now) =
+    (map content_change c.args.changes.now) =
     rw (version, limits) at (c.canonical.ensures.memory no_memory c.args.uri.now) in
-    may_take c.args.self.now c.args.uri.now c.args.version (map edit_of c.args.changes.now)
+    may_take c.args.self.now c.args.uri.now c.args.version (map content_change c.args.changes.now)
     (entry_under c.args.uri.now c.in-Some.stored.now) is_open left
 
 pub returns-in_err-push_body-clause-memory : goal.returns-in_err-push_body-clause-memory
@@ -82,13 +84,13 @@ returns-in_err-push_body-clause-memory c = λ e.
     let limits : c.self.inside.limits ≡ c.args.self.now.limits =
     limits_are c.self.inside.limits c.self.inside.documents.entries c.args.self.now c.self.view_is in
     let left : IsLeftToMeaning c.args.self.now.limits (entry_under c.args.uri.now c.in-Some.stored.now) c.args.version
-    (map edit_of c.args.changes.now) =
+    (map content_change c.args.changes.now) =
     accepted_left c.args.self.now.limits (units_in c.args.encoding) (entry_under c.args.uri.now c.in-Some.stored.now)
-    c.args.version (map edit_of c.args.changes.now) (rw (
+    c.args.version (map content_change c.args.changes.now) (rw (
       version,
       limits,
     ) at (c.in_ok-batch.ensures.accepted c.args.uri.now)) in
-    may_take c.args.self.now c.args.uri.now c.args.version (map edit_of c.args.changes.now)
+    may_take c.args.self.now c.args.uri.now c.args.version (map content_change c.args.changes.now)
     (entry_under c.args.uri.now c.in-Some.stored.now) is_open left
 
 pub returns-clause-body : goal.returns-clause-body
@@ -101,13 +103,14 @@ returns-clause-body c =
     let limits : c.self.inside.limits ≡ c.args.self.now.limits =
     limits_are c.self.inside.limits c.self.inside.documents.entries c.args.self.now c.self.view_is in
     let may : entry_refusal c.args.self.now.limits (units_in c.args.encoding)
-    (entry_under c.args.uri.now c.in-Some.stored.now) c.args.version (map edit_of c.args.changes.now) ≡ None =
+    (entry_under c.args.uri.now c.in-Some.stored.now) c.args.version (map content_change c.args.changes.now) ≡ None =
     rw (version, limits) at (c.in_ok-batch.ensures.accepted c.args.uri.now) in
     let made = c.in_ok-batch.ensures.batch in
     let batch : canonical_batch (units_in c.args.encoding) c.args.self.now.table c.args.uri.now
-    (map edit_of c.args.changes.now) ≡ map edit_of c.in_ok-batch.batch.items =
+    (map content_change c.args.changes.now) ≡ map content_change c.in_ok-batch.batch.items =
     canonical_is c.args.self.now.limits c.args.encoding c.args.self.now.table c.args.uri.now c.args.version
-    (entry_under c.args.uri.now c.in-Some.stored.now) is_open made.law (map edit_of c.args.changes.now) may _ made.items
+    (entry_under c.args.uri.now c.in-Some.stored.now) is_open made.law
+    (map content_change c.args.changes.now) may _ made.items
     made.means made.is in
     rw batch (rw version at c.in_ok-push_body.ensures.body)
 
@@ -121,16 +124,18 @@ returns-clause-accepted c =
     let limits : c.self.inside.limits ≡ c.args.self.now.limits =
     limits_are c.self.inside.limits c.self.inside.documents.entries c.args.self.now c.self.view_is in
     let may : entry_refusal c.args.self.now.limits (units_in c.args.encoding)
-    (entry_under c.args.uri.now c.in-Some.stored.now) c.args.version (map edit_of c.args.changes.now) ≡ None =
+    (entry_under c.args.uri.now c.in-Some.stored.now) c.args.version (map content_change c.args.changes.now) ≡ None =
     rw (version, limits) at (c.in_ok-batch.ensures.accepted c.args.uri.now) in
     let made = c.in_ok-batch.ensures.batch in
     let batch : canonical_batch (units_in c.args.encoding) c.args.self.now.table c.args.uri.now
-    (map edit_of c.args.changes.now) ≡ map edit_of c.in_ok-batch.batch.items =
+    (map content_change c.args.changes.now) ≡ map content_change c.in_ok-batch.batch.items =
     canonical_is c.args.self.now.limits c.args.encoding c.args.self.now.table c.args.uri.now c.args.version
-    (entry_under c.args.uri.now c.in-Some.stored.now) is_open made.law (map edit_of c.args.changes.now) may _ made.items
+    (entry_under c.args.uri.now c.in-Some.stored.now) is_open made.law
+    (map content_change c.args.changes.now) may _ made.items
     made.means made.is in
     let within : body_refusal c.args.self.now.limits (canonical_body (units_in c.args.encoding) c.args.self.now.table
-    c.args.uri.now c.args.version (map edit_of c.args.changes.now)) ≡ None =
+    c.args.uri.now c.args.version (map content_change c.args.changes.now)) ≡ None =
     rw (batch, ← limits) (rw version at c.in_ok-push_body.ensures.within) in
     message_accepted c.args.self.now.limits c.args.encoding c.args.self.now.table c.args.uri.now c.args.version
-    (entry_under c.args.uri.now c.in-Some.stored.now) is_open made.law (map edit_of c.args.changes.now) may within
+    (entry_under c.args.uri.now c.in-Some.stored.now) is_open made.law
+    (map content_change c.args.changes.now) may within

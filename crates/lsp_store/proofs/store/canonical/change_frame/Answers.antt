@@ -1,7 +1,7 @@
 use Rattle.std.proofs.Common.{◌≡◌, ◌∙◌, ℕ, List, None, IfErr, IfOk, OnOk, map, subst, rules, w32, to_z, of_z}
 use Rattle.std.proofs.lemmas.Int.{to_z-of_z}
 use Rattle.lsp_frame.specs.Frame.{frame}
-use Rattle.lsp_edit.specs.Edited.{edit_of}
+use Rattle.lsp_edit.specs.Edited.{content_change}
 use Rattle.lsp_store.specs.Faults.{IsRefusal}
 use Rattle.lsp_store.specs.Message.{body_refusal, change_body}
 use Rattle.lsp_store.proofs.Messages.MessageLemmas.{body_begun}
@@ -10,7 +10,8 @@ use Rattle.lsp_store.proofs.store.canonical.change_frame.Goals as goal
 pub returns-clause-error : goal.returns-clause-error
 returns-clause-error c =
     let version : to_z w32 (of_z w32 c.args.version) ≡ c.args.version = to_z-of_z w32 c.args.version (search rules) in
-    let body : c.deref-2.result.now ≡ change_body c.args.uri.now c.args.version (map edit_of c.args.changes.items) =
+    let body : c.deref-2.result.now ≡ change_body c.args.uri.now c.args.version
+    (map content_change c.args.changes.items) =
     c.deref-2.ensures.value ∙ body_begun c.in_ok-body.body.items c.push_change.new.bytes.items c.args.uri.now
     c.args.version _ c.args.changes.items c.in_ok-body.ensures.items
     (rw c.deref.ensures.value at c.in_ok-push_change.ensures.ok) version in
@@ -20,7 +21,8 @@ returns-clause-error c =
 pub returns-clause-framed : goal.returns-clause-framed
 returns-clause-framed c =
     let version : to_z w32 (of_z w32 c.args.version) ≡ c.args.version = to_z-of_z w32 c.args.version (search rules) in
-    let body : c.deref-2.result.now ≡ change_body c.args.uri.now c.args.version (map edit_of c.args.changes.items) =
+    let body : c.deref-2.result.now ≡ change_body c.args.uri.now c.args.version
+    (map content_change c.args.changes.items) =
     c.deref-2.ensures.value ∙ body_begun c.in_ok-body.body.items c.push_change.new.bytes.items c.args.uri.now
     c.args.version _ c.args.changes.items c.in_ok-body.ensures.items
     (rw c.deref.ensures.value at c.in_ok-push_change.ensures.ok) version in
@@ -29,7 +31,8 @@ returns-clause-framed c =
 pub returns-clause-within : goal.returns-clause-within
 returns-clause-within c =
     let version : to_z w32 (of_z w32 c.args.version) ≡ c.args.version = to_z-of_z w32 c.args.version (search rules) in
-    let body : c.deref-2.result.now ≡ change_body c.args.uri.now c.args.version (map edit_of c.args.changes.items) =
+    let body : c.deref-2.result.now ≡ change_body c.args.uri.now c.args.version
+    (map content_change c.args.changes.items) =
     c.deref-2.ensures.value ∙ body_begun c.in_ok-body.body.items c.push_change.new.bytes.items c.args.uri.now
     c.args.version _ c.args.changes.items c.in_ok-body.ensures.items
     (rw c.deref.ensures.value at c.in_ok-push_change.ensures.ok) version in

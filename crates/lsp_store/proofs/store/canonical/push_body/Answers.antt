@@ -2,7 +2,7 @@ use Rattle.std.proofs.Common.{◌≡◌, ◌+◌, ◌-◌, ◌++◌, ap, ◌∙�
 use Rattle.std.proofs.lemmas.Int.{to_z-of_z}
 use Rattle.std.proofs.lemmas.Result.{on_ok_weaker, IfErr-weaker}
 use Rattle.lsp_frame.specs.declared.written.EncodeFault.TheVariants as encode
-use Rattle.lsp_edit.specs.Edited.{edit_of}
+use Rattle.lsp_edit.specs.Edited.{content_change}
 use Rattle.lsp_store.specs.Message.{change_body}
 use Rattle.lsp_store.proofs.Messages.MessageLemmas.{body_pushed, body_within, encode_refused}
 use Rattle.lsp_store.proofs.store.canonical.push_body.Goals as goal
@@ -10,7 +10,7 @@ use Rattle.lsp_store.proofs.store.canonical.push_body.Goals as goal
 pub returns-clause-body : goal.returns-clause-body
 returns-clause-body c =
     let version : to_z w32 (of_z w32 c.args.version) ≡ c.args.version = to_z-of_z w32 c.args.version (search rules) in
-    let body = change_body c.args.uri.now c.args.version (map edit_of c.args.changes.items) in
+    let body = change_body c.args.uri.now c.args.version (map content_change c.args.changes.items) in
     let pushed : c.push_change.new.bytes.items ≡ c.args.bytes.now.items ++ body =
     body_pushed c.args.bytes.now.items c.push_change.new.bytes.items c.args.uri.now c.args.version _
     c.args.changes.items (rw c.deref.ensures.value at c.in_ok-push_change.ensures.ok) version in
@@ -19,7 +19,7 @@ returns-clause-body c =
 pub returns-clause-within : goal.returns-clause-within
 returns-clause-within c =
     let version : to_z w32 (of_z w32 c.args.version) ≡ c.args.version = to_z-of_z w32 c.args.version (search rules) in
-    let body = change_body c.args.uri.now c.args.version (map edit_of c.args.changes.items) in
+    let body = change_body c.args.uri.now c.args.version (map content_change c.args.changes.items) in
     let pushed : c.push_change.new.bytes.items ≡ c.args.bytes.now.items ++ body =
     body_pushed c.args.bytes.now.items c.push_change.new.bytes.items c.args.uri.now c.args.version _
     c.args.changes.items (rw c.deref.ensures.value at c.in_ok-push_change.ensures.ok) version in
@@ -31,7 +31,7 @@ returns-clause-within c =
 pub returns-clause-error : goal.returns-clause-error
 returns-clause-error c =
     let version : to_z w32 (of_z w32 c.args.version) ≡ c.args.version = to_z-of_z w32 c.args.version (search rules) in
-    let body = change_body c.args.uri.now c.args.version (map edit_of c.args.changes.items) in
+    let body = change_body c.args.uri.now c.args.version (map content_change c.args.changes.items) in
     let pushed : c.push_change.new.bytes.items ≡ c.args.bytes.now.items ++ body =
     body_pushed c.args.bytes.now.items c.push_change.new.bytes.items c.args.uri.now c.args.version _
     c.args.changes.items (rw c.deref.ensures.value at c.in_ok-push_change.ensures.ok) version in

@@ -1,0 +1,178 @@
+-- The tokens of a text that is UTF-8 have texts that are.
+use Rattle.std.proofs.Common.{◌≡◌, ℕ, Bool, true, false, cond, ◌&&◌, ◌==◌, List, [], ◌∷◌, ◌++◌, length, Option, Some, None, IsUtf8, refl, ap, subst, arith, take, drop, ◌-◌, nat_eq}
+use Rattle.std.specs.Prelude.{⊤}
+use Rattle.std.specs.List.{starts_with}
+use Rattle.std.proofs.lemmas.Bool.{eqb-true}
+use Rattle.json.specs.Text.{content, plain}
+use Rattle.json.specs.Token.{Token}
+use Rattle.json.specs.Word.{word, head, literal, number_before, ends_word, after_number}
+use Rattle.json.specs.Ascii.{true_text, false_text, null_text}
+use Rattle.json.specs.Lex.{Lexeme, token, comma, colon, Class, quote, backslash, operator, space, other, class, operator_lexeme, string_token, Mode, between, in_word, in_string, in_escape, lex_byte, lex, Place, fresh, after_value, after_comma, after_key, begins_colon, may_begin, may_close, if_allowed, place_token, punctuate, tokens}
+use Rattle.serde_json.specs.Data.{null, boolean, number, string}
+use Rattle.lsp_replay.proofs.Records.ContentLemmas.{GoodText, content_utf8, behind_ascii}
+
+abbrev HasText : Token → Type 0
+HasText Token.begin_object = ⊤
+HasText Token.end_object = ⊤
+HasText Token.begin_array = ⊤
+HasText Token.end_array = ⊤
+HasText (Token.key s) = IsUtf8 s
+HasText (Token.string s) = IsUtf8 s
+HasText (Token.number s) = ⊤
+HasText (Token.boolean b) = ⊤
+HasText Token.null = ⊤
+HasText Token.bad = ⊤
+
+abbrev pub AllText : List Token → Type 0
+AllText [] = ⊤
+AllText (t ∷ ts) = HasText t × AllText ts
+
+abbrev LexemeText : Lexeme → Type 0
+LexemeText (token t) = HasText t
+LexemeText comma = ⊤
+LexemeText colon = ⊤
+
+abbrev LexemesText : List Lexeme → Type 0
+LexemesText [] = ⊤
+LexemesText (l ∷ ls) = LexemeText l × LexemesText ls
+
+text_of_string : (found : Option (List ℕ)) → GoodText found → HasText (string_token found)
+text_of_string None good = tt
+text_of_string (Some s) good = good
+
+either_token : (b : Bool) (t e : Token) → HasText t → HasText e → HasText (cond b t e)
+either_token true t e p q = p
+either_token false t e p q = q
+
+no_text_number : (t : List ℕ) (rest : Option (List ℕ)) → HasText (number_before t rest)
+no_text_number t None = tt
+no_text_number t (Some rest) = either_token (ends_word rest) (Token.number (take (length t - length rest) t)) Token.bad
+    tt tt
+
+no_text_literal : (name : List ℕ) (t : Token) (bytes : List ℕ) → HasText t → HasText (literal name t bytes)
+no_text_literal name t bytes has = either_token (starts_with nat_eq bytes name && ends_word (drop (length name) bytes))
+    t Token.bad has tt
+
+words : (a b c : Bool) (t e f g : Token) → HasText t → HasText e → HasText f → HasText g
+    → HasText (cond a t (cond b e (cond c f g)))
+words true b c t e f g p q r o = p
+words false true c t e f g p q r o = q
+words false false true t e f g p q r o = r
+words false false false t e f g p q r o = o
+
+no_text_word : (t : List ℕ) → HasText (word t)
+unfolding word
+no_text_word t =
+    words (head t == 116) (head t == 102) (head t == 110) (literal true_text (Token.boolean true) t)
+    (literal false_text (Token.boolean false) t) (literal null_text Token.null t) (number_before t (after_number t))
+    (no_text_literal true_text (Token.boolean true) t tt) (no_text_literal false_text (Token.boolean false) t tt)
+    (no_text_literal null_text Token.null t tt) (no_text_number t (after_number t))
+
+no_text_operator : (x : ℕ) → LexemeText (operator_lexeme x)
+no_text_operator x = by (x == 123) (x == 125) (x == 91) (x == 93) (x == 44)
+  where
+    by : (a b c d e : Bool)
+        → LexemeText (cond a (token Token.begin_object)
+        (cond b (token Token.end_object)
+        (cond c (token Token.begin_array) (cond d (token Token.end_array) (cond e comma colon)))))
+    by true b c d e = tt
+    by false true c d e = tt
+    by false false true d e = tt
+    by false false false true e = tt
+    by false false false false true = tt
+    by false false false false false = tt
+
+-- behind each quote a text begins
+abbrev Quotes : List ℕ → Type 0
+Quotes xs = (front rest : List ℕ) → xs ≡ front ++ 34 ∷ rest → IsUtf8 rest
+
+quotes_tail : (x : ℕ) (xs : List ℕ) → Quotes (x ∷ xs) → Quotes xs
+quotes_tail x xs quotes front rest e = quotes (x ∷ front) rest (ap (λ l. x ∷ l) e)
+
+class_is_quote : (x : ℕ) → class x ≡ quote → x ≡ 34
+class_is_quote x e = by (x == 34) (x == 92) _ _ e (eqb-true x 34)
+  where
+    by : (a b c d : Bool) → cond a quote (cond b backslash (cond c operator (cond d space other))) ≡ quote
+        → (a ≡ true → x ≡ 34) → x ≡ 34
+    by true b c d e is = is refl
+    by false true c d e is = absurd (cc)
+    by false false true d e is = absurd (cc)
+    by false false false true e is = absurd (cc)
+    by false false false false e is = absurd (cc)
+
+lexemes_byte : (m : Mode) (c : Class) (x : ℕ) (xs : List ℕ) (k : Mode → List Lexeme) → (c ≡ quote → IsUtf8 xs)
+    → ((next : Mode) → LexemesText (k next)) → LexemesText (lex_byte m c x xs k)
+lexemes_byte between quote x xs k text rest =
+    (text_of_string (content plain xs) (content_utf8 xs (text refl)), rest in_string)
+lexemes_byte between backslash x xs k text rest = (tt, rest in_word)
+lexemes_byte between operator x xs k text rest = (no_text_operator x, rest between)
+lexemes_byte between space x xs k text rest = rest between
+lexemes_byte between other x xs k text rest = (no_text_word (x ∷ xs), rest in_word)
+lexemes_byte in_word quote x xs k text rest = rest in_word
+lexemes_byte in_word backslash x xs k text rest = rest in_word
+lexemes_byte in_word operator x xs k text rest = (no_text_operator x, rest between)
+lexemes_byte in_word space x xs k text rest = rest between
+lexemes_byte in_word other x xs k text rest = rest in_word
+lexemes_byte in_string quote x xs k text rest = rest between
+lexemes_byte in_string backslash x xs k text rest = rest in_escape
+lexemes_byte in_string operator x xs k text rest = rest in_string
+lexemes_byte in_string space x xs k text rest = rest in_string
+lexemes_byte in_string other x xs k text rest = rest in_string
+lexemes_byte in_escape c x xs k text rest = rest in_string
+
+lexemes_text : (m : Mode) (xs : List ℕ) → Quotes xs → LexemesText (lex m xs)
+unfolding lex
+lexemes_text m [] quotes = tt
+lexemes_text m (x ∷ xs) quotes =
+    lexemes_byte m (class x) x xs (λ next. lex next xs)
+    (λ e. quotes [] xs (ap (λ b. b ∷ xs) (class_is_quote x e)))
+    (λ next. lexemes_text next xs (quotes_tail x xs quotes))
+
+allowed_text : (b : Bool) (t : Token) (k : Place → List Token) (next : Place) → HasText t
+    → ((p : Place) → AllText (k p)) → AllText (if_allowed b t k next)
+allowed_text true t k next has rest = (has, rest next)
+allowed_text false t k next has rest = (tt, tt)
+
+placed_text : (p : Place) (t : Token) (b : Bool) (k : Place → List Token) → HasText t → ((q : Place) → AllText (k q))
+    → AllText (place_token p t b k)
+placed_text p Token.begin_object b k has rest = allowed_text (may_begin p) Token.begin_object k fresh tt rest
+placed_text p Token.end_object b k has rest = allowed_text (may_close p) Token.end_object k after_value tt rest
+placed_text p Token.begin_array b k has rest = allowed_text (may_begin p) Token.begin_array k fresh tt rest
+placed_text p Token.end_array b k has rest = allowed_text (may_close p) Token.end_array k after_value tt rest
+placed_text p (Token.key s) b k has rest = (tt, tt)
+placed_text p (Token.string s) true k has rest = allowed_text (may_begin p) (Token.key s) k after_key has rest
+placed_text p (Token.string s) false k has rest = allowed_text (may_begin p) (Token.string s) k after_value has rest
+placed_text p (Token.number s) b k has rest = allowed_text (may_begin p) (Token.number s) k after_value tt rest
+placed_text p (Token.boolean c) b k has rest = allowed_text (may_begin p) (Token.boolean c) k after_value tt rest
+placed_text p Token.null b k has rest = allowed_text (may_begin p) Token.null k after_value tt rest
+placed_text p Token.bad b k has rest = (tt, tt)
+
+tokens_text : (p : Place) (ls : List Lexeme) → LexemesText ls → AllText (punctuate p ls)
+unfolding punctuate
+tokens_text fresh [] has = tt
+tokens_text after_value [] has = tt
+tokens_text after_comma [] has = (tt, tt)
+tokens_text after_key [] has = (tt, tt)
+tokens_text fresh (token t ∷ ls) has = placed_text fresh t (begins_colon ls) (λ next. punctuate next ls) has.0
+    (λ q. tokens_text q ls has.1)
+tokens_text after_value (token t ∷ ls) has = placed_text after_value t (begins_colon ls) (λ next. punctuate next ls)
+    has.0 (λ q. tokens_text q ls has.1)
+tokens_text after_comma (token t ∷ ls) has = placed_text after_comma t (begins_colon ls) (λ next. punctuate next ls)
+    has.0 (λ q. tokens_text q ls has.1)
+tokens_text after_key (token t ∷ ls) has = placed_text after_key t (begins_colon ls) (λ next. punctuate next ls) has.0
+    (λ q. tokens_text q ls has.1)
+tokens_text fresh (comma ∷ ls) has = (tt, tt)
+tokens_text after_value (comma ∷ ls) has = tokens_text after_comma ls has.1
+tokens_text after_comma (comma ∷ ls) has = (tt, tt)
+tokens_text after_key (comma ∷ ls) has = (tt, tt)
+tokens_text fresh (colon ∷ ls) has = (tt, tt)
+tokens_text after_value (colon ∷ ls) has = (tt, tt)
+tokens_text after_comma (colon ∷ ls) has = (tt, tt)
+tokens_text after_key (colon ∷ ls) has = tokens_text fresh ls has.1
+
+pub text_tokens : (text : List ℕ) → IsUtf8 text → AllText (tokens text)
+text_tokens text u =
+    tokens_text fresh (lex between text)
+    (lexemes_text between text (λ front rest e. behind_ascii front 34 rest (omega arith) (subst IsUtf8 e u)))
+
+-- ---- values

@@ -1,0 +1,247 @@
+-- What a run wrote, record by record.
+use Rattle.std.proofs.Common.{◌≡◌, ℕ, ◌+◌, ◌-◌, ◌≤◌, List, [], ◌∷◌, ◌++◌, length, take, drop, Bool, Option, Some, None, Result, Ok, Err, refl, sym, ◌∙◌, ap, subst, arith, append_assoc, append-nil, inl, inr}
+use Rattle.std.proofs.lemmas.List.{drop-drop}
+use Rattle.std.proofs.lemmas.Slice.{between_to_end}
+use Rattle.std.specs.Prelude.{MatchOption}
+use Rattle.std.specs.Io.KnownBytes.{Appends}
+use Rattle.std.proofs.KnownBytes.{Appends-trans}
+use Rattle.lsp_frame.specs.Frame.{IsFrameOf}
+use Rattle.lsp_replay.specs.declared.outcome.Outcome.{Outcome}
+use Rattle.lsp_stream.specs.declared.fault.EngineFault.{EngineFault}
+use Rattle.lsp_stream.specs.declared.fault.EngineFault.TheVariants.{Read, Write, Frame, Truncated, BodyTooLong, NoMemory, TooManyTurns, BadLog}
+use Rattle.lsp_log.specs.declared.record.Head.{Head}
+use Rattle.lsp_log.specs.declared.splitter.Splitter.{Splitter}
+use Rattle.lsp_stream.specs.Turns.{AppendsFront, AppendsShort}
+use Rattle.lsp_log.specs.Log.{LogRules, Record, Log, IsReadAs}
+use Rattle.lsp_log.specs.Splitting.{IsFed, IsAfter, IsSplitFault, log_at, record_head, record_at}
+use Rattle.lsp_log.specs.laws.Logs.{BufferedLaw}
+use Rattle.lsp_replay.specs.RunOutput.{RunOutput, written_first, stopped}
+use Rattle.lsp_replay.specs.inside.Engine.{IsPieceFault, Reached, Stopped, Broken, RanOut}
+use Rattle.lsp_replay.specs.inside.Progress.{Continues, Ends, IsHandled, IsHandleFault, IsProgress}
+
+-- Without more records nothing more is written, and the run goes on.
+pub record IsQuiet (now : List Record → RunOutput) : Type 0 where
+  pub silent : (now []).out ≡ []
+  pub unstopped : (now []).stop ≡ None
+
+module _ (log_rules : LogRules) (run_output : List Record → RunOutput) (received : Option (List ℕ))
+    (input : List ℕ) where
+  -- the course of the records that were handled, and of more
+  written_again : (a b : List ℕ) (c : RunOutput) → written_first a (written_first b c) ≡ written_first (a ++ b) c
+  written_again a b c = ap (λ z. record c { out = z }) (sym (append_assoc a b c.out))
+
+  pub went_on : (more : List ℕ) (s n : Splitter) (now new : List Record → RunOutput)
+      (received_now received_new : Option (List ℕ)) (r : Record)
+      (w : IsProgress log_rules run_output received input more s now received_now)
+      → IsAfter log_rules input more (w.records ++ r ∷ []) n → Continues now new received_now received_new r
+      → IsProgress log_rules run_output received input more n new received_new
+  went_on more s n now new received_now received_new r w is_after on = record {
+    records = w.records ++ r ∷ [];
+    is_after = is_after;
+    out = w.out ++ on.out;
+    outputs = λ others. ap run_output (append_assoc w.records (r ∷ []) others) ∙ w.outputs (r ∷ others)
+        ∙ ap (written_first w.out) (on.run_output others) ∙ written_again w.out on.out (new others);
+    wrote = Appends-trans received received_now received_new w.out on.out w.wrote on.wrote;
+  }
+
+  pub went_to_end : (log : Log) (more : List ℕ) (s : Splitter) (now : List Record → RunOutput)
+      (received_now received_new : Option (List ℕ)) (r : Record) (answer : Result Outcome EngineFault)
+      (w : IsProgress log_rules run_output received input more s now received_now)
+      → IsReadAs log_rules input log → log.records ≡ w.records ++ r ∷ [] → Ends now received_now received_new r answer
+      → Stopped log_rules run_output input received received_new answer
+  went_to_end log more s now received_now received_new r answer w reads is ends =
+      let whole : run_output log.records ≡ written_first w.out (stopped ends.out answer) =
+      ap run_output is ∙ w.outputs (r ∷ []) ∙ ap (written_first w.out) (ends.run_output []) in
+      record {
+        log = log;
+        reads = reads;
+        stops = ap (λ (c : RunOutput). c.stop) whole;
+        wrote = subst (λ (z : List ℕ). Appends received received_new z) (sym (ap (λ (c : RunOutput). c.out) whole))
+            (Appends-trans received received_now received_new w.out ends.out w.wrote ends.wrote);
+      }
+
+  -- nothing was written since
+  pub went_so_far : (more : List ℕ) (s : Splitter) (now : List Record → RunOutput)
+      (received_now received_new : Option (List ℕ)) (IsRest : Log → Type 0)
+      (w : IsProgress log_rules run_output received input more s now received_now)
+      → IsQuiet now → Appends received_now received_new [] → IsRest (log_at s w.records more)
+      → Reached log_rules run_output input received received_new IsRest
+  went_so_far more s now received_now received_new IsRest w quiet nothing rest =
+      let whole : run_output w.records ≡ written_first w.out (now []) = ap run_output (sym (append-nil w.records))
+      ∙ w.outputs [] in
+      let out : (run_output w.records).out ≡ w.out ++ [] =
+      ap (λ (c : RunOutput). c.out) whole ∙ ap (λ z. w.out ++ z) quiet.silent in
+      record {
+        log = log_at s w.records more;
+        reads = w.is_after.reads;
+        rest = rest;
+        continues = ap (λ (c : RunOutput). c.stop) whole ∙ quiet.unstopped;
+        wrote = subst (λ (z : List ℕ). Appends received received_new z) (sym out)
+            (Appends-trans received received_now received_new w.out [] w.wrote nothing);
+      }
+
+  broken_at : (log : Log) (more : List ℕ) (s : Splitter) (now : List Record → RunOutput)
+      (received_now received_new : Option (List ℕ)) (r : Record)
+      (w : IsProgress log_rules run_output received input more s now received_now)
+      → IsReadAs log_rules input log → log.records ≡ w.records ++ r ∷ [] → AppendsFront received_now received_new
+      (now (r ∷ [])).out → Broken log_rules run_output input received received_new
+  broken_at log more s now received_now received_new r w reads is cut =
+      let whole : run_output log.records ≡ written_first w.out (now (r ∷ [])) = ap run_output is ∙ w.outputs (r ∷ []) in
+      record {
+        log = log;
+        reads = reads;
+        wrote = (
+          w.out ++ cut.0,
+          cut.1,
+          ap (λ (c : RunOutput). c.out) whole ∙ ap (λ z. w.out ++ z) cut.2 ∙ sym (append_assoc w.out cut.0 cut.1),
+          Appends-trans received received_now received_new w.out cut.0 w.wrote cut.3,
+        );
+      }
+
+  short_at : (unflushed : Bool) (log : Log) (more : List ℕ) (s : Splitter) (now : List Record → RunOutput)
+      (received_now received_new : Option (List ℕ)) (r : Record)
+      (w : IsProgress log_rules run_output received input more s now received_now)
+      → IsReadAs log_rules input log → log.records ≡ w.records ++ r ∷ [] → AppendsShort unflushed received_now
+      received_new (now (r ∷ [])).out → RanOut log_rules run_output unflushed input received received_new
+  short_at unflushed log more s now received_now received_new r w reads is cut =
+      let whole : run_output log.records ≡ written_first w.out (now (r ∷ [])) = ap run_output is ∙ w.outputs (r ∷ []) in
+      record {
+        log = log;
+        reads = reads;
+        wrote = (
+          w.out ++ cut.0,
+          cut.1,
+          ap (λ (c : RunOutput). c.out) whole ∙ ap (λ z. w.out ++ z) cut.2 ∙ sym (append_assoc w.out cut.0 cut.1),
+          Appends-trans received received_now received_new w.out cut.0 w.wrote cut.3,
+          cut.4,
+        );
+      }
+
+  -- a fault at a record
+  pub record_fault : (unflushed : Bool) (log : Log) (more : List ℕ) (s : Splitter) (now : List Record → RunOutput)
+      (received_now received_new : Option (List ℕ)) (r : Record) (fault : EngineFault)
+      (w : IsProgress log_rules run_output received input more s now received_now)
+      → IsReadAs log_rules input log → log.records ≡ w.records ++ r ∷ [] → IsQuiet now
+      → IsHandleFault now unflushed received_now received_new r fault → IsPieceFault log_rules run_output unflushed
+      input received received_new fault
+  record_fault unflushed log more s now received_now received_new r Read w reads is quiet why = absurd why
+  record_fault unflushed log more s now received_now received_new r Write w reads is quiet why =
+      broken_at log more s now received_now received_new r w reads is why
+  record_fault unflushed log more s now received_now received_new r (Frame fault) w reads is quiet why = absurd why
+  record_fault unflushed log more s now received_now received_new r (Truncated place) w reads is quiet why = absurd why
+  record_fault unflushed log more s now received_now received_new r (BodyTooLong place) w reads is quiet why =
+      went_to_end log more s now received_now received_new r (Err (BodyTooLong place)) w reads is why
+  record_fault unflushed log more s now received_now received_new r NoMemory w reads is quiet why =
+      went_so_far more s now received_now received_new (λ _. Unit {0}) w quiet why tt
+  record_fault unflushed log more s now received_now received_new r TooManyTurns w reads is quiet why =
+      short_at unflushed log more s now received_now received_new r w reads is why
+  record_fault unflushed log more s now received_now received_new r (BadLog place) w reads is quiet why =
+      inl (went_to_end log more s now received_now received_new r (Err (BadLog place)) w reads is why)
+
+  -- a fault in front of the next record
+  pub split_faults : (unflushed : Bool) (more : List ℕ) (s : Splitter) (now : List Record → RunOutput)
+      (received_now received_new : Option (List ℕ)) (fault : EngineFault)
+      (w : IsProgress log_rules run_output received input more s now received_now)
+      → IsQuiet now → Appends received_now received_new [] → IsSplitFault log_rules.max_body input
+      (log_at s w.records more) fault → IsPieceFault log_rules run_output unflushed input received received_new fault
+  split_faults unflushed more s now received_now received_new Read w quiet nothing why = absurd why
+  split_faults unflushed more s now received_now received_new Write w quiet nothing why = absurd why
+  split_faults unflushed more s now received_now received_new (Frame fault) w quiet nothing why =
+      went_so_far more s now received_now received_new _ w quiet nothing why
+  split_faults unflushed more s now received_now received_new (Truncated place) w quiet nothing why = absurd why
+  split_faults unflushed more s now received_now received_new (BodyTooLong place) w quiet nothing why = absurd why
+  split_faults unflushed more s now received_now received_new NoMemory w quiet nothing why =
+      went_so_far more s now received_now received_new (λ _. Unit {0}) w quiet nothing tt
+  split_faults unflushed more s now received_now received_new TooManyTurns w quiet nothing why = absurd why
+  split_faults unflushed more s now received_now received_new (BadLog place) w quiet nothing why =
+      inr (went_so_far more s now received_now received_new _ w quiet nothing why)
+
+  -- The record that is held was handled.
+  held_record : (s : Splitter) (head : Head) (raw body : List ℕ) → head ≡ record_head s → raw ≡ s.framer.buffered
+      → record_at s body ≡ (record { head = head; raw = raw; body = body })
+  held_record s head raw body e f = ap (λ (h : Head). record { head = h; raw = s.framer.buffered; body = body }) (sym e)
+      ∙ ap (λ z. record { head = head; raw = z; body = body }) (sym f)
+
+  is_frame_here : (more : List ℕ) (s : Splitter) (now : List Record → RunOutput) (received_now : Option (List ℕ))
+      (body : List ℕ) → IsProgress log_rules run_output received input more s now received_now
+      → IsFrameOf s.framer.limits.max_body s.framer.buffered body → IsFrameOf log_rules.max_body s.framer.buffered body
+  is_frame_here more s now received_now body w is_frame_of =
+      subst (λ (m : ℕ). IsFrameOf m s.framer.buffered body) w.is_after.limit is_frame_of
+
+  pub taken_fault : (unflushed : Bool) → BufferedLaw → (more : List ℕ) (s : Splitter) (now : List Record → RunOutput)
+      (received_now received_new : Option (List ℕ)) (head : Head) (raw body : List ℕ) (fault : EngineFault) → IsFed s
+      → head ≡ record_head s → raw ≡ s.framer.buffered → IsFrameOf s.framer.limits.max_body s.framer.buffered body
+      → IsQuiet now
+      → IsHandleFault now unflushed received_now received_new (record { head = head; raw = raw; body = body }) fault
+      → IsProgress log_rules run_output received input more s now received_now
+      → IsPieceFault log_rules run_output unflushed input received received_new fault
+  taken_fault unflushed buffered_law more s now received_now received_new head raw body fault fed e f is_frame_of quiet
+      why w =
+      let reads = buffered_law log_rules input more body w.records s fed is_frame_of w.is_after in
+      record_fault unflushed (record { version = s.version; records = w.records ++ record_at s body ∷ []; rest = more })
+      more s now received_now received_new (record_at s body) fault w reads refl quiet
+      (subst (λ (r : Record). IsHandleFault now unflushed received_now received_new r fault)
+      (sym (held_record s head raw body e f)) why)
+
+  handled_went : (more : List ℕ) (s n : Splitter) (now new : List Record → RunOutput)
+      (received_now received_new : Option (List ℕ)) (r : Record) (answer : Option Outcome)
+      (w : IsProgress log_rules run_output received input more s now received_now)
+      → IsAfter log_rules input more (w.records ++ r ∷ []) n → IsHandled now new received_now received_new r answer
+      → MatchOption answer (IsProgress log_rules run_output received input more n new received_new)
+      (λ outcome. Stopped log_rules run_output input received received_new (Ok outcome))
+  handled_went more s n now new received_now received_new r None w is_after handled =
+      went_on more s n now new received_now received_new r w is_after handled
+  handled_went more s n now new received_now received_new r (Some outcome) w is_after handled =
+      went_to_end (log_at n (w.records ++ r ∷ []) more) more s now received_now received_new r (Ok outcome) w
+      is_after.reads refl handled
+
+  pub taken_went : (more : List ℕ) (s n : Splitter) (now new : List Record → RunOutput)
+      (received_now received_new : Option (List ℕ)) (head : Head) (raw body : List ℕ) (answer : Option Outcome)
+      → head ≡ record_head s → raw ≡ s.framer.buffered → IsFrameOf s.framer.limits.max_body s.framer.buffered body
+      → ((records : List Record) → IsFrameOf log_rules.max_body s.framer.buffered body
+      → IsAfter log_rules input more records s → IsAfter log_rules input more (records ++ record_at s body ∷ []) n)
+      → IsHandled now new received_now received_new (record { head = head; raw = raw; body = body }) answer
+      → IsProgress log_rules run_output received input more s now received_now
+      → MatchOption answer (IsProgress log_rules run_output received input more n new received_new)
+      (λ outcome. Stopped log_rules run_output input received received_new (Ok outcome))
+  taken_went more s n now new received_now received_new head raw body answer e f is_frame_of next handled w =
+      handled_went more s n now new received_now received_new (record_at s body) answer w
+      (next w.records (is_frame_here more s now received_now body w is_frame_of) w.is_after)
+      (subst (λ (r : Record). IsHandled now new received_now received_new r answer)
+      (sym (held_record s head raw body e f)) handled)
+
+  -- The bytes of a piece were taken.
+  pub went_fed : (piece bytes : List ℕ) (at k : ℕ) (s n : Splitter) (now : List Record → RunOutput)
+      (received_now : Option (List ℕ)) → at ≤ length piece → bytes ≡ take (length piece - at) (drop at piece)
+      → ((records : List Record) → IsAfter log_rules input bytes records s → IsAfter log_rules input (drop k bytes)
+      records n)
+      → IsProgress log_rules run_output received input (drop at piece) s now received_now
+      → IsProgress log_rules run_output received input (drop (at + k) piece) n now received_now
+  went_fed piece bytes at k s n now received_now within is fed w =
+      let all : bytes ≡ drop at piece = is ∙ between_to_end piece at (length piece) (omega arith) in
+      let is_after : IsAfter log_rules input (drop k bytes) w.records n =
+      fed w.records (subst (λ (z : List ℕ). IsAfter log_rules input z w.records s) (sym all) w.is_after) in
+      let rest : drop k bytes ≡ drop (at + k) piece = ap (drop k) all ∙ drop-drop k at piece in
+      record {
+        records = w.records;
+        is_after = subst (λ (z : List ℕ). IsAfter log_rules input z w.records n) rest is_after;
+        out = w.out;
+        outputs = w.outputs;
+        wrote = w.wrote;
+      }
+
+  pub fed_fault : (unflushed : Bool) (piece bytes : List ℕ) (at : ℕ) (s : Splitter) (now : List Record → RunOutput)
+      (received_now received_new : Option (List ℕ)) (fault : EngineFault) → at ≤ length piece
+      → bytes ≡ take (length piece - at) (drop at piece)
+      → ((records : List Record) → IsAfter log_rules input bytes records s → IsSplitFault log_rules.max_body input
+      (log_at s records bytes) fault) → IsQuiet now → Appends received_now received_new []
+      → IsProgress log_rules run_output received input (drop at piece) s now received_now
+      → IsPieceFault log_rules run_output unflushed input received received_new fault
+  fed_fault unflushed piece bytes at s now received_now received_new fault within is fed quiet nothing w =
+      let all : bytes ≡ drop at piece = is ∙ between_to_end piece at (length piece) (omega arith) in
+      let here : IsProgress log_rules run_output received input bytes s now received_now =
+      subst (λ (z : List ℕ). IsProgress log_rules run_output received input z s now received_now) (sym all) w in
+      split_faults unflushed bytes s now received_now received_new fault here quiet nothing
+      (fed here.records here.is_after)
+
+-- ---- rests that no record begins

@@ -1,0 +1,113 @@
+-- A table stays within its limits.
+use Rattle.std.proofs.Common.{ℕ, ℤ, suc, ◌≡◌, ◌≤◌, true, false, List, [], ◌∷◌, ◌++◌, length, IsUtf8, bytes_eq, Some, None, refl, sym, ap, subst, arith, ⊎_elim}
+use Rattle.std.specs.Str.{all_scalars, chars}
+use Rattle.std.proofs.lemmas.Bool.{cases_Bool}
+use Rattle.std.proofs.lemmas.List.{length-append}
+use Rattle.std.proofs.lemmas.Str.{scalars-chars}
+use Rattle.lsp_frame.specs.Limits.{LimitsData}
+use Rattle.lsp_text.specs.Units.{units_in}
+use Rattle.lsp_edit.specs.Items.{text_of}
+use Rattle.lsp_edit.specs.Batch.{ContentChange, meaning}
+use Rattle.lsp_edit.specs.Indexed.{bytes_left}
+use Rattle.lsp_message.specs.Params.{DocumentItem}
+use Rattle.lsp_store.specs.Table.{opens, changes, closes, meant_text, entry_at, entry_refusal, change_refusal, changed, after_open, after_change, after_close}
+use Rattle.lsp_store.specs.Message.{AreTexts}
+use Rattle.lsp_store.specs.laws.Tables.{WithinLaw, IsWithin, AllWithin}
+use Rattle.lsp_store.proofs.Messages.MessageLemmas.{Accepts, accepted_parts}
+use Rattle.lsp_store.proofs.Messages.ScalarLemmas.{scalar-meaning, scalar-text}
+use Rattle.lsp_store.proofs.GreaterLemmas.{open_parts}
+
+pub within_at : (limits : LimitsData) (table : List DocumentItem) (uri : List ℕ) (entry : DocumentItem)
+    → AllWithin limits table → entry_at table uri ≡ Some entry → IsWithin limits entry
+within_at limits [] uri entry kept found = absurd (let bad : None ≡ Some entry = found in cc)
+within_at limits (first ∷ table) uri entry kept found =
+    ⊎_elim
+    (λ (is : bytes_eq uri first.uri ≡ true). let at : Some first ≡ Some entry = rw is at found in
+    let same : first ≡ entry = cc in subst (IsWithin limits) same kept.0)
+    (λ (not : bytes_eq uri first.uri ≡ false). within_at limits table uri entry kept.1 (rw not at found))
+    (cases_Bool (bytes_eq uri first.uri))
+
+within_last : (limits : LimitsData) (table : List DocumentItem) (entry : DocumentItem) → AllWithin limits table
+    → IsWithin limits entry → AllWithin limits (table ++ entry ∷ [])
+within_last limits [] entry kept is = (is, tt)
+within_last limits (first ∷ table) entry kept is = (kept.0, within_last limits table entry kept.1 is)
+
+pub within_close : (limits : LimitsData) (table : List DocumentItem) (uri : List ℕ) → AllWithin limits table
+    → AllWithin limits (after_close table uri)
+within_close limits [] uri kept = tt
+within_close limits (first ∷ table) uri kept =
+    ⊎_elim (λ (is : bytes_eq uri first.uri ≡ true). rw is kept.1) (λ (not : bytes_eq uri first.uri ≡ false). rw not (
+      kept.0,
+      within_close limits table uri kept.1,
+    )) (cases_Bool (bytes_eq uri first.uri))
+
+pub within_end : (limits : LimitsData) (table : List DocumentItem) (entry : DocumentItem) → AllWithin limits table
+    → IsWithin limits entry → AllWithin limits (after_open table entry)
+within_end limits table entry kept is =
+    within_last limits (after_close table entry.uri) entry (within_close limits table entry.uri kept) is
+
+-- the text that an accepted batch leaves, and that it is a text
+left_text : (limits : LimitsData) (units : ℕ → ℕ) (entry : DocumentItem) (version : ℤ) (batch : List ContentChange)
+    (a : Accepts limits units entry version batch) → meant_text entry.text (meaning units (chars entry.text) batch)
+    ≡ bytes_left entry.text a.items
+left_text limits units entry version batch a = ap (meant_text entry.text) a.means
+
+pub within_changed : (limits : LimitsData) (units : ℕ → ℕ) (entry : DocumentItem) (version : ℤ)
+    (batch : List ContentChange)
+    → AreTexts batch → IsWithin limits entry
+    → entry_refusal limits units entry version batch ≡ None → IsWithin limits (changed units entry version batch)
+within_changed limits units entry version batch texts kept e =
+    let a = accepted_parts limits units entry version batch e in
+    let left : meant_text entry.text (meaning units (chars entry.text) batch) ≡ bytes_left entry.text a.items =
+    left_text limits units entry version batch a in
+    let all : all_scalars (text_of (chars entry.text) a.items) ≡ true =
+    scalar-text (chars entry.text) a.items (scalars-chars entry.text kept.utf8)
+    (scalar-meaning units (chars entry.text) batch a.items texts a.means) in
+    record {
+      utf8 = subst IsUtf8 (sym left) (text_of (chars entry.text) a.items, (all, refl));
+      short = subst (λ (text : List ℕ). length text ≤ limits.max_text) (sym left) a.short;
+    }
+
+pub within_change : (limits : LimitsData) (units : ℕ → ℕ) (table : List DocumentItem) (uri : List ℕ) (version : ℤ)
+    (batch : List ContentChange) → AreTexts batch → AllWithin limits table
+    → change_refusal limits units table uri version batch ≡ None
+    → AllWithin limits (after_change units table uri version batch)
+within_change limits units [] uri version batch texts kept e = tt
+within_change limits units (first ∷ table) uri version batch texts kept e =
+    ⊎_elim
+    (λ (is : bytes_eq uri first.uri ≡ true).
+    let here : entry_refusal limits units first version batch ≡ None = rw is at e in
+    rw is (within_changed limits units first version batch texts kept.0 here, kept.1))
+    (λ (not : bytes_eq uri first.uri ≡ false).
+    let later : change_refusal limits units table uri version batch ≡ None = rw not at e in
+    rw not (kept.0, within_change limits units table uri version batch texts kept.1 later))
+    (cases_Bool (bytes_eq uri first.uri))
+
+change_many : (units : ℕ → ℕ) (table : List DocumentItem) (uri : List ℕ) (version : ℤ) (batch : List ContentChange)
+    → length (after_change units table uri version batch) ≡ length table
+change_many units [] uri version batch = refl
+change_many units (first ∷ table) uri version batch =
+    ⊎_elim (λ (is : bytes_eq uri first.uri ≡ true). rw is refl) (λ (not : bytes_eq uri first.uri ≡ false). rw not
+    (ap suc (change_many units table uri version batch))) (cases_Bool (bytes_eq uri first.uri))
+
+close_many : (table : List DocumentItem) (uri : List ℕ) → length (after_close table uri) ≤ length table
+close_many [] uri = omega arith
+close_many (first ∷ table) uri =
+    ⊎_elim (λ (is : bytes_eq uri first.uri ≡ true). rw is (omega arith))
+    (λ (not : bytes_eq uri first.uri ≡ false). rw not (omega (arith, close_many table uri)))
+    (cases_Bool (bytes_eq uri first.uri))
+
+pub within_law : WithinLaw
+within_law limits table (opens entry) kept many texts e =
+    let m = open_parts limits table entry e in (
+      within_end limits table entry kept (record { utf8 = texts; short = m.short }),
+      omega (arith, m.few, length-append (after_close table entry.uri) (entry ∷ [])),
+    )
+within_law limits table (changes uri version encoding batch) kept many texts e = (
+  within_change limits (units_in encoding) table uri version batch texts kept e,
+  omega (arith, many, change_many (units_in encoding) table uri version batch),
+)
+within_law limits table (closes uri) kept many texts e =
+    (within_close limits table uri kept, omega (arith, many, close_many table uri))
+
+-- ---- the whole text
