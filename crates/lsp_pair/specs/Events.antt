@@ -24,8 +24,8 @@ pub data EventData : Type 0 where
   calls : Call → EventData
   to_server to_client : EventData
 
--- An answer of the server without its message. (The last row is that of `dropped`; an ended server
--- comes nowhere to it, since no message is delivered to one.)
+-- An answer of the server without its message. (The last row is that of `dropped`. Nothing is
+-- delivered to an ended server, so no answer of it comes here.)
 abbrev pub did_of : AnswerData OutgoingData → Did
 did_of (answer.reply m) = done.Reply (reply_code m)
 did_of answer.changed = done.Changed
