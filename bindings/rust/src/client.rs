@@ -88,9 +88,17 @@ pub enum ClientError {
     /// The documents refuse it, or its message would be too long: the source says why.
     Refused(Refusal),
     /// An end of the range of the change at this index, counted from 0, lies inside a character.
-    InsideCharacter { change: usize, at_end: bool },
+    InsideCharacter {
+        /// The change's index.
+        change: usize,
+        /// Whether it is the range's end, and not its start.
+        at_end: bool,
+    },
     /// The range of the change at this index, counted from 0, starts after its end.
-    ReversedRange { change: usize },
+    ReversedRange {
+        /// The change's index.
+        change: usize,
+    },
     /// The same call can be made again.
     OutOfMemory,
     /// A limit is out of its range.

@@ -31,7 +31,12 @@ pub enum FrameError {
     /// The limit is out of its range.
     BadLimit,
     /// The stream is faulty: the number of F1 to F7, and the byte offset on which it was decided. No more is taken.
-    Fault { number: u32, offset: u64 },
+    Fault {
+        /// The fault's number, from 1 to 7.
+        number: u32,
+        /// The offset in the stream.
+        offset: u64,
+    },
     /// There was such a fault before.
     Failed,
 }

@@ -29,6 +29,7 @@
 //! Where there is none, cargo warns of that before the linker fails.
 
 #![deny(unsafe_code)]
+#![warn(missing_docs)]
 
 use std::cell::OnceCell;
 use std::fmt;
@@ -72,28 +73,36 @@ impl Encoding {
 #[repr(C)]
 #[derive(Clone, Copy, Debug, Default, PartialEq, Eq, PartialOrd, Ord, Hash)]
 pub struct Position {
+    /// The line, counted from 0.
     pub line: u32,
+    /// The units before the position in its line, in the encoding that both ends agreed on.
     pub character: u32,
 }
 
 /// A range. `end` is exclusive.
 #[derive(Clone, Copy, Debug, Default, PartialEq, Eq, Hash)]
 pub struct Range {
+    /// Where it starts.
     pub start: Position,
+    /// The position after it.
     pub end: Position,
 }
 
 /// A change of a `didChange`: a text in place of a range, or of the whole text.
 #[derive(Clone, Debug, PartialEq, Eq)]
 pub struct Change {
+    /// The range that is replaced; `None` for the whole text.
     pub range: Option<Range>,
+    /// The text that replaces it.
     pub text: String,
 }
 
 /// A text edit, as a formatter returns it: a text in place of a range.
 #[derive(Clone, Debug, PartialEq, Eq)]
 pub struct TextEdit {
+    /// The range that is replaced, in the text before all edits.
     pub range: Range,
+    /// The text that replaces it.
     pub new_text: String,
 }
 
@@ -106,15 +115,36 @@ pub enum Error {
     /// A text has more than 1,073,741,824 bytes.
     TooLong,
     /// An end of the range of the change at this index lies inside a character.
-    InsideCharacter { change: usize, at_end: bool },
+    InsideCharacter {
+        /// The change's index.
+        change: usize,
+        /// Whether it is the range's end, and not its start.
+        at_end: bool,
+    },
     /// The range of the change at this index starts after its end.
-    ReversedRange { change: usize },
+    ReversedRange {
+        /// The change's index.
+        change: usize,
+    },
     /// An end of the range of the text edit at this index lies inside a character.
-    EditInsideCharacter { edit: usize, at_end: bool },
+    EditInsideCharacter {
+        /// The edit's index.
+        edit: usize,
+        /// Whether it is the range's end, and not its start.
+        at_end: bool,
+    },
     /// The range of the text edit at this index starts after its end.
-    EditReversedRange { edit: usize },
+    EditReversedRange {
+        /// The edit's index.
+        edit: usize,
+    },
     /// The text edit at the index `second` starts before the one at `first` ends.
-    Overlap { first: usize, second: usize },
+    Overlap {
+        /// The index of the edit that starts first.
+        first: usize,
+        /// The index of the other.
+        second: usize,
+    },
     /// A position or an offset lies inside a character, or an offset inside a CRLF or past the end.
     NoPosition,
 }

@@ -33,6 +33,7 @@ impl Default for Settings {
 /// What a command wrote.
 #[derive(Clone, Debug, PartialEq, Eq)]
 pub struct Output {
+    /// The bytes.
     pub bytes: Vec<u8>,
     /// How many messages there were.
     pub messages: u64,
@@ -51,7 +52,14 @@ pub enum LogError {
     /// More than 2^64 - 1 reads and writes would be needed.
     TooManyTurns,
     /// The log has a fault at a byte offset; `output` is what was written up to it.
-    Fault { fault: LogFault, offset: u64, output: Vec<u8> },
+    Fault {
+        /// What is wrong.
+        fault: LogFault,
+        /// The offset in the log.
+        offset: u64,
+        /// The output of what comes before.
+        output: Vec<u8>,
+    },
 }
 
 /// What is wrong with a log.

@@ -43,7 +43,10 @@ impl Default for Settings {
 #[derive(Clone, Copy, Debug, PartialEq, Eq)]
 pub enum EncodingChoice {
     /// The preferred one where the client offers it, else UTF-16.
-    Negotiated { prefer: Encoding },
+    Negotiated {
+        /// The encoding that the server takes where it can.
+        prefer: Encoding,
+    },
     /// This one, whatever the client offers. LSP 3.17 allows one that was offered, or UTF-16: fix another only for logs, or where you
     /// write the editor too.
     Fixed(Encoding),
@@ -63,7 +66,12 @@ pub enum ChangeForm {
 #[non_exhaustive]
 pub enum Answer {
     /// A frame to send, with its header. An error reply has its code (LSP 3.17, ErrorCodes).
-    Reply { frame: Vec<u8>, code: Option<i32> },
+    Reply {
+        /// The message with its header.
+        frame: Vec<u8>,
+        /// The code of an error reply.
+        code: Option<i32>,
+    },
     /// The open documents changed.
     Changed,
     /// A notification before `initialize` or after `shutdown`.
@@ -159,9 +167,17 @@ pub enum MessageError {
     /// The documents refuse the changes, or their message would be too long: the source says why.
     Refused(Refusal),
     /// An end of the range of the change at this index, counted from 0, lies inside a character.
-    InsideCharacter { change: usize, at_end: bool },
+    InsideCharacter {
+        /// The change's index.
+        change: usize,
+        /// Whether it is the range's end, and not its start.
+        at_end: bool,
+    },
     /// The range of the change at this index, counted from 0, starts after its end.
-    ReversedRange { change: usize },
+    ReversedRange {
+        /// The change's index.
+        change: usize,
+    },
     /// The same call can be made again.
     OutOfMemory,
 }
