@@ -52,8 +52,8 @@ abbrev pub is_changed : Gap → Bool
 is_changed gap = nat_lt gap.low gap.high || nat_lt 0 (length gap.text)
 
 -- The change of a gap: its range is the exact positions of the gap's two ends in the old text.
-abbrev pub gap_change : (ℕ → ℕ) → List ℕ → Gap → ContentChange
-gap_change units old gap =
+abbrev pub change_of_gap : (ℕ → ℕ) → List ℕ → Gap → ContentChange
+change_of_gap units old gap =
     record {
       range = Some (record {
         start = exact_position units old gap.low;
@@ -64,4 +64,4 @@ gap_change units old gap =
 
 -- The canonical batch of items: one change for each changed gap, from the last gap to the first.
 abbrev pub canonical : (ℕ → ℕ) → List ℕ → List Item → List ContentChange
-canonical units old items = reverse (map (gap_change units old) (filter is_changed (gaps old items)))
+canonical units old items = reverse (map (change_of_gap units old) (filter is_changed (gaps old items)))

@@ -17,7 +17,7 @@ use Rattle.lsp_edit.specs.declared.plain.Item.{Item as PlainItem}
 use Rattle.lsp_edit.specs.Items.{Item, Old, New, plain, character_of, text_of}
 use Rattle.lsp_edit.specs.Batch.{ContentChange, items_after, after_changes, changed_in, meaning}
 use Rattle.lsp_edit.specs.Compose.{then_items}
-use Rattle.lsp_edit.specs.Canonical.{gaps_from, gaps, is_changed, gap_change}
+use Rattle.lsp_edit.specs.Canonical.{gaps_from, gaps, is_changed, change_of_gap}
 use Rattle.lsp_edit.specs.Edited.{PlainData, both_counts, content_change, edited_bytes, edited_text}
 use Rattle.lsp_edit.specs.Faults.{places_at, ends_of}
 use Rattle.lsp_edit.specs.Keeps.{Keeps}
@@ -155,7 +155,7 @@ module _ (units : ℕ → ℕ) (old : List ℕ) (low high : ℕ) (text : List �
   gap_one changes change start stop some range same at_start at_stop =
       let own : chars (string_bytes change.text) ≡ text =
       sym (chars_from_encodes text (string_bytes change.text) (IsUtf8-string_bytes change.text) (sym same)) in
-      let e : content_change change ≡ gap_change units old (gap_at low high text)
+      let e : content_change change ≡ change_of_gap units old (gap_at low high text)
       = λ i. record {
         range = (range ∙ ap₂ (λ (x y : Position). Some (record { start = x; stop = y })) at_start at_stop) i;
         text = own i;

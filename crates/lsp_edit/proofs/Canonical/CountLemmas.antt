@@ -7,7 +7,7 @@ use Rattle.lsp_text.specs.TextLines.{numbers_from}
 use Rattle.lsp_text.specs.Positions.{denoted}
 use Rattle.lsp_edit.specs.Items.{Item, Old, New, plain, text_of}
 use Rattle.lsp_edit.specs.Batch.{ContentChange, Fault, Reversed, replaced, changed_in, items_after, after_changes, continue_with, meaning}
-use Rattle.lsp_edit.specs.Canonical.{Gap, gaps_from, gaps, is_changed, gap_change, canonical}
+use Rattle.lsp_edit.specs.Canonical.{Gap, gaps_from, gaps, is_changed, change_of_gap, canonical}
 use Rattle.lsp_edit.proofs.Canonical.GapLemmas.{gap}
 
 abbrev one_if : Bool → ℕ
@@ -178,11 +178,11 @@ pub no_more_changes : (units : ℕ → ℕ) (old : List ℕ) (batch : List Conte
     ≡ Ok items → length (canonical units old items) ≤ length batch
 no_more_changes units old batch items is =
     let r : length (canonical units old items)
-    ≡ length (map (gap_change units old) (filter is_changed (gaps old items))) =
-    length-reverse (map (gap_change units old) (filter is_changed (gaps old items))) in
-    let m : length (map (gap_change units old) (filter is_changed (gaps old items)))
+    ≡ length (map (change_of_gap units old) (filter is_changed (gaps old items))) =
+    length-reverse (map (change_of_gap units old) (filter is_changed (gaps old items))) in
+    let m : length (map (change_of_gap units old) (filter is_changed (gaps old items)))
     ≡ length (filter is_changed (gaps old items)) =
-    length-map (filter is_changed (gaps old items)) (gap_change units old) in
+    length-map (filter is_changed (gaps old items)) (change_of_gap units old) in
     let h : length (filter is_changed (gaps old items)) ≡ hunks (length old) false 0 items =
     hunks_are (length old) 0 [] items in
     let z : hunks (length old) false 0 (plain old) ≡ 0 = none_at_first (length old) 0 (length old) (omega arith) in

@@ -10,7 +10,7 @@ use Rattle.lsp_text.proofs.Positions.PositionLemmas.{exact_denotes}
 use Rattle.lsp_text.proofs.Positions.NearLemmas.{AgreeBelow, agree_from_take, splits_near, exact_near}
 use Rattle.lsp_edit.specs.Items.{Item, Old, New, plain, character_of, text_of}
 use Rattle.lsp_edit.specs.Batch.{ContentChange, replaced, items_after}
-use Rattle.lsp_edit.specs.Canonical.{Gap, gaps_from, is_changed, gap_change, canonical}
+use Rattle.lsp_edit.specs.Canonical.{Gap, gaps_from, is_changed, change_of_gap, canonical}
 use Rattle.lsp_edit.specs.Keeps.{Keeps}
 use Rattle.lsp_edit.specs.laws.Batches.{HasExactEnds, AllHaveExactEnds}
 use Rattle.lsp_edit.proofs.Canonical.GapLemmas.{gap, ends_exact}
@@ -113,14 +113,14 @@ module _ (old : List ℕ) where
     -- The change of a gap, on items that are old up to the gap's end, puts the gap's text in its place.
     gap_changed : (low high : ℕ) (text : List ℕ) (rest : List Item) → HasExactEnds old (gap low high text)
         → slice_index (text_of old rest) 0 ≡ slice_index old high → Makes units old (plain_to high ++ rest)
-        (gap_change units old (gap low high text) ∷ []) (plain_to low ++ (map New text ++ rest))
+        (change_of_gap units old (gap low high text) ∷ []) (plain_to low ++ (map New text ++ rest))
     gap_changed low high text rest ends first =
         let is : IsMet (text_of old (plain_to high ++ rest)) high = is_met high rest ends.within first in
         let low_met : denoted units (text_of old (plain_to high ++ rest)) (exact_position units old low) ≡ Some low =
         index_met (text_of old (plain_to high ++ rest)) high low is ends.order ends.low_whole in
         let high_met : denoted units (text_of old (plain_to high ++ rest)) (exact_position units old high) ≡ Some high =
         index_met (text_of old (plain_to high ++ rest)) high high is (omega arith) ends.high_whole in
-        let made : items_after units old (plain_to high ++ rest) (gap_change units old (gap low high text))
+        let made : items_after units old (plain_to high ++ rest) (change_of_gap units old (gap low high text))
         ≡ Ok (plain_to low ++ (map New text ++ rest)) = rw (low_met, high_met) replaced_here in
         record {
           leaves = λ number. rw made refl;
@@ -155,18 +155,18 @@ module _ (old : List ℕ) where
 
 -- the batch of a row of gaps
 abbrev pub batch_of : (ℕ → ℕ) → List ℕ → List Gap → List ContentChange
-batch_of units old gs = reverse (map (gap_change units old) (filter is_changed gs))
+batch_of units old gs = reverse (map (change_of_gap units old) (filter is_changed gs))
 
 -- the change of a gap, if it is changed
 abbrev pub change_if : (ℕ → ℕ) → List ℕ → Gap → List ContentChange
-change_if units old g = cond (is_changed g) (gap_change units old g ∷ []) []
+change_if units old g = cond (is_changed g) (change_of_gap units old g ∷ []) []
 
 pub batch_of-cons : (units : ℕ → ℕ) (old : List ℕ) (g : Gap) (gs : List Gap) → batch_of units old (g ∷ gs)
     ≡ batch_of units old gs ++ change_if units old g
 batch_of-cons units old g gs =
     ⊎_elim
     (λ (e : is_changed g ≡ true). rw e
-    (reverse-append (gap_change units old g ∷ []) (map (gap_change units old) (filter is_changed gs))))
+    (reverse-append (change_of_gap units old g ∷ []) (map (change_of_gap units old) (filter is_changed gs))))
     (λ (e : is_changed g ≡ false). rw e (sym (append-nil (batch_of units old gs))))
     (cases_Bool (is_changed g))
 

@@ -2,7 +2,7 @@
 use Rattle.std.proofs.Common.{ℕ, ◌≡◌, ◌≤◌, ◌↔◌, List, length, map, reverse, filter, Result, Ok, sym, ap, ap₂, ◌∙◌}
 use Rattle.lsp_edit.specs.Items.{Item}
 use Rattle.lsp_edit.specs.Batch.{ContentChange, Fault, meaning}
-use Rattle.lsp_edit.specs.Canonical.{kept, gap_texts, DoTheSame, Gap, is_changed, gap_change, canonical}
+use Rattle.lsp_edit.specs.Canonical.{kept, gap_texts, DoTheSame, Gap, is_changed, change_of_gap, canonical}
 use Rattle.lsp_edit.specs.inside.Canonical.{gaps_told}
 use Rattle.lsp_edit.proofs.Canonical.GapLemmas.{gaps_are}
 use Rattle.lsp_edit.proofs.Canonical.KeepsLemmas.{meaning_keeps}
@@ -29,7 +29,7 @@ module _ (units : ℕ → ℕ) (some : (c : ℕ) → 1 ≤ units c) (old : List 
         record { same_kept = ap kept e; same_texts = ap gap_texts e },
     λ same.
         ap
-        (λ (gs : List Gap). reverse (map (gap_change units old) (filter is_changed gs)))
+        (λ (gs : List Gap). reverse (map (change_of_gap units old) (filter is_changed gs)))
         (gaps_are old items
         ∙ (ap₂ (gaps_told (length old)) same.same_kept same.same_texts ∙ sym (gaps_are old others))),
   )

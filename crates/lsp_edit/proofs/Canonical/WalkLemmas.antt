@@ -14,7 +14,7 @@ use Rattle.lsp_edit.specs.declared.change.Change.{Change}
 use Rattle.lsp_edit.specs.Edited.{content_change}
 use Rattle.lsp_edit.specs.Items.{Item, Old, New}
 use Rattle.lsp_edit.specs.Batch.{ContentChange}
-use Rattle.lsp_edit.specs.Canonical.{Gap, gaps_from, gaps, is_changed, gap_change}
+use Rattle.lsp_edit.specs.Canonical.{Gap, gaps_from, gaps, is_changed, change_of_gap}
 use Rattle.lsp_edit.specs.inside.Gaps.{gap_between, gap_change}
 use Rattle.lsp_edit.specs.laws.Batches.{HasExactEnds, AllHaveExactEnds}
 use Rattle.lsp_edit.specs.Parts.{Part, OldPart, NewPart, index_of, part_of, parts_of, items_in, items_of, IsPartOf, AreParts}
@@ -25,10 +25,10 @@ use Rattle.lsp_edit.proofs.Parts.IndexLemmas.{index_of-place, index_rises, index
 
 -- the changes of gaps, from the first to the last
 abbrev pub changes_of : (ℕ → ℕ) → List ℕ → List Gap → List ContentChange
-changes_of units old gs = map (gap_change units old) (filter is_changed gs)
+changes_of units old gs = map (change_of_gap units old) (filter is_changed gs)
 
 pub changes_of-cons : (units : ℕ → ℕ) (old : List ℕ) (g : Gap) (gs : List Gap) → changes_of units old (g ∷ gs)
-    ≡ cond (is_changed g) (gap_change units old g ∷ []) [] ++ changes_of units old gs
+    ≡ cond (is_changed g) (change_of_gap units old g ∷ []) [] ++ changes_of units old gs
 changes_of-cons units old g gs =
     ⊎_elim
     (λ (e : is_changed g ≡ true). rw e refl)
@@ -130,7 +130,7 @@ module _ (before : List ℕ) (utf8 : IsUtf8 before) where
       position_exact units low start at_low low_exact in
       let t : stop ≡ exact_position units (chars before) (index_of (chars before) high) =
       position_exact units high stop at_high high_exact in
-      let e : content_change change ≡ gap_change units (chars before) (gap_between before low high
+      let e : content_change change ≡ change_of_gap units (chars before) (gap_between before low high
       (string_bytes change.text))
       = λ i. record {
         range = (range ∙ ap₂ (λ (x y : Position). Some (record { start = x; stop = y })) s t) i;

@@ -7,7 +7,7 @@ use Rattle.std.proofs.lemmas.List.{reverse-append, nil_from_length}
 use Rattle.std.proofs.lemmas.List.Sums.{sum_by-cons, sum_by-append}
 use Rattle.lsp_edit.specs.Items.{Item, Old, New, character_of, text_of}
 use Rattle.lsp_edit.specs.Batch.{ContentChange}
-use Rattle.lsp_edit.specs.Canonical.{Gap, gaps_from, gaps, is_changed, gap_change, canonical}
+use Rattle.lsp_edit.specs.Canonical.{Gap, gaps_from, gaps, is_changed, change_of_gap, canonical}
 use Rattle.lsp_edit.proofs.Canonical.GapLemmas.{gap}
 
 sum_by-reverse : {X : Type 0} (f : X → ℕ) (xs : List X) → sum_by f (reverse xs) ≡ sum_by f xs
@@ -72,13 +72,14 @@ module _ (weight : ℕ → ℕ) where
           let empty : g.text ≡ [] = nil_from_length g.text (omega arith) in
           ap (sum_by weight) empty
 
-  changes_weigh : (units : ℕ → ℕ) (old : List ℕ) (gs : List Gap) → sum_by change_weight (map (gap_change units old) gs)
+  changes_weigh : (units : ℕ → ℕ) (old : List ℕ) (gs : List Gap) → sum_by change_weight (map
+      (change_of_gap units old) gs)
       ≡ sum_by gap_weight gs
   changes_weigh units old [] = refl
   changes_weigh units old (g ∷ gs) =
       omega (
         arith,
-        sum_by-cons change_weight (gap_change units old g) (map (gap_change units old) gs),
+        sum_by-cons change_weight (change_of_gap units old g) (map (change_of_gap units old) gs),
         sum_by-cons gap_weight g gs,
         changes_weigh units old gs,
       )
@@ -97,8 +98,8 @@ module _ (weight : ℕ → ℕ) where
       (canonical units old items) ≤ sum_by weight (text_of old items)
   no_longer units old items =
       let turned : sum_by change_weight (canonical units old items)
-      ≡ sum_by change_weight (map (gap_change units old) (filter is_changed (gaps old items))) =
-      sum_by-reverse change_weight (map (gap_change units old) (filter is_changed (gaps old items))) in
+      ≡ sum_by change_weight (map (change_of_gap units old) (filter is_changed (gaps old items))) =
+      sum_by-reverse change_weight (map (change_of_gap units old) (filter is_changed (gaps old items))) in
       let none : sum_by weight [] ≡ 0 = refl in
       omega (
         arith,

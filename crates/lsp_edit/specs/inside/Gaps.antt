@@ -2,7 +2,7 @@
 use Rattle.std.specs.Prelude.{ℕ, if◌then◌else◌, List, [], ◌∷◌}
 use Rattle.std.specs.Str.{chars}
 use Rattle.lsp_edit.specs.Batch.{ContentChange}
-use Rattle.lsp_edit.specs.Canonical.{Gap, is_changed, gap_change}
+use Rattle.lsp_edit.specs.Canonical.{Gap, is_changed, change_of_gap}
 use Rattle.lsp_edit.specs.Parts.{index_of}
 
 -- The gap between two byte offsets of the text with the bytes `before`, and the text that replaces
@@ -19,4 +19,4 @@ gap_between before low high text
 abbrev pub gap_change : (ℕ → ℕ) → List ℕ → ℕ → ℕ → List ℕ → List ContentChange
 gap_change units before low high text =
     if is_changed (gap_between before low high text) then
-    gap_change units (chars before) (gap_between before low high text) ∷ [] else []
+    change_of_gap units (chars before) (gap_between before low high text) ∷ [] else []

@@ -12,7 +12,7 @@ use Rattle.lsp_text.specs.Units.{units_between}
 use Rattle.lsp_text.specs.Positions.{exact_position}
 use Rattle.lsp_edit.specs.Items.{Item}
 use Rattle.lsp_edit.specs.Batch.{ContentChange}
-use Rattle.lsp_edit.specs.Canonical.{Gap, gaps, is_changed, gap_change, canonical}
+use Rattle.lsp_edit.specs.Canonical.{Gap, gaps, is_changed, change_of_gap, canonical}
 use Rattle.lsp_edit.specs.laws.Batches.{AllHaveExactEnds, HasExactEnds}
 use Rattle.lsp_message.specs.laws.Sent.{IsProperPosition, IsProperRange, IsProperEdit}
 use Rattle.lsp_store.specs.Message.{AreTexts, written_edit}
@@ -69,7 +69,8 @@ module _ (units : ℕ → ℕ) (few : (c : ℕ) → units c ≤ len_utf8 c) (old
   fit-reverse (x ∷ xs) p =
       rw (reverse-append (x ∷ []) xs) (fit-append (reverse xs) (x ∷ []) (fit-reverse xs p.1) (p.0, tt))
 
-  fit-gaps : (gs : List Gap) → AllHaveExactEnds old gs → RangesFit (map (gap_change units old) (filter is_changed gs))
+  fit-gaps : (gs : List Gap) → AllHaveExactEnds old gs → RangesFit (map (change_of_gap units old)
+      (filter is_changed gs))
   fit-gaps [] ends = tt
   fit-gaps (g ∷ gs) ends =
       ⊎_elim
@@ -98,5 +99,6 @@ module _ (units : ℕ → ℕ) (few : (c : ℕ) → units c ≤ len_utf8 c) (old
       → AreTexts (canonical units old items) → All IsProperEdit (map written_edit (canonical units old items))
   canonical_proper items ends texts =
       all_proper (canonical units old items)
-      (fit-reverse (map (gap_change units old) (filter is_changed (gaps old items))) (fit-gaps (gaps old items) ends))
+      (fit-reverse (map (change_of_gap units old) (filter is_changed (gaps old items))) (fit-gaps
+      (gaps old items) ends))
       texts

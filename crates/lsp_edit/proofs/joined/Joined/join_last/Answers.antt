@@ -1,7 +1,7 @@
 use Rattle.std.proofs.Common.{◌∙◌, arith}
 use Rattle.std.specs.Str.{chars}
 use Rattle.lsp_edit.specs.Items.{plain}
-use Rattle.lsp_edit.proofs.Deltas.LayerLemmas.{last_all, last_same}
+use Rattle.lsp_edit.proofs.Deltas.OwnedLemmas.{last_all, last_same}
 use Rattle.lsp_edit.proofs.Deltas.OwnedLemmas.{last_through, last_order, two_last}
 use Rattle.lsp_edit.proofs.joined.Joined.join_last.Goals as goal
 
