@@ -16,13 +16,21 @@ pub record ContentChange : Type 0 where
 pub data Fault : Type 0 where
   InsideStart InsideStop Reversed : Fault
 
--- The items with those between two indexes replaced by new characters.
-abbrev pub replaced : List Item → List ℕ → Option ℕ → Option ℕ → Result (List Item) Fault
-replaced items characters None stop = Err InsideStart
-replaced items characters (Some start) None = Err InsideStop
-replaced items characters (Some start) (Some stop) =
-    if nat_le start stop then Ok (take start items ++ (map New characters ++ drop stop items)) else
-    Err Reversed
+-- The indexes that the two ends of a range denote, if both denote and are in order.
+abbrev pub in_order : Option ℕ → Option ℕ → Result (ℕ × ℕ) Fault
+in_order None stop = Err InsideStart
+in_order (Some start) None = Err InsideStop
+in_order (Some start) (Some stop) = if nat_le start stop then Ok (start, stop) else Err Reversed
+
+-- The indexes of a range's two ends in a text, or the fault of the range.
+abbrev pub ends_of : (ℕ → ℕ) → List ℕ → Range → Result (ℕ × ℕ) Fault
+ends_of units text range = in_order (denoted units text range.start) (denoted units text range.stop)
+
+-- The items with those between two indexes replaced by new characters; or the fault of the range.
+abbrev pub put_between : List Item → List ℕ → Result (ℕ × ℕ) Fault → Result (List Item) Fault
+put_between items characters (Ok ends) =
+    Ok (take ends.0 items ++ (map New characters ++ drop ends.1 items))
+put_between items characters (Err why) = Err why
 
 -- The items after a change with these characters and this range, which counts in the text of the
 -- items before.
@@ -30,8 +38,7 @@ abbrev pub changed_in : (ℕ → ℕ) → List ℕ → List Item → List ℕ �
     Result (List Item) Fault
 changed_in units old items characters None = Ok (map New characters)
 changed_in units old items characters (Some range) =
-    replaced items characters (denoted units (text_of old items) range.start)
-    (denoted units (text_of old items) range.stop)
+    put_between items characters (ends_of units (text_of old items) range)
 
 -- The items after a change.
 abbrev pub items_after : (ℕ → ℕ) → List ℕ → List Item → ContentChange → Result (List Item) Fault

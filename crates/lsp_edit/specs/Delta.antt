@@ -9,9 +9,9 @@ use Rattle.lsp_edit.specs.declared.change.Change.{Change}
 use Rattle.lsp_edit.specs.declared.delta.Delta.{Delta}
 use Rattle.lsp_edit.specs.declared.delta.Delta.TheVariants.{Put, Left}
 use Rattle.lsp_edit.specs.Items.{Item, New, plain}
-use Rattle.lsp_edit.specs.Batch.{ContentChange, Fault, meaning}
+use Rattle.lsp_edit.specs.Batch.{ContentChange, Fault, meaning, ends_of}
 use Rattle.lsp_edit.specs.Edited.{content_change}
-use Rattle.lsp_edit.specs.Faults.{ends_of, places_at}
+use Rattle.lsp_edit.specs.Faults.{places_at}
 use Rattle.lsp_edit.specs.Indexed.{bytes_left, text_within}
 use Rattle.lsp_edit.specs.Parts.{index_of}
 

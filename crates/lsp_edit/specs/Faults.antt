@@ -1,8 +1,6 @@
 -- How the calls of this crate report a fault.
-use Rattle.std.specs.Prelude.{ℕ, ◌≡◌, ◌⊎◌, if◌then◌else◌, nat_le, List, Option, Some, None, Result, Ok, Err, codes}
-use Rattle.lsp_text.specs.declared.position.Range.{Range}
+use Rattle.std.specs.Prelude.{ℕ, ◌≡◌, ◌⊎◌, List, Option, Some, None, Result, Ok, Err, codes}
 use Rattle.lsp_text.specs.Text.{place_of}
-use Rattle.lsp_text.specs.Positions.{denoted}
 use Rattle.lsp_edit.specs.declared.fault.EditFault.{EditFault}
 use Rattle.lsp_edit.specs.declared.fault.EditFault.TheVariants.{InsideCharacter, ReversedRange, NoMemory}
 use Rattle.lsp_edit.specs.declared.fault.Side.TheVariants.{Start, Stop}
@@ -31,17 +29,7 @@ abbrev pub IsFaultOfChanges : Result (List Item) (ℕ × Fault) → EditFault �
 IsFaultOfChanges changed fault = (fault ≡ NoMemory)
     ⊎ ((number : ℕ) × (why : Fault) × (changed ≡ Err (number, why)) × (fault ≡ fault_at number why))
 
--- The indexes that the two ends of a range denote, if both denote and are in order.
-abbrev pub in_order : Option ℕ → Option ℕ → Result (ℕ × ℕ) Fault
-in_order None stop = Err InsideStart
-in_order (Some start) None = Err InsideStop
-in_order (Some start) (Some stop) = if nat_le start stop then Ok (start, stop) else Err Reversed
-
--- The indexes of a range's two ends in a text, or the fault of the range.
-abbrev pub ends_of : (ℕ → ℕ) → List ℕ → Range → Result (ℕ × ℕ) Fault
-ends_of units text range = in_order (denoted units text range.start) (denoted units text range.stop)
-
--- Their byte offsets, or the fault of a change.
+-- The byte offsets of a range's two ends, or the fault of a change.
 abbrev pub places_at : ℕ → List ℕ → Result (ℕ × ℕ) Fault → Result (ℕ × ℕ) EditFault
 places_at number text (Ok ends) = Ok (place_of text ends.0, place_of text ends.1)
 places_at number text (Err why) = Err (fault_at number why)

@@ -11,9 +11,9 @@ use Rattle.lsp_edit.specs.declared.text_edits.TextEdit.{TextEdit}
 use Rattle.lsp_edit.specs.declared.text_edits.TextEditFault.{TextEditFault}
 use Rattle.lsp_edit.specs.declared.text_edits.TextEditFault.TheVariants.{InsideCharacter, ReversedRange, Overlap, NoMemory}
 use Rattle.lsp_edit.specs.Items.{Item, Old, New}
-use Rattle.lsp_edit.specs.Batch.{ContentChange, Fault, meaning}
+use Rattle.lsp_edit.specs.Batch.{ContentChange, Fault, meaning, ends_of}
 use Rattle.lsp_edit.specs.Canonical.{canonical}
-use Rattle.lsp_edit.specs.Faults.{ends_of, fault_at}
+use Rattle.lsp_edit.specs.Faults.{fault_at}
 
 -- An edit of a list by indexes of the old text: its number in the list, the two ends of its range,
 -- and the characters that replace those between them.

@@ -1,4 +1,5 @@
 -- Definitions that only private contracts speak of.
+pub mod Batch
 pub mod Canonical
 pub mod Gaps
 pub mod TextBatch

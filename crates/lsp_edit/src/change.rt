@@ -1,3 +1,5 @@
+//! A change as the protocol writes it, and the limit on the texts of a batch.
+
 ghost use Rattle.std.specs.Prelude.{◌≤◌, ◌↔◌, sum_by, string_len, IsTrue};
 
 use lsp_text::Range;

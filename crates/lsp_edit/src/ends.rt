@@ -4,7 +4,8 @@ ghost use Rattle.std.specs.Prelude.{◌≡◌, ℕ};
 ghost use Rattle.std.specs.Result.{result_ok};
 ghost use Rattle.std.specs.Str.{chars};
 ghost use Rattle.lsp_text.specs.Units.{units_in};
-ghost use Rattle.lsp_edit.specs.Faults.{ends_of, in_order, places_at};
+ghost use Rattle.lsp_edit.specs.Faults.{places_at};
+ghost use Rattle.lsp_edit.specs.Batch.{ends_of, in_order};
 ghost use Rattle.lsp_edit.specs.inside.Faults.{numbered};
 
 use crate::fault::{EditFault, Side};

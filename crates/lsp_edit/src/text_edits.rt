@@ -38,7 +38,7 @@ pub enum TextEditFault {
     ReversedRange { edit: usize },
     /// The second edit starts before the first one stops. An insertion at the start of another edit
     /// must come before it in the list.
-    #[error("edits at index {first} and {second} overlap")]
+    #[error("edits at the indexes {first} and {second} overlap")]
     Overlap { first: usize, second: usize },
     /// Out of memory.
     #[error("out of memory")]

@@ -12,8 +12,8 @@ use Rattle.lsp_edit.specs.declared.fault.EditFault.{EditFault}
 use Rattle.lsp_edit.specs.declared.text_edits.Placed.{Placed}
 use Rattle.lsp_edit.specs.declared.text_edits.TextEdit.{TextEdit}
 use Rattle.lsp_edit.specs.declared.text_edits.TextEditFault.{TextEditFault}
-use Rattle.lsp_edit.specs.Batch.{Fault}
-use Rattle.lsp_edit.specs.Faults.{ends_of, fault_at, places_at}
+use Rattle.lsp_edit.specs.Batch.{Fault, ends_of}
+use Rattle.lsp_edit.specs.Faults.{fault_at, places_at}
 use Rattle.lsp_edit.specs.Parts.{index_of}
 use Rattle.lsp_edit.specs.TextEdits.{LocatedEdit, located, ComesBefore, fault_of, HasRangeFault}
 use Rattle.lsp_edit.specs.inside.TextEdits.{IsPlaced, ArePlaced, IsInOrder, HasFaultyRange}

@@ -15,11 +15,11 @@ use Rattle.lsp_edit.specs.declared.change.Change.{Change}
 use Rattle.lsp_edit.specs.declared.fault.EditFault.{EditFault}
 use Rattle.lsp_edit.specs.declared.plain.Item.{Item as PlainItem}
 use Rattle.lsp_edit.specs.Items.{Item, Old, New, plain, character_of, text_of}
-use Rattle.lsp_edit.specs.Batch.{ContentChange, items_after, after_changes, changed_in, meaning}
+use Rattle.lsp_edit.specs.Batch.{ContentChange, items_after, after_changes, changed_in, meaning, ends_of}
 use Rattle.lsp_edit.specs.Compose.{then_items}
 use Rattle.lsp_edit.specs.Canonical.{gaps_from, gaps, is_changed, change_of_gap}
 use Rattle.lsp_edit.specs.Edited.{PlainData, both_counts, content_change, edited_bytes, edited_text}
-use Rattle.lsp_edit.specs.Faults.{places_at, ends_of}
+use Rattle.lsp_edit.specs.Faults.{places_at}
 use Rattle.lsp_edit.specs.Keeps.{Keeps}
 use Rattle.lsp_edit.specs.laws.Batches.{HasExactEnds, AllHaveExactEnds}
 use Rattle.lsp_edit.specs.Plain.{ArePlain, item_of, items_in_order}

@@ -16,9 +16,9 @@ use Rattle.lsp_edit.specs.declared.text_edits.Placed.{Placed}
 use Rattle.lsp_edit.specs.declared.text_edits.TextEdit.{TextEdit}
 use Rattle.lsp_edit.specs.declared.text_edits.TextEditFault.{TextEditFault}
 use Rattle.lsp_edit.specs.declared.text_edits.TextEditFault.TheVariants.{Overlap}
-use Rattle.lsp_edit.specs.Batch.{ContentChange, meaning}
+use Rattle.lsp_edit.specs.Batch.{ContentChange, meaning, ends_of}
 use Rattle.lsp_edit.specs.Canonical.{canonical}
-use Rattle.lsp_edit.specs.Faults.{ends_of, places_at}
+use Rattle.lsp_edit.specs.Faults.{places_at}
 use Rattle.lsp_edit.specs.Items.{Item, Old, New}
 use Rattle.lsp_edit.specs.Keeps.{Keeps}
 use Rattle.lsp_edit.specs.Parts.{Part, AreParts, index_of, items_of, new_parts}

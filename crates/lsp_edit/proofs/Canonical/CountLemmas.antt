@@ -6,7 +6,8 @@ use Rattle.lsp_text.specs.declared.position.Range.{Range}
 use Rattle.lsp_text.specs.TextLines.{numbers_from}
 use Rattle.lsp_text.specs.Positions.{denoted}
 use Rattle.lsp_edit.specs.Items.{Item, Old, New, plain, text_of}
-use Rattle.lsp_edit.specs.Batch.{ContentChange, Fault, Reversed, replaced, changed_in, items_after, after_changes, continue_with, meaning}
+use Rattle.lsp_edit.specs.Batch.{ContentChange, Fault, Reversed, changed_in, items_after, after_changes, continue_with, meaning}
+use Rattle.lsp_edit.specs.inside.Batch.{replaced}
 use Rattle.lsp_edit.specs.Canonical.{Gap, gaps_from, gaps, is_changed, change_of_gap, canonical}
 use Rattle.lsp_edit.proofs.Canonical.GapLemmas.{gap}
 

@@ -14,8 +14,9 @@ use Rattle.lsp_edit.specs.declared.change.Change.{Change}
 use Rattle.lsp_edit.specs.declared.fault.EditFault.{EditFault}
 use Rattle.lsp_edit.specs.declared.fault.EditFault.TheVariants.{NoMemory}
 use Rattle.lsp_edit.specs.Items.{Item, New, character_of, text_of}
-use Rattle.lsp_edit.specs.Batch.{ContentChange, InsideStart, InsideStop, Reversed, replaced, items_after}
-use Rattle.lsp_edit.specs.Faults.{fault_at, IsFaultOfChange, in_order, ends_of, places_at}
+use Rattle.lsp_edit.specs.Batch.{ContentChange, InsideStart, InsideStop, Reversed, items_after, in_order, ends_of}
+use Rattle.lsp_edit.specs.inside.Batch.{replaced}
+use Rattle.lsp_edit.specs.Faults.{fault_at, IsFaultOfChange, places_at}
 use Rattle.lsp_edit.specs.inside.Faults.{IsPlaces}
 use Rattle.lsp_edit.specs.Keeps.{Keeps}
 use Rattle.lsp_edit.specs.Parts.{Part, items_of, bytes_of, AreParts, NoneTouch, new_parts}

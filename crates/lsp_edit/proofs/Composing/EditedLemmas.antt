@@ -12,7 +12,8 @@ use Rattle.lsp_edit.specs.Parts.{Part, OldPart, index_of, items_in, items_of, by
 use Rattle.lsp_edit.specs.inside.Parts.{whole_parts}
 use Rattle.lsp_edit.specs.Keeps.{Keeps}
 use Rattle.lsp_edit.specs.Edited.{ArePieces, PlainData, edited_text, edited_bytes}
-use Rattle.lsp_edit.specs.Faults.{places_at, ends_of}
+use Rattle.lsp_edit.specs.Faults.{places_at}
+use Rattle.lsp_edit.specs.Batch.{ends_of}
 use Rattle.lsp_edit.specs.inside.Faults.{IsPlaces}
 use Rattle.lsp_edit.specs.declared.fault.EditFault.{EditFault}
 use Rattle.lsp_text.specs.declared.position.Range.{Range}

@@ -7,7 +7,8 @@ use Rattle.lsp_text.specs.Positions.{denoted}
 use Rattle.lsp_text.proofs.Positions.PlaceLemmas.{place_order, place_rises}
 use Rattle.lsp_text.proofs.Positions.PositionLemmas.{IsWhole, denoted_whole}
 use Rattle.lsp_edit.specs.declared.fault.EditFault.TheVariants.{ReversedRange}
-use Rattle.lsp_edit.specs.Faults.{ends_of, in_order, places_at}
+use Rattle.lsp_edit.specs.Faults.{places_at}
+use Rattle.lsp_edit.specs.Batch.{ends_of, in_order}
 use Rattle.lsp_edit.specs.inside.Faults.{numbered}
 
 -- the index of a denoted place

@@ -10,7 +10,8 @@ use Rattle.lsp_text.specs.Positions.{denoted}
 use Rattle.lsp_edit.specs.declared.change.Change.{Change}
 use Rattle.lsp_edit.specs.declared.fault.EditFault.{EditFault}
 use Rattle.lsp_edit.specs.Items.{Item, New, character_of, text_of}
-use Rattle.lsp_edit.specs.Batch.{ContentChange, Fault, Reversed, replaced, changed_in, items_after, after_changes, continue_with}
+use Rattle.lsp_edit.specs.Batch.{ContentChange, Fault, Reversed, changed_in, items_after, after_changes, continue_with}
+use Rattle.lsp_edit.specs.inside.Batch.{replaced}
 use Rattle.lsp_edit.specs.Faults.{IsFaultOfChange, IsFaultOfChanges, fault_at}
 use Rattle.lsp_edit.specs.Edited.{Applied, PlainData, content_change, edited_bytes}
 use Rattle.lsp_edit.proofs.Parts.CutLemmas.{text_of-new}

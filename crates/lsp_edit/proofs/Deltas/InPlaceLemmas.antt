@@ -13,8 +13,8 @@ use Rattle.lsp_edit.specs.declared.fault.EditFault.TheVariants as edit
 use Rattle.lsp_edit.specs.declared.indexed.fault.BatchFault.{BatchFault}
 use Rattle.lsp_edit.specs.declared.indexed.fault.BatchFault.TheVariants.{Edit as EditOf, TooLong, NoMemory}
 use Rattle.lsp_edit.specs.Items.{Item, New, plain, character_of, text_of}
-use Rattle.lsp_edit.specs.Batch.{Fault, InsideStart, InsideStop, Reversed, items_after, meaning}
-use Rattle.lsp_edit.specs.Faults.{fault_at, ends_of, places_at}
+use Rattle.lsp_edit.specs.Batch.{Fault, InsideStart, InsideStop, Reversed, items_after, meaning, ends_of}
+use Rattle.lsp_edit.specs.Faults.{fault_at, places_at}
 use Rattle.lsp_edit.specs.Indexed.{alone, bytes_left, text_within, batch_fault_of}
 use Rattle.lsp_edit.specs.Delta.{put_items}
 use Rattle.lsp_edit.specs.Parts.{index_of}

@@ -9,7 +9,8 @@ use Rattle.lsp_edit.specs.declared.text_edits.Placed.{Placed}
 use Rattle.lsp_edit.specs.declared.text_edits.TextEdit.{TextEdit}
 use Rattle.lsp_edit.specs.declared.text_edits.TextEditFault.{TextEditFault}
 use Rattle.lsp_edit.specs.declared.text_edits.TextEditFault.TheVariants.{Overlap, NoMemory}
-use Rattle.lsp_edit.specs.Faults.{ends_of, places_at}
+use Rattle.lsp_edit.specs.Faults.{places_at}
+use Rattle.lsp_edit.specs.Batch.{ends_of}
 use Rattle.lsp_edit.specs.Parts.{Part, OldPart, new_parts}
 use Rattle.lsp_edit.specs.TextEdits.{fault_of}
 

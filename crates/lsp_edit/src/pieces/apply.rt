@@ -6,9 +6,9 @@ ghost use Rattle.lsp_text.specs.Units.{units_in};
 ghost use Rattle.lsp_edit.specs.declared.fault.EditFault.TheVariants.{NoMemory};
 ghost use Rattle.lsp_edit.specs.Edited.{Applied, content_change, edited_bytes};
 ghost use Rattle.lsp_edit.specs.Edited.{edited_text};
-ghost use Rattle.lsp_edit.specs.Faults.{IsFaultOfChange, ends_of, places_at};
+ghost use Rattle.lsp_edit.specs.Faults.{IsFaultOfChange, places_at};
+ghost use Rattle.lsp_edit.specs.Batch.{ends_of, items_after};
 ghost use Rattle.lsp_edit.specs.inside.Faults.{IsPlaces};
-ghost use Rattle.lsp_edit.specs.Batch.{items_after};
 
 use crate::change::Change;
 use crate::ends::ends;

@@ -5,7 +5,8 @@ ghost use Rattle.std.specs.List.{replace_range};
 ghost use Rattle.std.specs.Str.{IsCharBoundary, IsUtf8, chars};
 ghost use Rattle.lsp_text.specs.LineStarts.{AreLinesOf};
 ghost use Rattle.lsp_text.specs.Units.{units_in};
-ghost use Rattle.lsp_edit.specs.Faults.{ends_of, places_at};
+ghost use Rattle.lsp_edit.specs.Faults.{places_at};
+ghost use Rattle.lsp_edit.specs.Batch.{ends_of};
 ghost use Rattle.lsp_edit.specs.Parts.{AreParts, bytes_of, parts_of};
 
 use crate::ends::ends;

@@ -169,7 +169,7 @@ static TEXTS: [(TextEditFault, &str); 4] = [
             first: 4,
             second: 2,
         },
-        "edits at index 4 and 2 overlap",
+        "edits at the indexes 4 and 2 overlap",
     ),
     (TextEditFault::NoMemory, "out of memory"),
 ];

@@ -15,9 +15,9 @@ use Rattle.lsp_text.proofs.Positions.PositionLemmas.{denoted_whole}
 use Rattle.lsp_text.proofs.Positions.ResolveLemmas.{chars_part}
 use Rattle.lsp_edit.specs.declared.change.Change.{Change}
 use Rattle.lsp_edit.specs.Items.{New, text_of}
-use Rattle.lsp_edit.specs.Batch.{ContentChange, Fault, InsideStart, InsideStop, Reversed, meaning}
+use Rattle.lsp_edit.specs.Batch.{ContentChange, Fault, InsideStart, InsideStop, Reversed, meaning, ends_of}
 use Rattle.lsp_edit.specs.Edited.{content_change}
-use Rattle.lsp_edit.specs.Faults.{ends_of, fault_at, places_at}
+use Rattle.lsp_edit.specs.Faults.{fault_at, places_at}
 use Rattle.lsp_edit.specs.Indexed.{alone, batch_fault_of, text_within}
 use Rattle.lsp_edit.specs.declared.fault.EditFault.{EditFault}
 use Rattle.lsp_edit.specs.declared.indexed.fault.BatchFault.{BatchFault}

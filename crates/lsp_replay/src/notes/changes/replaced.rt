@@ -4,9 +4,9 @@ ghost use Rattle.std.specs.Prelude.{◌≡◌, ◌≤◌, IfNone, IfOk, IfSome, 
 ghost use Rattle.std.specs.Result.{result_ok};
 ghost use Rattle.std.specs.Str.{IsCharBoundary, chars};
 ghost use Rattle.lsp_text.specs.Units.{units_in};
-ghost use Rattle.lsp_edit.specs.Batch.{meaning};
+ghost use Rattle.lsp_edit.specs.Batch.{meaning, ends_of};
 ghost use Rattle.lsp_edit.specs.Edited.{content_change};
-ghost use Rattle.lsp_edit.specs.Faults.{ends_of, places_at};
+ghost use Rattle.lsp_edit.specs.Faults.{places_at};
 ghost use Rattle.lsp_edit.specs.Indexed.{alone, text_within};
 ghost use Rattle.lsp_replay.specs.Notes.{left_by, replaced_by};
 

@@ -2,7 +2,8 @@ use Rattle.std.proofs.Common.{◌≡◌, refl, length, IsUtf8, ap, inr, subst, a
 use Rattle.std.proofs.lemmas.Result.{err_from_is_err_and}
 use Rattle.std.specs.Str.{chars}
 use Rattle.lsp_text.specs.Units.{units_in}
-use Rattle.lsp_edit.specs.Faults.{ends_of, places_at}
+use Rattle.lsp_edit.specs.Faults.{places_at}
+use Rattle.lsp_edit.specs.Batch.{ends_of}
 use Rattle.lsp_edit.proofs.Deltas.InPlaceLemmas.{places_of_bytes, range_fault, range_means, range_order, range_start, range_stop, range_too_long, range_within, replaced_len}
 use Rattle.lsp_edit.proofs.indexed.IndexedText.put_delta.Goals as goal
 
