@@ -10,7 +10,7 @@ use Rattle.laspidru.specs.declared.answers.Answer.{Answer}
 use Rattle.laspidru.specs.declared.codes.TheConstants.{OK}
 use Rattle.laspidru.specs.declared.object.Object.{Object}
 use Rattle.laspidru.specs.declared.object.Object.TheVariants.{Client}
-use Rattle.laspidru.specs.declared.place.FaultAt.{FaultAt}
+use Rattle.laspidru.specs.declared.structs.FaultAt.{FaultAt}
 use Rattle.laspidru.specs.Streams.{StreamData}
 use Rattle.laspidru.specs.inside.Clients.{IsCallReport, call_code}
 use Rattle.laspidru.specs.Clients.{IsCalled, IsDeliveredTo, IsRefusedCall, IsTakenIn, IsWritten, delivered_out, sent_frame}

@@ -6,7 +6,7 @@ use Rattle.lsp_store.specs.Faults.{IsRefusal, refusal_fault}
 use Rattle.lsp_store.specs.Table.{Refusal}
 use Rattle.laspidru.specs.declared.codes.TheConstants.{OUT_OF_MEMORY}
 use Rattle.laspidru.specs.declared.object.Object.{Object}
-use Rattle.laspidru.specs.declared.place.FaultAt.{FaultAt}
+use Rattle.laspidru.specs.declared.structs.FaultAt.{FaultAt}
 use Rattle.laspidru.specs.Clients.{IsStoreReport}
 use Rattle.laspidru.specs.Messages.{IsMessageLeft, frame_unless}
 use Rattle.laspidru.specs.Servers.{store_code}

@@ -22,14 +22,14 @@ use Rattle.lsp_edit.specs.Indexed.{text_within}
 use Rattle.laspidru.specs.declared.codes.TheConstants.{BAD_LENGTH, INSIDE_CHARACTER, NOT_UTF8, OK, OUT_OF_MEMORY, OUT_OF_RANGE, REVERSED_RANGE, TOO_LONG}
 use Rattle.laspidru.specs.declared.object.Object.{Object}
 use Rattle.laspidru.specs.declared.object.Object.TheVariants.{Document}
-use Rattle.laspidru.specs.declared.place.Place.{Place}
-use Rattle.laspidru.specs.declared.place.Edit.{Edit}
-use Rattle.laspidru.specs.declared.place.FaultAt.{FaultAt}
+use Rattle.laspidru.specs.declared.structs.CPosition.{CPosition}
+use Rattle.laspidru.specs.declared.structs.Edit.{Edit}
+use Rattle.laspidru.specs.declared.structs.FaultAt.{FaultAt}
 use Rattle.laspidru.specs.Codes.{and_then, unless}
 use Rattle.laspidru.specs.Objects.{IsCopy, encoding_at, position_at, stored_batch}
 
 -- The range of an edit, if it isn't one of the whole text.
-abbrev pub range_if : Bool → Place → Place → Option Range
+abbrev pub range_if : Bool → CPosition → CPosition → Option Range
 range_if true start end = None
 range_if false start end = Some (record { start = position_at start; stop = position_at end })
 

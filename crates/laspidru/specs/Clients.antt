@@ -27,8 +27,8 @@ use Rattle.laspidru.specs.declared.reports.ClientState.{ClientState}
 use Rattle.laspidru.specs.declared.codes.TheConstants.{BAD_ENCODING, BAD_SERVER, EMPTY, ERROR_ANSWER, IGNORED, NO_SYNC, NOT_AN_ANSWER, NOT_OPEN, NOTED, OK, OTHER_KIND, OUT_OF_MEMORY, REPLIED, WRONG_PHASE}
 use Rattle.laspidru.specs.declared.object.Object.{Object}
 use Rattle.laspidru.specs.declared.object.Object.TheVariants.{Client}
-use Rattle.laspidru.specs.declared.place.Edit.{Edit}
-use Rattle.laspidru.specs.declared.place.FaultAt.{FaultAt}
+use Rattle.laspidru.specs.declared.structs.Edit.{Edit}
+use Rattle.laspidru.specs.declared.structs.FaultAt.{FaultAt}
 use Rattle.laspidru.specs.Codes.{and_then}
 use Rattle.laspidru.specs.Batches.{edits_of, side_at}
 use Rattle.laspidru.specs.HeldClients.{HeldClientData}

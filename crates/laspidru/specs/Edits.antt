@@ -19,9 +19,9 @@ use Rattle.lsp_edit.specs.TextEdits.{IsBatchOfEdits, IsEditsFault}
 use Rattle.laspidru.specs.declared.codes.TheConstants.{INSIDE_CHARACTER, OK, OUT_OF_MEMORY, OVERLAP, REVERSED_RANGE, TOO_LONG}
 use Rattle.laspidru.specs.declared.object.Object.{Object}
 use Rattle.laspidru.specs.declared.object.Object.TheVariants.{Document}
-use Rattle.laspidru.specs.declared.place.Place.{Place}
-use Rattle.laspidru.specs.declared.place.Edit.{Edit}
-use Rattle.laspidru.specs.declared.place.EditsFault.{EditsFault}
+use Rattle.laspidru.specs.declared.structs.CPosition.{CPosition}
+use Rattle.laspidru.specs.declared.structs.Edit.{Edit}
+use Rattle.laspidru.specs.declared.structs.EditsFault.{EditsFault}
 use Rattle.laspidru.specs.Batches.{len_of, refused_edit, side_at}
 use Rattle.laspidru.specs.Codes.{and_then, unless}
 use Rattle.laspidru.specs.Objects.{encoding_at, position_at, stored_batch}
@@ -32,7 +32,7 @@ pub record Replacement : Type 0 where
   pub text : List ℕ
 
 -- the range of an edit; one of the whole text ends after its last line
-abbrev pub range_or : Bool → Place → Place → Range
+abbrev pub range_or : Bool → CPosition → CPosition → Range
 range_or true start end = record {
   start = record { line = 0; character = 0 };
   stop = record { line = 4294967295; character = 4294967295 };

@@ -8,8 +8,8 @@ use Rattle.lsp_store.specs.Message.{canonical_frame, message_refusal}
 use Rattle.lsp_store.specs.Table.{Refusal}
 use Rattle.laspidru.specs.declared.codes.TheConstants.{OK}
 use Rattle.laspidru.specs.declared.object.Object.{Object}
-use Rattle.laspidru.specs.declared.place.Edit.{Edit}
-use Rattle.laspidru.specs.declared.place.FaultAt.{FaultAt}
+use Rattle.laspidru.specs.declared.structs.Edit.{Edit}
+use Rattle.laspidru.specs.declared.structs.FaultAt.{FaultAt}
 use Rattle.laspidru.specs.Batches.{edits_of, refused_edit}
 use Rattle.laspidru.specs.Clients.{IsStoreReport}
 use Rattle.laspidru.specs.Codes.{and_then, unless}

@@ -15,9 +15,9 @@ use Rattle.lsp_text.specs.Units.{units_in}
 use Rattle.lsp_edit.specs.declared.change.Change.{Change}
 use Rattle.lsp_edit.specs.declared.composed.TheConstants.{MAX_OLD_TEXT}
 use Rattle.laspidru.specs.declared.codes.TheConstants.{BAD_ENCODING, EMPTY, IN_USE, INSIDE_CHARACTER, NOT_UTF8, OK, OTHER_KIND, OUT_OF_RANGE, TOO_LONG}
-use Rattle.laspidru.specs.declared.place.Line.{Line}
-use Rattle.laspidru.specs.declared.place.Place.{Place}
-use Rattle.laspidru.specs.declared.place.Size.{Size}
+use Rattle.laspidru.specs.declared.structs.Line.{Line}
+use Rattle.laspidru.specs.declared.structs.CPosition.{CPosition}
+use Rattle.laspidru.specs.declared.structs.Size.{Size}
 use Rattle.laspidru.specs.declared.object.Object.{Object}
 use Rattle.laspidru.specs.declared.object.Object.TheVariants.{Document, Batch}
 use Rattle.laspidru.specs.Codes.{and_then}
@@ -92,8 +92,8 @@ abbrev pub IsCopy : List ℕ → List ℕ → ℕ → List ℕ → Type 0
 IsCopy old new copied bytes =
     (copied ≡ min (length bytes) (length old)) × (new ≡ take copied bytes ++ drop copied old)
 
--- The position in a `Place` of C.
-abbrev pub position_at : Place → Position
+-- The position in a `CPosition` of C.
+abbrev pub position_at : CPosition → Position
 position_at place = record { line = place.line; character = place.character }
 
 -- The byte offset that a position denotes, if it lies inside no character.
@@ -107,14 +107,14 @@ offset_asked position encoding document = and_then encoding (λ units. and_then 
     ok_or (offset_in position units text) INSIDE_CHARACTER))
 
 -- `place` denotes this byte offset, and is the exact position of each character index there.
-pub record IsExact (offset : ℕ) (place : Place) (encoding : Encoding) (text : List ℕ) : Type 0 where
+pub record IsExact (offset : ℕ) (place : CPosition) (encoding : Encoding) (text : List ℕ) : Type 0 where
   pub denotes : offset_in (position_at place) encoding text ≡ Some offset
   pub exact : (k : ℕ) → k ≤ length (chars text) → place_of (chars text) k ≡ offset
       → position_at place ≡ exact_position (units_in encoding) (chars text) k
 
 -- `place` is the exact position of a byte offset, if that lies inside no character and splits no
 -- CRLF.
-abbrev pub IsPositionAt : ℕ → Encoding → List ℕ → ℕ → Place → Type 0
+abbrev pub IsPositionAt : ℕ → Encoding → List ℕ → ℕ → CPosition → Type 0
 IsPositionAt offset encoding text code place =
     ((code ≡ OK) × IsPlace (chars text) offset × IsExact offset place encoding text)
     ⊎ ((code ≡ INSIDE_CHARACTER) × (¬ (IsPlace (chars text) offset)))

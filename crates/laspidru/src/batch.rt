@@ -16,7 +16,7 @@ use crate::codes::{
 };
 use crate::handle::Handle;
 use crate::object::Object;
-use crate::place::{Edit, FaultAt, Place};
+use crate::structs::{CPosition, Edit, FaultAt};
 use lsp_edit::{Change, MAX_OLD_TEXT};
 use lsp_text::Encoding;
 use std::alloc::Global;
@@ -130,12 +130,12 @@ pub extern "C" fn laspidru_batch_len(alloc: Global, batch: &mut Handle, out: &mu
 fn edit_of_change(change: &Change) -> Edit
     ensures { IsEdit result change.now }
 {
-    let zero = Place {
+    let zero = CPosition {
         line: 0,
         character: 0,
     };
     let (start, end) = match change.range {
-        Some(range) => (Place::from(range.start), Place::from(range.stop)),
+        Some(range) => (CPosition::from(range.start), CPosition::from(range.stop)),
         None => (zero, zero),
     };
     Edit {

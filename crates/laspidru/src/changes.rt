@@ -12,7 +12,7 @@ use crate::bytes::utf8_text;
 use crate::codes::{
     BAD_LENGTH, INSIDE_CHARACTER, NOT_UTF8, OUT_OF_MEMORY, REVERSED_RANGE, TOO_LONG,
 };
-use crate::place::{Edit, FaultAt, Place};
+use crate::structs::{CPosition, Edit, FaultAt};
 use lsp_edit::{BatchFault, Change, EditFault, MAX_NEW_TEXT, Side};
 use lsp_text::{Encoding, Position, Range};
 use std::alloc::{AllocError, Global};
@@ -30,7 +30,7 @@ pub(crate) fn encoding_of(number: u32) -> Option<Encoding>
 }
 
 /// Returns a position of C.
-pub(crate) fn position_of(place: Place) -> Position
+pub(crate) fn position_of(place: CPosition) -> Position
     ensures { result ≡ position_at place }
 {
     Position {

@@ -18,7 +18,7 @@ use crate::codes::{
 };
 use crate::handle::Handle;
 use crate::object::Object;
-use crate::place::{Edit, FaultAt, Size};
+use crate::structs::{Edit, FaultAt, Size};
 use lsp_edit::{IndexedText, MAX_OLD_TEXT};
 use lsp_text::Encoding;
 use std::alloc::{AllocError, Global};

@@ -18,21 +18,21 @@ use crate::codes::{
 };
 use crate::handle::Handle;
 use crate::object::Object;
-use crate::place::{Edit, EditsFault, Place};
+use crate::structs::{CPosition, Edit, EditsFault};
 use lsp_edit::{BatchFault, Change, IndexedText, MAX_OLD_TEXT, Side, TextEdit, TextEditFault};
 use lsp_text::{Encoding, Range};
 use std::alloc::{AllocError, Global};
 
 /// Returns the range of an edit. One of the whole text ends after its last line.
-fn range_of(is_whole: bool, start: Place, end: Place) -> Range
+fn range_of(is_whole: bool, start: CPosition, end: CPosition) -> Range
     ensures { result ≡ range_or is_whole start end }
 {
     let (start, end) = if is_whole {
-        let after_all = Place {
+        let after_all = CPosition {
             line: u32::MAX,
             character: u32::MAX,
         };
-        let zero = Place {
+        let zero = CPosition {
             line: 0,
             character: 0,
         };

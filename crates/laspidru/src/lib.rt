@@ -15,7 +15,7 @@
 //!   (`editing`, `documents`, `positions`), on bodies (`delivery`) and on its stream (`stream`).
 //! - `handle`: a handle that C holds; `object`: the object in it; `held_server`: a server with its
 //!   last reply; `held_client`: a client with its last frame; `stream`: the stream of either.
-//! - `codes`: the codes that the functions return, and `laws` their numbers; `place`: the plain
+//! - `codes`: the codes that the functions return, and `laws` their numbers; `structs`: the plain
 //!   structs that C passes and gets.
 //! - `changes`: a batch as C passes it, and the report of its fault; `bytes`: bytes that C passes
 //!   or gets; `positions`: positions, byte offsets and lines of a text.
@@ -42,11 +42,11 @@ mod laws;
 mod log;
 mod log_reader;
 mod object;
-mod place;
 mod positions;
 mod reports;
 mod server;
 mod stream;
+mod structs;
 mod taken;
 
 pub use answers::{Answer, Opened, Settings};
@@ -65,6 +65,6 @@ pub use held_client::HeldClient;
 pub use held_server::HeldServer;
 pub use laws::number_laws;
 pub use object::Object;
-pub use place::{Edit, EditsFault, FaultAt, Line, Place, Size};
 pub use reports::{Call, ClientSettings, ClientState};
+pub use structs::{CPosition, Edit, EditsFault, FaultAt, Line, Size};
 pub use taken::Taken;

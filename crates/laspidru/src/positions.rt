@@ -9,7 +9,7 @@ ghost use Rattle.laspidru.specs.Objects.{position_at};
 
 use crate::changes::position_of;
 use crate::codes::{INSIDE_CHARACTER, OK, OUT_OF_RANGE};
-use crate::place::{Line, Place};
+use crate::structs::{CPosition, Line};
 use lsp_buffer::TextBuffer;
 use lsp_text::Encoding;
 
@@ -17,7 +17,7 @@ use lsp_text::Encoding;
 pub(crate) fn text_offset(
     text: &TextBuffer,
     encoding: Encoding,
-    position: Place,
+    position: CPosition,
     out: &mut usize,
 ) -> u32
     ensures answer { IsAnswer (offset_asked (position_at position) (Ok encoding) (Ok text.now))
@@ -38,7 +38,7 @@ pub(crate) fn text_position(
     text: &TextBuffer,
     encoding: Encoding,
     offset: usize,
-    out: &mut Place,
+    out: &mut CPosition,
 ) -> u32
     ensures answer { IsPositionAt offset encoding text.now result out.new }
     ensures unchanged { result ≢ OK → out.new ≡ out.old }
@@ -46,7 +46,7 @@ pub(crate) fn text_position(
     if !text.is_place(offset) {
         return INSIDE_CHARACTER;
     }
-    *out = Place::from(text.position(encoding, offset));
+    *out = CPosition::from(text.position(encoding, offset));
     OK
 }
 

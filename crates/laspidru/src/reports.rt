@@ -13,7 +13,7 @@ use crate::codes::{
     BAD_ENCODING, BAD_SERVER, ERROR_ANSWER, IGNORED, INSIDE_CHARACTER, NO_SYNC, NOT_AN_ANSWER,
     NOTED, OK, OUT_OF_MEMORY, REPLIED, REVERSED_RANGE, WRONG_PHASE,
 };
-use crate::place::FaultAt;
+use crate::structs::FaultAt;
 use lsp_client::{ClientFault, Delivered, Phase, Reason};
 use lsp_store::StoreFault;
 use lsp_text::Encoding;

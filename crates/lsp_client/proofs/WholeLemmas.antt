@@ -9,7 +9,7 @@ use Rattle.lsp_text.specs.Units.{units_in}
 use Rattle.lsp_edit.specs.Batch.{ContentChange}
 use Rattle.lsp_edit.specs.Delta.{bytes_after}
 use Rattle.lsp_message.specs.Outgoing.{did_change, body_of}
-use Rattle.lsp_message.specs.Seen.{edit_view}
+use Rattle.lsp_message.specs.Seen.{content_change_view}
 use Rattle.lsp_store.specs.declared.store.plan.Plan.{Plan}
 use Rattle.lsp_store.specs.Opened.{StoreData}
 use Rattle.lsp_store.specs.Plan.{IsPlanOf}
@@ -64,7 +64,7 @@ planned_whole store uri version encoding batch plan q text is =
 pub whole_body : (copy uri : List ℕ) (given version : ℤ) (new : String Global) (items : List Change) → copy ≡ uri
     → given ≡ version
     → items ≡ record { range = None; text = new } ∷ []
-    → body_of (did_change (record { uri = copy; version = given; changes = map edit_view items }))
+    → body_of (did_change (record { uri = copy; version = given; changes = map content_change_view items }))
     ≡ change_body uri version (whole_change (string_bytes new) ∷ [])
 unfolding change_body
 whole_body copy uri given version new items same is are =

@@ -12,7 +12,8 @@ pub record ContentChange : Type 0 where
   pub text : List ℕ
 
 -- Why a change has no result: its start denotes nothing, or else its stop, or the start denotes a
--- later index than the stop.
+-- later index than the stop. (LSP 3.17 says nothing of such changes: that they have no result is
+-- this project's choice.)
 pub data Fault : Type 0 where
   InsideStart InsideStop Reversed : Fault
 

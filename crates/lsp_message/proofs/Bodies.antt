@@ -33,13 +33,14 @@ items_depth-strings : {X : Type 0} (f : X → List ℕ) (xs : List X) → items_
 items_depth-strings f [] = refl
 items_depth-strings f (x ∷ xs) = omega (arith, items_depth-strings f xs)
 
-depth-edit_value : (r : Option Range) (s : List ℕ) → depth (values.edit_value (record { range = r; text = s })) ≤ 3
-depth-edit_value None s = omega arith
-depth-edit_value (Some r) s = omega arith
+depth-content_change_value : (r : Option Range) (s : List ℕ) → depth (values.content_change_value
+    (record { range = r; text = s })) ≤ 3
+depth-content_change_value None s = omega arith
+depth-content_change_value (Some r) s = omega arith
 
-items_depth-edits : (es : List ContentChangeData) → items_depth (items_of (map values.edit_value es)) ≤ 3
+items_depth-edits : (es : List ContentChangeData) → items_depth (items_of (map values.content_change_value es)) ≤ 3
 items_depth-edits [] = omega arith
-items_depth-edits (e ∷ es) = omega (arith, depth-edit_value e.range e.text, items_depth-edits es)
+items_depth-edits (e ∷ es) = omega (arith, depth-content_change_value e.range e.text, items_depth-edits es)
 
 depth-id_value : (id : IdData) → depth (values.id_value id) ≡ 0
 depth-id_value (whole n) = refl
@@ -89,11 +90,12 @@ sound_range : (r : Range) → IsProperRange r → Sound (values.range_value r)
 sound_range r h = sound_object _ refl (refl, sound_position r.stop h.stop, (refl, sound_position r.start h.start, tt))
 
 sound_edit : (r : Option Range) (s : List ℕ) → IfSome r IsProperRange → IsUtf8 s
-    → Sound (values.edit_value (record { range = r; text = s }))
+    → Sound (values.content_change_value (record { range = r; text = s }))
 sound_edit None s h u = sound_object _ refl (refl, sound_string s u, tt)
 sound_edit (Some r) s h u = sound_object _ refl (refl, sound_range r h, (refl, sound_string s u, tt))
 
-sound_edits : (es : List ContentChangeData) → All IsProperEdit es → SoundItems (items_of (map values.edit_value es))
+sound_edits : (es : List ContentChangeData) → All IsProperEdit es → SoundItems (items_of
+    (map values.content_change_value es))
 sound_edits [] h = sound_no_items
 sound_edits (e ∷ es) h =
     let first = h 0 e (omega arith) in

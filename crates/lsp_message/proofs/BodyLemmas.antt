@@ -19,7 +19,7 @@ use Rattle.lsp_message.specs.declared.outgoing.ErrorCode.{ErrorCode}
 use Rattle.lsp_message.specs.declared.outgoing.ErrorCode.TheVariants.{ParseError, InvalidRequest, MethodNotFound, InvalidParams, ServerNotInitialized}
 use Rattle.lsp_message.specs.Message.{IdData, whole, text}
 use Rattle.lsp_message.specs.Params.{DocumentItem, ContentChangeData, ChangeData, CloseData}
-use Rattle.lsp_message.specs.Outgoing.{OutgoingData, initialize, initialized, did_open, did_change, did_close, shutdown, exit, initialize_result, shutdown_result, error_reply, error_text, id_text, document_text, position_text, range_text, edit_text, notification_text, result_text, body_of}
+use Rattle.lsp_message.specs.Outgoing.{OutgoingData, initialize, initialized, did_open, did_change, did_close, shutdown, exit, initialize_result, shutdown_result, error_reply, error_text, id_text, document_text, position_text, range_text, content_change_text, notification_text, result_text, body_of}
 use Rattle.lsp_message.specs.Written as values
 use Rattle.lsp_message.proofs.Tokens.{integer_text}
 
@@ -89,8 +89,8 @@ range_is r =
     ∙ ap₂ (λ stop start. stop ++ (codes ",\"start\":" ++ (start ++ codes "}"))) (position_is r.stop)
     (position_is r.start))
 
-edit_of_is : (r : Option Range) (s : List ℕ) → edit_text (record { range = r; text = s })
-    ≡ compact_text (values.edit_value (record { range = r; text = s }))
+edit_of_is : (r : Option Range) (s : List ℕ) → content_change_text (record { range = r; text = s })
+    ≡ compact_text (values.content_change_value (record { range = r; text = s }))
 unfolding escape_byte
 edit_of_is None s = refl
 edit_of_is (Some r) s =
@@ -98,7 +98,7 @@ edit_of_is (Some r) s =
     (five (range_text r) (codes ",") (codes "\"text\":") (quoted s) (codes "}")
     ∙ ap (λ t. t ++ (codes ",\"text\":" ++ (quoted s ++ codes "}"))) (range_is r))
 
-edit_is : (e : ContentChangeData) → edit_text e ≡ compact_text (values.edit_value e)
+edit_is : (e : ContentChangeData) → content_change_text e ≡ compact_text (values.content_change_value e)
 edit_is e = edit_of_is e.range e.text
 
 pub document_is : (p : DocumentItem) → document_text p ≡ compact_text (values.opened_document p)
@@ -120,12 +120,13 @@ unfolding escape_byte
 open_is p = ap (λ s. codes "{\"textDocument\":" ++ s ++ codes "}") (document_is p)
 
 change_is : (p : ChangeData)
-    → codes "{\"contentChanges\":[" ++ join_by edit_text (codes ",") p.changes ++ codes "],\"textDocument\":{\"uri\":"
+    → codes "{\"contentChanges\":[" ++ join_by content_change_text (codes ",") p.changes
+    ++ codes "],\"textDocument\":{\"uri\":"
     ++ quoted p.uri ++ codes ",\"version\":" ++ signed_decimal p.version ++ codes "}}"
     ≡ compact_text (values.change_params p)
 unfolding escape_byte
 change_is p =
-    let items = join_by edit_text (codes ",") p.changes in
+    let items = join_by content_change_text (codes ",") p.changes in
     let after = codes ",\"textDocument\":{\"uri\":" in
     let version = codes ",\"version\":" in
     let number = number_text (of_integer p.version) in
@@ -134,7 +135,7 @@ change_is p =
     ∙ (sym (append_assoc items (codes "]")
     (after ++ (quoted p.uri ++ (version ++ (signed_decimal p.version ++ codes "}}")))))
     ∙ ap₂ (λ list rest. list ++ (after ++ rest))
-    (items_are edit_text values.edit_value edit_is p.changes)
+    (items_are content_change_text values.content_change_value edit_is p.changes)
     (ap (λ n. quoted p.uri ++ (version ++ (n ++ codes "}}"))) (sym (integer_text p.version))
     ∙ sym (within (quoted p.uri) version number (codes "}") (codes "}")))))
 

@@ -9,7 +9,7 @@ use Rattle.serde_json.specs.View.{view, items_view}
 use Rattle.serde_json.specs.declared.value.Value.{Value}
 use Rattle.lsp_message.specs.Values.{text_in}
 use Rattle.lsp_message.specs.Params.{ContentChangeData, ChangeData, HasChanges, content_change_in, range_of}
-use Rattle.lsp_message.specs.inside.Params.{edits_in}
+use Rattle.lsp_message.specs.inside.Params.{content_changes_in}
 
 both_there : (text : Option (List ℕ)) (range : Option (Option Range)) →
     is_some (option_and_then
@@ -36,11 +36,11 @@ one_more (Some e) None = refl
 one_more (Some e) (Some es) = refl
 
 pub edits_there : (values : List Value) → list_all (λ v. is_some (content_change_in (view v))) values
-    ≡ is_some (edits_in (items_view values))
+    ≡ is_some (content_changes_in (items_view values))
 edits_there [] = refl
 edits_there (value ∷ values) =
     ap (λ b. is_some (content_change_in (view value)) && b) (edits_there values)
-    ∙ sym (one_more (content_change_in (view value)) (edits_in (items_view values)))
+    ∙ sym (one_more (content_change_in (view value)) (content_changes_in (items_view values)))
 
 some_more : (edit : Option ContentChangeData) (edits : Option (List ContentChangeData)) →
     is_some (option_and_then (λ e. option_and_then (λ es. Some (e ∷ es)) edits) edit) ≡ true →
@@ -49,10 +49,11 @@ some_more None edits there = cc
 some_more (Some e) None there = cc
 some_more (Some e) (Some es) there = omega arith
 
-pub has_edits : (values : List Value) → 0 < length values → is_some (edits_in (items_view values)) ≡ true
-    → IsSomeAnd (edits_in (items_view values)) (λ es. 0 < length es)
+pub has_edits : (values : List Value) → 0 < length values → is_some (content_changes_in (items_view values)) ≡ true
+    → IsSomeAnd (content_changes_in (items_view values)) (λ es. 0 < length es)
 has_edits [] some there = absurd (omega arith)
-has_edits (value ∷ values) some there = some_more (content_change_in (view value)) (edits_in (items_view values)) there
+has_edits (value ∷ values) some there = some_more (content_change_in (view value)) (content_changes_in
+    (items_view values)) there
 
 pub has_changes : (uri : Option (List ℕ)) (version : Option ℤ) (edits : Option (List ContentChangeData))
     → is_some uri ≡ true

@@ -22,7 +22,7 @@ use Rattle.lsp_message.specs.Values.{text_in, is_null}
 use Rattle.lsp_message.specs.Agreement.{offers_of, announced_of}
 use Rattle.lsp_message.specs.Message.{IdData, whole, text, message_of, message, reading, id_in, id_found}
 use Rattle.lsp_message.specs.Params.{DocumentItem, ContentChangeData, ChangeData, open_of, change_of, close_of, version_from, version_in, position_in, range_in, content_change_in}
-use Rattle.lsp_message.specs.inside.Params.{edits_in}
+use Rattle.lsp_message.specs.inside.Params.{content_changes_in}
 use Rattle.lsp_message.specs.Outgoing as spec
 use Rattle.lsp_message.specs.Written as values
 use Rattle.lsp_message.specs.Outgoing.{OutgoingData}
@@ -88,19 +88,20 @@ range_in-range_value : (r : Range) → IsProperRange r → range_in (Some (value
 range_in-range_value r h = rw (position_in-position_value r.start h.start, position_in-position_value r.stop h.stop)
     refl
 
-content_change_in-edit_value : (r : Option Range) (s : List ℕ) → IfSome r IsProperRange
-    → content_change_in (values.edit_value (record { range = r; text = s })) ≡ Some (record { range = r; text = s })
-content_change_in-edit_value None s h = refl
-content_change_in-edit_value (Some r) s h = rw (range_in-range_value r h) refl
+content_change_in-content_change_value : (r : Option Range) (s : List ℕ) → IfSome r IsProperRange
+    → content_change_in (values.content_change_value (record { range = r; text = s }))
+    ≡ Some (record { range = r; text = s })
+content_change_in-content_change_value None s h = refl
+content_change_in-content_change_value (Some r) s h = rw (range_in-range_value r h) refl
 
-edits_in-edits : (es : List ContentChangeData) → All IsProperEdit es → edits_in (items_of
-    (map values.edit_value es)) ≡ Some es
-edits_in-edits [] h = refl
-edits_in-edits (e ∷ es) h =
+content_changes_in-edits : (es : List ContentChangeData) → All IsProperEdit es → content_changes_in (items_of
+    (map values.content_change_value es)) ≡ Some es
+content_changes_in-edits [] h = refl
+content_changes_in-edits (e ∷ es) h =
     let first = h 0 e (omega arith) in
     rw (
-      content_change_in-edit_value e.range e.text first.range,
-      edits_in-edits es (λ k d l. h (suc k) d
+      content_change_in-content_change_value e.range e.text first.range,
+      content_changes_in-edits es (λ k d l. h (suc k) d
           (omega arith)),
     ) refl
 
@@ -108,7 +109,11 @@ open_of-open_params : (p : DocumentItem) → IsProperDocument p → open_of (Som
 open_of-open_params p h = rw (version_in-of_integer p.version h.version) refl
 
 change_of-change_params : (p : ChangeData) → IsProperChange p → change_of (Some (values.change_params p)) ≡ Some p
-change_of-change_params p h = rw (version_in-of_integer p.version h.version, edits_in-edits p.changes h.changes) refl
+change_of-change_params p h = rw (
+  version_in-of_integer p.version h.version,
+  content_changes_in-edits p.changes
+      h.changes,
+) refl
 
 offers_of-initialize_params : (utf8 utf32 : Bool) → let offers : Offers = record { utf8 = utf8; utf32 = utf32 } in
     offers_of (Some (values.initialize_params offers)) ≡ Some offers

@@ -52,13 +52,11 @@ error_message ServerNotInitialized = codes "server not initialized"
 
 -- ---- parts of a body; `quoted` is a string of JSON
 
--- The member `error` of an error response.
+-- The object of an error response, as it is written.
 abbrev pub error_text : ErrorCode → List ℕ
-error_text ParseError = codes "{\"code\":-32700,\"message\":\"parse error\"}"
-error_text InvalidRequest = codes "{\"code\":-32600,\"message\":\"invalid request\"}"
-error_text MethodNotFound = codes "{\"code\":-32601,\"message\":\"method not found\"}"
-error_text InvalidParams = codes "{\"code\":-32602,\"message\":\"invalid params\"}"
-error_text ServerNotInitialized = codes "{\"code\":-32002,\"message\":\"server not initialized\"}"
+error_text e =
+    codes "{\"code\":" ++ signed_decimal (code_of e) ++ codes ",\"message\":"
+    ++ quoted (error_message e) ++ codes "}"
 
 -- An id, or null.
 abbrev pub id_text : Option IdData → List ℕ
@@ -103,8 +101,8 @@ range_if_any None = []
 range_if_any (Some r) = codes "\"range\":" ++ range_text r ++ codes ","
 
 -- A `TextDocumentContentChangeEvent`.
-abbrev pub edit_text : ContentChangeData → List ℕ
-edit_text e = codes "{" ++ range_if_any e.range ++ codes "\"text\":" ++ quoted e.text ++ codes "}"
+abbrev pub content_change_text : ContentChangeData → List ℕ
+content_change_text e = codes "{" ++ range_if_any e.range ++ codes "\"text\":" ++ quoted e.text ++ codes "}"
 
 -- ---- bodies
 
@@ -132,7 +130,7 @@ body_of (did_open p) =
     (codes "{\"textDocument\":" ++ document_text p ++ codes "}")
 body_of (did_change p) =
     notification_text (codes "textDocument/didChange")
-    (codes "{\"contentChanges\":[" ++ join_by edit_text (codes ",") p.changes
+    (codes "{\"contentChanges\":[" ++ join_by content_change_text (codes ",") p.changes
     ++ codes "],\"textDocument\":{\"uri\":" ++ quoted p.uri ++ codes ",\"version\":"
     ++ signed_decimal p.version ++ codes "}}")
 body_of (did_close p) =

@@ -9,7 +9,8 @@ use Rattle.lsp_text.specs.declared.position.Range.{Range}
 use Rattle.lsp_message.specs.Values.{◌>>=◌, member_at, text_in, members_in, array_in, each_of, whole_in, natural_in, optional}
 use Rattle.lsp_message.specs.Message.{notification, message, reading}
 
--- An item of a document (TextDocumentItem). Its texts are bytes of UTF-8.
+-- A document as `didOpen` transfers it (TextDocumentItem). Its URI, language and text are bytes of
+-- UTF-8.
 pub record DocumentItem : Type 0 where
   pub uri : List ℕ
   pub language : List ℕ

@@ -49,8 +49,8 @@ open_view p = record {
 }
 
 -- A change, with its text as bytes.
-abbrev pub edit_view : Change → ContentChangeData
-edit_view c = record { range = c.range; text = string_bytes c.text }
+abbrev pub content_change_view : Change → ContentChangeData
+content_change_view c = record { range = c.range; text = string_bytes c.text }
 
 -- The params of a `textDocument/didChange`, with their texts as bytes.
 abbrev pub change_view : ChangeParams → ChangeData
@@ -58,13 +58,13 @@ change_view p
     = record {
       uri = string_bytes p.uri;
       version = p.version;
-      changes = map edit_view p.changes.items;
+      changes = map content_change_view p.changes.items;
     }
 
 -- The params of a `textDocument/didChange`, by its URI, version and changes.
 abbrev pub change_data : List ℕ → ℤ → List Change → ChangeData
 change_data uri version changes
-    = record { uri = uri; version = version; changes = map edit_view changes }
+    = record { uri = uri; version = version; changes = map content_change_view changes }
 
 -- The message `textDocument/didChange`, by its URI, version and changes.
 abbrev pub did_change_of : List ℕ → ℤ → List Change → out.OutgoingData

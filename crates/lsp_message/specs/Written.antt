@@ -119,8 +119,8 @@ range_before None rest = rest
 range_before (Some r) rest = member (codes "range") (range_value r) rest
 
 -- A `TextDocumentContentChangeEvent`.
-abbrev pub edit_value : ContentChangeData → Data
-edit_value e = object (range_before e.range (member (codes "text") (string e.text) no_members))
+abbrev pub content_change_value : ContentChangeData → Data
+content_change_value e = object (range_before e.range (member (codes "text") (string e.text) no_members))
 
 -- A `VersionedTextDocumentIdentifier`.
 abbrev pub versioned_document : List ℕ → ℤ → Data
@@ -131,7 +131,7 @@ versioned_document uri version
 -- The params of `textDocument/didChange`.
 abbrev pub change_params : ChangeData → Data
 change_params p
-    = object (member (codes "contentChanges") (array (items_of (map edit_value p.changes)))
+    = object (member (codes "contentChanges") (array (items_of (map content_change_value p.changes)))
     (member (codes "textDocument") (versioned_document p.uri p.version) no_members))
 
 -- A `TextDocumentIdentifier`.

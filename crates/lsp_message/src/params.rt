@@ -7,9 +7,9 @@ ghost use Rattle.serde_json.specs.View.{view, items_view, members_view};
 ghost use Rattle.serde_json.specs.Find.{get};
 ghost use Rattle.lsp_message.specs.declared.params.ParamsFault.TheVariants.{InvalidParams, NoMemory};
 ghost use Rattle.lsp_message.specs.Params.{open_of, change_of, close_of, open_by, content_change_in, document_in, document_and_changes, change_by, version_in, coordinate_in, position_in, range_in, range_of, ParamsMayAllocate};
-ghost use Rattle.lsp_message.specs.inside.Params.{edits_in, MembersMayAllocate};
+ghost use Rattle.lsp_message.specs.inside.Params.{content_changes_in, MembersMayAllocate};
 ghost use Rattle.lsp_message.specs.Values.{text_in};
-ghost use Rattle.lsp_message.specs.Seen.{open_view, change_view, close_view, edit_view};
+ghost use Rattle.lsp_message.specs.Seen.{open_view, change_view, close_view, content_change_view};
 
 use crate::members::{array, member, object, take, text};
 use lsp_edit::Change;
@@ -193,7 +193,7 @@ fn range_of(value: Option<&Value>) -> Option<Option<Range>>
 }
 
 fn content_change_in(value: Value) -> Option<Change>
-    ensures { option_map edit_view result ≡ content_change_in (view value) }
+    ensures { option_map content_change_view result ≡ content_change_in (view value) }
 {
     let mut members = object(Some(value))?;
     let text = text(take(&mut members, "text"))?;
@@ -202,7 +202,7 @@ fn content_change_in(value: Value) -> Option<Change>
 }
 
 /// Returns whether a value is a change, without moving anything out of it.
-fn is_edit(value: &Value) -> bool
+fn is_content_change(value: &Value) -> bool
     ensures { result ≡ is_some (content_change_in (view value.now)) }
 {
     has_text(value) && range_of(value.get("range")).is_some()
@@ -214,10 +214,10 @@ fn has_text(value: &Value) -> bool
     value.get("text").is_some_and(Value::is_string)
 }
 
-fn are_edits(values: &[Value]) -> bool
+fn are_content_changes(values: &[Value]) -> bool
     ensures { result ≡ list_all (λ v. is_some (content_change_in (view v))) values.now }
 {
-    values.iter().all(|value| is_edit(value))
+    values.iter().all(|value| is_content_change(value))
 }
 
 fn change_by(
@@ -235,7 +235,7 @@ fn change_by(
 {
     let uri = text(take(&mut document, "uri")).ok_or(ParamsFault::InvalidParams)?;
     let version = version_in(take(&mut document, "version")).ok_or(ParamsFault::InvalidParams)?;
-    let changes = edits_in(alloc, changes)?;
+    let changes = content_changes_in(alloc, changes)?;
     Ok(ChangeParams {
         uri,
         version,
@@ -256,28 +256,28 @@ fn document_and_changes(params: Option<Value>) -> Option<(Map<String, Value>, Ve
 
 /// Reads values as changes. It refuses them before it takes memory.
 #[tactic(auto, using(crate::proofs::Memory::edits_there))]
-fn edits_in(alloc: Global, values: Vec<Value>) -> Result<Vec<Change>, ParamsFault>
+fn content_changes_in(alloc: Global, values: Vec<Value>) -> Result<Vec<Change>, ParamsFault>
     ensures ok { IfOk result
-        (λ changes. edits_in (items_view values.items) ≡ Some (map edit_view changes.items)) }
+        (λ changes. content_changes_in (items_view values.items) ≡ Some (map content_change_view changes.items)) }
     ensures invalid { result ≡ Err ParamsFault.InvalidParams →
-        edits_in (items_view values.items) ≡ None }
+        content_changes_in (items_view values.items) ≡ None }
     ensures memory { result ≡ Err ParamsFault.NoMemory → 0 < vec_len values }
-    ensures good { result ≡ Err ParamsFault.NoMemory → IsSome (edits_in (items_view values.items)) }
+    ensures good { result ≡ Err ParamsFault.NoMemory → IsSome (content_changes_in (items_view values.items)) }
 {
-    if !are_edits(&values) {
+    if !are_content_changes(&values) {
         return Err(ParamsFault::InvalidParams);
     }
     let changes = Vec::with_capacity(alloc, values.len())?;
-    edits_into(changes, values).ok_or(ParamsFault::InvalidParams)
+    content_changes_into(changes, values).ok_or(ParamsFault::InvalidParams)
 }
 
 /// Appends the changes to an empty list with room for them; `None` where one is not a change. Takes
 /// no memory.
-fn edits_into(mut changes: Vec<Change>, values: Vec<Value>) -> Option<Vec<Change>>
+fn content_changes_into(mut changes: Vec<Change>, values: Vec<Value>) -> Option<Vec<Change>>
     requires empty { changes.items ≡ [] }
     requires room { vec_len values ≤ vec_capacity changes }
-    ensures { option_map (λ edits. map edit_view edits.items) result
-        ≡ edits_in (items_view values.items) }
+    ensures { option_map (λ edits. map content_change_view edits.items) result
+        ≡ content_changes_in (items_view values.items) }
 {
     for value in values {
         if changes.push(content_change_in(value)?).is_err() {

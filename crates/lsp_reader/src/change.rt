@@ -3,7 +3,7 @@
 ghost use Rattle.std.specs.Prelude.{◌≡◌, ◌<◌, length, option_map, Some, None, Err, IfOk, OnOk, OnErr};
 ghost use Rattle.serde_json.specs.Data.{Data, object, Members, no_members, put};
 ghost use Rattle.lsp_message.specs.Params.{content_change_in};
-ghost use Rattle.lsp_message.specs.Seen.{edit_view};
+ghost use Rattle.lsp_message.specs.Seen.{content_change_view};
 ghost use Rattle.lsp_reader.specs.inside.Reading.{value_at, members_at};
 ghost use Rattle.lsp_reader.specs.inside.Members.{IsChangeOf};
 
@@ -50,7 +50,7 @@ impl<'a> ChangeMembers<'a> {
     #[inline(always)]
     fn change(self, alloc: Global) -> Result<Option<Change>, AllocError>
         ensures { IfOk result (λ r. (ms : Members) → IsChangeOf self.entry ms
-            → option_map edit_view r ≡ content_change_in (object ms)) }
+            → option_map content_change_view r ≡ content_change_in (object ms)) }
     {
         let Some(text) = self.text.text() else {
             return Ok(None);
@@ -92,7 +92,7 @@ pub(crate) fn read_change(
     depth: usize,
 ) -> Result<Option<Change>, Fault>
     ensures ok { IfOk result (λ c. (d : Data) × (value_at depth reader.old ≡ Some (d, reader.new))
-        × (option_map edit_view c ≡ content_change_in d)) }
+        × (option_map content_change_view c ≡ content_change_in d)) }
     ensures shorter { OnOk result (length reader.new < length reader.old) }
     ensures error { result ≡ Err Fault.NotJson → value_at depth reader.old ≡ None }
 {

@@ -5,7 +5,7 @@ ghost use Rattle.serde_json.specs.Data.{Data, Items};
 ghost use Rattle.serde_json.specs.Find.{as_array};
 ghost use Rattle.lsp_message.specs.Values.{each_of};
 ghost use Rattle.lsp_message.specs.Params.{content_change_in};
-ghost use Rattle.lsp_message.specs.Seen.{edit_view};
+ghost use Rattle.lsp_message.specs.Seen.{content_change_view};
 ghost use Rattle.lsp_reader.specs.inside.Reading.{value_at, items_at};
 ghost use Rattle.lsp_reader.specs.inside.Members.{IsArrayOpening};
 
@@ -41,7 +41,7 @@ fn read_items(
 ) -> Result<Option<Vec<Change>>, Fault>
     ensures ok { IfOk result (λ r. (ds : Items)
         × (items_at depth (length reader.old) reader.old ≡ Some (ds, reader.new))
-        × (option_map (λ v. map edit_view v.items) r ≡ each_of content_change_in ds)) }
+        × (option_map (λ v. map content_change_view v.items) r ≡ each_of content_change_in ds)) }
     ensures shorter { OnOk result (length reader.new ≤ length reader.old) }
     ensures error { result ≡ Err Fault.NotJson
         → items_at depth (length reader.old) reader.old ≡ None }
@@ -68,7 +68,7 @@ pub(crate) fn read_changes(
     depth: usize,
 ) -> Result<Option<Vec<Change>>, Fault>
     ensures ok { IfOk result (λ r. (d : Data) × (value_at depth reader.old ≡ Some (d, reader.new))
-        × (option_map (λ v. map edit_view v.items) r
+        × (option_map (λ v. map content_change_view v.items) r
         ≡ option_and_then (each_of content_change_in) (as_array d))) }
     ensures shorter { OnOk result (length reader.new < length reader.old) }
     ensures error { result ≡ Err Fault.NotJson → value_at depth reader.old ≡ None }

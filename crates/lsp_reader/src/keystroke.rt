@@ -30,7 +30,7 @@ struct Document<'a> {
 
 /// The change, with its text as it is in the body.
 #[derive(Clone, Copy, Drop)]
-struct Edit<'a> {
+struct PlainChange<'a> {
     range: Range,
     /// The `rangeLength` of the change, if it has one.
     length: Option<u64>,
@@ -41,7 +41,7 @@ struct Edit<'a> {
 #[derive(Clone, Copy, Drop)]
 struct Keystroke<'a> {
     document: Document<'a>,
-    edit: Edit<'a>,
+    change: PlainChange<'a>,
 }
 
 impl<'a> Cursor<'a> {
@@ -126,7 +126,7 @@ impl<'a> Cursor<'a> {
 
     /// Reads the member `contentChanges`, with one change of a range.
     #[inline(always)]
-    fn changes(&mut self) -> Option<Edit<'a>>
+    fn changes(&mut self) -> Option<PlainChange<'a>>
         ensures { IfSome result (λ e. IsChangesAt self.old.rest.now e.range e.length
             e.text.now self.new.rest.now) }
     {
@@ -141,7 +141,7 @@ impl<'a> Cursor<'a> {
         let text = self.plain_text()?;
         self.take("}")?;
         self.take("]")?;
-        Some(Edit {
+        Some(PlainChange {
             range,
             length,
             text,
@@ -152,19 +152,19 @@ impl<'a> Cursor<'a> {
 /// Reads a whole text as a message with one change.
 fn keystroke_of(text: &str) -> Option<Keystroke<'_>>
     ensures { IfSome result (λ k. IsKeystroke text.now k.document.uri.now k.document.version
-        k.edit.range k.edit.length k.edit.text.now) }
+        k.change.range k.change.length k.change.text.now) }
 {
     let mut cursor = Cursor::new(text);
     cursor.head()?;
     let document = cursor.document()?;
     cursor.take(",")?;
-    let edit = cursor.changes()?;
+    let change = cursor.changes()?;
     cursor.take("}")?;
     cursor.take("}")?;
     if !cursor.is_at_end() {
         return None;
     }
-    Some(Keystroke { document, edit })
+    Some(Keystroke { document, change })
 }
 
 impl<'a> Keystroke<'a> {
@@ -172,11 +172,11 @@ impl<'a> Keystroke<'a> {
     #[inline(always)]
     fn params(self, alloc: Global) -> Result<ChangeParams, AllocError>
         ensures { IfOk result (λ p. change_view p ≡ one_change self.entry.document.uri.now
-            self.entry.document.version self.entry.edit.range self.entry.edit.text.now) }
+            self.entry.document.version self.entry.change.range self.entry.change.text.now) }
     {
         let uri = String::from_str(alloc, self.document.uri)?;
-        let text = String::from_str(alloc, self.edit.text)?;
-        let range = Some(self.edit.range);
+        let text = String::from_str(alloc, self.change.text)?;
+        let range = Some(self.change.range);
         let changes = vec![in alloc; Change { range, text }]?;
         Ok(ChangeParams {
             uri,
@@ -205,5 +205,5 @@ pub(crate) fn keystroke_length(text: &str) -> Option<Option<u64>>
         × (lengths_of (message_of d) ≡ length ∷ [])) }
 {
     let found = keystroke_of(text)?;
-    Some(found.edit.length)
+    Some(found.change.length)
 }

@@ -14,7 +14,7 @@ use Rattle.lsp_store.specs.Message.{canonical_body}
 use Rattle.lsp_server.specs.declared.answer.Refusal.{Refusal}
 use Rattle.lsp_server.specs.declared.answer.Refusal.TheVariants.{InvalidParams as BadParams, Store}
 use Rattle.lsp_server.specs.Incoming.{IncomingData, incoming_of, did_change}
-use Rattle.lsp_server.specs.Step.{ServerData, session_encoding, edit_from_data}
+use Rattle.lsp_server.specs.Step.{ServerData, session_encoding, content_change_from_data}
 use Rattle.lsp_server.specs.Answer.{AnswerData, reply, changed, dropped, ignored, refused, exits, already_ended, Sent}
 use Rattle.lsp_replay.specs.declared.outcome.Outcome.{Outcome}
 use Rattle.lsp_stream.specs.declared.fault.EngineFault.{EngineFault}
@@ -180,7 +180,7 @@ change_in m = None
 abbrev pub canonical_change_body : ServerData → ChangeData → List ℕ
 canonical_change_body server p
     = canonical_body (units_in (session_encoding server)) server.table p.uri p.version
-    (map edit_from_data p.changes)
+    (map content_change_from_data p.changes)
 
 -- The line of version 2, if it is due.
 abbrev pub line_if : Bool → List ℕ

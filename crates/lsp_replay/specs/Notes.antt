@@ -24,7 +24,7 @@ use Rattle.lsp_reader.specs.Lengths.{lengths_of}
 use Rattle.lsp_store.specs.Table.{entry_at, greatest_batch}
 use Rattle.lsp_server.specs.Answer.{changed}
 use Rattle.lsp_server.specs.Incoming.{IncomingData, did_open, did_change, incoming_of}
-use Rattle.lsp_server.specs.Step.{ServerData, edit_from_data, session_encoding}
+use Rattle.lsp_server.specs.Step.{ServerData, content_change_from_data, session_encoding}
 use Rattle.lsp_stream.specs.Ports.{one_more}
 use Rattle.lsp_log.specs.declared.record.Sender.{Sender}
 use Rattle.lsp_log.specs.declared.record.Sender.TheVariants.{Client, Server}
@@ -150,7 +150,7 @@ abbrev pub changing_notes : Terms → ChangeData → Option DocumentItem → Lis
 changing_notes terms p None = []
 changing_notes terms p (Some entry) =
     version_notes p.version entry.version
-    ++ batch_notes terms entry.text (map edit_from_data p.changes)
+    ++ batch_notes terms entry.text (map content_change_from_data p.changes)
 
 -- The note of the opening of a document that is open, which lenient limits accept.
 abbrev pub opening_notes : Option DocumentItem → List Note

@@ -7,7 +7,7 @@ use Rattle.lsp_message.specs.Params.{ChangeData, DocumentItem}
 use Rattle.lsp_store.specs.Squash.{SquashData, squash_of, squash_after, squash_frame, squash_refusal}
 use Rattle.lsp_store.specs.Table.{entry_at}
 use Rattle.lsp_server.specs.Incoming.{incoming_of}
-use Rattle.lsp_server.specs.Step.{session_encoding, edit_from_data}
+use Rattle.lsp_server.specs.Step.{session_encoding, content_change_from_data}
 use Rattle.lsp_server.specs.Answer.{changed}
 use Rattle.lsp_replay.specs.declared.commands.Settings.{Settings}
 use Rattle.lsp_replay.specs.declared.outcome.Outcome.{Outcome}
@@ -33,7 +33,7 @@ pub record SeriesChange : Type 0 where
 abbrev pub joined : SquashData → List SeriesChange → SquashData
 joined squash [] = squash
 joined squash (c ∷ more) =
-    joined (squash_after squash c.change.version (map edit_from_data c.change.changes)) more
+    joined (squash_after squash c.change.version (map content_change_from_data c.change.changes)) more
 
 -- A series is written as the one canonical message of all its batches. If that has too many changes
 -- or is too long, each of its changes is written as without squash.

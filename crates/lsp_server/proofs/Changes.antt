@@ -5,7 +5,7 @@ use Rattle.lsp_edit.specs.Batch.{ContentChange}
 use Rattle.lsp_edit.specs.Edited.{content_change}
 use Rattle.lsp_message.specs.declared.params.ChangeParams.{ChangeParams}
 use Rattle.lsp_message.specs.Params.{ChangeData}
-use Rattle.lsp_message.specs.Seen.{change_view, edit_view}
+use Rattle.lsp_message.specs.Seen.{change_view, content_change_view}
 use Rattle.lsp_reader.specs.Incoming.{did_change}
 use Rattle.lsp_text.specs.declared.encoding.Encoding.{Encoding}
 use Rattle.lsp_store.specs.declared.fault.StoreFault.{StoreFault}
@@ -23,7 +23,7 @@ use Rattle.lsp_server.specs.declared.planned.PlannedChange.TheVariants.{Accepted
 use Rattle.lsp_server.specs.Answer.{dropped, refused}
 use Rattle.lsp_server.specs.Calls.{IsStepOf}
 use Rattle.lsp_server.specs.Planned.{IsNotObeyed, IsPlanOfChange, IsPlannedAs, store_of}
-use Rattle.lsp_server.specs.Step.{ServerData, Step, change_command, edit_from_data, session_encoding, command_step, unchanged_step, step_in, step_on}
+use Rattle.lsp_server.specs.Step.{ServerData, Step, change_command, content_change_from_data, session_encoding, command_step, unchanged_step, step_in, step_on}
 use Rattle.lsp_server.proofs.Commands.{edits_of, obeyed_as_refused}
 
 -- The step of a change in phase Running.
@@ -40,7 +40,7 @@ pub planned_is : (s : ServerData) (store : StoreData) (p : ChangeParams) (uri : 
     → IsPlannedAs s (change_view p) (Accepted plan)
 planned_is s store p uri version encoding edits plan store_is uri_is version_is encoding_is edits_is running planned =
     let same : IsPlanOf (store_of s) (string_bytes p.uri) p.version (session_encoding s)
-    (map edit_from_data (map edit_view p.changes.items)) plan =
+    (map content_change_from_data (map content_change_view p.changes.items)) plan =
     rw (edits_of p.changes.items, sym store_is, sym uri_is, sym version_is, sym encoding_is, sym edits_is) planned in
     (record { running = running; on = same.on }, same)
 

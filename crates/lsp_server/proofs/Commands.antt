@@ -2,7 +2,7 @@
 use Rattle.std.proofs.Common.{◌≡◌, ◌≢◌, List, [], ◌∷◌, map, refl, sym, ap, subst, Option, Some, None, option_map, Result, Ok, Err, IfOk, IfErr, OnOk, OnErr, inl, inr}
 use Rattle.lsp_edit.specs.declared.change.Change.{Change}
 use Rattle.lsp_edit.specs.Edited as made
-use Rattle.lsp_message.specs.Seen.{edit_view}
+use Rattle.lsp_message.specs.Seen.{content_change_view}
 use Rattle.lsp_store.specs.declared.fault.StoreFault.{StoreFault}
 use Rattle.lsp_store.specs.declared.fault.StoreFault.TheVariants.{NoMemory}
 use Rattle.lsp_store.specs.Faults.{refusal_fault}
@@ -14,12 +14,13 @@ use Rattle.lsp_server.specs.declared.answer.Answer.{Answer}
 use Rattle.lsp_server.specs.declared.answer.Answer.TheVariants.{Changed, Refused}
 use Rattle.lsp_server.specs.declared.answer.Refusal.TheVariants.{Store}
 use Rattle.lsp_server.specs.Answer.{refused, NeverAllocates}
-use Rattle.lsp_server.specs.Step.{ServerData, edit_from_data, unchanged_step, result_step, command_step}
+use Rattle.lsp_server.specs.Step.{ServerData, content_change_from_data, unchanged_step, result_step, command_step}
 use Rattle.lsp_server.specs.Calls.{IsStepOf, IsQuietStepOf}
 use Rattle.lsp_server.specs.Planned.{store_of}
 
 -- The changes as they were read are those that the store is given.
-pub edits_of : (changes : List Change) → map edit_from_data (map edit_view changes) ≡ map made.edit_of changes
+pub edits_of : (changes : List Change) → map content_change_from_data (map content_change_view changes)
+    ≡ map made.edit_of changes
 edits_of [] = refl
 edits_of (change ∷ changes) = ap (λ edits. made.edit_of change ∷ edits) (edits_of changes)
 

@@ -3,12 +3,14 @@ use Rattle.std.proofs.Common.{◌≡◌, List, [], ◌∷◌, map, encode_utf8_a
 use Rattle.std.specs.Str.{chars}
 use Rattle.std.proofs.lemmas.Str.{chars-encodes}
 use Rattle.lsp_edit.specs.Batch.{ContentChange}
-use Rattle.lsp_store.specs.Message.{AreTexts, written_edit}
-use Rattle.lsp_server.specs.Step.{edit_from_data}
+use Rattle.lsp_store.specs.Message.{AreTexts, written_content_change}
+use Rattle.lsp_server.specs.Step.{content_change_from_data}
 
-pub edits_back : (batch : List ContentChange) → AreTexts batch → map edit_from_data (map written_edit batch) ≡ batch
+pub edits_back : (batch : List ContentChange) → AreTexts batch → map content_change_from_data
+    (map written_content_change batch) ≡ batch
 edits_back [] texts = refl
 edits_back (change ∷ batch) texts =
     let text : chars (encode_utf8_all change.text) ≡ change.text = chars-encodes change.text texts.0 in
-    let same : edit_from_data (written_edit change) ≡ change = λ i. record { range = change.range; text = text i } in
+    let same : content_change_from_data (written_content_change change)
+    ≡ change = λ i. record { range = change.range; text = text i } in
     rw (same, edits_back batch texts.1) refl

@@ -12,7 +12,7 @@ use Rattle.lsp_server.specs.declared.planned.PlannedChange.{PlannedChange}
 use Rattle.lsp_server.specs.declared.planned.PlannedChange.TheVariants.{Accepted, Answered}
 use Rattle.lsp_server.specs.Answer.{as_sent}
 use Rattle.lsp_server.specs.Seen.{answer_view}
-use Rattle.lsp_server.specs.Step.{ServerData, Step, edit_from_data, session_encoding, step_on}
+use Rattle.lsp_server.specs.Step.{ServerData, Step, content_change_from_data, session_encoding, step_on}
 
 -- The open documents of a server, with its limits.
 abbrev pub store_of : ServerData → StoreData
@@ -26,7 +26,7 @@ pub record IsCommittable (s : ServerData) (plan : Plan) : Type 0 where
 -- A plan is of an accepted change, in the encoding of the session.
 abbrev pub IsPlanOfChange : ServerData → ChangeData → Plan → Type 0
 IsPlanOfChange s p plan =
-    IsPlanOf (store_of s) p.uri p.version (session_encoding s) (map edit_from_data p.changes) plan
+    IsPlanOf (store_of s) p.uri p.version (session_encoding s) (map content_change_from_data p.changes) plan
 
 -- The server after a plan.
 abbrev pub after_commit : ServerData → Plan → ServerData

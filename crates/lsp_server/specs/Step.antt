@@ -1,5 +1,5 @@
 -- One step of a session: what a server answers to a body, and its state afterwards (LSP 3.17, Base
--- Protocol, Server lifecycle, Text Document Synchronization).
+-- Protocol, Lifecycle Messages, Text Document Synchronization).
 use Rattle.std.specs.Prelude.{List, [], map, option_map, unwrap_or, Option, Some, None, Result, Ok, Err}
 use Rattle.std.specs.Str.{chars}
 use Rattle.lsp_text.specs.declared.encoding.Encoding.{Encoding}
@@ -77,8 +77,8 @@ command_step s command = result_step s (after_command s.config.limits s.table co
 -- ---- commands
 
 -- A change, with its text as characters.
-abbrev pub edit_from_data : ContentChangeData → ContentChange
-edit_from_data e = record { range = e.range; text = chars e.text }
+abbrev pub content_change_from_data : ContentChangeData → ContentChange
+content_change_from_data e = record { range = e.range; text = chars e.text }
 
 -- The encoding of changes. Before one is chosen there are no changes; UTF-16 is the protocol's
 -- default.
@@ -87,7 +87,7 @@ session_encoding s = unwrap_or s.encoding Utf16
 
 -- The command of a `textDocument/didChange`.
 abbrev pub change_command : ServerData → ChangeData → Command
-change_command s p = changes p.uri p.version (session_encoding s) (map edit_from_data p.changes)
+change_command s p = changes p.uri p.version (session_encoding s) (map content_change_from_data p.changes)
 
 -- The command of a `textDocument/didClose`.
 abbrev pub close_command : CloseData → Command

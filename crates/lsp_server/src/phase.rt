@@ -1,6 +1,6 @@
 //! The phases of a session on the server's end.
 
-/// The phase of a session (LSP 3.17, Server lifecycle).
+/// The phase of a session (LSP 3.17, Lifecycle Messages).
 #[derive(Clone, Copy, Debug, PartialEq, Eq, Hash)]
 pub enum Phase {
     /// Before an accepted `initialize`. Document messages are dropped, and requests other than

@@ -24,7 +24,7 @@ use std::alloc::{AllocError, Global};
 use std::fmt;
 use std::marker::Model;
 
-/// The server's end of one session (LSP 3.17, Server lifecycle, Text Document Synchronization).
+/// The server's end of one session (LSP 3.17, Lifecycle Messages, Text Document Synchronization).
 /// Clauses see its configuration, its phase, the chosen encoding, and the open documents.
 #[derive(Drop)]
 pub struct Server {

@@ -12,13 +12,13 @@ use Rattle.lsp_message.specs.Params.{DocumentItem, ContentChangeData, IsChangeRe
 use Rattle.lsp_store.specs.Table.{Refusal, body_too_long, entry_at, change_refusal, after_change}
 
 -- A change as it is written, with its text as bytes.
-abbrev pub written_edit : ContentChange → ContentChangeData
-written_edit change = record { range = change.range; text = encode_utf8_all change.text }
+abbrev pub written_content_change : ContentChange → ContentChangeData
+written_content_change change = record { range = change.range; text = encode_utf8_all change.text }
 
 -- The `textDocument/didChange` of a batch.
 abbrev pub change_message : List ℕ → ℤ → List ContentChange → OutgoingData
 change_message uri version batch
-    = did_change (record { uri = uri; version = version; changes = map written_edit batch })
+    = did_change (record { uri = uri; version = version; changes = map written_content_change batch })
 
 -- The body of the `textDocument/didChange` of a batch.
 unfoldable pub change_body : List ℕ → ℤ → List ContentChange → List ℕ
@@ -118,4 +118,4 @@ pub record IsCanonicalOf (limits : LimitsData) (units : ℕ → ℕ) (table : Li
 -- The receiver reads the message as the one that was written: this URI, version and batch.
 abbrev pub IsReadAgain : List ℕ → ℤ → List ContentChange → Type 0
 IsReadAgain uri version batch = IsChangeRead (change_body uri version batch)
-    (record { uri = uri; version = version; changes = map written_edit batch })
+    (record { uri = uri; version = version; changes = map written_content_change batch })

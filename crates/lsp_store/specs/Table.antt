@@ -36,7 +36,8 @@ after_close (entry ∷ table) uri = if bytes_eq uri entry.uri then table else
 abbrev pub other_count : List DocumentItem → List ℕ → ℕ
 other_count table uri = length (after_close table uri)
 
--- A URI is taken where its document is open. Where lenient none is.
+-- A URI is taken where its document is open. Where lenient none is. (LSP 3.17 says that a document
+-- is opened once; that a second opening is refused is this project's choice.)
 abbrev pub is_taken : LimitsData → List DocumentItem → List ℕ → Bool
 is_taken limits table uri = not limits.lenient && is_some (entry_at table uri)
 
@@ -70,7 +71,8 @@ meaning_refusal limits text (Err fault) = Some (edit fault.0 fault.1)
 meaning_refusal limits text (Ok items)
     = if nat_lt limits.max_text (length (bytes_left text items)) then Some text_too_long else None
 
--- A version is stale where it isn't greater than the current one. Where lenient none is.
+-- A version is stale where it isn't greater than the current one. Where lenient none is. (LSP 3.17
+-- says that versions increase; that another one is refused is this project's choice.)
 abbrev pub is_stale : LimitsData → ℤ → ℤ → Bool
 is_stale limits version current = not limits.lenient && int_le version current
 

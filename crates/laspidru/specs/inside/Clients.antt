@@ -3,7 +3,7 @@ use Rattle.std.specs.Prelude.{ℕ}
 use Rattle.lsp_client.specs.declared.fault.ClientFault.{ClientFault}
 use Rattle.lsp_client.specs.declared.fault.ClientFault.TheVariants as client
 use Rattle.laspidru.specs.declared.codes.TheConstants.{OUT_OF_MEMORY, WRONG_PHASE}
-use Rattle.laspidru.specs.declared.place.FaultAt.{FaultAt}
+use Rattle.laspidru.specs.declared.structs.FaultAt.{FaultAt}
 use Rattle.laspidru.specs.Clients.{IsStoreReport}
 use Rattle.laspidru.specs.Servers.{store_code}
 

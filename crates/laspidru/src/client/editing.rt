@@ -15,8 +15,8 @@ use crate::changes::{changes_of, refusal_of};
 use crate::codes::{EMPTY, INSIDE_CHARACTER, NOT_UTF8, OK, OTHER_KIND, REVERSED_RANGE};
 use crate::handle::Handle;
 use crate::object::Object;
-use crate::place::{Edit, FaultAt};
 use crate::reports::{keep_frame, report_call};
+use crate::structs::{Edit, FaultAt};
 use lsp_client::{Client, ClientFault, Phase};
 use std::alloc::{AllocError, Global};
 

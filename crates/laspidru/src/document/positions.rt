@@ -9,8 +9,8 @@ use crate::changes::encoding_of;
 use crate::codes::{BAD_ENCODING, EMPTY, OK, OTHER_KIND};
 use crate::handle::Handle;
 use crate::object::Object;
-use crate::place::{Line, Place};
 use crate::positions::{text_line, text_offset, text_position};
+use crate::structs::{CPosition, Line};
 use lsp_text::Encoding;
 use std::alloc::Global;
 
@@ -49,7 +49,7 @@ pub extern "C" fn laspidru_document_line(
 }
 
 /// Returns the byte offset that a position denotes in an object's text.
-fn object_offset(object: &Object, encoding: Encoding, position: Place, out: &mut usize) -> u32
+fn object_offset(object: &Object, encoding: Encoding, position: CPosition, out: &mut usize) -> u32
     ensures answer { IsAnswer
         (offset_asked (position_at position) (Ok encoding) (as_document object.now)) result
         (λ offset. out.new ≡ offset) }
@@ -70,7 +70,7 @@ pub extern "C" fn laspidru_document_offset(
     alloc: Global,
     handle: &mut Handle,
     encoding: u32,
-    position: Place,
+    position: CPosition,
     out: &mut usize,
 ) -> u32
     ensures answer { let document = stored_document handle.old.value in IsAnswer
@@ -91,7 +91,7 @@ pub extern "C" fn laspidru_document_offset(
 }
 
 /// Returns the exact position of a byte offset in an object's text.
-fn object_position(object: &Object, encoding: Encoding, offset: usize, out: &mut Place) -> u32
+fn object_position(object: &Object, encoding: Encoding, offset: usize, out: &mut CPosition) -> u32
     ensures answer { IsRefusedOr (as_document object.now) result
         (λ text. IsPositionAt offset encoding text result out.new) }
     ensures unchanged { result ≢ OK → out.new ≡ out.old }
@@ -112,7 +112,7 @@ pub extern "C" fn laspidru_document_position(
     handle: &mut Handle,
     encoding: u32,
     offset: usize,
-    out: &mut Place,
+    out: &mut CPosition,
 ) -> u32
     ensures answer { IsRefusedOr
         (both (encoding_at encoding) (stored_document handle.old.value)) result

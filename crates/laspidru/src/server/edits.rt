@@ -17,7 +17,7 @@ use crate::codes::{
 use crate::edits::{report_edits, text_edits_of};
 use crate::handle::Handle;
 use crate::object::Object;
-use crate::place::{Edit, EditsFault};
+use crate::structs::{Edit, EditsFault};
 use lsp_edit::{Change, MAX_OLD_TEXT};
 use lsp_store::Document;
 use lsp_text::Encoding;

@@ -15,8 +15,8 @@ use crate::codes::{
 };
 use crate::handle::Handle;
 use crate::object::Object;
-use crate::place::{Edit, FaultAt};
 use crate::reports::report_store;
+use crate::structs::{Edit, FaultAt};
 use lsp_text::Encoding;
 use std::alloc::Global;
 

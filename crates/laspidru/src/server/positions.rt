@@ -12,8 +12,8 @@ use crate::changes::encoding_of;
 use crate::codes::{BAD_ENCODING, EMPTY, NOT_OPEN, NOT_UTF8, OK, OTHER_KIND};
 use crate::handle::Handle;
 use crate::object::Object;
-use crate::place::{Line, Place};
 use crate::positions::{text_line, text_offset, text_position};
+use crate::structs::{CPosition, Line};
 use lsp_text::Encoding;
 use std::alloc::Global;
 
@@ -22,7 +22,7 @@ fn object_server_offset(
     object: &Object,
     uri: &str,
     encoding: Encoding,
-    position: Place,
+    position: CPosition,
     out: &mut usize,
 ) -> u32
     ensures answer { let document = and_then (as_server object.now) (entry_in uri.now) in
@@ -49,7 +49,7 @@ pub extern "C" fn laspidru_server_offset(
     handle: &mut Handle,
     uri: &[u8],
     encoding: u32,
-    position: Place,
+    position: CPosition,
     out: &mut usize,
 ) -> u32
     ensures answer { let server = stored_server handle.old.value in
@@ -80,7 +80,7 @@ fn object_server_position(
     uri: &str,
     encoding: Encoding,
     offset: usize,
-    out: &mut Place,
+    out: &mut CPosition,
 ) -> u32
     ensures answer { let document = and_then (as_server object.now) (entry_in uri.now) in
         IsRefusedOr (entry_text document) result
@@ -107,7 +107,7 @@ pub extern "C" fn laspidru_server_position(
     uri: &[u8],
     encoding: u32,
     offset: usize,
-    out: &mut Place,
+    out: &mut CPosition,
 ) -> u32
     ensures answer { let server = stored_server handle.old.value in
         IsRefusedOr (and_then (uri_asked uri.now) (λ named.

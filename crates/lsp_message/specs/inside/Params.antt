@@ -5,8 +5,8 @@ use Rattle.lsp_message.specs.Values.{each_of}
 use Rattle.lsp_message.specs.Params.{ContentChangeData, content_change_in, change_by, HasChanges}
 
 -- The changes that the items of an array are; none if one of them is no change.
-abbrev pub edits_in : Items → Option (List ContentChangeData)
-edits_in items = each_of content_change_in items
+abbrev pub content_changes_in : Items → Option (List ContentChangeData)
+content_changes_in items = each_of content_change_in items
 
 -- Reading these members and items may take memory.
 abbrev pub MembersMayAllocate : Members → Items → Type 0

@@ -5,8 +5,8 @@ use Rattle.lsp_message.specs.Message.{whole, given, failed, request, response, n
 use Rattle.lsp_message.specs.Params.{ContentChangeData, version_in, coordinate_in, content_change_in}
 
 -- The change that a body of JSON is.
-abbrev pub edit_read : List ℕ → Option ContentChangeData
-edit_read body = option_and_then content_change_in (json_of body)
+abbrev pub content_change_read : List ℕ → Option ContentChangeData
+content_change_read body = option_and_then content_change_in (json_of body)
 
 -- The rows of the table.
 pub record HoldsOnExamples : Type 0 where
@@ -41,7 +41,7 @@ pub record HoldsOnExamples : Type 0 where
   pub a_character_above : coordinate_in (Some (number (unsigned 4294967296))) ≡ None
   pub a_line_below : coordinate_in (Some (number (negative (negsuc 0)))) ≡ None
   -- the whole text, and a member that is ignored
-  pub a_null_range : edit_read (codes "{\"range\":null,\"text\":\"a\"}")
+  pub a_null_range : content_change_read (codes "{\"range\":null,\"text\":\"a\"}")
       ≡ Some (record { range = None; text = codes "a" })
-  pub a_range_length : edit_read (codes "{\"rangeLength\":\"x\",\"text\":\"a\"}")
+  pub a_range_length : content_change_read (codes "{\"rangeLength\":\"x\",\"text\":\"a\"}")
       ≡ Some (record { range = None; text = codes "a" })

@@ -5,7 +5,7 @@ ghost use Rattle.serde_json.specs.Data.{array};
 ghost use Rattle.serde_json.specs.View.{items_of};
 ghost use Rattle.lsp_message.specs.Outgoing as spec;
 ghost use Rattle.lsp_message.specs.Written as values;
-ghost use Rattle.lsp_message.specs.Seen.{open_view, edit_view, change_data, did_change_of, close_view};
+ghost use Rattle.lsp_message.specs.Seen.{open_view, content_change_view, change_data, did_change_of, close_view};
 ghost use Rattle.lsp_message.specs.inside.Tokens.{Appends, tokens_of, range_tokens};
 
 use crate::params::{CloseParams, OpenParams};
@@ -90,7 +90,7 @@ fn change_params(
 {
     writer.begin_object()?;
     writer.key("contentChanges")?;
-    edits_value(writer, changes)?;
+    content_changes_value(writer, changes)?;
     writer.key("textDocument")?;
     versioned_document(writer, uri, version)?;
     writer.end_object()
@@ -107,21 +107,21 @@ fn versioned_document(writer: &mut Writer, uri: &str, version: i32) -> Result<()
     writer.end_object()
 }
 
-fn edits_value(writer: &mut Writer, changes: &[Change]) -> Result<(), AllocError>
+fn content_changes_value(writer: &mut Writer, changes: &[Change]) -> Result<(), AllocError>
     ensures tokens { OnOk result (Appends writer.old writer.new
-        (tokens_of (array (items_of (map values.edit_value (map edit_view changes.now)))))) }
+        (tokens_of (array (items_of (map values.content_change_value (map content_change_view changes.now)))))) }
     ensures before { writer.new.before ≡ writer.old.before }
 {
     writer.begin_array()?;
     for change in changes {
-        edit_value(writer, change)?;
+        content_change_value(writer, change)?;
     }
     writer.end_array()
 }
 
-fn edit_value(writer: &mut Writer, change: &Change) -> Result<(), AllocError>
+fn content_change_value(writer: &mut Writer, change: &Change) -> Result<(), AllocError>
     ensures tokens { OnOk result
-        (Appends writer.old writer.new (tokens_of (values.edit_value (edit_view change.now)))) }
+        (Appends writer.old writer.new (tokens_of (values.content_change_value (content_change_view change.now)))) }
     ensures before { writer.new.before ≡ writer.old.before }
 {
     writer.begin_object()?;

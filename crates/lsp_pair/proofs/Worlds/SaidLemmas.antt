@@ -20,7 +20,7 @@ use Rattle.lsp_message.specs.Params.{DocumentItem, ChangeData, CloseData}
 use Rattle.lsp_message.specs.laws.Sent.{IsProper, IsProperDocument, IsProperChange, IsProperEdit}
 use Rattle.lsp_message.proofs.ReadBack.{reading-body_of, is_read_back, body_of-unique}
 use Rattle.lsp_store.specs.Table.{Refusal, Command, opens, changes, closes, body_too_long, change_refusal, after_change, changed, command_refusal, table_after, unless_refused}
-use Rattle.lsp_store.specs.Message.{AreTexts, written_edit, canonical_batch, whole_batch, whole_text, change_message, body_refusal}
+use Rattle.lsp_store.specs.Message.{AreTexts, written_content_change, canonical_batch, whole_batch, whole_text, change_message, body_refusal}
 use Rattle.lsp_store.specs.laws.Tables.{AllWithin, IsWithin, IsReplacedBy}
 use Rattle.lsp_store.specs.Limits.{AreWithin}
 use Rattle.lsp_store.proofs.Tables.FirstLemmas.{first_none, later_none}
@@ -33,7 +33,7 @@ use Rattle.lsp_server.specs.declared.phase.Phase.{Phase}
 use Rattle.lsp_server.specs.declared.phase.Phase.TheVariants.{Running}
 use Rattle.lsp_server.specs.Answer as answer
 use Rattle.lsp_server.specs.Incoming as incoming
-use Rattle.lsp_server.specs.Step.{ServerData, Step, edit_from_data, result_step, command_step, step_on, step, step_in, session_encoding}
+use Rattle.lsp_server.specs.Step.{ServerData, Step, content_change_from_data, result_step, command_step, step_on, step, step_in, session_encoding}
 use Rattle.lsp_server.proofs.EditLemmas.{edits_back}
 use Rattle.lsp_client.specs.Step.{sent_batch, sent_body}
 use Rattle.lsp_client.specs.inside.Orders.{order_refusal}
@@ -183,7 +183,7 @@ run_open : (s : ServerData) (p : DocumentItem) → s.phase ≡ Running → step_
 run_open s p running = ap (λ (phase : Phase). step_in phase s (incoming.did_open (Some p))) running
 
 run_change : (s : ServerData) (p : ChangeData) → s.phase ≡ Running → step_on s (incoming.did_change (Some p))
-    ≡ command_step s (changes p.uri p.version (session_encoding s) (map edit_from_data p.changes))
+    ≡ command_step s (changes p.uri p.version (session_encoding s) (map content_change_from_data p.changes))
 run_change s p running = ap (λ (phase : Phase). step_in phase s (incoming.did_change (Some p))) running
 
 run_close : (s : ServerData) (p : CloseData) → s.phase ≡ Running → step_on s (incoming.did_close (Some p))
@@ -250,10 +250,10 @@ module _ (small great : LimitsData) (encoding : Encoding) (kind : SyncKind) (s :
   change_done : (uri : List ℕ) (version : ℤ) (batch other : List ContentChange) → AreTexts other
       → IsReplacedBy great (units_in encoding) s.table uri version batch other
       → step_on s (incoming.did_change
-      (Some (record { uri = uri; version = version; changes = map written_edit other })))
+      (Some (record { uri = uri; version = version; changes = map written_content_change other })))
       ≡ done_by s (after_change (units_in encoding) s.table uri version batch)
   change_done uri version batch other texts is =
-      run_change s (record { uri = uri; version = version; changes = map written_edit other }) running
+      run_change s (record { uri = uri; version = version; changes = map written_content_change other }) running
       ∙ (ap (λ (b : List ContentChange). command_step s (changes uri version (session_encoding s) b))
       (edits_back other texts)
       ∙ (ap (λ (e : Encoding). command_step s (changes uri version e other)) encoding_is
@@ -274,7 +274,7 @@ module _ (small great : LimitsData) (encoding : Encoding) (kind : SyncKind) (s :
         written = ap (step_on s) (read_change (record {
           uri = uri;
           version = version;
-          changes = map written_edit other_batch;
+          changes = map written_content_change other_batch;
         }) t.proper_message) ∙ change_done uri version batch other_batch t.texts t.done;
         given =
             change_done uri version batch batch is.texts

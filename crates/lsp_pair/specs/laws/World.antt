@@ -9,7 +9,7 @@ use Rattle.lsp_message.specs.Outgoing as outgoing
 use Rattle.lsp_message.specs.Outgoing.{OutgoingData}
 use Rattle.lsp_message.specs.laws.Sent.{sent, IsProperDocument}
 use Rattle.lsp_store.specs.Table.{Command, opens, changes, closes, table_of}
-use Rattle.lsp_store.specs.Message.{AreTexts, written_edit}
+use Rattle.lsp_store.specs.Message.{AreTexts, written_content_change}
 use Rattle.lsp_server.specs.declared.phase.Phase as server_phase
 use Rattle.lsp_server.specs.declared.phase.Phase.TheVariants as server_phases
 use Rattle.lsp_server.specs.Incoming as incoming
@@ -128,7 +128,7 @@ incoming_of_message (commands (changes uri version encoding batch)) =
     incoming.did_change (Some (record {
       uri = uri;
       version = version;
-      changes = map written_edit batch;
+      changes = map written_content_change batch;
     }))
 incoming_of_message (commands (closes uri)) = incoming.did_close (Some (record { uri = uri }))
 incoming_of_message (lifecycle m) = incoming.incoming_of (message (sent m))

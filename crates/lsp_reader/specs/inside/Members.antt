@@ -3,7 +3,7 @@ use Rattle.std.specs.Prelude.{◌≡◌, ◌<◌, ℕ, List, ◌∷◌, Bool, tr
 use Rattle.json.specs.Token.{Token}
 use Rattle.serde_json.specs.Data.{Data, null as null_data, Members}
 use Rattle.serde_json.specs.Find.{get_member, as_object, as_array}
-use Rattle.lsp_message.specs.Seen.{edit_view}
+use Rattle.lsp_message.specs.Seen.{content_change_view}
 use Rattle.lsp_message.specs.Values.{is_null, member_at, members_in, array_in, each_of}
 use Rattle.lsp_message.specs.Params.{position_in, range_of, content_change_in}
 use Rattle.lsp_reader.specs.declared.opening.Opening.{Opening}
@@ -72,7 +72,7 @@ IsDocumentIn (Some d) (Some ms) = IsDocumentOf d ms
 abbrev pub IsParamsOf : ParamsMembers → Option Data → Type 0
 IsParamsOf p value =
     IsDocumentIn p.document (members_in (member_at (codes "textDocument") value))
-    × (option_map (λ v. map edit_view v.items) p.changes
+    × (option_map (λ v. map content_change_view v.items) p.changes
     ≡ option_and_then (each_of content_change_in) (array_in (member_at (codes "contentChanges") value)))
 
 -- These are what is kept of the members of a message.

@@ -18,13 +18,13 @@ use Rattle.lsp_message.specs.Message.{reading}
 use Rattle.lsp_message.specs.Params.{DocumentItem, ChangeData}
 use Rattle.lsp_message.proofs.ReadBack.{reading-body_of, is_read_back, body_of-unique}
 use Rattle.lsp_store.specs.Table.{entry_at, entry_refusal, is_stale, meant_text}
-use Rattle.lsp_store.specs.Message.{AreTexts, IsReadAgain, written_edit, change_body, canonical_batch, canonical_body}
+use Rattle.lsp_store.specs.Message.{AreTexts, IsReadAgain, written_content_change, change_body, canonical_batch, canonical_body}
 use Rattle.lsp_store.specs.Squash.{SquashData, items_meant}
 use Rattle.lsp_store.proofs.Messages.MessageLemmas.{is_read}
 use Rattle.lsp_store.proofs.Messages.ScalarLemmas.{canonical_texts}
 use Rattle.lsp_store.proofs.SquashLemmas.{squash_accepted}
 use Rattle.lsp_server.specs.Incoming.{incoming_of, did_change}
-use Rattle.lsp_server.specs.Step.{ServerData, edit_from_data, session_encoding}
+use Rattle.lsp_server.specs.Step.{ServerData, content_change_from_data, session_encoding}
 use Rattle.lsp_server.proofs.EditLemmas.{edits_back}
 use Rattle.lsp_replay.specs.Commands.{canonical_change_body}
 use Rattle.lsp_replay.specs.inside.Joining.{refusal_of, server_after}
@@ -55,7 +55,7 @@ abbrev pub canonical_change : ServerData → List ℕ → ℤ → DocumentItem �
 canonical_change t uri version entry items = record {
   uri = uri;
   version = version;
-  changes = map written_edit (canonical_at t entry items);
+  changes = map written_content_change (canonical_at t entry items);
 }
 
 pub record IsCanonicalChange (t : ServerData) (uri : List ℕ) (version : ℤ) (entry : DocumentItem)
@@ -110,7 +110,8 @@ module _ (t : ServerData) (uri : List ℕ) (version : ℤ) (entry : DocumentItem
       at.utf8 (omega (arith, at.received, ranges.greatest_text)) body_of-unique
       (canonical_at t entry items) all_texts accepted reading-body_of is_read_back)
 
-  back : map edit_from_data (map written_edit (canonical_at t entry items)) ≡ canonical_at t entry items
+  back : map content_change_from_data (map written_content_change (canonical_at t entry items))
+      ≡ canonical_at t entry items
   back = edits_back (canonical_at t entry items) all_texts
 
   may_on : refusal_of t (canonical_change t uri version entry items) ≡ None
@@ -122,7 +123,7 @@ module _ (t : ServerData) (uri : List ℕ) (version : ℤ) (entry : DocumentItem
   leaves_on =
       ap (λ (table : List DocumentItem). record t { table = table })
       (change_puts (units_in (session_encoding t)) t.table uri version
-      (map edit_from_data (map written_edit (canonical_at t entry items))) entry at.found
+      (map content_change_from_data (map written_content_change (canonical_at t entry items))) entry at.found
       ∙ ap (λ (b : List ContentChange). put t.table uri version
       (meant_text entry.text (meaning (units_in (session_encoding t)) (chars entry.text) b))) back
       ∙ ap (λ m. put t.table uri version (meant_text entry.text m)) law.means)

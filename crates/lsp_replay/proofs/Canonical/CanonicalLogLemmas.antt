@@ -7,7 +7,7 @@ use Rattle.lsp_text.specs.declared.encoding.Encoding.{Encoding}
 use Rattle.lsp_message.specs.Params.{DocumentItem, ChangeData}
 use Rattle.lsp_edit.specs.Edited as given
 use Rattle.lsp_frame.specs.Limits.{LimitsData}
-use Rattle.lsp_message.specs.Seen.{edit_view}
+use Rattle.lsp_message.specs.Seen.{content_change_view}
 use Rattle.lsp_edit.specs.declared.change.Change.{Change}
 use Rattle.lsp_store.specs.declared.fault.StoreFault.{StoreFault}
 use Rattle.lsp_store.specs.declared.fault.StoreFault.TheVariants.{BodyTooLong, NoMemory}
@@ -18,7 +18,7 @@ use Rattle.lsp_server.specs.declared.phase.Phase.{Phase}
 use Rattle.lsp_server.specs.declared.phase.Phase.TheVariants.{New, Running, Down, Ended}
 use Rattle.lsp_server.specs.Answer.{AnswerData, Sent, changed, as_sent}
 use Rattle.lsp_server.specs.Incoming.{did_change}
-use Rattle.lsp_server.specs.Step.{ServerData, edit_from_data, session_encoding, result_step, change_command, step_in}
+use Rattle.lsp_server.specs.Step.{ServerData, content_change_from_data, session_encoding, result_step, change_command, step_in}
 use Rattle.lsp_replay.specs.Session.{Session, Verdict, answered, recorded, bad, Judged, judged, judge_client, judge_server}
 use Rattle.lsp_replay.specs.Commands.{canonical_if, written, writes, ends}
 use Rattle.lsp_log.specs.declared.record.Version.{Version}
@@ -59,7 +59,7 @@ obeyed_changed s (Some refusal) next e = cc
 step_changed : (phase : Phase) (s : ServerData) (p : ChangeData)
     → as_sent (step_in phase s (did_change (Some p))).answer ≡ changed
     → change_refusal s.config.limits (units_in (session_encoding s)) s.table p.uri p.version
-    (map edit_from_data p.changes) ≡ None
+    (map content_change_from_data p.changes) ≡ None
 step_changed Running s p e =
     obeyed_changed s (command_refusal s.config.limits s.table (change_command s p))
     (table_after s.table (change_command s p)) e
@@ -80,11 +80,12 @@ same_answer a b e = cc
 pub accepted : (s : Session) (version : Version) (p : ChangeData)
     → (judge_client s version (did_change (Some p))).verdict ≡ answered changed
     → change_refusal s.server.config.limits (units_in (session_encoding s.server)) s.server.table p.uri p.version
-    (map edit_from_data p.changes) ≡ None
+    (map content_change_from_data p.changes) ≡ None
 accepted s version p e = step_changed s.server.phase s.server p (same_answer _ _ (unless_bad_is _ _ s _ changed e))
 
 -- The changes as they were read are those that the store is given.
-pub edits_of : (changes : List Change) → map edit_from_data (map edit_view changes) ≡ map given.edit_of changes
+pub edits_of : (changes : List Change) → map content_change_from_data (map content_change_view changes)
+    ≡ map given.edit_of changes
 edits_of [] = refl
 edits_of (change ∷ changes) = ap (λ edits. given.edit_of change ∷ edits) (edits_of changes)
 

@@ -16,7 +16,7 @@ use Rattle.lsp_message.specs.Message.{reading}
 use Rattle.lsp_message.specs.Params.{DocumentItem, ChangeData}
 use Rattle.lsp_message.proofs.ReadBack.{reading-body_of, is_read_back, body_of-unique}
 use Rattle.lsp_store.specs.Table.{not_open, entry_at, refusal_on, entry_refusal, change_refusal, after_change, unless_refused}
-use Rattle.lsp_store.specs.Message.{AreTexts, IsCanonicalOf, IsReadAgain, written_edit, change_body, canonical_batch, canonical_body, body_refusal}
+use Rattle.lsp_store.specs.Message.{AreTexts, IsCanonicalOf, IsReadAgain, written_content_change, change_body, canonical_batch, canonical_body, body_refusal}
 use Rattle.lsp_store.proofs.Tables.FirstLemmas.{first_none}
 use Rattle.lsp_store.proofs.Messages.MessageLemmas.{Accepts, accepted_parts, body_within, is_settled, is_read}
 use Rattle.lsp_store.proofs.Messages.ScalarLemmas.{canonical_texts}
@@ -25,7 +25,7 @@ use Rattle.lsp_store.proofs.WithinLemmas.{within_at}
 use Rattle.lsp_server.specs.declared.phase.Phase.{Phase}
 use Rattle.lsp_server.specs.declared.phase.Phase.TheVariants.{New, Running, Down, Ended}
 use Rattle.lsp_server.specs.Incoming.{did_change, incoming_of}
-use Rattle.lsp_server.specs.Step.{ServerData, step_in, step_on, result_step, edit_from_data, session_encoding}
+use Rattle.lsp_server.specs.Step.{ServerData, step_in, step_on, result_step, content_change_from_data, session_encoding}
 use Rattle.lsp_server.proofs.EditLemmas.{edits_back}
 use Rattle.lsp_replay.specs.Commands.{canonical_change_body}
 use Rattle.lsp_replay.proofs.Canonical.CanonicalLogLemmas.{within}
@@ -48,7 +48,7 @@ open_one limits units table uri version batch e = by (entry_at table uri) refl e
 
 pub asks_back : (uri : List ℕ) (version : ℤ) (batch : List ContentChange) → IsReadAgain uri version batch
     → incoming_of (reading (change_body uri version batch))
-    ≡ did_change (Some (record { uri = uri; version = version; changes = map written_edit batch }))
+    ≡ did_change (Some (record { uri = uri; version = version; changes = map written_content_change batch }))
 unfolding change_body
 asks_back uri version batch read = ap incoming_of read.as_sent ∙ ap did_change read.back
 
@@ -62,12 +62,13 @@ pub record IsSettledChange (server : ServerData) (p : ChangeData) : Type 0 where
 
 same_change : (server : ServerData) (p again : ChangeData) (phase : Phase)
     → change_refusal server.config.limits (units_in (session_encoding server)) server.table p.uri p.version
-    (map edit_from_data p.changes) ≡ None
+    (map content_change_from_data p.changes) ≡ None
     → change_refusal server.config.limits (units_in (session_encoding server)) server.table again.uri again.version
-    (map edit_from_data again.changes) ≡ None
+    (map content_change_from_data again.changes) ≡ None
     → after_change (units_in (session_encoding server)) server.table again.uri again.version
-    (map edit_from_data again.changes)
-    ≡ after_change (units_in (session_encoding server)) server.table p.uri p.version (map edit_from_data p.changes)
+    (map content_change_from_data again.changes)
+    ≡ after_change (units_in (session_encoding server)) server.table p.uri p.version
+    (map content_change_from_data p.changes)
     → step_in phase server (did_change (Some again)) ≡ step_in phase server (did_change (Some p))
 same_change server p again New may also same = refl
 same_change server p again Down may also same = refl
@@ -75,22 +76,22 @@ same_change server p again Ended may also same = refl
 same_change server p again Running may also same =
     ap (λ r. result_step server
     (unless_refused r (after_change (units_in (session_encoding server)) server.table again.uri again.version
-    (map edit_from_data again.changes)))) also
+    (map content_change_from_data again.changes)))) also
     ∙ ap (λ t. result_step server (unless_refused None t)) same
     ∙ sym (ap (λ r. result_step server
     (unless_refused r (after_change (units_in (session_encoding server)) server.table p.uri p.version
-    (map edit_from_data p.changes)))) may)
+    (map content_change_from_data p.changes)))) may)
 
 module _ (server : ServerData) (p : ChangeData) (ranges : AreInRange server.config.limits)
     (received : IsHeldState server.config.limits server) (proper : IsProperAsked p)
     (may : change_refusal server.config.limits (units_in (session_encoding server)) server.table p.uri p.version
-    (map edit_from_data p.changes) ≡ None)
+    (map content_change_from_data p.changes) ≡ None)
     (fits : length (canonical_change_body server p) ≤ server.config.limits.max_body) where
   abbrev encoding : Encoding
   encoding = session_encoding server
 
   abbrev batch : List ContentChange
-  batch = map edit_from_data p.changes
+  batch = map content_change_from_data p.changes
 
   abbrev entry : DocumentItem
   entry = (open_one server.config.limits (units_in encoding) server.table p.uri p.version batch may).0
@@ -140,9 +141,9 @@ module _ (server : ServerData) (p : ChangeData) (ranges : AreInRange server.conf
       (laws batch accepts.items accepts.means) (scalars-chars entry.text text_held.utf8) proper.texts accepts.means)
 
   abbrev again_change : ChangeData
-  again_change = record { uri = p.uri; version = p.version; changes = map written_edit settled }
+  again_change = record { uri = p.uri; version = p.version; changes = map written_content_change settled }
 
-  back : map edit_from_data again_change.changes ≡ settled
+  back : map content_change_from_data again_change.changes ≡ settled
   back = edits_back settled settled_texts
 
   settled_may : change_refusal server.config.limits (units_in encoding) server.table p.uri p.version settled ≡ None

@@ -19,7 +19,7 @@ use Rattle.lsp_message.specs.Message.{IdData, whole, text, OutcomeData, Reading,
 use Rattle.lsp_message.specs.Params.{DocumentItem, ContentChangeData, ChangeData, open_of, open_by, change_of, change_by, document_in, document_and_changes, content_change_by, content_change_in, range_of, version_in, version_from}
 use Rattle.lsp_message.specs.laws.Sent.{IsProperId}
 use Rattle.lsp_server.specs.Incoming.{IncomingData, not_json, not_a_message, response, initialize, shutdown, other_request, exit, did_open, did_change, did_close, other_notification, incoming_by, incoming_of}
-use Rattle.lsp_server.specs.Step.{edit_from_data}
+use Rattle.lsp_server.specs.Step.{content_change_from_data}
 use Rattle.lsp_store.specs.Message.{AreTexts}
 use Rattle.lsp_replay.proofs.Records.ReadLemmas.{OnSome, on_then, NumFits, IsHeld, ItemsAreHeld, MembersAreHeld, read_held}
 
@@ -176,7 +176,7 @@ reading_proper body = found_or IsHeld message_of (json_of body) msg.not_json val
 pub record IsProperAsked (p : ChangeData) : Type 0 where
   pub uri : IsUtf8 p.uri
   pub version : FitsSigned w32 p.version
-  pub texts : AreTexts (map edit_from_data p.changes)
+  pub texts : AreTexts (map content_change_from_data p.changes)
 
 abbrev pub IsTextOpened : DocumentItem → Type 0
 IsTextOpened p = IsUtf8 p.text
@@ -226,7 +226,7 @@ edits_held (item d ds) received =
     (edits_held ds received.1))
     (content_change_in d) (edit_held d received.0)
 
-texts_of_edits : (es : List ContentChangeData) → AreEditsHeld es → AreTexts (map edit_from_data es)
+texts_of_edits : (es : List ContentChangeData) → AreEditsHeld es → AreTexts (map content_change_from_data es)
 texts_of_edits [] received = tt
 texts_of_edits (e ∷ es) received = (scalars-chars e.text received.0, texts_of_edits es received.1)
 

@@ -11,7 +11,7 @@ use Rattle.lsp_store.proofs.WithinLemmas.{within_end, within_change, within_clos
 use Rattle.lsp_server.specs.declared.phase.Phase.{Phase}
 use Rattle.lsp_server.specs.declared.phase.Phase.TheVariants.{New, Running, Down, Ended}
 use Rattle.lsp_server.specs.Incoming.{IncomingData, not_json, not_a_message, response, initialize, shutdown, other_request, exit, did_open, did_change, did_close, other_notification}
-use Rattle.lsp_server.specs.Step.{ServerData, step_in, step_on, result_step, edit_from_data, session_encoding}
+use Rattle.lsp_server.specs.Step.{ServerData, step_in, step_on, result_step, content_change_from_data, session_encoding}
 use Rattle.lsp_replay.proofs.Records.ReadLemmas.{OnSome}
 use Rattle.lsp_replay.proofs.Records.AskedLemmas.{IsProperAsked, IsTextOpened, IsProperIncoming}
 
@@ -58,11 +58,12 @@ change_step : (limits : LimitsData) (s : ServerData) (params : Option ChangeData
 change_step limits s None proper received = received
 change_step limits s (Some p) proper received =
     obeyed_held limits s (change_refusal s.config.limits (units_in (session_encoding s)) s.table p.uri p.version
-    (map edit_from_data p.changes)) _ received
+    (map content_change_from_data p.changes)) _ received
     (λ e.
     let none : change_refusal limits (units_in (session_encoding s)) s.table p.uri p.version
-    (map edit_from_data p.changes) ≡ None = rw received.limit at e in
-    within_change limits (units_in (session_encoding s)) s.table p.uri p.version (map edit_from_data p.changes)
+    (map content_change_from_data p.changes) ≡ None = rw received.limit at e in
+    within_change limits (units_in (session_encoding s)) s.table p.uri p.version
+    (map content_change_from_data p.changes)
     proper.texts received.table none)
 
 -- A step keeps it.

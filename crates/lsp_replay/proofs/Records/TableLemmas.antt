@@ -11,7 +11,7 @@ use Rattle.lsp_server.specs.Answer.{as_sent}
 use Rattle.lsp_server.specs.declared.phase.Phase.{Phase}
 use Rattle.lsp_server.specs.declared.phase.Phase.TheVariants.{New, Running, Down, Ended}
 use Rattle.lsp_server.specs.Incoming.{IncomingData, incoming_of, not_json, not_a_message, response, initialize, shutdown, other_request, exit, did_open, did_change, did_close, other_notification}
-use Rattle.lsp_server.specs.Step.{ServerData, Step, step_in, step_on, result_step, edit_from_data, session_encoding}
+use Rattle.lsp_server.specs.Step.{ServerData, Step, step_in, step_on, result_step, content_change_from_data, session_encoding}
 use Rattle.lsp_log.specs.declared.record.Sender.{Sender}
 use Rattle.lsp_log.specs.declared.record.Sender.TheVariants.{Client, Server}
 use Rattle.lsp_log.specs.declared.record.Version.{Version}
@@ -107,7 +107,7 @@ step_keeps Running uri s (did_open (Some p)) other =
 step_keeps Running uri s (did_change None) other = refl
 step_keeps Running uri s (did_change (Some p)) other =
     let units = units_in (session_encoding s) in
-    let batch = map edit_from_data p.changes in
+    let batch = map content_change_from_data p.changes in
     obeyed_keeps uri s (did_change (Some p)) (change_refusal s.config.limits units s.table p.uri p.version batch)
     (after_change units s.table p.uri p.version batch)
     (same_changed units s.table p.uri p.version batch uri) other

@@ -28,7 +28,7 @@ use Rattle.lsp_server.specs.Answer.{as_sent, changed, refused}
 use Rattle.lsp_server.specs.Incoming.{did_change, incoming_of}
 use Rattle.lsp_server.specs.Planned.{IsNotObeyed, IsPlanOfChange, IsPlannedAs, after_commit, store_of}
 use Rattle.lsp_server.specs.Seen.{answer_view}
-use Rattle.lsp_server.specs.Step.{ServerData, edit_from_data, session_encoding, step_on}
+use Rattle.lsp_server.specs.Step.{ServerData, content_change_from_data, session_encoding, step_on}
 use Rattle.lsp_stream.specs.Ports.{one_more}
 use Rattle.lsp_replay.specs.declared.session.joining.Writing.{Writing}
 use Rattle.lsp_replay.specs.declared.session.writing.Appended.{Appended}
@@ -301,10 +301,11 @@ module _ {T : Type 0} (Q : StoreFault → Type 0) where
 -- ---- what is read from the plan of an accepted change
 
 pub plan_on_store : (s t : StoreData) (p : ChangeData) (encoding : Encoding) (plan : Plan) → t ≡ s
-    → IsPlanOf s p.uri p.version encoding (map edit_from_data p.changes) plan
-    → IsPlanOf t p.uri p.version encoding (map edit_from_data p.changes) plan
+    → IsPlanOf s p.uri p.version encoding (map content_change_from_data p.changes) plan
+    → IsPlanOf t p.uri p.version encoding (map content_change_from_data p.changes) plan
 plan_on_store s t p encoding plan same q =
-    subst (λ (d : StoreData). IsPlanOf d p.uri p.version encoding (map edit_from_data p.changes) plan) (sym same) q
+    subst (λ (d : StoreData). IsPlanOf d p.uri p.version encoding (map content_change_from_data p.changes) plan)
+    (sym same) q
 
 on_same : (store : StoreData) (plan : Plan) (a b : IsPlanOn store plan) → a.entry ≡ b.entry
 on_same store plan a b = let both : Some a.entry ≡ Some b.entry = sym a.at ∙ b.at in cc
@@ -327,16 +328,16 @@ module _ (server : ServerData) (p : ChangeData) (plan : Plan) (q : IsPlanOfChang
         (Some a) old new)
         → IsAppended server.config.limits.max_body (change_body_if server p) (Some a) old new
     plan_written a old new appended =
-        let written = appended p.uri p.version (session_encoding server) (map edit_from_data p.changes)
+        let written = appended p.uri p.version (session_encoding server) (map content_change_from_data p.changes)
         (plan_on_store (store_of server) store p (session_encoding server) plan same q) in
         subst (λ (b : Option (List ℕ)). IsAppended server.config.limits.max_body b (Some a) old new) (sym plan_body_if)
         (subst (λ (d : StoreData). IsAppended d.limits.max_body
         (Some (canonical_body (units_in (session_encoding server)) d.table p.uri p.version
-        (map edit_from_data p.changes))) (Some a) old new) same written)
+        (map content_change_from_data p.changes))) (Some a) old new) same written)
 
     pub plan_kept : (Q : Type 0) → ((uri : List ℕ) (version : ℤ) (encoding : Encoding) (batch : List ContentChange)
         → IsPlanOf store uri version encoding batch plan → Q) → Q
-    plan_kept Q kept = kept p.uri p.version (session_encoding server) (map edit_from_data p.changes)
+    plan_kept Q kept = kept p.uri p.version (session_encoding server) (map content_change_from_data p.changes)
         (plan_on_store (store_of server) store p (session_encoding server) plan same q)
 
     pub plan_document : (document : DocumentItem) → ((on : IsPlanOn store plan) → document ≡ on.entry) → document
@@ -349,21 +350,22 @@ module _ (server : ServerData) (p : ChangeData) (plan : Plan) (q : IsPlanOfChang
 
   pub plan_framed : (bytes : List ℕ) → IsMessageOfPlan (store_of server) plan bytes → IsFramed server p bytes
   plan_framed bytes message =
-      let both = message p.uri p.version (session_encoding server) (map edit_from_data p.changes) q in
+      let both = message p.uri p.version (session_encoding server) (map content_change_from_data p.changes) q in
       record { is = both.0; within = within server.config.limits _ _ q.accepted both.1 }
 
   pub plan_too_long : (fault : StoreFault) → fault ≢ NoMemory → IsMessageFault (store_of server) plan fault
       → server.config.limits.max_body < length (canonical_change_body server p)
   plan_too_long fault other why =
       (over server.config.limits _ _ fault q.accepted other (why p.uri p.version (session_encoding server)
-      (map edit_from_data p.changes) q)).0
+      (map content_change_from_data p.changes) q)).0
 
   -- the batches that are open afterwards
   module _ (next : SquashData) where
     pub plan_begun : IsSquashOfPlan (store_of server) plan (squash_of server.config.limits (session_encoding server)
         q.on.entry) next → IsBegun server p next × IsOpenIn (server_after server p) next
     plan_begun added =
-        let both = added p.uri p.version (session_encoding server) (map edit_from_data p.changes) q refl refl in (
+        let both = added p.uri p.version (session_encoding server) (map content_change_from_data p.changes) q refl
+        refl in (
           is_begun server p q.on.entry q.is_open next both.0,
           begun_open server p q.on.entry q.is_open next both.0 both.1,
         )
@@ -372,10 +374,11 @@ module _ (server : ServerData) (p : ChangeData) (plan : Plan) (q : IsPlanOfChang
         → IsSquashOfPlan (store_of server) plan squash next → IsLonger (Some squash) p next
         × IsOpenIn (server_after server p) next
     plan_longer squash at same added =
-        let both = added p.uri p.version (session_encoding server) (map edit_from_data p.changes) q at.encoding
+        let both = added p.uri p.version (session_encoding server) (map content_change_from_data p.changes) q
+        at.encoding
         at.limits in
         let left = subst (λ (e : Encoding). HasReached next (changed_entry (units_in e) q.on.entry p.version
-        (map edit_from_data p.changes))) (sym at.encoding) both.1 in (
+        (map content_change_from_data p.changes))) (sym at.encoding) both.1 in (
           is_longer server p q.on.entry q.is_open squash next same both.0,
           longer_open server p q.on.entry q.is_open squash next at same both.0 left,
         )

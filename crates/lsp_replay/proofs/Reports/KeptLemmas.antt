@@ -12,7 +12,7 @@ use Rattle.lsp_server.specs.Answer.{as_sent}
 use Rattle.lsp_server.specs.declared.phase.Phase.{Phase}
 use Rattle.lsp_server.specs.declared.phase.Phase.TheVariants.{New, Running, Down, Ended}
 use Rattle.lsp_server.specs.Incoming.{IncomingData, not_json, not_a_message, response, initialize, shutdown, other_request, exit, did_open, did_change, did_close, other_notification}
-use Rattle.lsp_server.specs.Step.{ServerData, step_in, step_on, result_step, edit_from_data, session_encoding}
+use Rattle.lsp_server.specs.Step.{ServerData, step_in, step_on, result_step, content_change_from_data, session_encoding}
 use Rattle.lsp_log.specs.declared.record.Version.{Version}
 use Rattle.lsp_replay.specs.Session.{Session, bad, judged, counted, handled, is_ended, is_early, judge_client, judge_server, encoding_for}
 use Rattle.lsp_replay.specs.Parts.{last_text, last_text_in}
@@ -160,8 +160,9 @@ step_kept Running s uri (did_change (Some p)) =
     inr (
       refl,
       obeyed_stays s (change_refusal s.config.limits (units_in (session_encoding s)) s.table p.uri p.version
-          (map edit_from_data p.changes)) _ uri
-          (stays_changed (units_in (session_encoding s)) s.table p.uri p.version (map edit_from_data p.changes) uri),
+          (map content_change_from_data p.changes)) _ uri
+          (stays_changed (units_in (session_encoding s)) s.table p.uri p.version
+          (map content_change_from_data p.changes) uri),
     )
 step_kept Running s uri (did_close None) = same_table s.table uri (did_close None)
 step_kept Running s uri (did_close (Some p)) = close_kept s uri p (bytes_eq p.uri uri) refl

@@ -25,8 +25,8 @@ use Rattle.lsp_edit.specs.declared.indexed.fault.BatchFault.TheVariants.{NoMemor
 use Rattle.lsp_edit.proofs.Composing.AppliedLemmas.{ends_told}
 use Rattle.lsp_edit.proofs.Deltas.InPlaceLemmas.{range_fault, range_too_long, range_within, replaced_len}
 use Rattle.lsp_edit.proofs.Parts.CutLemmas.{text_of-new}
-use Rattle.lsp_message.specs.Seen.{edit_view}
-use Rattle.lsp_server.specs.Step.{edit_from_data}
+use Rattle.lsp_message.specs.Seen.{content_change_view}
+use Rattle.lsp_server.specs.Step.{content_change_from_data}
 use Rattle.lsp_replay.specs.declared.notes.Note.{Note}
 use Rattle.lsp_replay.specs.Notes.{Terms, batch_notes, change_notes, left_by, note_words, notes_after, notes_from, replaced_by, taken_as}
 
@@ -187,7 +187,8 @@ module _ (units : ℕ → ℕ) (text : List ℕ) (utf8 : IsUtf8 text) (range : R
     range_len fits = omega (arith, len, fits)
 
 -- A change, by what the reader returns of it.
-pub edits_read : (changes : List Change) → map edit_from_data (map edit_view changes) ≡ map content_change changes
+pub edits_read : (changes : List Change) → map content_change_from_data (map content_change_view changes)
+    ≡ map content_change changes
 edits_read [] = refl
 edits_read (change ∷ changes) = ap (λ (edits : List ContentChange). content_change change ∷ edits) (edits_read changes)
 

@@ -8,7 +8,7 @@ use Rattle.lsp_edit.proofs.Composing.EditedLemmas.{plain_text}
 use Rattle.lsp_message.specs.Params.{DocumentItem, ChangeData}
 use Rattle.lsp_store.specs.Squash.{squash_of}
 use Rattle.lsp_store.specs.Table.{entry_at}
-use Rattle.lsp_server.specs.Step.{ServerData, edit_from_data, session_encoding}
+use Rattle.lsp_server.specs.Step.{ServerData, content_change_from_data, session_encoding}
 use Rattle.lsp_log.specs.declared.record.Version.{Version}
 use Rattle.lsp_log.specs.declared.record.Sender.TheVariants.{Client}
 use Rattle.lsp_log.specs.Log.{Record, record_bytes, mark_of}
@@ -101,9 +101,9 @@ module _ (limits : LimitsData) (ranges : AreInRange limits) (at : ℕ) (version 
   done_out = is_done t q single.again single.accepted
 
   may_in : MayChange s.server.config.limits (units_in (session_encoding s.server)) s.server.table p.uri p.version
-      (map edit_from_data p.changes)
+      (map content_change_from_data p.changes)
   may_in = change_parts s.server.config.limits (units_in (session_encoding s.server)) s.server.table p.uri p.version
-      (map edit_from_data p.changes) a.may
+      (map content_change_from_data p.changes) a.may
 
   abbrev its_entry : DocumentItem
   its_entry = may_in.entry

@@ -22,7 +22,7 @@ use Rattle.lsp_server.specs.Answer.{changed}
 use Rattle.lsp_server.specs.declared.phase.Phase.{Phase}
 use Rattle.lsp_server.specs.declared.phase.Phase.TheVariants.{New, Running, Down, Ended}
 use Rattle.lsp_server.specs.Incoming.{did_change}
-use Rattle.lsp_server.specs.Step.{ServerData, edit_from_data, session_encoding}
+use Rattle.lsp_server.specs.Step.{ServerData, content_change_from_data, session_encoding}
 use Rattle.lsp_log.specs.declared.record.Version.{Version}
 use Rattle.lsp_replay.specs.declared.session.joining.Writing.{Writing}
 use Rattle.lsp_replay.specs.declared.session.joining.Writing.TheVariants.{AsItIs, TooLong, Continues, Begins}
@@ -187,54 +187,57 @@ module _ (server : ServerData) (p : ChangeData) (entry : DocumentItem)
   -- the document that is open then
   left : (squash next : SquashData) → squash.uri ≡ p.uri → squash.limits ≡ server.config.limits → squash.encoding
       ≡ session_encoding server
-      → IsSquashAfter squash p.version (map edit_from_data p.changes) next
-      → HasReached next (changed_entry (units_in squash.encoding) entry p.version (map edit_from_data p.changes))
+      → IsSquashAfter squash p.version (map content_change_from_data p.changes) next
+      → HasReached next (changed_entry (units_in squash.encoding) entry p.version
+      (map content_change_from_data p.changes))
       → IsOpenIn (server_after server p) next
   left squash next uri limits encoding adds reached = record {
-    entry = changed_entry (units_in (session_encoding server)) entry p.version (map edit_from_data p.changes);
+    entry = changed_entry (units_in (session_encoding server)) entry p.version (map content_change_from_data p.changes);
     is_open =
         ap (λ (u : List ℕ). entry_at (server_after server p).table u) (ap (λ (k : SquashData). k.uri) adds.is ∙ uri)
-        ∙ found_changed (units_in (session_encoding server)) server.table p.uri p.version (map edit_from_data p.changes)
+        ∙ found_changed (units_in (session_encoding server)) server.table p.uri p.version
+        (map content_change_from_data p.changes)
         entry found;
     reached = subst (λ (e : Encoding). HasReached next
-        (changed_entry (units_in e) entry p.version (map edit_from_data p.changes))) encoding reached;
+        (changed_entry (units_in e) entry p.version (map content_change_from_data p.changes))) encoding reached;
     limits = ap (λ (k : SquashData). k.limits) adds.is ∙ limits;
     encoding = ap (λ (k : SquashData). k.encoding) adds.is ∙ encoding;
   }
 
   pub longer_open : (squash next : SquashData) → IsOpenIn server squash → p.uri ≡ squash.uri
-      → IsSquashAfter squash p.version (map edit_from_data p.changes) next
-      → HasReached next (changed_entry (units_in squash.encoding) entry p.version (map edit_from_data p.changes))
+      → IsSquashAfter squash p.version (map content_change_from_data p.changes) next
+      → HasReached next (changed_entry (units_in squash.encoding) entry p.version
+      (map content_change_from_data p.changes))
       → IsOpenIn (server_after server p) next
   longer_open squash next at same adds reached = left squash next (sym same) at.limits at.encoding adds reached
 
   pub is_longer : (squash next : SquashData) → p.uri ≡ squash.uri
-      → IsSquashAfter squash p.version (map edit_from_data p.changes) next → IsLonger (Some squash) p next
+      → IsSquashAfter squash p.version (map content_change_from_data p.changes) next → IsLonger (Some squash) p next
   is_longer squash next same adds = record {
     before = squash;
     open_one = refl;
     same = (bytes_eq-Decides p.uri squash.uri).1 same;
-    joined = after_is squash p.version (map edit_from_data p.changes) next adds;
+    joined = after_is squash p.version (map content_change_from_data p.changes) next adds;
   }
 
   pub begun_open : (next : SquashData) → IsSquashAfter (squash_of server.config.limits (session_encoding server) entry)
-      p.version (map edit_from_data p.changes) next
+      p.version (map content_change_from_data p.changes) next
       → HasReached next (changed_entry (units_in (session_encoding server)) entry p.version
-      (map edit_from_data p.changes)) → IsOpenIn (server_after server p) next
+      (map content_change_from_data p.changes)) → IsOpenIn (server_after server p) next
   begun_open next adds reached = left (squash_of server.config.limits (session_encoding server) entry) next
       (uri_at server.table p.uri entry found) refl refl adds reached
 
   pub is_begun : (next : SquashData) → IsSquashAfter (squash_of server.config.limits (session_encoding server) entry)
-      p.version (map edit_from_data p.changes) next → IsBegun server p next
+      p.version (map content_change_from_data p.changes) next → IsBegun server p next
   is_begun next adds = record {
     entry = entry;
     is_open = found;
     joined = after_is (squash_of server.config.limits (session_encoding server) entry) p.version
-        (map edit_from_data p.changes) next adds;
+        (map content_change_from_data p.changes) next adds;
   }
 
   pub accepts : refusal_of server p ≡ None → entry_refusal server.config.limits (units_in (session_encoding server))
-      entry p.version (map edit_from_data p.changes) ≡ None
+      entry p.version (map content_change_from_data p.changes) ≡ None
   accepts may = rw found at may
 
 -- the open document of a series is the one that is found

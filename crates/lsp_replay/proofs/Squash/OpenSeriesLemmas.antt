@@ -21,7 +21,7 @@ use Rattle.lsp_store.specs.Squash.{SquashData, items_meant, squash_batch, squash
 use Rattle.lsp_store.proofs.Messages.MessageLemmas.{Accepts, accepted_parts}
 use Rattle.lsp_store.proofs.Messages.ScalarLemmas.{scalar-meaning, scalar-text}
 use Rattle.lsp_store.specs.laws.Tables.{IsWithin}
-use Rattle.lsp_server.specs.Step.{ServerData, edit_from_data, session_encoding}
+use Rattle.lsp_server.specs.Step.{ServerData, content_change_from_data, session_encoding}
 use Rattle.lsp_replay.specs.inside.Joining.{refusal_of, server_after}
 use Rattle.lsp_replay.specs.inside.Squashed.{joined_by}
 use Rattle.lsp_replay.proofs.Records.AskedLemmas.{IsProperAsked}
@@ -77,9 +77,10 @@ left_chars units text batch items utf8 texts means =
 
 module _ (t : ServerData) (p : ChangeData) (entry : DocumentItem) (found : entry_at t.table p.uri ≡ Some entry)
     (received : IsWithin t.config.limits entry) (proper : IsProperAsked p) (may : refusal_of t p ≡ None) where
-  begun_accepts : Accepts t.config.limits (units_in (session_encoding t)) entry p.version (map edit_from_data p.changes)
+  begun_accepts : Accepts t.config.limits (units_in (session_encoding t)) entry p.version
+      (map content_change_from_data p.changes)
   begun_accepts = accepted_parts t.config.limits (units_in (session_encoding t)) entry p.version
-      (map edit_from_data p.changes) (rw found at may)
+      (map content_change_from_data p.changes) (rw found at may)
 
   abbrev begun_squash : SquashData
   begun_squash = joined_by p (squash_of t.config.limits (session_encoding t) entry)
@@ -87,10 +88,11 @@ module _ (t : ServerData) (p : ChangeData) (entry : DocumentItem) (found : entry
   begun_items : begun_squash.items ≡ begun_accepts.items
   begun_items =
       ap (λ x. then_items (plain (chars entry.text))
-      (items_meant (meaning (units_in (session_encoding t)) x (map edit_from_data p.changes))))
+      (items_meant (meaning (units_in (session_encoding t)) x (map content_change_from_data p.changes))))
       (plain_text (chars entry.text))
       ∙ ap (λ m. then_items (plain (chars entry.text)) (items_meant m)) begun_accepts.means
-      ∙ plain_then (units_in (session_encoding t)) (chars entry.text) (map edit_from_data p.changes) begun_accepts.items
+      ∙ plain_then (units_in (session_encoding t)) (chars entry.text) (map content_change_from_data p.changes)
+      begun_accepts.items
       begun_accepts.means
 
   same_uri : entry.uri ≡ p.uri
@@ -102,7 +104,7 @@ module _ (t : ServerData) (p : ChangeData) (entry : DocumentItem) (found : entry
     found = ap (entry_at t.table) same_uri ∙ found;
     received = received;
     is = refl;
-    batch = map edit_from_data p.changes;
+    batch = map content_change_from_data p.changes;
     means = begun_accepts.means ∙ ap Ok (sym begun_items);
     texts = proper.texts;
     newer = begun_accepts.newer;
@@ -112,7 +114,8 @@ module _ (t : ServerData) (p : ChangeData) (entry : DocumentItem) (found : entry
     version = proper.version;
     now_is =
         ap (λ (table : List DocumentItem). record t { table = table })
-        (change_puts (units_in (session_encoding t)) t.table p.uri p.version (map edit_from_data p.changes) entry found
+        (change_puts (units_in (session_encoding t)) t.table p.uri p.version
+        (map content_change_from_data p.changes) entry found
         ∙ ap (λ m. put t.table p.uri p.version (meant_text entry.text m)) begun_accepts.means
         ∙ ap (λ items. put t.table p.uri p.version (bytes_left entry.text items)) (sym begun_items)
         ∙ ap (λ u. put t.table u p.version (bytes_left entry.text begun_squash.items)) (sym same_uri));
@@ -157,29 +160,31 @@ module _ (t : ServerData) (squash : SquashData) (now : ServerData) (from : IsOpe
   may_now = subst (λ (s : ServerData). refusal_of s p ≡ None) from.now_is may
 
   accepts_now : Accepts t.config.limits (units_in (session_encoding t)) reached_now p.version
-      (map edit_from_data p.changes)
+      (map content_change_from_data p.changes)
   accepts_now = accepted_parts t.config.limits (units_in (session_encoding t)) reached_now p.version
-      (map edit_from_data p.changes) (rw found_now at may_now)
+      (map content_change_from_data p.changes) (rw found_now at may_now)
 
   chars_now : chars reached_text ≡ text_of (chars from.entry.text) squash.items
   chars_now = left_chars (units_in (session_encoding t)) from.entry.text from.batch squash.items from.received.utf8
       from.texts from.means
 
   means_now : meaning (units_in (session_encoding t)) (text_of (chars from.entry.text) squash.items)
-      (map edit_from_data p.changes) ≡ Ok accepts_now.items
-  means_now = ap (λ x. meaning (units_in (session_encoding t)) x (map edit_from_data p.changes)) (sym chars_now)
+      (map content_change_from_data p.changes) ≡ Ok accepts_now.items
+  means_now = ap (λ x. meaning (units_in (session_encoding t)) x (map content_change_from_data p.changes))
+      (sym chars_now)
       ∙ accepts_now.means
 
   abbrev longer_squash : SquashData
   longer_squash = joined_by p squash
 
   items_in : (k : SquashData) → k ≡ squash
-      → items_meant (meaning (units_in k.encoding) (text_of (chars k.text) squash.items) (map edit_from_data p.changes))
+      → items_meant (meaning (units_in k.encoding) (text_of (chars k.text) squash.items)
+      (map content_change_from_data p.changes))
       ≡ items_meant (meaning (units_in squash.encoding) (text_of (chars squash.text) squash.items)
-      (map edit_from_data p.changes))
+      (map content_change_from_data p.changes))
   items_in k e =
       ap (λ (x : SquashData). items_meant (meaning (units_in x.encoding) (text_of (chars x.text) squash.items)
-      (map edit_from_data p.changes))) e
+      (map content_change_from_data p.changes))) e
 
   longer_items : longer_squash.items ≡ then_items squash.items accepts_now.items
   longer_items =
@@ -200,10 +205,11 @@ module _ (t : ServerData) (squash : SquashData) (now : ServerData) (from : IsOpe
     found = from.found;
     received = from.received;
     is = ap (λ (k : SquashData). with_items k longer_squash.items longer_squash.version) from.is;
-    batch = from.batch ++ map edit_from_data p.changes;
-    means = then_means (units_in (session_encoding t)) (chars from.entry.text) from.batch (map edit_from_data p.changes)
+    batch = from.batch ++ map content_change_from_data p.changes;
+    means = then_means (units_in (session_encoding t)) (chars from.entry.text) from.batch
+        (map content_change_from_data p.changes)
         squash.items accepts_now.items from.means means_now ∙ ap Ok (sym longer_items);
-    texts = texts_more from.batch (map edit_from_data p.changes) from.texts proper.texts;
+    texts = texts_more from.batch (map content_change_from_data p.changes) from.texts proper.texts;
     newer = newer_still t.config.limits.lenient p.version squash.version from.entry.version accepts_now.newer
         from.newer;
     short = subst (λ (text : List ℕ). length text ≤ t.config.limits.max_text) left_now accepts_now.short;
@@ -212,7 +218,7 @@ module _ (t : ServerData) (squash : SquashData) (now : ServerData) (from : IsOpe
     now_is =
         ap (λ (s : ServerData). server_after s p) from.now_is
         ∙ ap (λ (table : List DocumentItem). record t { table = table })
-        (change_puts (units_in (session_encoding t)) next.table p.uri p.version (map edit_from_data p.changes)
+        (change_puts (units_in (session_encoding t)) next.table p.uri p.version (map content_change_from_data p.changes)
         reached_now found_now
         ∙ ap (λ m. put next.table p.uri p.version (meant_text reached_text m)) accepts_now.means
         ∙ ap (λ u. put next.table u p.version (bytes_left reached_text accepts_now.items)) uri_is

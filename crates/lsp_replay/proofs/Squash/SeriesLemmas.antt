@@ -11,7 +11,7 @@ use Rattle.lsp_store.proofs.GreaterLemmas.{change_parts}
 use Rattle.lsp_text.specs.Units.{units_in}
 use Rattle.lsp_server.specs.Answer.{reply, changed, dropped, ignored, refused, exits, already_ended}
 use Rattle.lsp_server.specs.Incoming.{incoming_of}
-use Rattle.lsp_server.specs.Step.{edit_from_data, session_encoding}
+use Rattle.lsp_server.specs.Step.{content_change_from_data, session_encoding}
 use Rattle.lsp_stream.specs.declared.fault.EngineFault.TheVariants.{BodyTooLong}
 use Rattle.lsp_log.specs.Log.{Record}
 use Rattle.lsp_replay.specs.RunOutput.{RunOutput, written_first}
@@ -94,7 +94,7 @@ open_at : (s : Session) (r : Record) (p : ChangeData) → change_in (incoming_of
 open_at s r p is accepts =
     let a = was_accepted s r p is accepts in
     let may = change_parts s.server.config.limits (units_in (session_encoding s.server)) s.server.table p.uri p.version
-    (map edit_from_data p.changes) a.may in
+    (map content_change_from_data p.changes) a.may in
     (may.entry, may.is_open)
 
 -- `later` says it of the records after this one.

@@ -24,7 +24,7 @@ use Rattle.lsp_store.proofs.GreaterLemmas.{MayChange, change_parts}
 use Rattle.lsp_store.proofs.Messages.MessageLemmas.{Accepts, accepted_parts}
 use Rattle.lsp_store.specs.laws.Tables.{IsWithin}
 use Rattle.lsp_server.specs.Incoming.{incoming_of}
-use Rattle.lsp_server.specs.Step.{edit_from_data, session_encoding}
+use Rattle.lsp_server.specs.Step.{content_change_from_data, session_encoding}
 use Rattle.lsp_log.specs.declared.record.Version.{Version}
 use Rattle.lsp_log.specs.Log.{Record, IsRecord}
 use Rattle.lsp_replay.specs.Commands.{canonical_change_body}
@@ -64,9 +64,9 @@ module _ (limits : LimitsData) (ranges : AreInRange limits) (at : ℕ) (version 
     (a : IsAccepted s r p) (fits : length (canonical_change_body s.server p) ≤ s.server.config.limits.max_body)
     (of_version : r.head.version ≡ version) (same_due : r.head.line_due ≡ due) where
   may : MayChange s.server.config.limits (units_in (session_encoding s.server)) s.server.table p.uri p.version
-      (map edit_from_data p.changes)
+      (map content_change_from_data p.changes)
   may = change_parts s.server.config.limits (units_in (session_encoding s.server)) s.server.table p.uri p.version
-      (map edit_from_data p.changes) a.may
+      (map content_change_from_data p.changes) a.may
 
   abbrev entry : DocumentItem
   entry = may.entry
@@ -75,16 +75,16 @@ module _ (limits : LimitsData) (ranges : AreInRange limits) (at : ℕ) (version 
   entry_held = within_at limits s.server.table p.uri entry received.table may.is_open
 
   accepts : Accepts s.server.config.limits (units_in (session_encoding s.server)) entry p.version
-      (map edit_from_data p.changes)
+      (map content_change_from_data p.changes)
   accepts = accepted_parts s.server.config.limits (units_in (session_encoding s.server)) entry p.version
-      (map edit_from_data p.changes) may.may
+      (map content_change_from_data p.changes) may.may
 
-  law : IsCanonical (units_in (session_encoding s.server)) (chars entry.text) (map edit_from_data p.changes)
+  law : IsCanonical (units_in (session_encoding s.server)) (chars entry.text) (map content_change_from_data p.changes)
       accepts.items
   law = canonical_law (units_in (session_encoding s.server)) (units_some (session_encoding s.server)) (chars entry.text)
-      (map edit_from_data p.changes) accepts.items accepts.means
+      (map content_change_from_data p.changes) accepts.items accepts.means
 
-  proper_at : IsProperAt s.server p.uri p.version entry (map edit_from_data p.changes) accepts.items
+  proper_at : IsProperAt s.server p.uri p.version entry (map content_change_from_data p.changes) accepts.items
   proper_at =
       let proper = proper_change r p a.asks in
       record {
@@ -102,7 +102,7 @@ module _ (limits : LimitsData) (ranges : AreInRange limits) (at : ℕ) (version 
       }
 
   message : IsCanonicalChange s.server p.uri p.version entry accepts.items
-  message = is_canonical_change s.server p.uri p.version entry (map edit_from_data p.changes) accepts.items
+  message = is_canonical_change s.server p.uri p.version entry (map content_change_from_data p.changes) accepts.items
       (subst AreInRange (sym received.limit) ranges) proper_at
 
   abbrev again : ChangeData
@@ -124,12 +124,12 @@ module _ (limits : LimitsData) (ranges : AreInRange limits) (at : ℕ) (version 
       ap (λ e. record squash {
         items = then_items squash.items
             (items_meant (meaning (units_in e) (text_of (chars squash.text) squash.items)
-            (map edit_from_data p.changes)));
+            (map content_change_from_data p.changes)));
         version = p.version;
       }) encoding
       ∙ ap (λ x. record squash {
         items = then_items squash.items
-            (items_meant (meaning (units_in (session_encoding s.server)) x (map edit_from_data p.changes)));
+            (items_meant (meaning (units_in (session_encoding s.server)) x (map content_change_from_data p.changes)));
         version = p.version;
       }) text
       ∙ ap (λ m. record squash { items = then_items squash.items (items_meant m); version = p.version }) accepts.means
@@ -167,5 +167,5 @@ module _ (limits : LimitsData) (ranges : AreInRange limits) (at : ℕ) (version 
       same_leaves =
           ap (λ table. record s.server { table = table })
           (change_puts (units_in (session_encoding s.server)) s.server.table p.uri p.version
-          (map edit_from_data p.changes) entry may.is_open
+          (map content_change_from_data p.changes) entry may.is_open
           ∙ ap (λ m. put s.server.table p.uri p.version (meant_text entry.text m)) accepts.means)

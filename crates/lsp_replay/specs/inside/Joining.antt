@@ -7,7 +7,7 @@ use Rattle.lsp_store.specs.Squash.{SquashData, HasReached, squash_of}
 use Rattle.lsp_store.specs.Table.{Refusal, after_change, change_refusal, entry_at}
 use Rattle.lsp_text.specs.Units.{units_in}
 use Rattle.lsp_server.specs.Answer.{changed}
-use Rattle.lsp_server.specs.Step.{ServerData, edit_from_data, session_encoding}
+use Rattle.lsp_server.specs.Step.{ServerData, content_change_from_data, session_encoding}
 use Rattle.lsp_replay.specs.declared.session.joining.Writing.{Writing}
 use Rattle.lsp_replay.specs.declared.session.joining.Writing.TheVariants.{AsItIs, TooLong, Continues, Begins}
 use Rattle.lsp_replay.specs.Commands.{canonical_if, canonical_change_body}
@@ -34,7 +34,7 @@ MayBeOpenIn server (Some squash) = IsOpenIn server squash
 abbrev pub refusal_of : ServerData → ChangeData → Option Refusal
 refusal_of server p
     = change_refusal server.config.limits (units_in (session_encoding server)) server.table p.uri
-    p.version (map edit_from_data p.changes)
+    p.version (map content_change_from_data p.changes)
 
 -- The server after the change.
 abbrev pub server_after : ServerData → ChangeData → ServerData
@@ -42,7 +42,7 @@ server_after server p
     = record server {
       table
           = after_change (units_in (session_encoding server)) server.table p.uri p.version
-          (map edit_from_data p.changes);
+          (map content_change_from_data p.changes);
     }
 
 -- The canonical body of a change, unless the server refuses the change.

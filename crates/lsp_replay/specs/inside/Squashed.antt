@@ -9,7 +9,7 @@ use Rattle.lsp_message.specs.Params.{DocumentItem, ChangeData}
 use Rattle.lsp_store.specs.Squash.{SquashData, squash_of, squash_after, squash_frame, squash_refusal}
 use Rattle.lsp_store.specs.Table.{Refusal, entry_at}
 use Rattle.lsp_server.specs.Incoming.{incoming_of}
-use Rattle.lsp_server.specs.Step.{ServerData, session_encoding, edit_from_data}
+use Rattle.lsp_server.specs.Step.{ServerData, session_encoding, content_change_from_data}
 use Rattle.lsp_server.specs.Answer.{changed}
 use Rattle.lsp_replay.specs.declared.commands.Settings.{Settings}
 use Rattle.lsp_replay.specs.declared.outcome.Outcome.{Outcome}
@@ -48,7 +48,7 @@ end_bytes (Some series) = open_bytes series
 
 -- The batch of a change, after the batches of a squash.
 abbrev pub joined_by : ChangeData → SquashData → SquashData
-joined_by p squash = squash_after squash p.version (map edit_from_data p.changes)
+joined_by p squash = squash_after squash p.version (map content_change_from_data p.changes)
 
 -- A series that a change begins, on the document before it. `single` is the record as it is written
 -- without squash.

@@ -24,7 +24,7 @@ use Rattle.lsp_edit.specs.laws.Batches.{IsCanonical}
 use Rattle.lsp_edit.specs.Indexed.{bytes_left}
 use Rattle.lsp_message.specs.Outgoing.{OutgoingData, initialize, initialized, did_open, did_change, did_close, shutdown, exit, initialize_result, shutdown_result, error_reply, body_of}
 use Rattle.lsp_message.specs.Params.{DocumentItem, ContentChangeData}
-use Rattle.lsp_message.specs.Seen.{edit_view}
+use Rattle.lsp_message.specs.Seen.{content_change_view}
 use Rattle.lsp_message.specs.Seen as seen
 use Rattle.lsp_message.specs.laws.Sent.{IsProper, IsReadAsSent, IsReadBack}
 use Rattle.lsp_message.specs.Written.{change_params}
@@ -32,7 +32,7 @@ use Rattle.lsp_store.specs.declared.fault.StoreFault.{StoreFault}
 use Rattle.lsp_store.specs.declared.fault.StoreFault.TheVariants.{NoMemory}
 use Rattle.lsp_store.specs.Faults.{store_fault_of_encode, IsRefusal}
 use Rattle.lsp_store.specs.Table.{IsLeftToMeaning, Refusal, stale_version, too_many_changes, text_too_long, edit, batch_bytes, greatest_batch, entry_at, entry_refusal, change_refusal, after_change, changed, is_stale, meaning_refusal}
-use Rattle.lsp_store.specs.Message.{AreTexts, DoAlike, IsCanonicalOn, IsReadAgain, IsCanonicalOf, body_refusal, canonical_batch, canonical_body, canonical_frame, change_body, change_message, else_refused, message_refusal, written_edit}
+use Rattle.lsp_store.specs.Message.{AreTexts, DoAlike, IsCanonicalOn, IsReadAgain, IsCanonicalOf, body_refusal, canonical_batch, canonical_body, canonical_frame, change_body, change_message, else_refused, message_refusal, written_content_change}
 use Rattle.lsp_store.proofs.Messages.FrameLemmas.{frame_one}
 use Rattle.lsp_store.proofs.Messages.ProperLemmas.{bytes_sum, canonical_proper}
 use Rattle.lsp_store.proofs.Tables.RefusalLemmas.{refused_meaning}
@@ -41,13 +41,14 @@ use Rattle.lsp_store.proofs.Messages.ScalarLemmas.{canonical_texts}
 -- ---- what is written
 
 -- changes as they are held are written as their edits are
-written_same : (changes : List Change) → map edit_view changes ≡ map written_edit (map content_change changes)
+written_same : (changes : List Change) → map content_change_view changes
+    ≡ map written_content_change (map content_change changes)
 written_same [] = refl
 written_same (c ∷ changes) = rw (encodes-chars (string_bytes c.text) (IsUtf8-string_bytes c.text), written_same changes)
     refl
 
 pub body_written : (uri given : List ℕ) (version error : ℤ) (changes : List Change) → uri ≡ given → error ≡ version
-    → body_of (did_change (record { uri = uri; version = error; changes = map edit_view changes }))
+    → body_of (did_change (record { uri = uri; version = error; changes = map content_change_view changes }))
     ≡ change_body given version (map content_change changes)
 unfolding change_body
 body_written uri given version error changes same is = rw (same, is, written_same changes) refl
@@ -95,13 +96,14 @@ changes_in (initialize_result id encoding kind) = []
 changes_in (shutdown_result id) = []
 changes_in (error_reply id error) = []
 
-written_one : (batch other : List ContentChange) → map written_edit batch ≡ map written_edit other → batch ≡ other
+written_one : (batch other : List ContentChange) → map written_content_change batch
+    ≡ map written_content_change other → batch ≡ other
 written_one [] [] e = refl
 written_one [] (d ∷ other) e = absurd (cc)
 written_one (c ∷ batch) [] e = absurd (cc)
 written_one (c ∷ batch) (d ∷ other) e =
-    let first : written_edit c ≡ written_edit d = cc in
-    let rest : map written_edit batch ≡ map written_edit other = cc in
+    let first : written_content_change c ≡ written_content_change d = cc in
+    let rest : map written_content_change batch ≡ map written_content_change other = cc in
     let range : c.range ≡ d.range = ap (λ (x : ContentChangeData). x.range) first in
     let text : c.text ≡ d.text = encodes_same c.text d.text (ap (λ (x : ContentChangeData). x.text) first) in
     let same : c ≡ d = λ i. record { range = range i; text = text i } in
@@ -416,7 +418,7 @@ module _ (limits : LimitsData) (encoding : Encoding) (table : List DocumentItem)
               change_params (record {
                 uri = uri;
                 version = version;
-                changes = map written_edit (canonical (units_in encoding) (chars entry.text) a.items);
+                changes = map written_content_change (canonical (units_in encoding) (chars entry.text) a.items);
               });
           as_sent = read_as m p;
           back = read_back m p;

@@ -15,7 +15,7 @@ use Rattle.lsp_edit.specs.Batch.{ContentChange}
 use Rattle.lsp_edit.specs.Canonical.{Gap, gaps, is_changed, change_of_gap, canonical}
 use Rattle.lsp_edit.specs.laws.Batches.{AllHaveExactEnds, HasExactEnds}
 use Rattle.lsp_message.specs.laws.Sent.{IsProperPosition, IsProperRange, IsProperEdit}
-use Rattle.lsp_store.specs.Message.{AreTexts, written_edit}
+use Rattle.lsp_store.specs.Message.{AreTexts, written_content_change}
 
 -- a text has as many bytes as its characters weigh, and at least as many bytes as characters
 pub bytes_sum : (text : List ℕ) → length (encode_utf8_all text) ≡ sum_by len_utf8 text
@@ -87,16 +87,16 @@ module _ (units : ℕ → ℕ) (few : (c : ℕ) → units c ≤ len_utf8 c) (old
       (cases_Bool (is_changed g))
 
   all_proper : (batch : List ContentChange) → RangesFit batch → AreTexts batch
-      → All IsProperEdit (map written_edit batch)
+      → All IsProperEdit (map written_content_change batch)
   all_proper [] fit texts = All-nil IsProperEdit
   all_proper (change ∷ batch) fit texts =
-      All-cons IsProperEdit (written_edit change) (map written_edit batch) (record {
+      All-cons IsProperEdit (written_content_change change) (map written_content_change batch) (record {
         range = fit.0;
         text = (change.text, (texts.0, refl));
       }) (all_proper batch fit.1 texts.1)
 
   pub canonical_proper : (items : List Item) → AllHaveExactEnds old (gaps old items)
-      → AreTexts (canonical units old items) → All IsProperEdit (map written_edit (canonical units old items))
+      → AreTexts (canonical units old items) → All IsProperEdit (map written_content_change (canonical units old items))
   canonical_proper items ends texts =
       all_proper (canonical units old items)
       (fit-reverse (map (change_of_gap units old) (filter is_changed (gaps old items))) (fit-gaps

@@ -4,7 +4,7 @@ use Rattle.serde_json.specs.Find.{get_member}
 use Rattle.serde_json.specs.View.{members_view, items_view}
 use Rattle.lsp_message.specs.Values.{text_in}
 use Rattle.lsp_message.specs.Params.{version_in}
-use Rattle.lsp_message.specs.inside.Params.{edits_in}
+use Rattle.lsp_message.specs.inside.Params.{content_changes_in}
 use Rattle.lsp_message.proofs.Memory.{has_edits, has_changes}
 use Rattle.lsp_message.proofs.params.change_by.Goals as goal
 
@@ -15,5 +15,5 @@ returns-in_err-changes-clause-memory c = λ e.
     search rules in
     let some : 0 < length c.args.changes.items =
     omega (arith, c.args.changes.ok, c.in_err-changes.ensures.memory (search rules)) in
-    has_changes _ _ (edits_in (items_view c.args.changes.items)) uri version
+    has_changes _ _ (content_changes_in (items_view c.args.changes.items)) uri version
     (has_edits c.args.changes.items some (c.in_err-changes.ensures.good (search rules)))

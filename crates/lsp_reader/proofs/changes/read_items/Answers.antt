@@ -2,7 +2,7 @@ use Rattle.std.proofs.Common.{◌≡◌, ◌-◌, ◌<◌, ◌∷◌, ◌++◌, 
 use Rattle.json.specs.Json.{parse_map, after_end_array}
 use Rattle.serde_json.specs.Data.{no_items}
 use Rattle.lsp_message.specs.Params.{content_change_in}
-use Rattle.lsp_message.specs.Seen.{edit_view}
+use Rattle.lsp_message.specs.Seen.{content_change_view}
 use Rattle.lsp_reader.specs.inside.Reading.{items_at}
 use Rattle.lsp_reader.proofs.Grammar.{items_at-more, items_at-refused, items_at-end}
 use Rattle.lsp_reader.proofs.Growing.{items_before, each_of-items_before, one_more_item, with_edit, without_edit, map_push}
@@ -28,18 +28,22 @@ items-preserved-in-Continue-branch-3 c =
     let read = done.ok in
     let less : length r < length l.reader = rw (← going.1) done.shorter in
     let turn = items_at-more depth n l.reader r read.0 (omega (arith, l.invariant.2)) going.0 (rw (← going.1) read.1) in
-    let edit : Some (edit_view c.in-Some.change) ≡ content_change_in read.0 = ap (option_map edit_view)
+    let edit : Some (content_change_view c.in-Some.change) ≡ content_change_in read.0 = ap
+    (option_map content_change_view)
     (sym c.in-Some.is)
     ∙ read.2 in
-    let longer : map edit_view c.push.new.self.items ≡ map edit_view l.found.items ++ edit_view c.in-Some.change ∷ [] =
-    ap (map edit_view) c.in_ok-push-in-Some.ensures.items ∙ map_push edit_view l.found.items c.in-Some.change in (
+    let longer : map content_change_view c.push.new.self.items ≡ map content_change_view l.found.items
+    ++ content_change_view c.in-Some.change ∷ [] =
+    ap (map content_change_view) c.in_ok-push-in-Some.ensures.items ∙ map_push content_change_view l.found.items
+    c.in-Some.change in (
       n - 1,
       before ++ read.0 ∷ [],
       omega (arith, l.invariant.2),
       l.invariant.3 ∙ ap (parse_map (items_before before)) turn ∙ one_more_item before read.0
           (items_at depth (n - 1) r),
       omega (arith, l.invariant.4),
-      rw longer (with_edit l.all_changes (map edit_view l.found.items) (edit_view c.in-Some.change) before read.0
+      rw longer (with_edit l.all_changes (map content_change_view l.found.items)
+          (content_change_view c.in-Some.change) before read.0
           l.invariant.5 edit),
     )
 
@@ -55,7 +59,7 @@ items-preserved c =
     let read = done.ok in
     let less : length r < length l.reader = rw (← going.1) done.shorter in
     let turn = items_at-more depth n l.reader r read.0 (omega (arith, l.invariant.2)) going.0 (rw (← going.1) read.1) in
-    let none : None ≡ content_change_in read.0 = ap (option_map edit_view) (sym c.in-None.is) ∙ read.2 in (
+    let none : None ≡ content_change_in read.0 = ap (option_map content_change_view) (sym c.in-None.is) ∙ read.2 in (
       n - 1,
       before ++ read.0 ∷ [],
       omega (arith, l.invariant.2),

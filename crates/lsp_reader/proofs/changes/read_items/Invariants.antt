@@ -1,7 +1,7 @@
 use Rattle.std.proofs.Common.{◌≡◌, ℕ, ◌≤◌, List, length, map, Some, None, if◌then◌else◌}
 use Rattle.json.specs.Json.{parse_map}
 use Rattle.serde_json.specs.Data.{Data}
-use Rattle.lsp_message.specs.Seen.{edit_view}
+use Rattle.lsp_message.specs.Seen.{content_change_view}
 use Rattle.lsp_reader.specs.inside.Reading.{items_at}
 use Rattle.lsp_reader.proofs.Growing.{items_before, edits_list}
 use Rattle.lsp_reader.proofs.changes.read_items.Given as goal
@@ -12,7 +12,7 @@ invariant-items l =
     × (items_at l.depth (length l.initial.reader) l.initial.reader ≡ parse_map (items_before before)
     (items_at l.depth n l.reader))
     × (length l.reader ≤ length l.initial.reader)
-    × ((if l.all_changes then Some (map edit_view l.found.items) else None) ≡ edits_list before)
+    × ((if l.all_changes then Some (map content_change_view l.found.items) else None) ≡ edits_list before)
 
 abbrev pub decreases-items : goal.decreases-items
 decreases-items l = length l.reader

@@ -9,5 +9,5 @@ returns-clause-tokens c =
     let version : to_z w32 (of_z w32 number) ≡ number = to_z-of_z w32 number (search rules) in
     rw (sym version)
     (ending c.end_object.result
-    (λ e. put c.in_ok-begin_object.ensures (put c.in_ok-key.ensures (add c.in_ok-edits_value.ensures.tokens
+    (λ e. put c.in_ok-begin_object.ensures (put c.in_ok-key.ensures (add c.in_ok-content_changes_value.ensures.tokens
     (put c.in_ok-key-2.ensures (add c.in_ok-versioned_document.ensures.tokens e))))) c.end_object.ensures)

@@ -6,7 +6,7 @@ use Rattle.std.proofs.Common.{Vec, Global}
 use Rattle.lsp_edit.specs.declared.change.Change.{Change}
 use Rattle.lsp_message.specs.Values.{members_in, array_in, each_of}
 use Rattle.lsp_message.specs.Params.{content_change_in}
-use Rattle.lsp_message.specs.Seen.{edit_view}
+use Rattle.lsp_message.specs.Seen.{content_change_view}
 use Rattle.lsp_reader.specs.declared.document.DocumentMembers.{DocumentMembers}
 use Rattle.lsp_reader.specs.inside.Members.{IsDocumentIn}
 use Rattle.lsp_reader.proofs.Puts.{put_here, put_apart, put_elsewhere}
@@ -16,7 +16,8 @@ abbrev is_0 : Option DocumentMembers → Option Data → Type 0
 is_0 x v = IsDocumentIn x (members_in v)
 
 abbrev is_1 : Option (Vec Change Global) → Option Data → Type 0
-is_1 x v = option_map (λ w. map edit_view w.items) x ≡ option_and_then (each_of content_change_in) (array_in v)
+is_1 x v = option_map (λ w. map content_change_view w.items) x ≡ option_and_then (each_of content_change_in)
+    (array_in v)
 
 pub returns-in_ok-self-in-textDocument-clause-ok : goal.returns-in_ok-self-in-textDocument-clause-ok
 returns-in_ok-self-in-textDocument-clause-ok c =

@@ -3,17 +3,19 @@ use Rattle.std.proofs.lemmas.List.{take_all}
 use Rattle.std.specs.List.{flat_map}
 use Rattle.json.specs.Token as token
 use Rattle.lsp_message.specs.Written as values
-use Rattle.lsp_message.specs.Seen.{edit_view}
+use Rattle.lsp_message.specs.Seen.{content_change_view}
 use Rattle.lsp_message.specs.inside.Tokens.{Appends, tokens_of}
 use Rattle.lsp_message.proofs.Tokens.{add, ending, items_in_turn}
-use Rattle.lsp_message.proofs.writer.documents.edits_value.Goals as goal
+use Rattle.lsp_message.proofs.writer.documents.content_changes_value.Goals as goal
 
 pub returns-clause-tokens : goal.returns-clause-tokens
 returns-clause-tokens c =
     let all : take c.loop-change.change-index c.args.changes.now ≡ c.args.changes.now =
     take_all _ _ (omega (arith, c.loop-change-test.false)) in
     let changes : Appends c.args.writer.now c.loop-change.writer
-    (token.begin_array ∷ flat_map (λ change. tokens_of (values.edit_value (edit_view change))) c.args.changes.now) =
+    (token.begin_array ∷ flat_map (λ change. tokens_of (values.content_change_value
+    (content_change_view change))) c.args.changes.now) =
     rw (sym all) c.loop-change.invariant in
-    rw (items_in_turn values.edit_value edit_view c.args.changes.now) (ending c.end_array.result (λ e. add changes e)
+    rw (items_in_turn values.content_change_value content_change_view c.args.changes.now)
+    (ending c.end_array.result (λ e. add changes e)
     c.end_array.ensures)

@@ -1,16 +1,17 @@
 use Rattle.std.proofs.Common.{◌≡◌, ◌≤◌, ◌++◌, ◌+◌, length, map, option_map, vec_len, vec_capacity}
 use Rattle.std.specs.Vec.Iter.{into_iter_items}
 use Rattle.serde_json.specs.View.{items_view}
-use Rattle.lsp_message.specs.inside.Params.{edits_in}
-use Rattle.lsp_message.specs.Seen.{edit_view}
-use Rattle.lsp_message.proofs.params.edits_into.Given as goal
+use Rattle.lsp_message.specs.inside.Params.{content_changes_in}
+use Rattle.lsp_message.specs.Seen.{content_change_view}
+use Rattle.lsp_message.proofs.params.content_changes_into.Given as goal
 
 -- the changes that were read, and those of the rest
 abbrev pub invariant-loop-value : goal.invariant-loop-value
 invariant-loop-value l = record {
   going : (goal.iterator-loop-value).can_next l.value-iterator;
   ending : (goal.iterator-loop-value).is_finite l.value-iterator;
-  so_far : option_map (λ es. map edit_view l.changes.items ++ es)
-      (edits_in (items_view (into_iter_items l.value-iterator))) ≡ edits_in (items_view l.fn.values.items);
+  so_far : option_map (λ es. map content_change_view l.changes.items ++ es)
+      (content_changes_in (items_view (into_iter_items l.value-iterator)))
+      ≡ content_changes_in (items_view l.fn.values.items);
   room : vec_len l.changes + length (into_iter_items l.value-iterator) ≤ vec_capacity l.changes;
 }

@@ -1,6 +1,6 @@
 use Rattle.std.proofs.Common.{sym}
 use Rattle.lsp_message.proofs.Tokens.{put, add, ending, range_first}
-use Rattle.lsp_message.proofs.writer.documents.edit_value.Goals as goal
+use Rattle.lsp_message.proofs.writer.documents.content_change_value.Goals as goal
 
 pub returns-clause-tokens : goal.returns-clause-tokens
 returns-clause-tokens c = rw (

@@ -8,16 +8,16 @@ use lsp_text::Position;
 /// A position (LSP 3.17, Position).
 #[repr(C)]
 #[derive(Clone, Copy, Debug, PartialEq, Eq)]
-pub struct Place {
+pub struct CPosition {
     pub line: u32,
     pub character: u32,
 }
 
-impl From<Position> for Place {
+impl From<Position> for CPosition {
     ghost from_gives = { λ position place. position_at place ≡ position };
 
-    fn from(position: Position) -> Place {
-        Place {
+    fn from(position: Position) -> CPosition {
+        CPosition {
             line: position.line,
             character: position.character,
         }
@@ -29,8 +29,8 @@ impl From<Position> for Place {
 #[repr(C)]
 #[derive(Clone, Copy, Debug, PartialEq, Eq)]
 pub struct Edit {
-    pub start: Place,
-    pub end: Place,
+    pub start: CPosition,
+    pub end: CPosition,
     pub len: usize,
     pub is_whole: bool,
 }
