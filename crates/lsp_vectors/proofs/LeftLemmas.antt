@@ -8,7 +8,7 @@ use Rattle.lsp_edit.specs.Batch.{ContentChange, meaning}
 use Rattle.lsp_edit.specs.Canonical.{canonical}
 use Rattle.lsp_edit.specs.Edited.{content_change}
 use Rattle.lsp_edit.specs.Delta.{IsDeltaOf, bytes_after, delta_encoding, meant_by}
-use Rattle.lsp_edit.proofs.Deltas.OnceLemmas.{within_told}
+use Rattle.lsp_edit.proofs.Deltas.DeltaLemmas.{within_told}
 use Rattle.lsp_vectors.specs.declared.answer.Left.{Left}
 use Rattle.lsp_vectors.specs.inside.Answer.{IsLeft}
 

@@ -16,7 +16,7 @@ use Rattle.lsp_edit.specs.Items.{Item}
 use Rattle.lsp_edit.specs.Batch.{ContentChange, meaning}
 use Rattle.lsp_edit.specs.Canonical.{canonical}
 use Rattle.lsp_edit.specs.Delta.{IsDeltaOf, IsOn, bytes_after, delta_encoding, meant_by}
-use Rattle.lsp_edit.proofs.Deltas.OnceLemmas.{IsWithin, within_told}
+use Rattle.lsp_edit.proofs.Deltas.DeltaLemmas.{IsWithin, within_told}
 use Rattle.lsp_message.specs.Params.{DocumentItem}
 use Rattle.lsp_store.specs.declared.store.plan.Plan.{Plan}
 use Rattle.lsp_store.specs.declared.store.stored.Stored.{Stored}
