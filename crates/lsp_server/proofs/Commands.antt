@@ -20,9 +20,9 @@ use Rattle.lsp_server.specs.Planned.{store_of}
 
 -- The changes as they were read are those that the store is given.
 pub edits_of : (changes : List Change) → map content_change_from_data (map content_change_view changes)
-    ≡ map made.edit_of changes
+    ≡ map made.content_change changes
 edits_of [] = refl
-edits_of (change ∷ changes) = ap (λ edits. made.edit_of change ∷ edits) (edits_of changes)
+edits_of (change ∷ changes) = ap (λ edits. made.content_change change ∷ edits) (edits_of changes)
 
 -- a server with another store
 abbrev pub over : ServerData → StoreData → ServerData

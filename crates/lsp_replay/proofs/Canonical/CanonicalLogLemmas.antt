@@ -85,9 +85,9 @@ accepted s version p e = step_changed s.server.phase s.server p (same_answer _ _
 
 -- The changes as they were read are those that the store is given.
 pub edits_of : (changes : List Change) → map content_change_from_data (map content_change_view changes)
-    ≡ map given.edit_of changes
+    ≡ map given.content_change changes
 edits_of [] = refl
-edits_of (change ∷ changes) = ap (λ edits. given.edit_of change ∷ edits) (edits_of changes)
+edits_of (change ∷ changes) = ap (λ edits. given.content_change change ∷ edits) (edits_of changes)
 
 -- ---- what is written, where a message is told
 
