@@ -96,7 +96,8 @@ pub(crate) fn changes_of(
     texts: &[u8],
 ) -> Result<Vec<Change>, AllocError>
     requires { refused_edit edits.now texts.now ≡ None }
-    ensures ok { IfOk result (λ changes. map content_change changes.items ≡ edits_of edits.now texts.now) }
+    ensures ok { IfOk result
+        (λ changes. map content_change changes.items ≡ edits_of edits.now texts.now) }
     ensures len { IfOk result (λ changes.
         sum_by (λ change. string_len change.text) changes.items ≡ len_of edits.now) }
 {

@@ -217,8 +217,8 @@ impl<'a> Pieces<'a> {
             (plain self.now.edited.before) (canonical
             (units_in encoding) self.now.edited.before self.now.edited.items) }
         ensures pairs { KeepsPairs self.now.edited.before self.now.edited.items }
-        ensures law { (batch : List ContentChange) → meaning (units_in encoding) self.now.edited.before batch
-            ≡ Ok self.now.edited.items
+        ensures law { (batch : List ContentChange)
+            → meaning (units_in encoding) self.now.edited.before batch ≡ Ok self.now.edited.items
             → IsCanonical (units_in encoding) self.now.edited.before batch self.now.edited.items }
     {
         canonical_of(self.alloc, &self.before, self.spans.as_slice(), encoding)

@@ -115,8 +115,8 @@ impl<'a> Plain<'a> {
             (Applied (units_in encoding) self.old (content_change change.now) self.new) }
         ensures unchanged { OnErr result (self.new ≡ self.old) }
         ensures error { IfErr result (λ fault. IsFaultOfChange self.old.changes
-            (items_after (units_in encoding) self.old.before self.old.items (content_change change.now))
-            fault) }
+            (items_after (units_in encoding) self.old.before self.old.items
+            (content_change change.now)) fault) }
     {
         let text = characters(self.alloc, &change.text)?;
         let items = match change.range {

@@ -124,7 +124,8 @@ impl Splitter {
         requires { IsFed self.old }
         ensures ready { IsReady self.new }
         ensures version { self.new.version ≡ self.old.version }
-        ensures is_after { (log_rules : LogRules) (input more body : List ℕ) (records : List Record) →
+        ensures is_after { (log_rules : LogRules) (input more body : List ℕ)
+            (records : List Record) →
             IsFrameOf log_rules.max_body self.old.framer.buffered body →
             IsAfter log_rules input more records self.old →
             IsAfter log_rules input more

@@ -96,7 +96,8 @@ pub fn params_change(alloc: Global, params: Option<Value>) -> Result<ChangeParam
     ensures ok { IfOk result (λ p. change_of (option_map view params) ≡ Some (change_view p)) }
     ensures invalid { result ≡ Err ParamsFault.InvalidParams →
         change_of (option_map view params) ≡ None }
-    ensures memory { result ≡ Err ParamsFault.NoMemory → ParamsMayAllocate (option_map view params) }
+    ensures memory { result ≡ Err ParamsFault.NoMemory →
+        ParamsMayAllocate (option_map view params) }
 {
     let (document, changes) = document_and_changes(params).ok_or(ParamsFault::InvalidParams)?;
     change_by(alloc, document, changes)
@@ -258,11 +259,13 @@ fn document_and_changes(params: Option<Value>) -> Option<(Map<String, Value>, Ve
 #[tactic(auto, using(crate::proofs::Memory::edits_there))]
 fn content_changes_in(alloc: Global, values: Vec<Value>) -> Result<Vec<Change>, ParamsFault>
     ensures ok { IfOk result
-        (λ changes. content_changes_in (items_view values.items) ≡ Some (map content_change_view changes.items)) }
+        (λ changes. content_changes_in (items_view values.items)
+        ≡ Some (map content_change_view changes.items)) }
     ensures invalid { result ≡ Err ParamsFault.InvalidParams →
         content_changes_in (items_view values.items) ≡ None }
     ensures memory { result ≡ Err ParamsFault.NoMemory → 0 < vec_len values }
-    ensures good { result ≡ Err ParamsFault.NoMemory → IsSome (content_changes_in (items_view values.items)) }
+    ensures good { result ≡ Err ParamsFault.NoMemory →
+        IsSome (content_changes_in (items_view values.items)) }
 {
     if !are_content_changes(&values) {
         return Err(ParamsFault::InvalidParams);

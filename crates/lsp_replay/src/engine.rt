@@ -111,8 +111,8 @@ fn finish_run<W: Sink, H: Handler>(
         (received : Option (List ℕ)) (input : List ℕ) →
         IsProgress log_rules run_output received input [] splitter.now (H.run_output handler.old)
         (W.seen writer.old).written →
-        IsEndFault log_rules run_output (H.FLUSHES && not (W.seen writer.new).flushed) input received
-        (W.seen writer.new).written place fault) }
+        IsEndFault log_rules run_output (H.FLUSHES && not (W.seen writer.new).flushed) input
+        received (W.seen writer.new).written place fault) }
     ensures whole { IfErr result (λ fault. fault ≡ EngineFault.NoMemory → H.parts handler.old ≡ 0 →
         (log_rules : LogRules) (run_output : List Record → RunOutput)
         (received : Option (List ℕ)) (input : List ℕ) →

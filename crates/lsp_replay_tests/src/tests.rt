@@ -192,6 +192,12 @@ const SINGLE: Calls<'static> = Calls {
     turns: u64::MAX,
 };
 
+/// What `trace` writes beside each record: the texts.
+const TEXTS: Details = Details {
+    texts: true,
+    bodies: false,
+};
+
 type Answer = Result<Outcome, EngineFault>;
 
 /// The result, the output and the calls of a run.
@@ -222,6 +228,14 @@ fn config(settings: Settings) -> Config {
     }
 }
 
+/// Returns these settings with squashing.
+fn squashing(settings: Settings) -> Settings {
+    Settings {
+        squash: true,
+        ..settings
+    }
+}
+
 /// Calls an engine.
 fn call<R: Source, W: Sink>(
     alloc: Global,
@@ -236,20 +250,10 @@ fn call<R: Source, W: Sink>(
         Command::Check => check(alloc, from, to, settings, turns),
         Command::Replay => replay(alloc, from, to, settings, turns),
         Command::Normalise => normalise(alloc, from, to, settings, turns),
-        Command::Squash => {
-            let settings = Settings {
-                squash: true,
-                ..settings
-            };
-            normalise(alloc, from, to, settings, turns)
-        }
+        Command::Squash => normalise(alloc, from, to, squashing(settings), turns),
         Command::Documents => normalise_documents(alloc, from, to, settings, turns),
         Command::SquashDocuments => {
-            let settings = Settings {
-                squash: true,
-                ..settings
-            };
-            normalise_documents(alloc, from, to, settings, turns)
+            normalise_documents(alloc, from, to, squashing(settings), turns)
         }
         Command::Convert => convert(alloc, from, to, settings, turns),
         Command::Text(at) => {
@@ -264,13 +268,7 @@ fn call<R: Source, W: Sink>(
             replay_part(alloc, from, to, settings, part, turns)
         }
         Command::Explain => explain(alloc, from, to, settings, turns),
-        Command::Trace => {
-            let details = Details {
-                texts: true,
-                bodies: false,
-            };
-            trace(alloc, from, to, settings, details, turns)
-        }
+        Command::Trace => trace(alloc, from, to, settings, TEXTS, turns),
     }
 }
 

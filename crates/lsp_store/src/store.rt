@@ -130,7 +130,8 @@ impl Store {
             self.new) }
         ensures unchanged { OnErr result (self.new ≡ self.old) }
         ensures error { IfErr result
-            (IsRefused self.old (changing uri.now version encoding (map content_change changes.now))) }
+            (IsRefused self.old
+            (changing uri.now version encoding (map content_change changes.now))) }
         // Memory is taken only once nothing but what the batch means can refuse it.
         ensures memory { result ≡ Err NoMemory
             → ChangeMayAllocate self.old uri.now version (map content_change changes.now) }
@@ -162,7 +163,8 @@ impl Store {
             (IsPlanOf self.now uri.now version encoding (map content_change changes.now)) }
         ensures on { IfOk result (IsPlanOn self.now) }
         ensures error { IfErr result
-            (IsRefused self.now (changing uri.now version encoding (map content_change changes.now))) }
+            (IsRefused self.now
+            (changing uri.now version encoding (map content_change changes.now))) }
         ensures memory { result ≡ Err NoMemory
             → ChangeMayAllocate self.now uri.now version (map content_change changes.now) }
     {

@@ -33,8 +33,8 @@ pub fn position_laws()
     ensures examples { HoldsOnExamples }
 {}
 
-/// Promises what is true of the lines of every text (LSP 3.17, Position). The call itself does
-/// nothing.
+/// Promises what is true of the lines of every text (LSP 3.17, Text Documents). The call itself
+/// does nothing.
 ///
 /// - The lines together are the text, and a CRLF is one line end.
 /// - The kept starts are the byte offsets of the lines' first indexes.

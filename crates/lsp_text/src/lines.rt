@@ -24,8 +24,8 @@ use crate::position::units::{Utf8, Utf16, Utf32};
 use std::alloc::{AllocError, Global};
 use std::marker::Model;
 
-/// The lines of a text, as the byte offsets where they start (LSP 3.17, Position: `\n`, `\r\n` and
-/// `\r` end a line). It has four bytes for each line, and doesn't contain the text.
+/// The lines of a text, as the byte offsets where they start (LSP 3.17, Text Documents: `\n`,
+/// `\r\n` and `\r` end a line). It has four bytes for each line, and doesn't contain the text.
 #[derive(Debug, Drop)]
 pub struct Lines {
     starts: Vec<u32>,

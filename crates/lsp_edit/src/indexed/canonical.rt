@@ -91,7 +91,8 @@ impl IndexedText {
         edits: &[TextEdit],
     ) -> Result<Vec<Change>, TextEditFault>
         ensures batch { IfOk result (λ batch.
-            IsBatchOfEdits (units_in encoding) self.now edits.now (map content_change batch.items)) }
+            IsBatchOfEdits (units_in encoding) self.now edits.now
+            (map content_change batch.items)) }
         ensures error { IfErr result (λ fault.
             IsEditsFault (units_in encoding) (chars self.now) edits.now fault) }
     {

@@ -75,11 +75,11 @@ impl IndexedText {
     fn after_all(self, encoding: Encoding, changes: &[Change]) -> Result<Self, EditFault>
         requires { length self + sum_by (λ change. string_len change.text) changes.now ≤ MAX_TEXT }
         ensures ok { IfOk result
-            (λ left. text_after_changes (units_in encoding) 0 (chars self) (map content_change changes.now)
-            ≡ Ok (chars left)) }
+            (λ left. text_after_changes (units_in encoding) 0 (chars self)
+            (map content_change changes.now) ≡ Ok (chars left)) }
         ensures error { IfErr result
-            (IsFaultOfBatch
-            (text_after_changes (units_in encoding) 0 (chars self) (map content_change changes.now))) }
+            (IsFaultOfBatch (text_after_changes (units_in encoding) 0 (chars self)
+            (map content_change changes.now))) }
     {
         let mut draft = self;
         for (number, change) in changes.iter().enumerate() {
@@ -114,8 +114,8 @@ impl IndexedText {
             (λ left. text_after_changes (units_in encoding) 0 (chars self.now)
             (map content_change changes.now) ≡ Ok (chars left)) }
         ensures error { IfErr result
-            (IsFaultOfBatch
-            (text_after_changes (units_in encoding) 0 (chars self.now) (map content_change changes.now))) }
+            (IsFaultOfBatch (text_after_changes (units_in encoding) 0 (chars self.now)
+            (map content_change changes.now))) }
     {
         let draft = self.begun(changes)?;
         draft.after_all(encoding, changes)
@@ -132,8 +132,8 @@ impl IndexedText {
         requires size { length self.now ≤ MAX_OLD_TEXT }
         requires fits { sum_by (λ change. string_len change.text) changes.now ≤ MAX_NEW_TEXT }
         ensures ok { IfOk result
-            (λ left. text_within max_len self.now
-            (meaning (units_in encoding) (chars self.now) (map content_change changes.now)) ≡ Ok left) }
+            (λ left. text_within max_len self.now (meaning (units_in encoding) (chars self.now)
+            (map content_change changes.now)) ≡ Ok left) }
         ensures error { IfErr result (IsBatchFaultOf (units_in encoding) max_len self.now
             (map content_change changes.now)) }
     {

@@ -31,7 +31,8 @@ fn put_gap(
     requires high { IsCharBoundary before.now high }
     requires ends { (low < high) ⊎ (0 < length (string_bytes text)) → IsPlace (chars before.now) low
         × IsPlace (chars before.now) high }
-    ensures { OnOk result (map content_change changes.new.items ≡ map content_change changes.old.items
+    ensures { OnOk result (map content_change changes.new.items
+        ≡ map content_change changes.old.items
         ++ gap_change (units_in encoding) before.now low high (string_bytes text)) }
 {
     if low < high || !text.is_empty() {

@@ -143,7 +143,8 @@ fn put_gap(
     requires old { old.now ≡ chars before.now }
     requires ends { is_changed (gap_at low high text.now) ≡ true →
         HasExactEnds (chars before.now) (gap_at low high text.now) }
-    ensures { OnOk result (map content_change changes.new.items ≡ map content_change changes.old.items
+    ensures { OnOk result (map content_change changes.new.items
+        ≡ map content_change changes.old.items
         ++ change_at (units_in encoding) (chars before.now) (gap_at low high text.now)) }
 {
     if low < high || !text.is_empty() {

@@ -109,7 +109,8 @@ fn versioned_document(writer: &mut Writer, uri: &str, version: i32) -> Result<()
 
 fn content_changes_value(writer: &mut Writer, changes: &[Change]) -> Result<(), AllocError>
     ensures tokens { OnOk result (Appends writer.old writer.new
-        (tokens_of (array (items_of (map values.content_change_value (map content_change_view changes.now)))))) }
+        (tokens_of (array (items_of
+        (map values.content_change_value (map content_change_view changes.now)))))) }
     ensures before { writer.new.before ≡ writer.old.before }
 {
     writer.begin_array()?;
@@ -121,7 +122,8 @@ fn content_changes_value(writer: &mut Writer, changes: &[Change]) -> Result<(), 
 
 fn content_change_value(writer: &mut Writer, change: &Change) -> Result<(), AllocError>
     ensures tokens { OnOk result
-        (Appends writer.old writer.new (tokens_of (values.content_change_value (content_change_view change.now)))) }
+        (Appends writer.old writer.new
+        (tokens_of (values.content_change_value (content_change_view change.now)))) }
     ensures before { writer.new.before ≡ writer.old.before }
 {
     writer.begin_object()?;

@@ -54,7 +54,8 @@ fn capabilities_value(writer: &mut Writer, offers: Offers) -> Result<(), AllocEr
 }
 
 fn general_value(writer: &mut Writer, offers: Offers) -> Result<(), AllocError>
-    ensures { OnOk result (Appends writer.old writer.new (tokens_of (values.general_value offers))) }
+    ensures { OnOk result
+        (Appends writer.old writer.new (tokens_of (values.general_value offers))) }
 {
     writer.begin_object()?;
     writer.key("positionEncodings")?;

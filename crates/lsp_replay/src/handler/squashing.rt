@@ -63,7 +63,8 @@ impl Texts {
     /// many changes or is too long, the series is written as without squash.
     fn push_series(&self, output: &mut Vec<u8>, batches: &Batches) -> Result<(), AllocError>
         ensures { OnOk result (output.new.items ≡ output.old.items
-            ++ end_bytes (series_of self.now.front.items self.now.singles.items (Some batches.now))) }
+            ++ end_bytes
+            (series_of self.now.front.items self.now.singles.items (Some batches.now))) }
     {
         match unless_refused(batches.message())? {
             Some(frame) => {

@@ -148,7 +148,8 @@ impl Server {
     /// Makes a change of a running session.
     fn change(&mut self, params: &ChangeParams) -> Result<Answer, AllocError>
         requires { self.old.phase ≡ Running }
-        ensures { IsStepOf (command_step self.old (change_command self.old (change_view params.now)))
+        ensures { IsStepOf
+            (command_step self.old (change_command self.old (change_view params.now)))
             result self.old self.new }
     {
         match self.plan(params)? {

@@ -108,7 +108,8 @@ impl Batches {
         ensures ok { OnOk result
             (IsSquashAfter self.old version (map content_change changes.now) self.new) }
         ensures reached { OnOk result (HasReached self.new
-            (changed (units_in self.old.encoding) document.now version (map content_change changes.now))) }
+            (changed (units_in self.old.encoding) document.now version
+            (map content_change changes.now))) }
         ensures unchanged { OnErr result (self.new ≡ self.old) }
     {
         document.show_utf8();

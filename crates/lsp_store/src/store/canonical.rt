@@ -49,9 +49,11 @@ fn change_frame(
     changes: Vec<Change>,
 ) -> Result<Vec<u8>, StoreFault>
     ensures framed { IfOk result
-        (λ bytes. bytes.items ≡ frame (change_body uri.now version (map content_change changes.items))) }
+        (λ bytes. bytes.items
+        ≡ frame (change_body uri.now version (map content_change changes.items))) }
     ensures within { OnOk result
-        (body_refusal limits.now (change_body uri.now version (map content_change changes.items)) ≡ None) }
+        (body_refusal limits.now
+        (change_body uri.now version (map content_change changes.items)) ≡ None) }
     ensures error { IfErr result
         (IsRefusal (body_refusal limits.now
         (change_body uri.now version (map content_change changes.items)))) }
@@ -75,10 +77,12 @@ pub fn batch_frame(
     changes: Vec<Change>,
 ) -> Result<Vec<u8>, StoreFault>
     ensures framed { IfOk result
-        (λ bytes. bytes.items ≡ frame (change_body uri.now version (map content_change changes.items))) }
+        (λ bytes. bytes.items
+        ≡ frame (change_body uri.now version (map content_change changes.items))) }
     ensures few { OnOk result (length changes.items ≤ limits.now.max_changes) }
     ensures within { OnOk result
-        (body_refusal limits.now (change_body uri.now version (map content_change changes.items)) ≡ None) }
+        (body_refusal limits.now
+        (change_body uri.now version (map content_change changes.items)) ≡ None) }
     ensures error { IfErr result (IsRefusal
         (if nat_lt limits.now.max_changes (length (map content_change changes.items)) then
         Some too_many_changes else
@@ -100,7 +104,8 @@ fn push_body(
     ensures body { OnOk result (bytes.new.items
         ≡ bytes.old.items ++ change_body uri.now version (map content_change changes.items)) }
     ensures within { OnOk result
-        (body_refusal limits.now (change_body uri.now version (map content_change changes.items)) ≡ None) }
+        (body_refusal limits.now
+        (change_body uri.now version (map content_change changes.items)) ≡ None) }
     ensures error { IfErr result
         (IsRefusal (body_refusal limits.now
         (change_body uri.now version (map content_change changes.items)))) }
@@ -170,7 +175,8 @@ impl Store {
             → ChangeMayAllocate self.now uri.now version (map content_change changes.now) }
         // The canonical batch is that of what the batch means; `batch_laws` has what holds of it.
         ensures canonical { OnOk result
-            (IsCanonicalOn (units_in encoding) self.now.table uri.now (map content_change changes.now)) }
+            (IsCanonicalOn (units_in encoding) self.now.table uri.now
+            (map content_change changes.now)) }
         // Every other batch that is accepted here has the same canonical message exactly if both
         // batches do the same.
         ensures exactly { OnOk result ((other : List ContentChange) → AreTexts other
@@ -179,7 +185,8 @@ impl Store {
             → (canonical_frame (units_in encoding) self.now.table uri.now version
             (map content_change changes.now)
             ≡ canonical_frame (units_in encoding) self.now.table uri.now version other)
-            ↔ DoAlike (units_in encoding) self.now.table uri.now (map content_change changes.now) other) }
+            ↔ DoAlike (units_in encoding) self.now.table uri.now
+            (map content_change changes.now) other) }
         // The canonical batch is accepted here, has the same result, and has the same canonical
         // message.
         ensures again { OnOk result

@@ -167,7 +167,8 @@ impl<'a> Document<'a> {
         edits: &[TextEdit],
     ) -> Result<Vec<Change>, TextEditFault>
         ensures batch { IfOk result (λ batch.
-            IsBatchOfEdits (units_in encoding) self.now.text edits.now (map content_change batch.items)) }
+            IsBatchOfEdits (units_in encoding) self.now.text edits.now
+            (map content_change batch.items)) }
         ensures error { IfErr result (λ fault.
             IsEditsFault (units_in encoding) (chars self.now.text) edits.now fault) }
     {

@@ -66,7 +66,8 @@ pub(super) fn leave(
     change: &Change,
 ) -> Result<bool, AllocError>
     requires { length text.old ≤ 1073741824 }
-    ensures left { IfOk result (λ is_left. left_by (units_in encoding) text.old (content_change change.now)
+    ensures left { IfOk result (λ is_left.
+        left_by (units_in encoding) text.old (content_change change.now)
         ≡ (if is_left then Some text.new else None)) }
     ensures size { OnOk result (length text.new ≤ 1073741824) }
 {
