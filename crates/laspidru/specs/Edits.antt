@@ -31,7 +31,7 @@ pub record Replacement : Type 0 where
   pub range : Range
   pub text : List ℕ
 
--- the range of an edit; one of the whole text ends after its last line
+-- The range of an edit; one of the whole text ends after its last line.
 abbrev pub range_or : Bool → CPosition → CPosition → Range
 range_or true start end = record {
   start = record { line = 0; character = 0 };
@@ -39,18 +39,18 @@ range_or true start end = record {
 }
 range_or false start end = record { start = position_at start; stop = position_at end }
 
--- an edit of C, whose new text has these bytes
+-- An edit of C, whose new text has these bytes.
 abbrev pub replacement_with : Edit → List ℕ → Replacement
 replacement_with edit own
     = record { range = range_or edit.is_whole edit.start edit.end; text = own }
 
--- the edits, each with its part of the texts
+-- The edits, each with its part of the texts.
 abbrev pub replacements_of : List Edit → List ℕ → List Replacement
 replacements_of [] texts = []
 replacements_of (edit ∷ rest) texts =
     replacement_with edit (take edit.len texts) ∷ replacements_of rest (drop edit.len texts)
 
--- what a text edit replaces, and by which bytes
+-- What a text edit replaces, and by which bytes.
 abbrev pub replacement_of : TextEdit → Replacement
 replacement_of edit = record { range = edit.range; text = string_bytes edit.new_text }
 
@@ -65,14 +65,14 @@ abbrev pub edits_on : Encoding → List Edit → List ℕ → List ℕ → Edits
 edits_on encoding edits texts text =
     record { encoding = encoding; replacements = replacements_of edits texts; text = text }
 
--- text edits on the text of a document, if neither is too long
+-- Text edits on the text of a document, if neither is too long.
 abbrev pub fitting_edits : Encoding → List Edit → List ℕ → Result (List ℕ) ℕ → Result EditsAsked ℕ
 fitting_edits encoding edits texts document = and_then document (λ text.
     if nat_le (len_of edits) MAX_NEW_TEXT && nat_le (length text) MAX_OLD_TEXT
     then Ok (edits_on encoding edits texts text)
     else Err TOO_LONG)
 
--- text edits as C passes them
+-- Text edits as C passes them.
 abbrev pub edits_asked : ℕ → List Edit → List ℕ → Result (List ℕ) ℕ → Result EditsAsked ℕ
 edits_asked number edits texts document = and_then (encoding_at number) (λ encoding.
     unless (refused_edit edits texts) (fitting_edits encoding edits texts document))
@@ -106,7 +106,7 @@ abbrev pub AreBatched : EditsAsked → ℕ → Option Object → EditsFault → 
 AreBatched asked code stored out =
     ((code ≡ OK) × IsOkAnd (stored_batch stored) (IsBatchOfAsked asked)) ⊎ AreFaulty asked code out
 
--- what changes leave of a text, if that isn't too long
+-- What changes leave of a text, if that isn't too long.
 abbrev pub text_left : Encoding → List ℕ → List Change → Result (List ℕ) BatchFault
 text_left encoding text changes =
     text_within MAX_OLD_TEXT text (meaning (units_in encoding) (chars text) (map content_change changes))

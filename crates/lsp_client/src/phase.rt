@@ -41,7 +41,7 @@ impl fmt::Display for Phase {
 pub enum Reason {
     /// A body that is no message, a response to no request of the client, or a result of
     /// `initialize` that can't be read.
-    #[error("the server sent no answer that can be read and was awaited")]
+    #[error("the server's body is no message, answers no request, or has a result that can't be read")]
     NotAnAnswer,
     /// An error response to `initialize` or `shutdown`.
     #[error("the server answered with an error")]

@@ -160,7 +160,7 @@ IsPieceFault log_rules run_output unflushed input old new (BadLog place) =
     Stopped log_rules run_output input old new (Err (BadLog place))
     ⊎ Reached log_rules run_output input old new (IsBadMark input place)
 
--- how the loop reads an input, by its rules
+-- How the loop reads an input, by its rules.
 abbrev pub reading_by : InputRules → LogRules
 reading_by rules
     = record {

@@ -62,7 +62,8 @@ pub static NORMALISE: &str =
 pub static NORMALISE_EXAMPLE: &str =
     "All other messages, and the refused ones, stay byte for byte. Two changes of one text of one document
 (its URI), under one version and in one encoding, get the same bytes exactly if they keep the same
-characters and insert the same texts, so such logs can be compared. The status is that of `check`.
+old characters and insert the same texts between them, so such logs can be compared. The status is
+that of `check`.
 
 Example, a change of the whole text, which becomes one with a range:
   lspsync normalise < examples/whole-text.log
