@@ -133,6 +133,7 @@ impl Client {
     {
         match self.agreement().kind {
             SyncKind::Full => self.send_whole(uri, version, changes),
+            // Off never comes here: a session with such a server has failed.
             SyncKind::Incremental | SyncKind::Off => self.send_change(uri, version, changes),
         }
     }

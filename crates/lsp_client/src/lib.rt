@@ -74,6 +74,6 @@ pub use fault::ClientFault;
 pub use lsp_edit::{Change, EditFault, Side, TextEdit, TextEditFault};
 pub use lsp_frame::{BadLimits, Limits};
 pub use lsp_message::Offers;
-pub use lsp_store::{Document, Documents, Store, StoreFault};
+pub use lsp_store::{Document, Documents, Store, StoreFault, TextBuffer};
 pub use lsp_text::{Encoding, InsideCharacter, Position, Range, UnknownEncoding};
 pub use phase::{Phase, Reason};

@@ -58,8 +58,8 @@
 //! ```
 //!
 //! Both programs are tested whole, in `lsp_server_tests/src/tests/front_page.rt`.
-//! `server.store().get(uri)` returns the current document. `lsp_text` converts its positions, in
-//! `server.encoding()`, into byte offsets.
+//! `server.store().get(uri)` returns the current document. Its `resolve` and `position` convert
+//! between positions, in `server.encoding()`, and byte offsets.
 //!
 //! - `server`: the server, and the table of its steps. `lifecycle` has those of requests and of
 //!   `exit`, `documents` those of the document notifications.
@@ -84,8 +84,8 @@ pub use lsp_edit::{Change, EditFault, Side, TextEdit, TextEditFault};
 pub use lsp_frame::{BadLimits, Limits};
 pub use lsp_message::{ChangeParams, CloseParams, ErrorCode, Id, Offers, OpenParams, SyncKind};
 pub use lsp_reader::Incoming;
-pub use lsp_store::{Document, Documents, Plan, Store, StoreFault};
-pub use lsp_text::{Encoding, InsideCharacter, Lines, Position, Range, UnknownEncoding};
+pub use lsp_store::{Document, Documents, Plan, Store, StoreFault, TextBuffer};
+pub use lsp_text::{Encoding, InsideCharacter, Position, Range, UnknownEncoding};
 pub use phase::Phase;
 pub use planned::PlannedChange;
 pub use server::Server;

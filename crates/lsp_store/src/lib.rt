@@ -22,6 +22,7 @@ mod store;
 
 pub use fault::StoreFault;
 pub use laws::store_laws;
+pub use lsp_buffer::TextBuffer;
 pub use squash::Squash;
 pub use squash::batches::Batches;
 pub use store::Store;

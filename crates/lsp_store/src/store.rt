@@ -182,7 +182,8 @@ impl Store {
         }
     }
 
-    /// Returns the document that a plan is of, before the plan is applied. Costs one step.
+    /// Returns the document that a plan is of, before the plan is applied. Costs one step. Once
+    /// documents were closed, one more for each 256 slots of the table, and at most 256.
     pub fn planned_document(&self, plan: &Plan<'_>) -> Document<'_>
         requires on { IsPlanOn self.now plan.now }
         ensures { (on : IsPlanOn self.now plan.now) → result ≡ on.entry }
