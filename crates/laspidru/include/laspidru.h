@@ -3,7 +3,8 @@
 /* Laspidru: texts that are kept as LSP 3.17 says, by a library that is proved. docs/c.md has examples, and
    CODES.md beside this file each function's codes.
 
-   Each function tests what it is passed and returns a code. Where the code isn't LASPIDRU_OK nothing has changed; only after
+   Each function but laspidru_close tests the bytes, numbers and handles that it is passed, and returns a code. Pointers,
+   lengths and bools are yours (CODES.md). Where the code isn't LASPIDRU_OK nothing has changed; only after
    the four faults of a log, 20 to 23, the output up to the fault is kept, after LASPIDRU_BAD_FRAME no more of a stream is
    taken, and laspidru_server_take and laspidru_client_take may have taken a message that they couldn't handle yet.
    Memory is taken last: LASPIDRU_OUT_OF_MEMORY is returned only where the arguments are not refused. A client's calls on
@@ -53,13 +54,13 @@ enum {
 
     /* Faults of a log, with their place. The handle holds the output up to the fault. */
     LASPIDRU_CUT = 20,           /* the log ends inside a record */
-    LASPIDRU_BAD_FRAME = 21,     /* the header of a frame is faulty; also of a framer's stream */
+    LASPIDRU_BAD_FRAME = 21,     /* the header of a frame is faulty: of a log, or of a stream that is taken */
     LASPIDRU_BODY_TOO_LONG = 22, /* the canonical message of a change has a longer body than max_body */
     LASPIDRU_BAD_LOG = 23,       /* what is there belongs in no log, or for laspidru_log_convert in none of version 1 */
 
     LASPIDRU_TOO_MANY_TURNS = 24, /* as many reads and writes as are allowed, 2^64 - 1; nothing has changed */
     LASPIDRU_OVERLAP = 25,        /* two text edits overlap */
-    LASPIDRU_FAILED = 26,         /* a framer returned LASPIDRU_BAD_FRAME before */
+    LASPIDRU_FAILED = 26,         /* LASPIDRU_BAD_FRAME was returned of this stream before */
     LASPIDRU_NO_MESSAGE = 27,     /* no whole message is buffered */
     LASPIDRU_WRONG_PHASE = 28,    /* a client's call that isn't allowed in this phase */
 

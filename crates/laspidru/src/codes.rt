@@ -45,7 +45,8 @@ pub const TOO_MANY_CHANGES: u32 = 18;
 pub const INVALID_PARAMS: u32 = 19;
 /// The log ends inside a record.
 pub const CUT: u32 = 20;
-/// The header of a frame is faulty: of a log, or of a framer's stream.
+/// The header of a frame is faulty: of a log, or of a stream that a framer, a server or a client
+/// takes.
 pub const BAD_FRAME: u32 = 21;
 /// The canonical message of a change has a longer body than `max_body`.
 pub const BODY_TOO_LONG: u32 = 22;
@@ -55,7 +56,7 @@ pub const BAD_LOG: u32 = 23;
 pub const TOO_MANY_TURNS: u32 = 24;
 /// Two text edits overlap.
 pub const OVERLAP: u32 = 25;
-/// A framer returned [`BAD_FRAME`] before.
+/// [`BAD_FRAME`] was returned of this stream before.
 pub const FAILED: u32 = 26;
 /// No whole message is buffered.
 pub const NO_MESSAGE: u32 = 27;

@@ -1,9 +1,11 @@
 //! Laspidru for C: documents, canonical batches, framers, servers, clients and the output of
 //! commands on logs in handles, with `include/laspidru.h`.
 //!
-//! Each function checks all that C passes and returns a code. If the code isn't [`OK`], nothing has
-//! changed. Only after the four faults of a log, [`CUT`] to [`BAD_LOG`], the output up to the fault
-//! is kept; and after [`BAD_FRAME`] a framer takes no more of its stream.
+//! Each function but `laspidru_close` checks the bytes, numbers and handles that C passes, and
+//! returns a code. Pointers, lengths and bools are the caller's (`include/CODES.md`). If the code
+//! isn't [`OK`], nothing has changed. Only after the four faults of a log, [`CUT`] to [`BAD_LOG`],
+//! the output up to the fault is kept; after [`BAD_FRAME`] no more of a stream is taken; and after
+//! [`OUT_OF_MEMORY`] the two `take` calls may keep a message that waits for memory.
 //!
 //! - `document`: the functions on documents, with those on positions and lines (`positions`);
 //!   `batch`: those on canonical batches; `edits`: those on text edits; `framer`: those on framers;

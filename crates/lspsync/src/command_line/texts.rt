@@ -19,8 +19,8 @@ pub static CHECK_EXAMPLE: &str =
 what the server sent. A record counts as refused where its word is `refused CAUSE`, `exit 1`, or an
 `error` other than -32601. Then the status is 1.
 
-With `--explain` a line of an error, a refusal or `exit 1` also has the document, the reason and the
-message to see, one of a suspicious message notes, and one or two last lines say what to do next.
+With `--explain` the line of an error, a refusal or `exit 1` also has the document, the reason and
+the message to see; that of a suspicious message has notes. One or two last lines say what to do next.
 
 Example, a session with two changes that a server must refuse:
   lspsync check < examples/stale-version.log
