@@ -348,8 +348,9 @@ laspidru_u32 laspidru_server_batch_of_edits(laspidru_handle *server, const unsig
     laspidru_size texts_len, laspidru_handle *batch, laspidru_edits_fault *fault);
 
 /* Puts the one canonical didChange that means the same as these changes of an open document, under a version greater than
-   its own (with lenient limits under any), into the empty handle `output`. laspidru_output_copy copies it: `frame_len` bytes, with its header. The document
-   stays as it is. With INSIDE_CHARACTER and REVERSED_RANGE `fault` says which change is faulty. */
+   its own (with lenient limits under any), into the empty handle `output`. laspidru_output_copy copies it: `frame_len`
+   bytes, with its header. The document stays as it is. With INSIDE_CHARACTER and REVERSED_RANGE `fault` says which change
+   is faulty. */
 laspidru_u32 laspidru_server_canonical_message(laspidru_handle *server, const unsigned char *uri, laspidru_size uri_len,
     laspidru_i32 version, laspidru_u32 encoding, const laspidru_edit *edits, laspidru_size edits_len,
     const unsigned char *texts, laspidru_size texts_len, laspidru_handle *output, laspidru_fault *fault,

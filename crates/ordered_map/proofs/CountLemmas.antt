@@ -1,12 +1,10 @@
 -- Counts of blocks, as slots change.
-use Rattle.std.proofs.Common.{◌≡◌, ◌≤◌, ◌<◌, ◌+◌, ◌-◌, ◌*◌, ◌/◌, ℕ, List, [], ◌∷◌, ◌++◌, length, set, min, slice_get, slice_index, Option, Some, None, String, refl, arith, ⊎_elim}
+use Rattle.std.proofs.Common.{◌≡◌, ◌≤◌, ◌<◌, ◌+◌, ◌-◌, ◌*◌, ◌/◌, ℕ, List, [], ◌∷◌, ◌++◌, length, set, min, slice_get, slice_index, Option, Some, None, refl, arith, ⊎_elim}
 use Rattle.std.proofs.lemmas.List.{length-append, length-set, get_or-set_same, get_or-set_other, get_or_append_left, get_or_push}
-use Rattle.std.proofs.lemmas.Bool.{cases_eq, cases_lt}
+use Rattle.std.proofs.lemmas.Bool.{cases_eq, cases_lt, le-ltb, lt-ltb}
 use Rattle.std.proofs.lemmas.Option.{slice_get_within}
-use Rattle.std.specs.declared.alloc.Global.{Global}
-use Rattle.ordered_map.specs.declared.slot.Slot.{Slot}
-use Rattle.ordered_map.specs.inside.Slots.{AreCounted, keys_in, live_to, somes}
-use Rattle.ordered_map.proofs.SlotLemmas.{live_next, live_gap, live_past, live_rises, live_within, live_taken_after, live_taken_before, live_put_before, live_put_after, live_all, length_keys}
+use Rattle.ordered_map.specs.inside.Slots.{AreCounted, counted_last, live_to, somes}
+use Rattle.ordered_map.proofs.SlotLemmas.{live_next, live_gap, live_past, live_rises, live_within, live_taken_after, live_taken_before, live_put_before, live_put_after, live_all}
 
 module _ {X : Type 0} where
   -- a count fits among the items
@@ -241,17 +239,12 @@ module _ {X : Type 0} where
         );
       }
 
--- ---- counts of slots
-
-module _ {V : Type 0} (slots : List (Slot V)) (counts : List ℕ) (counted : AreCounted (keys_in slots) counts) where
-  pub count_put : (key : String Global) (count : ℕ) → length slots / 256 < length counts
-      → count ≡ slice_index counts (length slots / 256)
-      → AreCounted (keys_in slots ++ Some key ∷ []) (set counts (length slots / 256) (count + 1))
-  count_put key count within is = rw (
-    is,
-    ← length_keys slots,
-  ) (put_counted (keys_in slots) counts key counted (omega (arith, within, length_keys slots)))
-
-  pub count_put_new : (key : String Global) → length counts ≤ length slots / 256
-      → AreCounted (keys_in slots ++ Some key ∷ []) (counts ++ 1 ∷ [])
-  count_put_new key full = put_counted_new (keys_in slots) counts key counted (omega (arith, full, length_keys slots))
+  pub last_counted : (items : List (Option X)) (counts : List ℕ) (item : X) → AreCounted items counts
+      → AreCounted (items ++ Some item ∷ []) (counted_last counts (length items))
+  last_counted items counts item counted =
+      ⊎_elim
+      (λ (within : length items / 256 < length counts).
+      rw (lt-ltb (length items / 256) (length counts) within) (put_counted items counts item counted within))
+      (λ (past : length counts ≤ length items / 256).
+      rw (le-ltb (length items / 256) (length counts) past) (put_counted_new items counts item counted past))
+      (cases_lt (length items / 256) (length counts))

@@ -1,104 +1,121 @@
--- What a key's test finds among the entries, by the slot that passes it.
-use Rattle.std.proofs.Common.{◌≡◌, ◌<◌, ℕ, zero, suc, Bool, true, false, List, [], ◌∷◌, length, set, slice_get, position, Option, Some, None, refl, ap, arith, ⊎_elim}
-use Rattle.std.proofs.lemmas.Bool.{cases_Bool, lt-ltb, le-ltb}
+-- What the slot of a key says of the entries.
+use Rattle.std.proofs.Common.{◌≡◌, ◌<◌, ℕ, zero, suc, true, false, List, [], ◌∷◌, length, set, get_or, slice_get, position, Option, Some, None, String, refl, ap, arith}
+use Rattle.std.proofs.lemmas.Bool.{lt-ltb, le-ltb}
+use Rattle.std.proofs.lemmas.List.Quantifiers.{position-Some}
+use Rattle.std.proofs.lemmas.Map.Entries.{length-keys_of}
 use Rattle.std.proofs.lemmas.Option.{slice_get_within}
 use Rattle.std.specs.List.{position_or_len}
 use Rattle.std.specs.Map.{keys_of, lookup, lookup_key, remove_entry}
-use Rattle.ordered_map.specs.inside.Slots.{somes, live_to}
+use Rattle.std.specs.declared.alloc.Global.{Global}
+use Rattle.ordered_map.specs.Entries.{is_key}
+use Rattle.ordered_map.specs.inside.Slots.{has_key, live_to, somes}
+use Rattle.ordered_map.proofs.PositionLemmas.{none_passes}
 use Rattle.ordered_map.proofs.SlotLemmas.{somes_at}
 
-module _ {K V : Type 0} (test : K → Bool) where
-  -- One slot alone has a key that passes.
-  pub record IsOnly (items : List (Option (K × V))) (slot : ℕ) : Type 0 where
-    pub only : (other : ℕ) (entry : K × V) → slice_get items other ≡ Some (Some entry) → test entry.0 ≡ true
-        → other ≡ slot
+module _ {V : Type 0} (bytes : List ℕ) where
+  -- What is found of a key whose entry is in a slot.
+  pub record IsFound (items : List (Option (String Global × V))) (slot : ℕ) : Type 0 where
+    pub entry : String Global × V
+    pub at : slice_get items slot ≡ Some (Some entry)
+    pub here : get_or items slot None ≡ Some entry
+    pub within : slot < length items
+    pub value : lookup (is_key bytes) (somes items) ≡ Some entry.1
+    pub key : lookup_key (is_key bytes) (somes items) ≡ Some entry.0
+    pub index : position_or_len (is_key bytes) (keys_of (somes items)) ≡ live_to items slot
+    pub removed : remove_entry (is_key bytes) (somes items) ≡ somes (set items slot None)
 
-  -- No key passes.
-  pub record HasNone (items : List (Option (K × V))) : Type 0 where
-    pub fails : (slot : ℕ) (entry : K × V) → slice_get items slot ≡ Some (Some entry) → test entry.0 ≡ false
-
-  -- What is found where an entry passes.
-  pub record IsFound (items : List (Option (K × V))) (slot : ℕ) (entry : K × V) : Type 0 where
-    pub value : lookup test (somes items) ≡ Some entry.1
-    pub key : lookup_key test (somes items) ≡ Some entry.0
-    pub index : position_or_len test (keys_of (somes items)) ≡ live_to items slot
-    pub removed : remove_entry test (somes items) ≡ somes (set items slot None)
-
-  later : (first : Option (K × V)) (items : List (Option (K × V))) (slot : ℕ) → IsOnly (first ∷ items) (suc slot)
-      → IsOnly items slot
-  later first items slot is = record {
-    only = λ other entry at passes. let next : suc other ≡ suc slot = is.only (suc other) entry at passes in
-        omega (arith, next);
-  }
-
-  pub found : (items : List (Option (K × V))) (slot : ℕ) (entry : K × V) → slice_get items slot ≡ Some (Some entry)
-      → test entry.0 ≡ true → IsOnly items slot → IsFound items slot entry
-  found [] slot entry at passes is = absurd (cc)
-  found (None ∷ items) zero entry at passes is = absurd (cc)
-  found (None ∷ items) (suc slot) entry at passes is =
-      let rest = found items slot entry at passes (later None items slot is) in
-      record { value = rest.value; key = rest.key; index = omega (arith, rest.index); removed = rest.removed }
-  found (Some first ∷ items) zero entry at passes is =
-      let same : first ≡ entry = cc in
+  by_slot : (items : List (Option (String Global × V))) (slot : ℕ) → slot < length items
+      → has_key bytes (get_or items slot None) ≡ true
+      → ((other : ℕ) → other < slot → has_key bytes (get_or items other None) ≡ false) → IsFound items slot
+  by_slot [] slot within passes fails = absurd (omega (arith, within))
+  by_slot (None ∷ items) zero within passes fails = absurd (let bad : false ≡ true = passes in cc)
+  by_slot (None ∷ items) (suc slot) within passes fails =
+      let rest = by_slot items slot (omega (arith, within)) passes
+      (λ other less. fails (suc other) (omega (arith, less))) in
       record {
-        value = rw (same, passes) refl;
-        key = rw (same, passes) refl;
-        index = rw (same, passes) refl;
-        removed = rw (same, passes) refl;
+        entry = rest.entry;
+        at = rest.at;
+        here = rest.here;
+        within = within;
+        value = rest.value;
+        key = rest.key;
+        index = omega (arith, rest.index);
+        removed = rest.removed;
       }
-  found (Some first ∷ items) (suc slot) entry at passes is =
-      let rest = found items slot entry at passes (later (Some first) items slot is) in
-      let not : test first.0 ≡ false =
-      ⊎_elim (λ (yes : test first.0 ≡ true). absurd (let bad : 0 ≡ suc slot = is.only 0 first refl yes in
-      omega (arith, bad))) (λ (no : test first.0 ≡ false). no) (cases_Bool (test first.0)) in
+  by_slot (Some first ∷ items) zero within passes fails =
       record {
+        entry = first;
+        at = refl;
+        here = refl;
+        within = within;
+        value = rw passes refl;
+        key = rw passes refl;
+        index = rw passes refl;
+        removed = rw passes refl;
+      }
+  by_slot (Some first ∷ items) (suc slot) within passes fails =
+      let rest = by_slot items slot (omega (arith, within)) passes
+      (λ other less. fails (suc other) (omega (arith, less))) in
+      let not : is_key bytes first.0 ≡ false = fails 0 (omega arith) in
+      record {
+        entry = rest.entry;
+        at = rest.at;
+        here = rest.here;
+        within = within;
         value = rw not rest.value;
         key = rw not rest.key;
         index = rw not (omega (arith, rest.index));
         removed = rw not (ap (λ more. first ∷ more) rest.removed);
       }
 
-  -- What is found where none passes.
-  pub record IsMissing (entries : List (K × V)) : Type 0 where
-    pub value : lookup test entries ≡ None
-    pub key : lookup_key test entries ≡ None
-    pub index : position_or_len test (keys_of entries) ≡ length (keys_of entries)
-    pub removed : remove_entry test entries ≡ entries
+  pub found : (items : List (Option (String Global × V))) (slot : ℕ) → position (has_key bytes) items ≡ Some slot
+      → IsFound items slot
+  found items slot is =
+      let first = position-Some (has_key bytes) items slot None is in
+      by_slot items slot first.0 first.1 first.2
 
-  pub missing : (items : List (Option (K × V))) → HasNone items → IsMissing (somes items)
-  missing [] none = record { value = refl; key = refl; index = refl; removed = refl }
-  missing (None ∷ items) none =
-      let rest = missing items (record { fails = λ slot entry at. none.fails (suc slot) entry at }) in
+  -- What is found where no slot has an entry of the key.
+  pub record IsMissing (entries : List (String Global × V)) : Type 0 where
+    pub value : lookup (is_key bytes) entries ≡ None
+    pub key : lookup_key (is_key bytes) entries ≡ None
+    pub index : position_or_len (is_key bytes) (keys_of entries) ≡ length (keys_of entries)
+    pub removed : remove_entry (is_key bytes) entries ≡ entries
+
+  by_none : (items : List (Option (String Global × V)))
+      → ((slot : ℕ) → has_key bytes (get_or items slot None) ≡ false) → IsMissing (somes items)
+  by_none [] fails = record { value = refl; key = refl; index = refl; removed = refl }
+  by_none (None ∷ items) fails =
+      let rest = by_none items (λ slot. fails (suc slot)) in
       record { value = rest.value; key = rest.key; index = rest.index; removed = rest.removed }
-  missing (Some first ∷ items) none =
-      let rest = missing items (record { fails = λ slot entry at. none.fails (suc slot) entry at }) in
-      let not : test first.0 ≡ false = none.fails 0 first refl in
+  by_none (Some first ∷ items) fails =
+      let rest = by_none items (λ slot. fails (suc slot)) in
+      let not : is_key bytes first.0 ≡ false = fails 0 in
       record {
         value = rw not rest.value;
         key = rw not rest.key;
         index = rw not (omega (arith, rest.index));
         removed = rw not (ap (λ more. first ∷ more) rest.removed);
       }
+
+  pub missing : (items : List (Option (String Global × V))) → position (has_key bytes) items ≡ None
+      → IsMissing (somes items)
+  missing items none = by_none items (none_passes (has_key bytes) items None refl none)
 
   -- ---- the index
 
-  pub position_found : (items : List (Option (K × V))) (slot : ℕ) (entry : K × V) → slice_get items slot
-      ≡ Some (Some entry) → IsFound items slot entry → position test (keys_of (somes items))
-      ≡ Some (live_to items slot)
-  position_found items slot entry at is =
+  pub position_found : (items : List (Option (String Global × V))) (slot : ℕ) → IsFound items slot
+      → position (is_key bytes) (keys_of (somes items)) ≡ Some (live_to items slot)
+  position_found items slot is =
       let within : live_to items slot < length (keys_of (somes items)) =
       omega (
         arith,
-        slice_get_within (somes items) (live_to items slot) entry (somes_at items slot entry at),
-        length_keys_of (somes items),
+        slice_get_within (somes items) (live_to items slot) is.entry (somes_at items slot is.entry is.at),
+        length-keys_of (somes items),
       ) in
       rw (is.index, lt-ltb (live_to items slot) (length (keys_of (somes items))) within) refl
-    where
-      length_keys_of : (entries : List (K × V)) → length (keys_of entries) ≡ length entries
-      length_keys_of [] = refl
-      length_keys_of (entry ∷ entries) = ap suc (length_keys_of entries)
 
-  pub position_missing : (entries : List (K × V)) → IsMissing entries → position test (keys_of entries) ≡ None
+  pub position_missing : (entries : List (String Global × V)) → IsMissing entries
+      → position (is_key bytes) (keys_of entries) ≡ None
   position_missing entries is = rw (
     is.index,
     le-ltb (length (keys_of entries)) (length (keys_of entries)) (omega arith),

@@ -1,187 +1,214 @@
 -- What the calls of a map make of its slots.
-use Rattle.std.proofs.Common.{◌≡◌, ◌<◌, ◌≤◌, ℕ, zero, suc, true, List, [], ◌∷◌, ◌++◌, length, map, set, slice_get, position, option_map, Bor, Option, Some, None, String, string_bytes, refl, sym, ap, ◌∙◌, subst, arith, one-add, zero-add}
-use Rattle.std.proofs.lemmas.List.{map-set, set-append_left}
-use Rattle.std.proofs.lemmas.Option.{slice_get_within}
-use Rattle.std.proofs.lemmas.Slice.Eq.{bytes_eq-Decides}
+use Rattle.std.proofs.Common.{◌≡◌, ◌≤◌, ◌<◌, ◌+◌, ◌-◌, ◌*◌, ℕ, zero, suc, List, [], ◌∷◌, ◌++◌, length, map, min, filter, position, set, get_or, slice_get, slice_index, slice_index_or, is_some, option_map, Bor, Option, Some, None, String, refl, sym, ap, ◌∙◌, arith, one-add, zero-add}
+use Rattle.std.proofs.lemmas.List.{append-nil, get_or_default, length-append, length-set, length_push, map-append}
 use Rattle.std.specs.Map.Iter.{deref_pair}
-use Rattle.std.specs.Map.{keys_of, lookup, lookup_key, remove_entry}
+use Rattle.std.specs.Map.{remove_entry}
 use Rattle.std.specs.declared.alloc.Global.{Global}
 use Rattle.ordered_map.specs.Entries.{Entries, is_key, set_value_at, slot_entry, with_value_at}
-use Rattle.ordered_map.specs.declared.slot.Slot.{Slot}
-use Rattle.ordered_map.specs.declared.slot.Slot.TheVariants.{Vacant, Live}
-use Rattle.ordered_map.specs.inside.Slots.{IsLive, IsOrderedMap, entries_in, keys_in, live_to, slot_key, somes, with_value}
-use Rattle.ordered_map.proofs.SlotLemmas.{entries_are, entry_at, live_keys, slot_with_key, somes_at}
-use Rattle.ordered_map.proofs.FindLemmas.{IsMissing, found, missing, position_found}
-use Rattle.ordered_map.proofs.KeySlotLemmas.{no_slot, only_slot}
+use Rattle.ordered_map.specs.inside.Slots.{IsOrderedMap, counted_last, has_key, here, live_to, somes, uncounted, vacated, with_value, with_value_in}
+use Rattle.ordered_map.proofs.CountLemmas.{all_counted, count_small, last_counted, taken_counted}
+use Rattle.ordered_map.proofs.FindLemmas.{found, missing}
+use Rattle.ordered_map.proofs.SlotLemmas.{packed_all, packed_short, packed_somes, somes-append, somes_taken}
 
 module _ {V : Type 0} where
-  -- ---- slots that change
-
-  pub vacated : (slots : List (Slot V)) (slot : ℕ) → entries_in (set slots slot Vacant)
-      ≡ somes (set (map slot_entry slots) slot None)
-  vacated slots slot = entries_are (set slots slot Vacant) ∙ ap somes (map-set slot_entry slots slot Vacant)
-
-  pub keys_vacated : (slots : List (Slot V)) (slot : ℕ) → keys_in (set slots slot Vacant)
-      ≡ set (keys_in slots) slot None
-  keys_vacated [] slot = refl
-  keys_vacated (first ∷ slots) zero = refl
-  keys_vacated (first ∷ slots) (suc slot) = ap (λ (rest : List (Option (String Global))). slot_key first ∷ rest)
-      (keys_vacated slots slot)
-
-  pub keys_put : (slots : List (Slot V)) (key : String Global) (value : V) → keys_in (slots ++ Live key value ∷ [])
-      ≡ keys_in slots ++ Some key ∷ []
-  keys_put [] key value = refl
-  keys_put (first ∷ slots) key value = ap (λ (rest : List (Option (String Global))). slot_key first ∷ rest)
-      (keys_put slots key value)
-
-  pub entries_put : (slots : List (Slot V)) (key : String Global) (value : V)
-      → entries_in (slots ++ Live key value ∷ []) ≡ entries_in slots ++ (key, value) ∷ []
-  entries_put [] key value = refl
-  entries_put (Vacant ∷ slots) key value = entries_put slots key value
-  entries_put (Live first old ∷ slots) key value = ap (λ rest. (first, old) ∷ rest) (entries_put slots key value)
-
-  pub entries_written : (slots : List (Slot V)) (slot : ℕ) (key : String Global) (old value : V) → slice_get slots slot
-      ≡ Some (Live key old)
-      → entries_in (set slots slot (Live key value)) ≡ set_value_at (entries_in slots) (live_to (keys_in slots) slot)
-      value
-  entries_written [] slot key old value at = absurd (cc)
-  entries_written (first ∷ slots) zero key old value at = let same : first ≡ Live key old = cc in rw same refl
-  entries_written (Vacant ∷ slots) (suc slot) key old value at =
-      rw zero-add (entries_written slots slot key old value at)
-  entries_written (Live first kept ∷ slots) (suc slot) key old value at =
-      rw one-add (ap (λ rest. (first, kept) ∷ rest) (entries_written slots slot key old value at))
-
-  pub keys_written : (slots : List (Slot V)) (slot : ℕ) (key : String Global) (old value : V) → slice_get slots slot
-      ≡ Some (Live key old) → keys_in (set slots slot (Live key value)) ≡ keys_in slots
-  keys_written [] slot key old value at = refl
-  keys_written (first ∷ slots) zero key old value at = let same : first ≡ Live key old = cc in rw same refl
-  keys_written (first ∷ slots) (suc slot) key old value at =
-      ap (λ (rest : List (Option (String Global))). slot_key first ∷ rest) (keys_written slots slot key old value at)
-
-  -- the map of slots, with another value in one of them
-  pub view_written : (slots : List (Slot V)) (slot index : ℕ) (key : String Global) (old value : V) (now : Slot V)
-      → slice_get slots slot ≡ Some (Live key old) → live_to (keys_in slots) slot ≡ index → now ≡ Live key old
-      → ◌≡◌ {A = Entries V} (record { entries = entries_in (set slots slot (with_value now value)) })
-      (with_value_at (record { entries = entries_in slots }) index value)
-  view_written slots slot index key old value now at is same =
-      rw (
-        same,
-        ← is,
-      ) (ap (λ (entries : List (String Global × V)). record {
-        entries = entries;
-      }) (entries_written slots slot key old value at))
-
-  pub keys_kept : (slots : List (Slot V)) (slot : ℕ) (key : String Global) (old value : V) (now : Slot V)
-      → slice_get slots slot ≡ Some (Live key old) → now ≡ Live key old
-      → keys_in (set slots slot (with_value now value)) ≡ keys_in slots
-  keys_kept slots slot key old value now at same = rw same (keys_written slots slot key old value at)
-
   -- ---- an entry that is read
 
-  pub record IsSeen (entry : Option (Bor (String Global) × Bor V)) (key : String Global) (value : V) : Type 0 where
-    pub key_is : option_map (λ (pair : Bor (String Global) × Bor V). pair.0.now) entry ≡ Some key
-    pub value_is : option_map (λ (pair : Bor (String Global) × Bor V). pair.1.now) entry ≡ Some value
+  pub record IsSeen (entry : Option (Bor (String Global) × Bor V)) (is : String Global × V) : Type 0 where
+    pub key_is : option_map (λ (pair : Bor (String Global) × Bor V). pair.0.now) entry ≡ Some is.0
+    pub value_is : option_map (λ (pair : Bor (String Global) × Bor V). pair.1.now) entry ≡ Some is.1
 
-  pub seen : (entry : Option (Bor (String Global) × Bor V)) (key : String Global) (value : V)
-      → option_map deref_pair entry ≡ Some (key, value) → IsSeen entry key value
-  seen None key value is = absurd (cc)
-  seen (Some pair) key value is = record {
-    key_is = ap (λ (found : Option (String Global × V)). option_map (λ (both : String Global × V). both.0) found) is;
-    value_is = ap (λ (found : Option (String Global × V)). option_map (λ (both : String Global × V). both.1) found) is;
+  pub seen : (entry : Option (Bor (String Global) × Bor V)) (is : String Global × V)
+      → option_map deref_pair entry ≡ Some is → IsSeen entry is
+  seen None is same = absurd (cc)
+  seen (Some pair) is same = record {
+    key_is = ap (λ (found : Option (String Global × V)).
+        option_map (λ (both : String Global × V). both.0) found) same;
+    value_is = ap (λ (found : Option (String Global × V)).
+        option_map (λ (both : String Global × V). both.1) found) same;
   }
 
-  -- ---- an entry at an index
+  -- ---- an entry that is written
 
-  -- the entry of a slot, at its index
-  pub record IsIndexed (slots : List (Slot V)) (slot index : ℕ) : Type 0 where
-    pub key : String Global
-    pub value : V
-    pub at : slice_get slots slot ≡ Some (Live key value)
-    pub within : slot < length slots
-    pub entry : slice_get (entries_in slots) index ≡ Some (key, value)
+  live_written : (items : List (Option (String Global × V))) (slot : ℕ) (value : V) (bound : ℕ)
+      → live_to (with_value_in items slot value) bound ≡ live_to items bound
+  live_written [] slot value bound = refl
+  live_written (item ∷ items) zero value zero = refl
+  live_written (None ∷ items) zero value (suc bound) = refl
+  live_written (Some entry ∷ items) zero value (suc bound) = refl
+  live_written (item ∷ items) (suc slot) value zero = refl
+  live_written (item ∷ items) (suc slot) value (suc bound) =
+      ap (λ n. here item + n) (live_written items slot value bound)
 
-  pub indexed : (slots : List (Slot V)) (slot index : ℕ) → IsLive (keys_in slots) slot → live_to (keys_in slots) slot
-      ≡ index → IsIndexed slots slot index
-  indexed slots slot index live is =
-      let there = slot_with_key slots slot live.item live.at in
+  somes_written : (items : List (Option (String Global × V))) (slot : ℕ) (entry : String Global × V) (value : V)
+      → slice_get items slot ≡ Some (Some entry)
+      → somes (with_value_in items slot value) ≡ set_value_at (somes items) (live_to items slot) value
+  somes_written [] slot entry value at = absurd (cc)
+  somes_written (None ∷ items) zero entry value at = absurd (cc)
+  somes_written (Some first ∷ items) zero entry value at = refl
+  somes_written (None ∷ items) (suc slot) entry value at = rw zero-add (somes_written items slot entry value at)
+  somes_written (Some first ∷ items) (suc slot) entry value at =
+      rw one-add (ap (λ rest. first ∷ rest) (somes_written items slot entry value at))
+
+  pub view_written : (items : List (Option (String Global × V))) (slot index : ℕ)
+      (entry : String Global × V) (value : V)
+      → slice_get items slot ≡ Some (Some entry) → live_to items slot ≡ index
+      → ◌≡◌ {A = Entries V} (record { entries = somes (with_value_in items slot value) })
+      (with_value_at (record { entries = somes items }) index value)
+  view_written items slot index entry value at is =
+      rw (← is) (ap (λ (entries : List (String Global × V)). record {
+        entries = entries;
+      }) (somes_written items slot entry value at))
+
+  length_written : (items : List (Option (String Global × V))) (slot : ℕ) (value : V)
+      → length (somes (with_value_in items slot value)) ≡ length (somes items)
+  length_written [] slot value = refl
+  length_written (None ∷ items) zero value = refl
+  length_written (Some entry ∷ items) zero value = refl
+  length_written (None ∷ items) (suc slot) value = length_written items slot value
+  length_written (Some entry ∷ items) (suc slot) value = ap suc (length_written items slot value)
+
+  pub written_map : (items : List (Option (String Global × V))) (counts : List ℕ) (live : ℕ)
+      → IsOrderedMap items counts live → (slot : ℕ) (value : V)
+      → IsOrderedMap (with_value_in items slot value) counts live
+  written_map items counts live is slot value = record {
+    counted = record {
+      enough = omega (
+        arith,
+        is.counted.enough,
+        length-set items slot (with_value (get_or items slot None) value),
+      );
+      each = λ block within. live_written items slot value (256 * (block + 1))
+          ∙ (is.counted.each block within
+          ∙ ap (λ n. n + slice_index counts block) (sym (live_written items slot value (256 * block))));
+    };
+    live_is = is.live_is ∙ sym (length_written items slot value);
+  }
+
+module _ {X : Type 0} (items : List (Option X)) (counts : List ℕ) (live : ℕ) (is : IsOrderedMap items counts live) where
+  -- an item is taken out
+  pub taken_map : (slot : ℕ) (item : X) → slice_get items slot ≡ Some (Some item)
+      → IsOrderedMap (set items slot None) (uncounted counts slot) (live - 1)
+  taken_map slot item at = record {
+    counted = taken_counted items counts slot item is.counted at;
+    live_is = omega (arith, is.live_is, somes_taken items slot item at);
+  }
+
+  pub some_live : (slot : ℕ) (item : X) → slice_get items slot ≡ Some (Some item) → 1 ≤ live
+  some_live slot item at = omega (arith, is.live_is, somes_taken items slot item at)
+
+  -- an item is put in last
+  pub put_map : (item : X) → IsOrderedMap (items ++ Some item ∷ []) (counted_last counts (length items)) (live + 1)
+  put_map item = record {
+    counted = last_counted items counts item is.counted;
+    live_is = rw somes-append (omega (arith, is.live_is, length-append (somes items) (item ∷ [])));
+  }
+
+  -- the items are packed
+  pub packed_map : (after : List (Option X)) (counted : List ℕ) → after ≡ filter is_some items
+      → length counted ≡ length counts
+      → ((block : ℕ) → block < length counted → slice_index counted block ≡ min 256 (length after - 256 * block))
+      → IsOrderedMap after counted live
+  packed_map after counted kept same are =
+      let all : length (somes after) ≡ length after = rw kept (packed_all items) in
+      let short : length after ≤ length items = rw kept (packed_short items) in
       record {
-        key = live.item;
-        value = there.value;
-        at = there.at;
-        within = slice_get_within slots slot (Live live.item there.value) there.at;
-        entry =
-            rw (entries_are slots, ← is, live_keys slots slot)
-            (somes_at (map slot_entry slots) slot (
-              live.item,
-              there.value,
-            ) (entry_at slots slot live.item there.value there.at));
+        counted = all_counted after counted all (omega (arith, short, same, is.counted.enough)) are;
+        live_is = is.live_is ∙ rw kept (ap length (sym (packed_somes items)));
       }
 
-  pub nothing_after : (slots : List (Slot V)) (index : ℕ) → length (somes (keys_in slots)) ≤ index
-      → slice_get (entries_in slots) index ≡ None
-  nothing_after [] index past = refl
-  nothing_after (Vacant ∷ slots) index past = nothing_after slots index past
-  nothing_after (Live key value ∷ slots) zero past = absurd (omega (arith, past))
-  nothing_after (Live key value ∷ slots) (suc index) past = nothing_after slots index (omega (arith, past))
+-- ---- an entry that is put in last, and out of the slot where its key was
 
-  -- ---- an entry of a key
+module _ {X : Type 0} where
+  -- The slot that has an item no more is counted no more, and one more item is.
+  pub record IsFreed (items : List (Option X)) (was : Option ℕ) (counts : List ℕ) (live : ℕ) : Type 0 where
+    pub is : IsOrderedMap (vacated items was) counts (live - 1)
+    pub some : 1 ≤ live
 
-  module _ (slots : List (Slot V)) (counts : List ℕ) (slot_of_key : List ℕ → Option ℕ) (live : ℕ)
-      (is : IsOrderedMap (keys_in slots) counts slot_of_key live) (bytes : List ℕ) where
-    -- what is found of a key with a slot
-    pub record HasSlot (slot : ℕ) : Type 0 where
-      pub key : String Global
-      pub value : V
-      pub at : slice_get slots slot ≡ Some (Live key value)
-      pub key_at : slice_get (keys_in slots) slot ≡ Some (Some key)
-      pub within : slot < length slots
-      pub looked_up : lookup (is_key bytes) (entries_in slots) ≡ Some value
-      pub key_is : lookup_key (is_key bytes) (entries_in slots) ≡ Some key
-      pub index : position (is_key bytes) (keys_of (entries_in slots)) ≡ Some (live_to (keys_in slots) slot)
-      pub entry : slice_get (entries_in slots) (live_to (keys_in slots) slot) ≡ Some (key, value)
-      pub removed : remove_entry (is_key bytes) (entries_in slots) ≡ entries_in (set slots slot Vacant)
+  pub freed_some : (items : List (Option X)) (counts : List ℕ) (live slot : ℕ) (item : X)
+      → IsOrderedMap items counts live → slice_get items slot ≡ Some (Some item)
+      → IsFreed items (Some slot) (uncounted counts slot) live
+  freed_some items counts live slot item is at = record {
+    is = taken_map items counts live is slot item at;
+    some = some_live items counts live is slot item at;
+  }
 
-    pub slot_at : (slot : ℕ) → slot_of_key bytes ≡ Some slot → HasSlot slot
-    slot_at slot there =
-        let kept = is.slots_are.there bytes slot there in
-        let full = slot_with_key slots slot kept.key kept.at in
-        let entry : slice_get (map slot_entry slots) slot ≡ Some (Some (kept.key, full.value)) =
-        entry_at slots slot kept.key full.value full.at in
-        let passes : is_key bytes kept.key ≡ true =
-        (bytes_eq-Decides bytes (string_bytes kept.key)).1 (sym kept.same) in
-        let all = found (is_key bytes) (map slot_entry slots) slot (
-          kept.key,
-          full.value,
-        ) entry passes (only_slot slots slot_of_key is.slots_are bytes slot there) in
-        let index : position (is_key bytes) (keys_of (somes (map slot_entry slots)))
-        ≡ Some (live_to (map slot_entry slots) slot)
-        = position_found (is_key bytes) (map slot_entry slots) slot (kept.key, full.value) entry all in
+  pub freed_none : (items : List (Option X)) (counts : List ℕ) (live : ℕ) → IsOrderedMap items counts live
+      → IsFreed items None counts (live + 1)
+  freed_none items counts live is = record {
+    is = record { counted = is.counted; live_is = omega (arith, is.live_is) };
+    some = omega arith;
+  }
+
+  module _ (items : List (Option X)) (was : Option ℕ) (counts : List ℕ) (live : ℕ)
+      (freed : IsFreed items was counts live) where
+    pub freed_small : (block default : ℕ) → block < length counts → slice_index_or counts block default ≤ 256
+    freed_small block default within =
+        let small : slice_index counts block ≤ 256 =
+        count_small (vacated items was) counts block freed.is.counted within in
+        omega (arith, small, get_or_default counts block default 0 within)
+
+    pub freed_put : (item : X) (len : ℕ) → len ≡ length items
+        → IsOrderedMap (vacated items was ++ Some item ∷ []) (counted_last counts len) live
+    freed_put item len is =
+        let put = put_map (vacated items was) counts (live - 1) freed.is item in
         record {
-          key = kept.key;
-          value = full.value;
-          at = full.at;
-          key_at = kept.at;
-          within = slice_get_within slots slot (Live kept.key full.value) full.at;
-          looked_up = ap (lookup (is_key bytes)) (entries_are slots) ∙ all.value;
-          key_is = ap (lookup_key (is_key bytes)) (entries_are slots) ∙ all.key;
-          index = rw (entries_are slots, live_keys slots slot) index;
-          entry = rw (
-            entries_are slots,
-            live_keys slots slot,
-          ) (somes_at (map slot_entry slots) slot (kept.key, full.value) entry);
-          removed = ap (remove_entry (is_key bytes)) (entries_are slots) ∙ (all.removed ∙ sym (vacated slots slot));
+          counted = rw (is ∙ sym (same was)) put.counted;
+          live_is = omega (arith, put.live_is, freed.some);
+        }
+      where
+        same : (was : Option ℕ) → length (vacated items was) ≡ length items
+        same None = refl
+        same (Some slot) = length-set items slot None
+
+module _ {V : Type 0} where
+  pub put_entries : (bytes : List ℕ) (items : List (Option (String Global × V))) (was : Option ℕ)
+      (entry : String Global × V) → was ≡ position (has_key bytes) items
+      → somes (vacated items was ++ Some entry ∷ []) ≡ remove_entry (is_key bytes) (somes items) ++ entry ∷ []
+  put_entries bytes items was entry is =
+      somes-append (vacated items was) (Some entry ∷ []) ∙ ap (λ rest. rest ++ entry ∷ []) (by was is)
+    where
+      by : (was : Option ℕ) → was ≡ position (has_key bytes) items
+          → somes (vacated items was) ≡ remove_entry (is_key bytes) (somes items)
+      by None none = sym (missing bytes items (sym none)).removed
+      by (Some slot) some = sym (found bytes items slot (sym some)).removed
+
+-- ---- the last slot of some
+
+module _ {V : Type 0} where
+  last_slot : (slots : List (String Global × Option V)) (last : String Global × Option V)
+      → somes (map slot_entry (slots ++ last ∷ [])) ≡ somes (map slot_entry slots) ++ somes (slot_entry last ∷ [])
+  last_slot slots last =
+      ap somes (map-append slot_entry slots (last ∷ []))
+      ∙ somes-append (map slot_entry slots) (slot_entry last ∷ [])
+
+  -- the last slot has an entry, of so many
+  pub record HasLast (rest : List (String Global × Option V)) (left : ℕ) (entry : String Global × V)
+      (all : List (String Global × V)) : Type 0 where
+    pub some : 1 ≤ left
+    pub counted : left - 1 ≡ length (somes (map slot_entry rest))
+    pub steps : all ≡ somes (map slot_entry rest) ++ entry ∷ []
+    pub shorter : length (somes (map slot_entry rest)) < length all
+
+  module _ (slots rest : List (String Global × Option V)) (left : ℕ) (all : List (String Global × V))
+      (counted : left ≡ length (somes (map slot_entry slots))) (are : somes (map slot_entry slots) ≡ all)
+      (last : String Global × Option V) (split : slots ≡ rest ++ last ∷ []) where
+    pub last_live : (entry : String Global × V) → slot_entry last ≡ Some entry → HasLast rest left entry all
+    last_live entry is =
+        let steps : all ≡ somes (map slot_entry rest) ++ entry ∷ [] =
+        sym are ∙ (ap (λ these. somes (map slot_entry these)) split ∙ (last_slot rest last
+        ∙ ap (λ (item : Option (String Global × V)). somes (map slot_entry rest) ++ somes (item ∷ [])) is)) in
+        let longer : length all ≡ length (somes (map slot_entry rest)) + 1 =
+        ap length steps ∙ length_push (somes (map slot_entry rest)) entry in
+        let total : left ≡ length all = counted ∙ ap length are in
+        record {
+          some = omega (arith, longer, total);
+          counted = omega (arith, longer, total);
+          steps = steps;
+          shorter = omega (arith, longer);
         }
 
-    pub has_no_slot : slot_of_key bytes ≡ None → IsMissing (is_key bytes) (entries_in slots)
-    has_no_slot none =
-        subst (IsMissing (is_key bytes)) (sym (entries_are slots)) (missing (is_key bytes) (map slot_entry slots)
-        (no_slot slots slot_of_key is.slots_are bytes none))
-
-  -- ---- an entry that is put in where its key was
-
-  pub entries_moved : (slots : List (Slot V)) (key : String Global) (value : V) (slot : ℕ) → slot < length slots
-      → entries_in (set (slots ++ Live key value ∷ []) slot Vacant) ≡ entries_in (set slots slot Vacant) ++ (key, value)
-      ∷ []
-  entries_moved slots key value slot within =
-      ap entries_in (set-append_left slots (Live key value ∷ []) slot Vacant within)
-      ∙ entries_put (set slots slot Vacant) key value
+    pub last_vacant : slot_entry last ≡ None → somes (map slot_entry rest) ≡ all
+    last_vacant is =
+        sym (append-nil (somes (map slot_entry rest)))
+        ∙ (ap (λ (item : Option (String Global × V)). somes (map slot_entry rest) ++ somes (item ∷ [])) (sym is)
+        ∙ (sym (ap (λ these. somes (map slot_entry these)) split ∙ last_slot rest last) ∙ are))

@@ -1,12 +1,7 @@
 -- The items of slots, and how many there are.
-use Rattle.std.proofs.Common.{◌≡◌, ◌≤◌, ◌<◌, ◌+◌, ◌-◌, ℕ, zero, suc, true, false, List, [], ◌∷◌, ◌++◌, length, map, set, get_or, slice_get, is_some, option_map, Option, Some, None, String, refl, sym, ap, ◌∙◌, arith, add-one, one-add, zero-add}
-use Rattle.std.proofs.lemmas.List.{append-nil, length_push}
-use Rattle.std.proofs.lemmas.Option.{slice_get-map, slice_get_read}
-use Rattle.std.specs.declared.alloc.Global.{Global}
-use Rattle.ordered_map.specs.declared.slot.Slot.{Slot}
-use Rattle.ordered_map.specs.declared.slot.Slot.TheVariants.{Vacant, Live}
-use Rattle.ordered_map.specs.Entries.{slot_entry}
-use Rattle.ordered_map.specs.inside.Slots.{slot_key, somes, here, live_to, IsLive, entries_in, keys_in}
+use Rattle.std.proofs.Common.{◌≡◌, ◌≤◌, ◌<◌, ◌+◌, ℕ, zero, suc, true, false, List, [], ◌∷◌, ◌++◌, length, filter, get_or, set, slice_get, is_some, Option, Some, None, refl, ap, arith, add-one, one-add, zero-add}
+use Rattle.std.proofs.lemmas.Option.{slice_get-get_or}
+use Rattle.ordered_map.specs.inside.Slots.{IsLive, here, live_to, somes}
 
 module _ {X : Type 0} where
   -- ---- the items
@@ -93,6 +88,14 @@ module _ {X : Type 0} where
   all_live (Some first ∷ items) (suc slot) all within = let rest =
       all_live items slot (omega (arith, all)) (omega (arith, within)) in record { item = rest.item; at = rest.at }
 
+  pub live_read : (items : List (Option X)) (slot : ℕ) → slot < length items → is_some (get_or items slot None) ≡ true
+      → IsLive items slot
+  live_read items slot within some = by (get_or items slot None) some (slice_get-get_or items slot None within)
+    where
+      by : (item : Option X) → is_some item ≡ true → slice_get items slot ≡ Some item → IsLive items slot
+      by None none at = absurd (let bad : false ≡ true = none in cc)
+      by (Some item) there at = record { item = item; at = at }
+
   pub here_some : (item : Option X) → is_some item ≡ true → here item ≡ 1
   here_some None is = absurd (let bad : false ≡ true = is in cc)
   here_some (Some item) is = refl
@@ -155,119 +158,19 @@ module _ {X : Type 0} where
   live_put_after (first ∷ items) item (suc bound) after =
       omega (arith, live_put_after items item bound (omega (arith, after)))
 
--- ---- keys and entries of the same slots
+  -- ---- items that are packed
 
-module _ {V : Type 0} where
-  pub key_at : (slots : List (Slot V)) (slot : ℕ) (key : String Global) (value : V) → slice_get slots slot
-      ≡ Some (Live key value) → slice_get (keys_in slots) slot ≡ Some (Some key)
-  key_at [] slot key value at = absurd (cc)
-  key_at (first ∷ slots) zero key value at = let same : first ≡ Live key value = cc in rw same refl
-  key_at (first ∷ slots) (suc slot) key value at = key_at slots slot key value at
+  pub packed_somes : (items : List (Option X)) → somes (filter is_some items) ≡ somes items
+  packed_somes [] = refl
+  packed_somes (None ∷ items) = packed_somes items
+  packed_somes (Some item ∷ items) = ap (λ rest. item ∷ rest) (packed_somes items)
 
-  pub entry_at : (slots : List (Slot V)) (slot : ℕ) (key : String Global) (value : V) → slice_get slots slot
-      ≡ Some (Live key value) → slice_get (map slot_entry slots) slot ≡ Some (Some (key, value))
-  entry_at [] slot key value at = absurd (cc)
-  entry_at (first ∷ slots) zero key value at = let same : first ≡ Live key value = cc in rw same refl
-  entry_at (first ∷ slots) (suc slot) key value at = entry_at slots slot key value at
+  pub packed_all : (items : List (Option X)) → length (somes (filter is_some items)) ≡ length (filter is_some items)
+  packed_all [] = refl
+  packed_all (None ∷ items) = packed_all items
+  packed_all (Some item ∷ items) = ap suc (packed_all items)
 
-  -- what is in a slot with a key
-  pub record IsEntryAt (slots : List (Slot V)) (slot : ℕ) (key : String Global) : Type 0 where
-    pub value : V
-    pub at : slice_get slots slot ≡ Some (Live key value)
-
-  pub slot_with_key : (slots : List (Slot V)) (slot : ℕ) (key : String Global) → slice_get (keys_in slots) slot
-      ≡ Some (Some key) → IsEntryAt slots slot key
-  slot_with_key [] slot key at = absurd (cc)
-  slot_with_key (Vacant ∷ slots) zero key at = absurd (cc)
-  slot_with_key (Live first value ∷ slots) zero key at = let same : first ≡ key = cc in
-      record { value = value; at = rw same refl }
-  slot_with_key (Vacant ∷ slots) (suc slot) key at = let rest = slot_with_key slots slot key at in
-      record { value = rest.value; at = rest.at }
-  slot_with_key (Live first value ∷ slots) (suc slot) key at = let rest = slot_with_key slots slot key at in
-      record { value = rest.value; at = rest.at }
-
-  pub length_keys : (slots : List (Slot V)) → length (keys_in slots) ≡ length slots
-  length_keys [] = refl
-  length_keys (first ∷ slots) = ap suc (length_keys slots)
-
-  -- what is read at an index
-  pub key_read : (slots : List (Slot V)) (slot : ℕ) (content : Slot V) → slot < length slots
-      → content ≡ get_or slots slot content → slice_get (keys_in slots) slot ≡ Some (slot_key content)
-  key_read slots slot content within is =
-      slice_get-map slot_key slots slot
-      ∙ ap (option_map slot_key) (slice_get_read slots (length slots) slot content refl within is)
-
-  pub live_read : (slots : List (Slot V)) (slot : ℕ) (content : Slot V) → slot < length slots
-      → content ≡ get_or slots slot content → is_some (slot_key content) ≡ true → IsLive (keys_in slots) slot
-  live_read slots slot content within is some = by (slot_key content) some (key_read slots slot content within is)
-    where
-      by : (key : Option (String Global)) → is_some key ≡ true → slice_get (keys_in slots) slot ≡ Some key
-          → IsLive (keys_in slots) slot
-      by None none at = absurd (let bad : false ≡ true = none in cc)
-      by (Some key) there at = record { item = key; at = at }
-
-  -- the key of a slot whose entry is known
-  pub key_of_slot : (slot : Slot V) (key : String Global) (value : V) → Some (key, value) ≡ slot_entry slot
-      → slot_key slot ≡ Some key
-  key_of_slot Vacant key value is = absurd (cc)
-  key_of_slot (Live first old) key value is =
-      ap (λ (entry : Option (String Global × V)). option_map (λ (pair : String Global × V). pair.0) entry) (sym is)
-
-  pub no_key_of_slot : (slot : Slot V) → None ≡ slot_entry slot → slot_key slot ≡ None
-  no_key_of_slot Vacant is = refl
-  no_key_of_slot (Live first old) is = absurd (cc)
-
-  -- the entries are the items of slots
-  pub entries_are : (slots : List (Slot V)) → entries_in slots ≡ somes (map slot_entry slots)
-  entries_are [] = refl
-  entries_are (Vacant ∷ slots) = entries_are slots
-  entries_are (Live key value ∷ slots) = ap (λ rest. (key, value) ∷ rest) (entries_are slots)
-
-  pub count_keys : (slots : List (Slot V)) → length (somes (keys_in slots)) ≡ length (entries_in slots)
-  count_keys [] = refl
-  count_keys (Vacant ∷ slots) = count_keys slots
-  count_keys (Live key value ∷ slots) = ap suc (count_keys slots)
-
-  pub live_keys : (slots : List (Slot V)) (bound : ℕ) → live_to (keys_in slots) bound ≡ live_to (map slot_entry slots)
-      bound
-  live_keys [] bound = refl
-  live_keys (first ∷ slots) zero = refl
-  live_keys (Vacant ∷ slots) (suc bound) = ap (λ n. 0 + n) (live_keys slots bound)
-  live_keys (Live key value ∷ slots) (suc bound) = ap (λ n. 1 + n) (live_keys slots bound)
-
--- ---- the last slot of some
-
-module _ {V : Type 0} where
-  last_slot : (slots : List (Slot V)) (last : Slot V) → entries_in (slots ++ last ∷ []) ≡ entries_in slots
-      ++ entries_in (last ∷ [])
-  last_slot [] last = refl
-  last_slot (Vacant ∷ slots) last = last_slot slots last
-  last_slot (Live key value ∷ slots) last = ap (λ rest. (key, value) ∷ rest) (last_slot slots last)
-
-  -- the last slot has an entry, of so many
-  pub record HasLast (rest : List (Slot V)) (left : ℕ) (key : String Global) (value : V)
-      (all : List (String Global × V)) : Type 0 where
-    pub some : 1 ≤ left
-    pub counted : left - 1 ≡ length (entries_in rest)
-    pub steps : all ≡ entries_in rest ++ (key, value) ∷ []
-    pub shorter : length (entries_in rest) < length all
-
-  module _ (slots rest : List (Slot V)) (left : ℕ) (all : List (String Global × V))
-      (counted : left ≡ length (entries_in slots)) (are : entries_in slots ≡ all) where
-    pub last_live : (key : String Global) (value : V) → slots ≡ rest ++ Live key value ∷ []
-        → HasLast rest left key value all
-    last_live key value split =
-        let steps : all ≡ entries_in rest ++ (key, value) ∷ [] =
-        sym are ∙ (ap entries_in split ∙ last_slot rest (Live key value)) in
-        let longer : length all ≡ length (entries_in rest) + 1 =
-        ap length steps ∙ length_push (entries_in rest) (key, value) in
-        let total : left ≡ length all = counted ∙ ap length are in
-        record {
-          some = omega (arith, longer, total);
-          counted = omega (arith, longer, total);
-          steps = steps;
-          shorter = omega (arith, longer);
-        }
-
-    pub last_vacant : slots ≡ rest ++ Vacant ∷ [] → entries_in rest ≡ all
-    last_vacant split = sym (append-nil (entries_in rest)) ∙ (sym (ap entries_in split ∙ last_slot rest Vacant) ∙ are)
+  pub packed_short : (items : List (Option X)) → length (filter is_some items) ≤ length items
+  packed_short [] = omega arith
+  packed_short (None ∷ items) = omega (arith, packed_short items)
+  packed_short (Some item ∷ items) = omega (arith, packed_short items)

@@ -2,17 +2,15 @@
 use Rattle.std.specs.Prelude.{ℕ, zero, suc, Bool, List, [], ◌∷◌, Option, Some, None, String, string_bytes}
 use Rattle.std.specs.Str.{bytes_eq}
 use Rattle.std.specs.declared.alloc.Global.{Global}
-use Rattle.ordered_map.specs.declared.slot.Slot.{Slot}
-use Rattle.ordered_map.specs.declared.slot.Slot.TheVariants.{Vacant, Live}
 
 -- The keys with their values, in order of insertion.
 pub record Entries (V : Type 0) : Type 0 where
   pub entries : List (String Global × V)
 
 -- The entry of a slot.
-abbrev pub slot_entry : {V : Type 0} → Slot V → Option (String Global × V)
-slot_entry Vacant = None
-slot_entry (Live key value) = Some (key, value)
+abbrev pub slot_entry : {V : Type 0} → String Global × Option V → Option (String Global × V)
+slot_entry (key, Some value) = Some (key, value)
+slot_entry (key, None) = None
 
 -- A key has these bytes.
 abbrev pub is_key : List ℕ → String Global → Bool

@@ -1,10 +1,13 @@
 //! The entries of a map, one after another.
 
-ghost use Rattle.std.specs.Prelude.{◌≡◌, length};
+ghost use Rattle.std.specs.Prelude.{◌≡◌, length, map};
 ghost use Rattle.std.specs.Iterator.{at_most};
 ghost use Rattle.std.specs.Map.Iter.{TakesFirst, TakesLast, deref_pair};
+ghost use Rattle.ordered_map.specs.Entries.{slot_entry};
+ghost use Rattle.ordered_map.specs.inside.Slots.{somes};
 
-use crate::slot::Slot;
+use crate::slots::slot_entry;
+use indexmap::map::Iter as SlotsIter;
 use std::iter::FusedIterator;
 use std::marker::Model;
 
@@ -12,31 +15,28 @@ use std::marker::Model;
 /// them. Clauses see the list of the remaining entries.
 #[derive(Debug, Drop)]
 pub struct Iter<'a, V> {
-    slots: &'a [Slot<V>],
+    slots: SlotsIter<'a, String, Option<V>>,
     left: usize,
 }
 
 impl<'a, V> Model for Iter<'a, V> {
-    ghost use Rattle.std.specs.Prelude.{◌≡◌, List, String, filter_map, length};
+    ghost use Rattle.std.specs.Prelude.{◌≡◌, List, String, filter_map, length, map};
     ghost use Rattle.std.specs.declared.alloc.Global.{Global};
+    ghost use Rattle.ordered_map.specs.Entries.{slot_entry};
+    ghost use Rattle.ordered_map.specs.inside.Slots.{somes};
 
     ghost Value = { List (String Global × V) };
 
-    ghost use Rattle.ordered_map.specs.Entries.{slot_entry};
+    ghost view = { λ iter. filter_map (λ item. item) (map slot_entry iter.slots) };
 
-    ghost view = { λ iter. filter_map slot_entry iter.slots.now };
-
-    ghost invariant = { λ iter. iter.left ≡ length (filter_map slot_entry iter.slots.now) };
+    ghost invariant = { λ iter. iter.left ≡ length (somes (map slot_entry iter.slots)) };
 }
 
 impl<'a, V> Iter<'a, V> {
-    ghost use Rattle.std.specs.Prelude.{filter_map};
-    ghost use Rattle.ordered_map.specs.Entries.{slot_entry};
-
     /// Returns the entries of slots, of which there are so many.
-    pub(crate) fn new(slots: &'a [Slot<V>], left: usize) -> Self
-        requires { left ≡ length (filter_map slot_entry slots.now) }
-        ensures { result ≡ filter_map slot_entry slots.now }
+    pub(crate) fn new(slots: SlotsIter<'a, String, Option<V>>, left: usize) -> Self
+        requires { left ≡ length (somes (map slot_entry slots)) }
+        ensures { result ≡ somes (map slot_entry slots.entry) }
     {
         Iter { slots, left }
     }
@@ -50,11 +50,10 @@ impl<'a, V> Iterator for Iter<'a, V> {
     ghost remaining = { λ rest. at_most (length rest) };
 
     fn next(&mut self) -> Option<(&'a String, &'a V)> {
-        while let Some((slot, rest)) = self.slots.split_first() {
-            self.slots = rest;
-            if let Slot::Live(key, value) = slot {
+        while let Some((key, value)) = self.slots.next() {
+            if let Some(entry) = slot_entry(key, value) {
                 self.left -= 1;
-                return Some((key, value));
+                return Some(entry);
             }
         }
         None
@@ -69,11 +68,10 @@ impl<'a, V> DoubleEndedIterator for Iter<'a, V> {
     ghost next_back_gives = { TakesLast deref_pair };
 
     fn next_back(&mut self) -> Option<(&'a String, &'a V)> {
-        while let Some((slot, rest)) = self.slots.split_last() {
-            self.slots = rest;
-            if let Slot::Live(key, value) = slot {
+        while let Some((key, value)) = self.slots.next_back() {
+            if let Some(entry) = slot_entry(key, value) {
                 self.left -= 1;
-                return Some((key, value));
+                return Some(entry);
             }
         }
         None

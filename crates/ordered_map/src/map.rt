@@ -1,4 +1,4 @@
-//! `OrderedMap`, the entries in slots, and the slot of each key in a hash map.
+//! `OrderedMap`, the entries in slots, and how many slots of each block have one.
 
 ghost use Rattle.std.specs.Prelude.{◌≡◌, ◌<◌, ◌++◌, ◌↔◌, [], ◌∷◌, Some, IsTrue, IfSome, IfNone, OnOk, OnErr, is_some, length, option_map, position, slice_get, string_bytes};
 ghost use Rattle.std.specs.Borrow.{sem};
@@ -7,30 +7,26 @@ ghost use Rattle.std.specs.Map.Iter.{deref_pair};
 ghost use Rattle.std.specs.Option.{option_copied, option_copied_mut};
 ghost use Rattle.ordered_map.specs.Entries.{is_key};
 
-use crate::counts::{count_next, index_of, recount, slot_of, vacate};
+use crate::counts::{count_last, index_of, recount, slot_of, uncount};
 use crate::iter::Iter;
-use crate::key_slots::renumber;
-use crate::slot::Slot;
+use crate::slots::Slots;
 use std::alloc::{AllocError, Global};
-use std::collections::HashMap;
 use std::marker::Model;
 
 /// How many more slots may be vacant than have an entry.
 const MAX_VACANT: usize = 64;
 
-/// A hash map with keys that are texts, which keeps its entries in order of insertion and gives
-/// each an index, as `indexmap::IndexMap` does. To remove an entry costs the same whichever it is.
+/// An `indexmap::IndexMap` with keys that are texts, which keeps its entries in order of insertion
+/// and gives each an index. To remove an entry costs the same whichever it is.
 ///
-/// A removed entry leaves a vacant slot. Once more slots are vacant than not, and more than a few,
-/// they are packed; that costs a few steps for each entry removed since the last time. The map's
-/// memory stays its own.
+/// A removed entry leaves a vacant slot, which keeps its key. Once more slots are vacant than not,
+/// and more than a few, they are packed; that costs a few steps for each entry removed since the
+/// last time. The map's memory stays its own.
 ///
 /// Clauses see the list of the entries, in order of insertion.
 #[derive(Debug, Drop)]
 pub struct OrderedMap<V> {
-    slots: Vec<Slot<V>>,
-    // The slot of each key.
-    slot_of_key: HashMap<String, usize>,
+    slots: Slots<V>,
     // How many of each 256 slots have an entry.
     counts: Vec<usize>,
     // How many entries there are.
@@ -39,17 +35,14 @@ pub struct OrderedMap<V> {
 
 impl<V> Model for OrderedMap<V> {
     ghost use Rattle.std.specs.Prelude.{filter_map};
-    ghost use Rattle.std.specs.HashMap.{get_by_text};
-    ghost use Rattle.ordered_map.specs.Entries.{Entries, slot_entry};
+    ghost use Rattle.ordered_map.specs.Entries.{Entries};
+    ghost use Rattle.ordered_map.specs.inside.Slots.{IsOrderedMap, somes};
 
     ghost Value = { Entries V };
 
-    ghost use Rattle.ordered_map.specs.inside.Slots.{IsOrderedMap, keys_in};
+    ghost view = { λ ordered. record { entries = filter_map (λ item. item) ordered.slots } };
 
-    ghost view = { λ ordered. record { entries = filter_map slot_entry ordered.slots.items } };
-
-    ghost invariant = { λ ordered. IsOrderedMap (keys_in ordered.slots.items) ordered.counts.items
-        (get_by_text ordered.slot_of_key) ordered.live };
+    ghost invariant = { λ ordered. IsOrderedMap ordered.slots ordered.counts.items ordered.live };
 }
 
 impl<V> OrderedMap<V> {
@@ -60,8 +53,7 @@ impl<V> OrderedMap<V> {
         ensures { result.entries ≡ [] }
     {
         OrderedMap {
-            slots: Vec::new(alloc),
-            slot_of_key: HashMap::new(alloc),
+            slots: Slots::new(alloc),
             counts: Vec::new(alloc),
             live: 0,
         }
@@ -108,8 +100,8 @@ impl<V> OrderedMap<V> {
         ensures value { option_map (λ entry. entry.1.now) result
             ≡ lookup (is_key key.now) self.now.entries }
     {
-        let found = *self.slot_of_key.get(key)?;
-        self.slots[found].entry()
+        let slot = self.slots.find(key)?;
+        self.slots.entry(slot)
     }
 
     /// Returns the entry of a key, with its index. Costs a hash look-up, and what
@@ -124,8 +116,8 @@ impl<V> OrderedMap<V> {
         ensures entry { IfSome result (λ entry. slice_get self.now.entries entry.0
             ≡ Some (entry.1.now, entry.2.now)) }
     {
-        let slot = *self.slot_of_key.get(key)?;
-        let (key, value) = self.slots[slot].entry()?;
+        let slot = self.slots.find(key)?;
+        let (key, value) = self.slots.entry(slot)?;
         let index = index_of(&self.slots, &self.counts, self.live, slot);
         Some((index, key, value))
     }
@@ -136,7 +128,7 @@ impl<V> OrderedMap<V> {
         ensures entry { option_map deref_pair result ≡ slice_get self.now.entries index }
     {
         let slot = slot_of(&self.slots, &self.counts, self.live, index)?;
-        self.slots[slot].entry()
+        self.slots.entry(slot)
     }
 
     /// Returns the value at an index, to be written. Costs what [`OrderedMap::get_index`] costs.
@@ -159,7 +151,7 @@ impl<V> OrderedMap<V> {
         let Some(slot) = slot_of(&self.slots, &self.counts, self.live, index) else {
             unreachable!()
         };
-        self.slots[slot].value_mut()
+        self.slots.value_mut(slot)
     }
 
     /// Returns the entries in order of insertion. Each costs one step, and so does each vacant
@@ -167,29 +159,25 @@ impl<V> OrderedMap<V> {
     pub fn iter(&self) -> Iter<'_, V>
         ensures { result ≡ self.now.entries }
     {
-        Iter::new(&self.slots, self.live)
+        Iter::new(self.slots.iter(), self.live)
     }
 }
 
 impl<V: Drop> OrderedMap<V> {
     /// Inserts an entry after all others, in place of an entry of its key. Fails only where memory
-    /// runs out, and then changes nothing. The key is copied once. Costs a few hash look-ups.
+    /// runs out, and then changes nothing. Costs a few hash look-ups.
     pub fn insert_last(&mut self, key: String, value: V) -> Result<(), AllocError>
         ensures inserted { OnOk result (self.new.entries
             ≡ remove_entry (is_key (string_bytes key)) self.old.entries ++ (key, value) ∷ []) }
         ensures unchanged { OnErr result (self.new ≡ self.old) }
     {
-        self.slots.reserve(1)?;
         self.counts.reserve(1)?;
-        let replaced = self.slot_of_key.insert(key.clone()?, self.slots.len())?;
-        count_next(&mut self.counts, &self.slots);
-        let vacant = self.slots.len() - self.live;
-        self.slots.push_reserved(Slot::Live(key, value));
-        if let Some(slot) = replaced {
-            vacate(&mut self.slots, &mut self.counts, slot);
-        } else {
-            self.live = self.slots.len() - vacant;
+        let len = self.slots.len();
+        match self.slots.push(key, value)? {
+            Some(slot) => uncount(&mut self.counts, slot),
+            None => self.live += 1,
         }
+        count_last(&mut self.counts, len);
         self.pack_if_sparse();
         Ok(())
     }
@@ -201,14 +189,12 @@ impl<V: Drop> OrderedMap<V> {
         ensures entries { self.new.entries ≡ remove_entry (is_key key.now) self.old.entries }
         ensures unchanged { IfNone result (self.new ≡ self.old) }
     {
-        let slot = self.slot_of_key.remove(key)?;
-        let removed = vacate(&mut self.slots, &mut self.counts, slot);
+        let slot = self.slots.find(key)?;
+        let value = self.slots.take(slot);
+        uncount(&mut self.counts, slot);
         self.live -= 1;
         self.pack_if_sparse();
-        match removed {
-            Slot::Live(_, value) => Some(value),
-            Slot::Vacant => unreachable!(),
-        }
+        value
     }
 
     /// Packs the slots if more are vacant than not, and more than a few.
@@ -225,8 +211,7 @@ impl<V: Drop> OrderedMap<V> {
     fn pack(&mut self)
         ensures { self.new ≡ self.old }
     {
-        self.slots.retain(|slot| slot.is_live());
-        renumber(&self.slots, &mut self.slot_of_key);
+        self.slots.pack();
         recount(&mut self.counts, self.slots.len());
     }
 }

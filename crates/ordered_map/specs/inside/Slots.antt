@@ -1,28 +1,37 @@
--- The slots of an ordered map, and what is kept beside them: the slot of each key, and how many
--- slots of each block have an entry.
-use Rattle.std.specs.Prelude.{ℕ, ◌≡◌, ◌+◌, ◌*◌, ◌<◌, ◌≤◌, zero, suc, List, [], ◌∷◌, length, map, filter_map, slice_get, slice_index, Option, Some, None, String, string_bytes}
+-- The slots of an ordered map, and how many slots of each block have an entry.
+use Rattle.std.specs.Prelude.{ℕ, ◌≡◌, ◌+◌, ◌-◌, ◌*◌, ◌/◌, ◌<◌, ◌≤◌, ◌++◌, if◌then◌else◌, nat_lt, zero, suc, Bool, true, false, List, [], ◌∷◌, length, filter_map, get_or, set, slice_get, slice_index, Option, Some, None, String}
 use Rattle.std.specs.declared.alloc.Global.{Global}
-use Rattle.ordered_map.specs.Entries.{slot_entry}
-use Rattle.ordered_map.specs.declared.slot.Slot.{Slot}
-use Rattle.ordered_map.specs.declared.slot.Slot.TheVariants.{Vacant, Live}
+use Rattle.ordered_map.specs.Entries.{is_key}
+
+-- No other slot has a key with these bytes.
+pub record IsOnly {V : Type 0} (bytes : List ℕ) (slots : List (String Global × Option V)) (slot : ℕ) : Type 0 where
+  pub only : (other : ℕ) (content : String Global × Option V) → slice_get slots other ≡ Some content
+      → is_key bytes content.0 ≡ true → other ≡ slot
 
 module _ {V : Type 0} where
-  -- The key of a slot.
-  abbrev pub slot_key : Slot V → Option (String Global)
-  slot_key Vacant = None
-  slot_key (Live key value) = Some key
+  -- The entry of a slot has a key with these bytes.
+  abbrev pub has_key : List ℕ → Option (String Global × V) → Bool
+  has_key bytes None = false
+  has_key bytes (Some entry) = is_key bytes entry.0
 
-  -- A slot with another value.
-  abbrev pub with_value : Slot V → V → Slot V
-  with_value Vacant value = Vacant
-  with_value (Live key old) value = Live key value
+  -- The entry of a slot, with another value.
+  abbrev pub with_value : Option (String Global × V) → V → Option (String Global × V)
+  with_value None value = None
+  with_value (Some entry) value = Some (entry.0, value)
+
+  -- The slots, with another value in one that has an entry.
+  abbrev pub with_value_in : List (Option (String Global × V)) → ℕ → V → List (Option (String Global × V))
+  with_value_in items slot value = set items slot (with_value (get_or items slot None) value)
 
 module _ {X : Type 0} where
   -- The items that are there.
   abbrev pub somes : List (Option X) → List X
-  somes [] = []
-  somes (None ∷ items) = somes items
-  somes (Some item ∷ items) = item ∷ somes items
+  somes items = filter_map (λ item. item) items
+
+  -- The items, without the one of a slot.
+  abbrev pub vacated : List (Option X) → Option ℕ → List (Option X)
+  vacated items None = items
+  vacated items (Some slot) = set items slot None
 
   -- How many items a slot has.
   abbrev pub here : Option X → ℕ
@@ -47,36 +56,16 @@ module _ {X : Type 0} where
         → live_to items (256 * (block + 1))
         ≡ live_to items (256 * block) + slice_index counts block
 
--- The entries of slots, in their order.
-abbrev pub entries_in : {V : Type 0} → List (Slot V) → List (String Global × V)
-entries_in slots = filter_map slot_entry slots
+  -- What holds of the parts of an ordered map.
+  pub record IsOrderedMap (items : List (Option X)) (counts : List ℕ) (live : ℕ) : Type 0 where
+    pub counted : AreCounted items counts
+    pub live_is : live ≡ length (somes items)
 
--- The keys of slots, where they have one.
-abbrev pub keys_in : {V : Type 0} → List (Slot V) → List (Option (String Global))
-keys_in slots = map slot_key slots
+-- The counts, once a slot after so many has an item.
+abbrev pub counted_last : List ℕ → ℕ → List ℕ
+counted_last counts len = if nat_lt (len / 256) (length counts)
+    then set counts (len / 256) (slice_index counts (len / 256) + 1) else counts ++ 1 ∷ []
 
--- No two slots have the same key.
-pub record AreUnlike (keys : List (Option (String Global))) : Type 0 where
-  pub same : (slot other : ℕ) (key second : String Global) → slice_get keys slot ≡ Some (Some key)
-      → slice_get keys other ≡ Some (Some second) → string_bytes key ≡ string_bytes second
-      → slot ≡ other
-
--- A slot has the key with these bytes.
-pub record IsKeyAt (keys : List (Option (String Global))) (slot : ℕ) (bytes : List ℕ) : Type 0 where
-  pub key : String Global
-  pub at : slice_get keys slot ≡ Some (Some key)
-  pub same : string_bytes key ≡ bytes
-
--- Each key is found in its slot, and nothing else is found.
-pub record AreSlotsOf (keys : List (Option (String Global)))
-    (slot_of_key : List ℕ → Option ℕ) : Type 0 where
-  pub found : (slot : ℕ) (key : String Global) → slice_get keys slot ≡ Some (Some key)
-      → slot_of_key (string_bytes key) ≡ Some slot
-  pub there : (bytes : List ℕ) (slot : ℕ) → slot_of_key bytes ≡ Some slot → IsKeyAt keys slot bytes
-
--- What holds of the parts of an ordered map.
-pub record IsOrderedMap (keys : List (Option (String Global))) (counts : List ℕ)
-    (slot_of_key : List ℕ → Option ℕ) (live : ℕ) : Type 0 where
-  pub counted : AreCounted keys counts
-  pub slots_are : AreSlotsOf keys slot_of_key
-  pub live_is : live ≡ length (somes keys)
+-- The counts, once the item of a slot is taken out.
+abbrev pub uncounted : List ℕ → ℕ → List ℕ
+uncounted counts slot = set counts (slot / 256) (slice_index counts (slot / 256) - 1)

@@ -1,6 +1,6 @@
 use Rattle.std.proofs.Common.{◌≡◌, ◌+◌, ◌*◌}
-use Rattle.ordered_map.specs.inside.Slots.{keys_in, live_to}
+use Rattle.ordered_map.specs.inside.Slots.{live_to}
 use Rattle.ordered_map.proofs.counts.live_at.Given as goal
 
 abbrev pub invariant-loop-block : goal.invariant-loop-block
-invariant-loop-block g l = live_to (keys_in l.slots) (256 * l.block) + l.left ≡ l.index
+invariant-loop-block g l = live_to l.slots (256 * l.block) + l.left ≡ l.index

@@ -1,13 +1,14 @@
-use Rattle.std.proofs.Common.{◌≡◌, length, filter_map}
+use Rattle.std.proofs.Common.{◌≡◌, length, map}
 use Rattle.ordered_map.specs.Entries.{slot_entry}
+use Rattle.ordered_map.specs.inside.Slots.{somes}
 use Rattle.ordered_map.proofs.iter.IterIterator.next.Given as goal
 
--- only vacant slots were passed over
-abbrev pub invariant-loop-slot : goal.invariant-loop-slot
-invariant-loop-slot g l = record {
-  left : l.self-inside.left ≡ length (filter_map slot_entry l.self-inside.slots.now);
-  rest : filter_map slot_entry l.self-inside.slots.now ≡ l.fn.self;
+-- only slots without an entry were passed over
+abbrev pub invariant-loop-key : goal.invariant-loop-key
+invariant-loop-key g l = record {
+  left : l.self-inside.left ≡ length (somes (map slot_entry l.self-inside.slots));
+  rest : somes (map slot_entry l.self-inside.slots) ≡ l.fn.self;
 }
 
-abbrev pub decreases-loop-slot : goal.decreases-loop-slot
-decreases-loop-slot g l = length l.self-inside.slots.now
+abbrev pub decreases-loop-key : goal.decreases-loop-key
+decreases-loop-key g l = length l.self-inside.slots
