@@ -5,7 +5,8 @@ use Rattle.ordered_map.specs.Entries.{is_key}
 use Rattle.ordered_map.specs.declared.map.TheConstants.{MAX_VACANT}
 
 -- No other slot has a key with these bytes.
-pub record IsOnly {V : Type 0} (bytes : List ℕ) (slots : List (String Global × Option V)) (slot : ℕ) : Type 0 where
+pub record IsOnly {V : Type 0} (bytes : List ℕ) (slots : List (String Global × Option V))
+    (slot : ℕ) : Type 0 where
   pub only : (other : ℕ) (content : String Global × Option V) → slice_get slots other ≡ Some content
       → is_key bytes content.0 ≡ true → other ≡ slot
 
@@ -21,7 +22,8 @@ module _ {V : Type 0} where
   with_value (Some entry) value = Some (entry.0, value)
 
   -- The slots, with another value in one that has an entry.
-  abbrev pub with_value_in : List (Option (String Global × V)) → ℕ → V → List (Option (String Global × V))
+  abbrev pub with_value_in : List (Option (String Global × V)) → ℕ → V
+      → List (Option (String Global × V))
   with_value_in items slot value = set items slot (with_value (get_or items slot None) value)
 
 module _ {X : Type 0} where

@@ -52,9 +52,9 @@ pack_if_sparse-requires-clause-live g c =
 
 pub invariant_of-self : goal.invariant_of-self
 invariant_of-self g c =
-    let counts_are : (with_items (with_items c.self.inside.counts c.uncount.new.counts) c.pack_if_sparse.new.counts).items
-    ≡ c.pack_if_sparse.new.counts =
-    with_items_is (with_items c.self.inside.counts c.uncount.new.counts) c.pack_if_sparse.new.counts (omega (
+    let counts = with_items c.self.inside.counts c.uncount.new.counts in
+    let counts_are : (with_items counts c.pack_if_sparse.new.counts).items ≡ c.pack_if_sparse.new.counts =
+    with_items_is counts c.pack_if_sparse.new.counts (omega (
       arith,
       c.pack_if_sparse.auto.counts,
       c.deref_mut-2.ensures.len,
