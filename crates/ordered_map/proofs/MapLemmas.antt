@@ -1,11 +1,11 @@
 -- What the calls of a map make of its slots.
-use Rattle.std.proofs.Common.{◌≡◌, ◌≤◌, ◌<◌, ◌+◌, ◌-◌, ◌*◌, ℕ, zero, suc, List, [], ◌∷◌, ◌++◌, length, map, min, filter, position, set, get_or, slice_get, slice_index, slice_index_or, is_some, option_map, Bor, Option, Some, None, String, refl, sym, ap, ◌∙◌, arith, one-add, zero-add}
+use Rattle.std.proofs.Common.{◌≡◌, ◌≤◌, ◌<◌, ◌+◌, ◌-◌, ◌*◌, ℕ, zero, suc, List, [], ◌∷◌, ◌++◌, length, map, min, filter, position, get_or, slice_get, slice_index, slice_index_or, is_some, option_map, Bor, Option, Some, None, String, refl, sym, ap, ◌∙◌, arith, one-add, zero-add}
 use Rattle.std.proofs.lemmas.List.{append-nil, get_or_default, length-append, length-set, length_push, map-append}
 use Rattle.std.specs.Map.Iter.{deref_pair}
 use Rattle.std.specs.Map.{remove_entry}
 use Rattle.std.specs.declared.alloc.Global.{Global}
 use Rattle.ordered_map.specs.Entries.{Entries, is_key, set_value_at, slot_entry, with_value_at}
-use Rattle.ordered_map.specs.inside.Slots.{IsOrderedMap, counted_last, has_key, here, live_to, somes, uncounted, vacated, with_value, with_value_in}
+use Rattle.ordered_map.specs.inside.Slots.{AreCounted, IsOrderedMap, counted_last, has_key, here, live_to, somes, uncounted, vacated, with_value, with_value_in}
 use Rattle.ordered_map.proofs.CountLemmas.{all_counted, count_small, last_counted, taken_counted}
 use Rattle.ordered_map.proofs.FindLemmas.{found, missing}
 use Rattle.ordered_map.proofs.SlotLemmas.{packed_all, packed_short, packed_somes, somes-append, somes_taken}
@@ -52,11 +52,15 @@ module _ {V : Type 0} where
   pub view_written : (items : List (Option (String Global × V))) (slot index : ℕ)
       (entry : String Global × V) (value : V)
       → slice_get items slot ≡ Some (Some entry) → live_to items slot ≡ index
-      → ◌≡◌ {A = Entries V} (record { entries = somes (with_value_in items slot value) })
-      (with_value_at (record { entries = somes items }) index value)
+      → ◌≡◌ {A = Entries V}
+      (record { entries = somes (with_value_in items slot value); slots = length (with_value_in items slot value) })
+      (with_value_at (record { entries = somes items; slots = length items }) index value)
   view_written items slot index entry value at is =
-      rw (← is) (ap (λ (entries : List (String Global × V)). record {
+      let slots_are : length (with_value_in items slot value) ≡ length items =
+      length-set items slot (with_value (get_or items slot None) value) in
+      rw (← is, slots_are) (ap (λ (entries : List (String Global × V)). record {
         entries = entries;
+        slots = length items;
       }) (somes_written items slot entry value at))
 
   length_written : (items : List (Option (String Global × V))) (slot : ℕ) (value : V)
@@ -82,83 +86,65 @@ module _ {V : Type 0} where
           ∙ ap (λ n. n + slice_index counts block) (sym (live_written items slot value (256 * block))));
     };
     live_is = is.live_is ∙ sym (length_written items slot value);
+    few = omega (arith, is.few, length-set items slot (with_value (get_or items slot None) value));
   }
 
-module _ {X : Type 0} (items : List (Option X)) (counts : List ℕ) (live : ℕ) (is : IsOrderedMap items counts live) where
-  -- an item is taken out
-  pub taken_map : (slot : ℕ) (item : X) → slice_get items slot ≡ Some (Some item)
-      → IsOrderedMap (set items slot None) (uncounted counts slot) (live - 1)
-  taken_map slot item at = record {
-    counted = taken_counted items counts slot item is.counted at;
-    live_is = omega (arith, is.live_is, somes_taken items slot item at);
-  }
+-- ---- slots that are packed
 
-  pub some_live : (slot : ℕ) (item : X) → slice_get items slot ≡ Some (Some item) → 1 ≤ live
-  some_live slot item at = omega (arith, is.live_is, somes_taken items slot item at)
-
-  -- an item is put in last
-  pub put_map : (item : X) → IsOrderedMap (items ++ Some item ∷ []) (counted_last counts (length items)) (live + 1)
-  put_map item = record {
-    counted = last_counted items counts item is.counted;
-    live_is = rw somes-append (omega (arith, is.live_is, length-append (somes items) (item ∷ [])));
-  }
-
-  -- the items are packed
-  pub packed_map : (after : List (Option X)) (counted : List ℕ) → after ≡ filter is_some items
-      → length counted ≡ length counts
+module _ {X : Type 0} where
+  pub packed_counted : (items : List (Option X)) (counts : List ℕ) → AreCounted items counts
+      → (after : List (Option X)) (counted : List ℕ) → after ≡ filter is_some items → length counted ≡ length counts
       → ((block : ℕ) → block < length counted → slice_index counted block ≡ min 256 (length after - 256 * block))
-      → IsOrderedMap after counted live
-  packed_map after counted kept same are =
+      → AreCounted after counted
+  packed_counted items counts is after counted kept same are =
       let all : length (somes after) ≡ length after = rw kept (packed_all items) in
       let short : length after ≤ length items = rw kept (packed_short items) in
-      record {
-        counted = all_counted after counted all (omega (arith, short, same, is.counted.enough)) are;
-        live_is = is.live_is ∙ rw kept (ap length (sym (packed_somes items)));
-      }
+      all_counted after counted all (omega (arith, short, same, is.enough)) are
+
+  pub packed_full : (items after : List (Option X)) → after ≡ filter is_some items
+      → length after ≡ length (somes items)
+  packed_full items after kept = rw kept (sym (packed_all items) ∙ ap length (packed_somes items))
 
 -- ---- an entry that is put in last, and out of the slot where its key was
 
 module _ {X : Type 0} where
   -- The slot that has an item no more is counted no more, and one more item is.
   pub record IsFreed (items : List (Option X)) (was : Option ℕ) (counts : List ℕ) (live : ℕ) : Type 0 where
-    pub is : IsOrderedMap (vacated items was) counts (live - 1)
-    pub some : 1 ≤ live
+    pub counted : AreCounted (vacated items was) counts
+    pub live_is : live ≡ length (somes (vacated items was)) + 1
 
   pub freed_some : (items : List (Option X)) (counts : List ℕ) (live slot : ℕ) (item : X)
       → IsOrderedMap items counts live → slice_get items slot ≡ Some (Some item)
       → IsFreed items (Some slot) (uncounted counts slot) live
   freed_some items counts live slot item is at = record {
-    is = taken_map items counts live is slot item at;
-    some = some_live items counts live is slot item at;
+    counted = taken_counted items counts slot item is.counted at;
+    live_is = omega (arith, is.live_is, somes_taken items slot item at);
   }
 
   pub freed_none : (items : List (Option X)) (counts : List ℕ) (live : ℕ) → IsOrderedMap items counts live
       → IsFreed items None counts (live + 1)
-  freed_none items counts live is = record {
-    is = record { counted = is.counted; live_is = omega (arith, is.live_is) };
-    some = omega arith;
-  }
+  freed_none items counts live is = record { counted = is.counted; live_is = omega (arith, is.live_is) }
 
   module _ (items : List (Option X)) (was : Option ℕ) (counts : List ℕ) (live : ℕ)
       (freed : IsFreed items was counts live) where
     pub freed_small : (block default : ℕ) → block < length counts → slice_index_or counts block default ≤ 256
     freed_small block default within =
         let small : slice_index counts block ≤ 256 =
-        count_small (vacated items was) counts block freed.is.counted within in
+        count_small (vacated items was) counts block freed.counted within in
         omega (arith, small, get_or_default counts block default 0 within)
 
-    pub freed_put : (item : X) (len : ℕ) → len ≡ length items
-        → IsOrderedMap (vacated items was ++ Some item ∷ []) (counted_last counts len) live
-    freed_put item len is =
-        let put = put_map (vacated items was) counts (live - 1) freed.is item in
-        record {
-          counted = rw (is ∙ sym (same was)) put.counted;
-          live_is = omega (arith, put.live_is, freed.some);
-        }
+    pub freed_counted : (item : X) (len : ℕ) → len ≡ length items
+        → AreCounted (vacated items was ++ Some item ∷ []) (counted_last counts len)
+    freed_counted item len is =
+        rw (is ∙ sym (same was)) (last_counted (vacated items was) counts item freed.counted)
       where
         same : (was : Option ℕ) → length (vacated items was) ≡ length items
         same None = refl
         same (Some slot) = length-set items slot None
+
+    pub freed_live : (item : X) → live ≡ length (somes (vacated items was ++ Some item ∷ []))
+    freed_live item =
+        rw somes-append (omega (arith, freed.live_is, length-append (somes (vacated items was)) (item ∷ [])))
 
 module _ {V : Type 0} where
   pub put_entries : (bytes : List ℕ) (items : List (Option (String Global × V))) (was : Option ℕ)

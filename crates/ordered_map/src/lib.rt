@@ -13,4 +13,4 @@ mod map;
 mod slots;
 
 pub use iter::Iter;
-pub use map::OrderedMap;
+pub use map::{MAX_VACANT, OrderedMap};

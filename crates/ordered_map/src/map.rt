@@ -1,11 +1,12 @@
 //! `OrderedMap`, the entries in slots, and how many slots of each block have one.
 
-ghost use Rattle.std.specs.Prelude.{◌≡◌, ◌<◌, ◌++◌, ◌↔◌, [], ◌∷◌, Some, IsTrue, IfSome, IfNone, OnOk, OnErr, is_some, length, option_map, position, slice_get, string_bytes};
+ghost use Rattle.std.specs.Prelude.{◌≡◌, ◌<◌, ◌≤◌, ◌+◌, ◌*◌, ◌++◌, ◌↔◌, [], ◌∷◌, Some, IsTrue, IfSome, IfNone, OnOk, OnErr, is_some, length, option_map, position, slice_get, string_bytes};
 ghost use Rattle.std.specs.Borrow.{sem};
 ghost use Rattle.std.specs.Map.{keys_of, lookup, lookup_key, remove_entry, values_of};
 ghost use Rattle.std.specs.Map.Iter.{deref_pair};
 ghost use Rattle.std.specs.Option.{option_copied, option_copied_mut};
 ghost use Rattle.ordered_map.specs.Entries.{is_key};
+ghost use Rattle.ordered_map.specs.inside.Slots.{AreCounted, IsOrderedMap, somes};
 
 use crate::counts::{count_last, index_of, recount, slot_of, uncount};
 use crate::iter::Iter;
@@ -14,16 +15,16 @@ use std::alloc::{AllocError, Global};
 use std::marker::Model;
 
 /// How many more slots may be vacant than have an entry.
-const MAX_VACANT: usize = 64;
+pub const MAX_VACANT: usize = 64;
 
 /// An `indexmap::IndexMap` with keys that are texts, which keeps its entries in order of insertion
 /// and gives each an index. To remove an entry costs the same whichever it is.
 ///
-/// A removed entry leaves a vacant slot, which keeps its key. Once more slots are vacant than not,
-/// and more than a few, they are packed; that costs a few steps for each entry removed since the
-/// last time. The map's memory stays its own.
+/// A removed entry leaves a vacant slot, which keeps its key. Once more than [`MAX_VACANT`] more
+/// slots are vacant than not, they are packed; that costs a few steps for each entry removed since
+/// the last time. The map's memory stays its own.
 ///
-/// Clauses see the list of the entries, in order of insertion.
+/// Clauses see the list of the entries, in order of insertion, and the number of slots.
 #[derive(Debug, Drop)]
 pub struct OrderedMap<V> {
     slots: Slots<V>,
@@ -34,13 +35,16 @@ pub struct OrderedMap<V> {
 }
 
 impl<V> Model for OrderedMap<V> {
-    ghost use Rattle.std.specs.Prelude.{filter_map};
+    ghost use Rattle.std.specs.Prelude.{filter_map, length};
     ghost use Rattle.ordered_map.specs.Entries.{Entries};
     ghost use Rattle.ordered_map.specs.inside.Slots.{IsOrderedMap, somes};
 
     ghost Value = { Entries V };
 
-    ghost view = { λ ordered. record { entries = filter_map (λ item. item) ordered.slots } };
+    ghost view = { λ ordered. record {
+      entries = filter_map (λ item. item) ordered.slots;
+      slots = length ordered.slots;
+    } };
 
     ghost invariant = { λ ordered. IsOrderedMap ordered.slots ordered.counts.items ordered.live };
 }
@@ -76,6 +80,17 @@ impl<V> OrderedMap<V> {
         ensures { IsTrue result ↔ (length self.now.entries ≡ 0) }
     {
         self.len() == 0
+    }
+
+    /// Returns the number of slots, of entries and vacant ones. It is at most [`MAX_VACANT`] more
+    /// than twice the number of entries. Costs one step.
+    #[tactic(auto, using(crate::proofs::SlotLemmas::somes_short))]
+    pub fn slots(&self) -> usize
+        ensures slots { result ≡ self.now.slots }
+        ensures all { length self.now.entries ≤ result }
+        ensures few { result ≤ 2 * length self.now.entries + MAX_VACANT }
+    {
+        self.slots.len()
     }
 
     /// Returns whether there is an entry of a key. Costs a hash look-up.
@@ -155,7 +170,7 @@ impl<V> OrderedMap<V> {
     }
 
     /// Returns the entries in order of insertion. Each costs one step, and so does each vacant
-    /// slot: there are at most some 64 more of them than entries.
+    /// slot: there are at most [`MAX_VACANT`] more of them than entries.
     pub fn iter(&self) -> Iter<'_, V>
         ensures { result ≡ self.now.entries }
     {
@@ -178,7 +193,7 @@ impl<V: Drop> OrderedMap<V> {
             None => self.live += 1,
         }
         count_last(&mut self.counts, len);
-        self.pack_if_sparse();
+        pack_if_sparse(&mut self.slots, &mut self.counts, self.live);
         Ok(())
     }
 
@@ -193,27 +208,33 @@ impl<V: Drop> OrderedMap<V> {
         let value = self.slots.take(slot);
         uncount(&mut self.counts, slot);
         self.live -= 1;
-        self.pack_if_sparse();
+        pack_if_sparse(&mut self.slots, &mut self.counts, self.live);
         value
     }
+}
 
-    /// Packs the slots if more are vacant than not, and more than a few.
-    fn pack_if_sparse(&mut self)
-        ensures { self.new ≡ self.old }
-    {
-        let vacant = self.slots.len() - self.live;
-        if vacant.saturating_sub(self.live) > MAX_VACANT {
-            self.pack();
-        }
+/// Packs the slots, of which so many have an entry, if over [`MAX_VACANT`] more are vacant.
+fn pack_if_sparse<V: Drop>(slots: &mut Slots<V>, counts: &mut [usize], live: usize)
+    requires counted { AreCounted slots.old counts.old }
+    requires live { live ≡ length (somes slots.old) }
+    ensures packed { IsOrderedMap slots.new counts.new live }
+    ensures entries { somes slots.new ≡ somes slots.old }
+{
+    let vacant = slots.len() - live;
+    if vacant.saturating_sub(live) > MAX_VACANT {
+        pack(slots, counts);
     }
+}
 
-    /// Moves the entries into the first slots, in their order.
-    fn pack(&mut self)
-        ensures { self.new ≡ self.old }
-    {
-        self.slots.pack();
-        recount(&mut self.counts, self.slots.len());
-    }
+/// Moves the entries into the first slots, in their order.
+fn pack<V: Drop>(slots: &mut Slots<V>, counts: &mut [usize])
+    requires { AreCounted slots.old counts.old }
+    ensures full { length slots.new ≡ length (somes slots.old) }
+    ensures counted { AreCounted slots.new counts.new }
+    ensures entries { somes slots.new ≡ somes slots.old }
+{
+    slots.pack();
+    recount(counts, slots.len());
 }
 
 impl<'a, V> IntoIterator for &'a OrderedMap<V> {

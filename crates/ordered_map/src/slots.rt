@@ -30,7 +30,8 @@ pub(crate) fn slot_entry<'a, V>(
 /// Returns the value that is there, to be written.
 fn value_there<V>(value: &mut Option<V>) -> &mut V
     requires { IsSome value.old }
-    ensures* lends { sem 𝓛 (Lends (option_row V.row) V.row value.entry result (λ written. Some written)) }
+    ensures* lends { sem 𝓛 (Lends (option_row V.row) V.row value.entry result
+        (λ written. Some written)) }
     ensures value { value.old ≡ Some result.now }
 {
     match value {
@@ -50,7 +51,8 @@ fn slot_of_key<V>(map: &IndexMap<String, Option<V>>, key: &str) -> Option<usize>
 /// Returns a text that is no key. It is a number after a null character, which no URI has, so the
 /// first one does, but where keys are chosen to prevent that.
 fn free_text<V>(map: &IndexMap<String, Option<V>>) -> Result<String, AllocError>
-    ensures { IfOk result (λ text. position (is_key (string_bytes text)) (keys_of map.now.entries) ≡ None) }
+    ensures { IfOk result (λ text. position (is_key (string_bytes text))
+        (keys_of map.now.entries) ≡ None) }
 {
     for number in map.len()..usize::MAX {
         let text = format!(in *map.allocator(); "\0{number}")?;
@@ -166,8 +168,10 @@ impl<V> Slots<V> {
     /// Returns the value of the entry of a slot, to be written.
     pub(crate) fn value_mut(&mut self, slot: usize) -> &mut V
         requires live { IsSome (get_or self.old slot None) }
-        ensures* lends { sem 𝓛 (Lends (the_row V.row) V.row self.entry result (with_value_in self.old slot)) }
-        ensures value { option_map (λ entry. entry.1) (get_or self.old slot None) ≡ Some result.now }
+        ensures* lends { sem 𝓛 (Lends (the_row V.row) V.row self.entry result
+            (with_value_in self.old slot)) }
+        ensures value { option_map (λ entry. entry.1) (get_or self.old slot None)
+            ≡ Some result.now }
     {
         value_there(&mut self.indexed[slot])
     }
@@ -186,7 +190,8 @@ impl<V: Drop> Slots<V> {
     /// slot, which it returns. Fails only where memory runs out, and then changes nothing.
     pub(crate) fn push(&mut self, key: String, value: V) -> Result<Option<usize>, AllocError>
         ensures was { IfOk result (λ was. was ≡ position (has_key (string_bytes key)) self.old) }
-        ensures put { IfOk result (λ was. self.new ≡ vacated self.old was ++ Some (key, value) ∷ []) }
+        ensures put { IfOk result (λ was. self.new
+            ≡ vacated self.old was ++ Some (key, value) ∷ []) }
         ensures unchanged { OnErr result (self.new ≡ self.old) }
     {
         let was = self.find(&key);

@@ -2,9 +2,11 @@
 use Rattle.std.specs.Prelude.{ℕ, ◌≡◌, ◌+◌, ◌-◌, ◌*◌, ◌/◌, ◌<◌, ◌≤◌, ◌++◌, if◌then◌else◌, nat_lt, zero, suc, Bool, true, false, List, [], ◌∷◌, length, filter_map, get_or, set, slice_get, slice_index, Option, Some, None, String}
 use Rattle.std.specs.declared.alloc.Global.{Global}
 use Rattle.ordered_map.specs.Entries.{is_key}
+use Rattle.ordered_map.specs.declared.map.TheConstants.{MAX_VACANT}
 
 -- No other slot has a key with these bytes.
-pub record IsOnly {V : Type 0} (bytes : List ℕ) (slots : List (String Global × Option V)) (slot : ℕ) : Type 0 where
+pub record IsOnly {V : Type 0} (bytes : List ℕ) (slots : List (String Global × Option V))
+    (slot : ℕ) : Type 0 where
   pub only : (other : ℕ) (content : String Global × Option V) → slice_get slots other ≡ Some content
       → is_key bytes content.0 ≡ true → other ≡ slot
 
@@ -20,7 +22,8 @@ module _ {V : Type 0} where
   with_value (Some entry) value = Some (entry.0, value)
 
   -- The slots, with another value in one that has an entry.
-  abbrev pub with_value_in : List (Option (String Global × V)) → ℕ → V → List (Option (String Global × V))
+  abbrev pub with_value_in : List (Option (String Global × V)) → ℕ → V
+      → List (Option (String Global × V))
   with_value_in items slot value = set items slot (with_value (get_or items slot None) value)
 
 module _ {X : Type 0} where
@@ -60,6 +63,8 @@ module _ {X : Type 0} where
   pub record IsOrderedMap (items : List (Option X)) (counts : List ℕ) (live : ℕ) : Type 0 where
     pub counted : AreCounted items counts
     pub live_is : live ≡ length (somes items)
+    -- Few more slots are vacant than have an item.
+    pub few : length items ≤ 2 * live + MAX_VACANT
 
 -- The counts, once a slot after so many has an item.
 abbrev pub counted_last : List ℕ → ℕ → List ℕ

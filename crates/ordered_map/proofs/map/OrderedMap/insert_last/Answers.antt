@@ -1,11 +1,10 @@
-use Rattle.std.proofs.Common.{◌≡◌, ◌∙◌, ℕ, List, ap, arith, refl, string_bytes, sym}
+use Rattle.std.proofs.Common.{◌≡◌, ◌∙◌, ℕ, List, ap, arith, refl, string_bytes, subst, sym}
 use Rattle.std.proofs.lemmas.List.{with_items_is}
 use Rattle.std.specs.Vec.{with_items}
-use Rattle.ordered_map.specs.Entries.{Entries}
-use Rattle.ordered_map.specs.inside.Slots.{somes, uncounted}
+use Rattle.ordered_map.specs.inside.Slots.{IsOrderedMap, somes, uncounted}
 use Rattle.ordered_map.proofs.CountLemmas.{block_has}
 use Rattle.ordered_map.proofs.FindLemmas.{found}
-use Rattle.ordered_map.proofs.MapLemmas.{IsFreed, freed_none, freed_put, freed_small, freed_some, put_entries}
+use Rattle.ordered_map.proofs.MapLemmas.{IsFreed, freed_counted, freed_live, freed_none, freed_small, freed_some, put_entries}
 use Rattle.ordered_map.proofs.SlotLemmas.{somes_short}
 use Rattle.ordered_map.proofs.map.OrderedMap.insert_last.Goals.{in-Some, in-None}
 use Rattle.ordered_map.proofs.map.OrderedMap.insert_last.Goals as goal
@@ -54,8 +53,8 @@ count_last-requires-clause-small g c =
     freed_small slots c.in_ok-slot.field-0 c.match-branch-3.self-inside.counts.items
     c.match-branch-3.self-inside.live freed
 
-pub invariant_of-self-2 : goal.invariant_of-self-2
-invariant_of-self-2 g c =
+pub pack_if_sparse-requires-clause-counted : goal.pack_if_sparse-requires-clause-counted
+pack_if_sparse-requires-clause-counted g c =
     let slots = c.self.inside.slots in
     let freed : IsFreed slots c.in_ok-slot.field-0 c.match-branch-3.self-inside.counts.items
     c.match-branch-3.self-inside.live =
@@ -82,9 +81,53 @@ invariant_of-self-2 g c =
       | in-Some w ↦ rw w.self-inside-is refl
       | in-None w ↦ rw w.self-inside-is refl
     ] in
-    rw (slots_are, c.in_ok-slot.ensures.put, c.count_last.ensures)
-    (freed_put slots c.in_ok-slot.field-0 c.match-branch-3.self-inside.counts.items c.match-branch-3.self-inside.live
-    freed (c.args.key, c.args.value) c.len-len.result c.len-len.ensures.len)
+    rw (slots_are, c.in_ok-slot.ensures.put, c.deref_mut-2.ensures.value, c.count_last.ensures)
+    (freed_counted slots c.in_ok-slot.field-0 c.match-branch-3.self-inside.counts.items
+    c.match-branch-3.self-inside.live freed (c.args.key, c.args.value) c.len-len.result c.len-len.ensures.len)
+
+pub pack_if_sparse-requires-clause-live : goal.pack_if_sparse-requires-clause-live
+pack_if_sparse-requires-clause-live g c =
+    let slots = c.self.inside.slots in
+    let freed : IsFreed slots c.in_ok-slot.field-0 c.match-branch-3.self-inside.counts.items
+    c.match-branch-3.self-inside.live =
+    elim c.match-branch-3.branch [
+      | in-Some w ↦
+          let there = found (string_bytes c.args.key) slots w.in-Some.slot
+          (sym c.in_ok-slot.ensures.was ∙ w.in-Some.is) in
+          let counts_are : (with_items c.reserve.new.self w.uncount.new.counts).items
+          ≡ uncounted c.self.inside.counts.items w.in-Some.slot =
+          with_items_is c.reserve.new.self w.uncount.new.counts (omega (
+            arith,
+            w.uncount.auto.counts,
+            w.deref_mut.ensures.len,
+          )) ∙ (w.uncount.ensures ∙ ap (λ (counts : List ℕ). uncounted counts w.in-Some.slot)
+          (w.deref_mut.ensures.value ∙ c.reserve.ensures.items)) in
+          rw (w.self-inside-is, w.in-Some.is, counts_are)
+          (freed_some slots c.self.inside.counts.items c.self.inside.live w.in-Some.slot there.entry c.self.invariant
+          there.at)
+      | in-None w ↦
+          rw (w.self-inside-is, w.in-None.is, c.reserve.ensures.items)
+          (freed_none slots c.self.inside.counts.items c.self.inside.live c.self.invariant)
+    ] in
+    let slots_are : c.match-branch-3.self-inside.slots ≡ c.push.new.self = elim c.match-branch-3.branch [
+      | in-Some w ↦ rw w.self-inside-is refl
+      | in-None w ↦ rw w.self-inside-is refl
+    ] in
+    rw (slots_are, c.in_ok-slot.ensures.put)
+    (freed_live slots c.in_ok-slot.field-0 c.match-branch-3.self-inside.counts.items
+    c.match-branch-3.self-inside.live freed (c.args.key, c.args.value))
+
+pub invariant_of-self-2 : goal.invariant_of-self-2
+invariant_of-self-2 g c =
+    let counts_are : (with_items c.count_last.new.counts c.pack_if_sparse.new.counts).items
+    ≡ c.pack_if_sparse.new.counts =
+    with_items_is c.count_last.new.counts c.pack_if_sparse.new.counts (omega (
+      arith,
+      c.pack_if_sparse.auto.counts,
+      c.deref_mut-2.ensures.len,
+    )) in
+    subst (λ (counts : List ℕ). IsOrderedMap c.pack_if_sparse.new.slots counts c.match-branch-3.self-inside.live)
+    (sym counts_are) c.pack_if_sparse.ensures.packed
 
 pub returns-clause-inserted : goal.returns-clause-inserted
 returns-clause-inserted g c =
@@ -93,7 +136,7 @@ returns-clause-inserted g c =
       | in-None w ↦ rw w.self-inside-is refl
     ] in
     rw (← c.self.view_is)
-    (ap (λ (ordered : Entries g.row.V.Denot). ordered.entries) c.pack_if_sparse.ensures
+    (c.pack_if_sparse.ensures.entries
     ∙ (ap somes (slots_are ∙ c.in_ok-slot.ensures.put)
     ∙ put_entries (string_bytes c.args.key) c.self.inside.slots c.in_ok-slot.field-0 (c.args.key, c.args.value)
     c.in_ok-slot.ensures.was))
