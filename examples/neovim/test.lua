@@ -23,59 +23,23 @@ local function generator(seed)
     return function(count) return draw() % count + 1 end
 end
 
-local function by_laspidru()
-    local session = require("laspidru_sync").start({
-        cmd = command,
-        long = tonumber(vim.env.LONG),
-        on_message = function(body)
-            local message = vim.json.decode(body)
-            if message.method == "test/text" then answer = message.params end
-        end,
-    })
-    local text = require("laspidru_sync.text")
-    -- Of a long buffer: reads all of it, as is done before a request, and counts where that finds more.
-    local function read_all()
-        local buffer = api.nvim_get_current_buf()
-        local entry = session.entries[buffer]
-        if entry.state and not entry.is_behind and not text.is_same(entry.state, text.read(buffer)) then stale = stale + 1 end
-        session:flush(buffer)
-    end
-    vim.wait(10000, function() return session.is_ready end, 2)
-    return {
-        attach = function() session:attach(0) end,
-        is_attached = function(buffer) return session.entries[buffer] and session.entries[buffer].is_open end,
-        ask = function(uri)
-            if vim.env.LONG then read_all() end
-            local body = vim.json.encode({ jsonrpc = "2.0", method = "test/text", params = { uri = uri } })
-            session.process.write("Content-Length: " .. #body .. "\r\n\r\n" .. body)
-        end,
-        stop = function() session:stop(2000) end,
-    }
-end
-
-local function by_vim_lsp()
+local function started()
     vim.lsp.handlers["test/text"] = function(_, result) answer = result end
-    local id = vim.lsp.start_client({
+    local config = {
         name = "test",
         cmd = command,
         root_dir = folder,
         offset_encoding = vim.env.ENCODING,
         flags = { debounce_text_changes = 0, allow_incremental_sync = true },
-    })
+    }
+    if vim.env.BY == "laspidru" then config = require("laspidru_sync").config(config, { long = tonumber(vim.env.LONG) }) end
+    local id = vim.lsp.start_client(config)
     vim.wait(10000, function() return vim.lsp.get_client_by_id(id).initialized end, 2)
     local client = vim.lsp.get_client_by_id(id)
-    -- (as plugins do that start servers: a file that is read again is attached again)
-    api.nvim_create_autocmd("BufReadPost", { callback = function(event) vim.lsp.buf_attach_client(event.buf, id) end })
     assert(client.offset_encoding == vim.env.ENCODING, client.offset_encoding)
-    return {
-        attach = function() vim.lsp.buf_attach_client(0, id) end,
-        is_attached = function(buffer) return vim.lsp.buf_is_attached(buffer, id) end,
-        ask = function(uri) client.notify("test/text", { uri = uri }) end,
-        stop = function()
-            client.stop()
-            vim.wait(2000, function() return client.is_stopped() end, 5)
-        end,
-    }
+    -- (as plugins do that start servers: a file that is read, also again, is attached)
+    api.nvim_create_autocmd("BufReadPost", { callback = function(event) vim.lsp.buf_attach_client(event.buf, id) end })
+    return client
 end
 
 local function is_utf8(text)
@@ -90,21 +54,37 @@ local function written(path)
     return text
 end
 
--- What differs between the server's text and Neovim's, or nil. A step may leave a buffer that isn't UTF-8 (`A` over a block that cuts a
--- character): no message can have that text, so that it isn't compared, and vim.lsp's session ends there.
-local function difference(driver, uri)
+-- What the server has of a document after what the step has scheduled, or nil. Before a request all of a long buffer is read.
+local function asked(client, uri, is_requested)
     answer = nil
-    -- (after what the step has scheduled)
-    vim.schedule(function() driver.ask(uri) end)
-    if not vim.wait(10000, function() return answer ~= nil end, 1) then return "no answer" end
-    local text = written(folder .. "/written")
-    if not is_utf8(text) then return nil, nil, true end
-    if answer.fault ~= nil and answer.fault ~= vim.NIL then return answer.fault end
-    if answer.text == text then return nil end
+    vim.schedule(function()
+        if is_requested then client.request("textDocument/hover", { textDocument = { uri = uri } }, function() end, 0) end
+        client.notify("test/text", { uri = uri })
+    end)
+    return vim.wait(10000, function() return answer ~= nil end, 1) and answer or { fault = "no answer" }
+end
+
+-- What differs between the server's text and Neovim's, or nil, and whether it is the last line end alone.
+local function difference(found, text)
+    if found.fault ~= nil and found.fault ~= vim.NIL then return found.fault end
+    if found.text == text then return nil end
     -- vim.lsp takes the text of a buffer without lines for one line end: that is counted as right.
-    if vim.env.BY == "vim.lsp" and text == "" and (answer.text == "\n" or answer.text == "\r\n" or answer.text == "\r") then return nil end
-    local problem = ("has %s, and Neovim %s"):format(vim.inspect(answer.text), vim.inspect(text))
-    return problem, type(answer.text) == "string" and answer.text:gsub("[\r\n]+$", "") == text:gsub("[\r\n]+$", "")
+    if vim.env.BY == "vim.lsp" and text == "" and (found.text == "\n" or found.text == "\r\n" or found.text == "\r") then return nil end
+    local problem = ("has %s, and Neovim %s"):format(vim.inspect(found.text), vim.inspect(text))
+    return problem, type(found.text) == "string" and found.text:gsub("[\r\n]+$", "") == text:gsub("[\r\n]+$", "")
+end
+
+-- The difference after a step, and whether the buffer is no text. A step may leave a buffer that isn't UTF-8 (`A` over a block that cuts a
+-- character): no message can have that text, so that it isn't compared, and vim.lsp's session ends there.
+local function compared(client, uri)
+    local found, text = asked(client, uri), written(folder .. "/written")
+    if not is_utf8(text) then return nil, nil, true end
+    local problem, is_last_end = difference(found, text)
+    if problem and vim.env.LONG then
+        stale = stale + 1
+        problem, is_last_end = difference(asked(client, uri, true), text)
+    end
+    return problem, is_last_end
 end
 
 local function steps_of(is_everyday)
@@ -114,7 +94,7 @@ local function steps_of(is_everyday)
     return all
 end
 
-local function run(driver, number)
+local function run(client, number)
     local random = generator(number * 7919 + tonumber(vim.env.SEED))
     local kind, is_everyday = steps.KINDS[number % #steps.KINDS + 1], math.floor(number / #steps.KINDS) % 2 == 0
     local path = ("%s/text-%d.txt"):format(folder, number)
@@ -122,10 +102,7 @@ local function run(driver, number)
     file:write(kind.text(random))
     file:close()
     vim.cmd("silent edit " .. path)
-    local buffer = api.nvim_get_current_buf()
-    driver.attach()
-    vim.wait(10000, function() return driver.is_attached(buffer) end, 1)
-    local uri, all = vim.uri_from_bufnr(buffer), steps_of(is_everyday)
+    local uri, all = vim.uri_from_bufnr(0), steps_of(is_everyday)
     local found = { kind = kind.name, everyday = is_everyday, number = number, first = vim.NIL, more = vim.NIL }
     stale = 0
     for step = 0, tonumber(vim.env.STEPS) do
@@ -134,9 +111,9 @@ local function run(driver, number)
             local chosen = all[random(#all)]
             name = chosen[1]
             vim.o.undolevels = vim.o.undolevels -- each step is undone alone
-            pcall(chosen[2], random, kind, driver.attach)
+            pcall(chosen[2], random, kind, function() vim.lsp.buf_attach_client(0, client.id) end)
         end
-        local problem, is_last_end, is_no_text = difference(driver, uri)
+        local problem, is_last_end, is_no_text = compared(client, uri)
         if is_no_text and vim.env.BY == "vim.lsp" then break end
         if problem and found.first == vim.NIL then found.first, found.step, found.problem = name, step, problem end
         if problem and not is_last_end then
@@ -152,14 +129,15 @@ end
 local function main()
     vim.o.fileformats = "unix,dos,mac"
     vim.o.fixendofline, vim.o.hidden, vim.o.swapfile, vim.o.autoread = false, true, false, true
-    local driver = vim.env.BY == "vim.lsp" and by_vim_lsp() or by_laspidru()
+    local client = started()
     local out = assert(io.open(vim.env.OUT, "w"))
     for number = tonumber(vim.env.FIRST), tonumber(vim.env.SESSIONS) - 1, tonumber(vim.env.EACH) do
-        out:write(vim.json.encode(run(driver, number)), "\n")
+        out:write(vim.json.encode(run(client, number)), "\n")
         out:flush()
     end
     out:close()
-    driver.stop()
+    client.stop()
+    vim.wait(2000, function() return client.is_stopped() end, 5)
 end
 
 -- (once Neovim has started: before that it says nothing of options that are set)

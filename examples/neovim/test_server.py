@@ -1,7 +1,7 @@
 #!/usr/bin/env python3
-"""A language server for tests: test_server.py ENCODING. It keeps the documents by conformance/plain.py, and where LASPIDRU_LIBRARY names the
-library also by laspidru's own end. The notification `test/text` with a URI is answered by one of the same name, with the text, or with why
-there is none. `test/die` ends the process, and `test/noise` sends what is no message."""
+"""A language server for tests: test_server.py ENCODING [full | none]. It keeps the documents by conformance/plain.py, and where
+LASPIDRU_LIBRARY names the library also by laspidru's own end. The notification `test/text` with a URI is answered by one of the same name,
+with the text, or with why there is none. Hover and completion have the text too. `test/die` ends the process."""
 import json
 import os
 import sys
@@ -68,30 +68,35 @@ class Texts:
         return {"uri": uri, "text": text, "fault": fault}
 
 
+def capabilities(encoding):
+    change = {"full": 1, "none": 0}.get(sys.argv[-1], 2)
+    synchronisation = {"textDocumentSync": {"openClose": True, "change": change}} if change else {}
+    return {**synchronisation, "positionEncoding": encoding, "hoverProvider": True, "completionProvider": {}}
+
+
 def main():
     texts = Texts(sys.argv[1])
-    synchronisation = {"openClose": True, "change": 1 if "full" in sys.argv else 2}
+    results = {
+        "initialize": lambda _: {"capabilities": capabilities(texts.encoding)},
+        "shutdown": lambda _: None,
+        "textDocument/hover": lambda params: {"contents": texts.texts.get(params["textDocument"]["uri"], "")},
+        "textDocument/completion": lambda params: [{"label": texts.texts.get(params["textDocument"]["uri"], "")}],
+    }
     while True:
         body = read_body()
         if body is None:
             return 1
         message = json.loads(body.decode("utf-8", "replace"))
         texts.take(message, body)
-        method = message.get("method")
-        if method == "initialize":
-            capabilities = {"textDocumentSync": synchronisation, "positionEncoding": texts.encoding}
-            send(id=message["id"], result={"capabilities": capabilities})
-        elif method == "shutdown":
-            send(id=message["id"], result=None)
+        method, params = message.get("method"), message.get("params")
+        if method in results:
+            send(id=message["id"], result=results[method](params))
         elif method == "exit":
             return 0
         elif method == "test/text":
-            send(method="test/text", params=texts.answer(message["params"]["uri"]))
+            send(method="test/text", params=texts.answer(params["uri"]))
         elif method == "test/die":
             return 7
-        elif method == "test/noise":
-            sys.stdout.buffer.write(b"this is no header\r\n\r\n")
-            sys.stdout.buffer.flush()
 
 
 sys.exit(main())

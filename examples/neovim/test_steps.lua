@@ -126,6 +126,11 @@ M.SELDOM = {
         os.remove(vim.api.nvim_buf_get_name(0)) -- (else Neovim asks whether to write over a file that is newer)
         vim.cmd("silent! write")
     end },
+    { "opens the file as another buffer", function()
+        local path = vim.api.nvim_buf_get_name(0)
+        os.remove(path)
+        vim.cmd("silent! write | bwipeout! | edit " .. path)
+    end },
     { "attaches again", function(_, _, attach) attach() end },
     { "types a CR", typed(one_of("i<C-V>013", "A<C-V>013", "o<C-V>013<C-V>013")) },
     { "types a NUL", typed(one_of("i<C-V>000", "A<C-V>000")) },

@@ -1,45 +1,46 @@
--- What the plugin does in trouble, case by case. ONLY names a case; the status is 0 where it ends well.
+-- What the plugin does in trouble, and beside the rest of vim.lsp, case by case. ONLY names a case; the status is 0 where it ends well.
 local here, folder = vim.env.HERE, vim.env.FOLDER
-local api = vim.api
+local api, lsp = vim.api, vim.lsp
+local sync = require("laspidru_sync")
 local said, texts = {}, {}
 
 vim.notify = function(message) said[#said + 1] = message end
-
-local function start(more)
-    local options = {
-        cmd = { "python3", here .. "/test_server.py", "utf-16" },
-        on_message = function(body)
-            local message = vim.json.decode(body)
-            if message.method == "test/text" then texts[message.params.uri] = message.params end
-        end,
-    }
-    for name, value in pairs(more or {}) do
-        options[name] = value
-    end
-    return require("laspidru_sync").start(options)
-end
+lsp.handlers["test/text"] = function(_, result) texts[result.uri] = result end
 
 local function wait(of)
     assert(vim.wait(5000, of, 2), "nothing came")
 end
 
-local function notify(session, method, params)
-    local body = vim.json.encode({ jsonrpc = "2.0", method = method, params = params or vim.empty_dict() })
-    session.process.write("Content-Length: " .. #body .. "\r\n\r\n" .. body)
+local function plain_config(more)
+    return vim.tbl_extend("force", {
+        name = "test",
+        cmd = { "python3", here .. "/test_server.py", "utf-16" },
+        root_dir = folder,
+        flags = { debounce_text_changes = 0 },
+    }, more or {})
 end
 
+-- Starts a server with this configuration, and attaches the buffer.
+local function start_plain(config)
+    local id = lsp.start_client(config)
+    lsp.buf_attach_client(0, id)
+    wait(function() return lsp.get_client_by_id(id).initialized end)
+    return lsp.get_client_by_id(id)
+end
+
+local function start(more, options) return start_plain(sync.config(plain_config(more), options)) end
+
 -- The server's text of a URI, or nil where it has none.
-local function text_in(session, uri)
+local function text_in(client, uri)
     texts[uri] = nil
-    wait(function() return session.is_ready end)
-    vim.schedule(function() notify(session, "test/text", { uri = uri }) end)
+    vim.schedule(function() client.notify("test/text", { uri = uri }) end)
     wait(function() return texts[uri] end)
-    assert(texts[uri].fault == vim.NIL, texts[uri].fault)
+    assert(not texts[uri].fault or texts[uri].fault == vim.NIL, texts[uri].fault)
     return texts[uri].text ~= vim.NIL and texts[uri].text or nil
 end
 
-local function has(session, wanted)
-    local found = text_in(session, vim.uri_from_bufnr(0))
+local function has(client, wanted)
+    local found = text_in(client, vim.uri_from_bufnr(0))
     assert(found == wanted, ("the server has %s, not %s"):format(vim.inspect(found), vim.inspect(wanted)))
 end
 
@@ -49,162 +50,241 @@ local function heard(words)
     assert(message:find(words, 1, true), ("%q was said, not %q"):format(message, words))
 end
 
-local function set(...)
-    api.nvim_buf_set_lines(0, 0, -1, true, { ... })
+local function is_silent() assert(#said == 0, said[1]) end
+
+local function set(...) api.nvim_buf_set_lines(0, 0, -1, true, { ... }) end
+
+-- (as plugins do that start servers)
+local function attach_what_is_read(client)
+    api.nvim_create_autocmd("BufReadPost", { callback = function(event) lsp.buf_attach_client(event.buf, client.id) end })
+end
+
+local function edit(name, ...)
+    vim.fn.writefile({ ... }, folder .. "/" .. name)
+    vim.cmd("silent edit " .. folder .. "/" .. name)
 end
 
 local CASES = {}
 
 function CASES.server_dies()
-    local session = start()
-    session:attach(0)
+    local client = start()
     set("one")
-    has(session, "one\n")
-    notify(session, "test/die")
-    heard("ended with status 7; restart() starts it again")
+    has(client, "one\n")
+    client.notify("test/die", vim.empty_dict())
+    heard("quit with exit code 7")
+    wait(function() return not pcall(api.nvim_get_autocmds, { group = "laspidru_sync_" .. client.id }) end)
     set("one", "two")
-    vim.wait(20)
-    session:restart()
-    has(session, "one\ntwo\n")
+    client = start()
+    has(client, "one\ntwo\n")
     set("three")
-    has(session, "three\n")
-end
-
-function CASES.server_sends_noise()
-    local session = start()
-    session:attach(0)
-    set("one")
-    has(session, "one\n")
-    notify(session, "test/noise")
-    heard("sent what is no message")
-    set("two")
-    session:restart()
-    has(session, "two\n")
-end
-
-function CASES.no_such_server()
-    local session = start({ cmd = { "there-is-no-such-server" } })
-    heard("there-is-no-such-server can't be started: ENOENT")
-    session:attach(0)
-    set("one")
-    vim.wait(20)
-    session:stop(10)
+    has(client, "three\n")
+    is_silent()
 end
 
 function CASES.text_over_the_limit()
-    local session = start({ max_text = 20 })
-    session:attach(0)
+    local client = start({}, { max_text = 20 })
     set("short")
-    has(session, "short\n")
+    has(client, "short\n")
     set("this line is longer than the limit")
     heard("isn't sent: the text is longer than max_text")
     set("this line is longer than the limit, still")
-    has(session, "short\n")
+    has(client, "short\n")
     set("short again")
-    has(session, "short again\n")
+    has(client, "short again\n")
     heard("is sent again")
     set("and on")
-    has(session, "and on\n")
-    assert(#said == 0, said[1])
+    has(client, "and on\n")
+    is_silent()
 end
 
 function CASES.message_over_the_limit()
-    local session = start({ max_body = 4096 })
-    session:attach(0)
+    local client = start({}, { max_body = 4096 })
     set("short")
-    has(session, "short\n")
+    has(client, "short\n")
     set(('"'):rep(3000)) -- (6,000 bytes in the message)
     heard("isn't sent: the text is longer than max_text, or its message than max_body")
-    has(session, "short\n")
+    has(client, "short\n")
     set("short again")
-    has(session, "short again\n")
+    has(client, "short again\n")
     heard("is sent again")
-    assert(#said == 0, said[1])
+    is_silent()
 end
 
 function CASES.opened_over_the_limit()
-    local session = start({ max_text = 20 })
     set("this line is longer than the limit")
-    session:attach(0)
+    local client = start({}, { max_text = 20 })
     heard("isn't sent: the text is longer than max_text")
-    has(session, nil)
+    has(client, nil)
     set("short")
-    has(session, "short\n")
+    has(client, "short\n")
+end
+
+function CASES.a_bad_limit()
+    local client = start({}, { max_body = 1 })
+    heard("keeps vim.lsp's own synchronisation: BAD_LIMIT")
+    set("one")
+    has(client, "one\n")
 end
 
 function CASES.no_text()
-    local session = start()
-    session:attach(0)
+    local client = start()
     set("one")
-    has(session, "one\n")
+    has(client, "one\n")
     set("one", "\255")
     heard("isn't sent: it isn't text in UTF-8")
-    has(session, "one\n")
+    has(client, "one\n")
     vim.cmd("silent undo")
     set("one", "é")
-    has(session, "one\né\n")
+    has(client, "one\né\n")
+end
+
+function CASES.line_ends()
+    local client = start()
+    set("one", "two")
+    has(client, "one\ntwo\n")
+    vim.bo.fileformat = "dos"
+    has(client, "one\r\ntwo\r\n")
+    vim.bo.fileformat, vim.bo.endofline = "mac", false
+    has(client, "one\rtwo")
+    set("three")
+    has(client, "three")
+    is_silent()
 end
 
 function CASES.whole_texts()
-    local session = start({ cmd = { "python3", here .. "/test_server.py", "utf-8", "full" } })
-    session:attach(0)
+    local client = start({ cmd = { "python3", here .. "/test_server.py", "utf-8", "full" } })
+    assert(client.offset_encoding == "utf-8")
     set("é", "two")
-    has(session, "é\ntwo\n")
+    has(client, "é\ntwo\n")
     vim.cmd("normal! ggx")
-    has(session, "\ntwo\n")
+    has(client, "\ntwo\n")
+end
+
+function CASES.no_synchronisation()
+    local client = start({ cmd = { "python3", here .. "/test_server.py", "utf-16", "none" } })
+    set("one")
+    has(client, nil)
+    is_silent()
 end
 
 function CASES.attached_twice()
-    local session = start()
-    session:attach(0)
-    session:attach(api.nvim_get_current_buf())
+    local client = start()
+    lsp.buf_attach_client(0, client.id)
     set("one")
-    session:attach(0)
+    lsp.buf_attach_client(0, client.id)
     set("one", "two")
-    has(session, "one\ntwo\n")
-    session:detach(0)
-    has(session, nil)
-    session:attach(0)
-    has(session, "one\ntwo\n")
+    has(client, "one\ntwo\n")
+    lsp.buf_detach_client(0, client.id)
+    has(client, nil)
+    lsp.buf_attach_client(0, client.id)
+    has(client, "one\ntwo\n")
+    set("three")
+    has(client, "three\n")
 end
 
 function CASES.renamed_and_wiped()
-    local session = start()
-    vim.cmd("edit " .. folder .. "/first.txt")
-    session:attach(0)
-    set("one")
-    has(session, "one\n")
+    edit("first.txt", "one")
+    local client = start()
+    has(client, "one\n")
     local before = vim.uri_from_bufnr(0)
     vim.cmd("file " .. folder .. "/second.txt")
     set("two")
-    has(session, "two\n")
-    assert(text_in(session, before) == nil)
+    has(client, "two\n")
+    assert(text_in(client, before) == nil)
     local after = vim.uri_from_bufnr(0)
     vim.cmd("bwipeout!")
-    assert(text_in(session, after) == nil)
+    assert(text_in(client, after) == nil)
 end
 
-function CASES.by_filetype()
-    local session = start({ filetypes = { "python" } })
-    set("not this one")
-    vim.cmd("edit " .. folder .. "/a.py | setfiletype python")
+function CASES.wiped_and_opened_again_in_one_command()
+    edit("a.txt", "one")
+    local client = start()
+    attach_what_is_read(client)
+    has(client, "one\n")
+    local buffer = api.nvim_get_current_buf()
+    vim.cmd("silent bwipeout! | edit " .. folder .. "/a.txt")
+    assert(api.nvim_get_current_buf() ~= buffer)
+    has(client, "one\n")
+    set("two")
+    has(client, "two\n")
+    is_silent()
+end
+
+function CASES.read_again()
+    edit("a.txt", "one")
+    local client = start()
+    attach_what_is_read(client)
+    set("two")
+    has(client, "two\n")
+    vim.fn.writefile({ "three" }, folder .. "/a.txt")
+    vim.cmd("silent edit!")
+    has(client, "three\n")
+    set("four")
+    has(client, "four\n")
+end
+
+function CASES.two_buffers_of_one_name()
+    local client = start()
     set("one")
-    has(session, "one\n")
-    assert(vim.tbl_count(session.entries) == 1)
+    has(client, "one\n")
+    vim.cmd("new")
+    lsp.buf_attach_client(0, client.id)
+    heard("another buffer has the same name")
+    set("two")
+    vim.cmd("bwipeout!")
+    has(client, "one\n")
+    vim.cmd("new")
+    lsp.buf_attach_client(0, client.id)
+    heard("another buffer has the same name")
+    set("two")
+    vim.cmd("wincmd p | bwipeout!")
+    vim.wait(20)
+    has(client, "two\n")
 end
 
-function CASES.ends_in_order()
-    local session = start()
-    session:attach(0)
-    has(session, "")
-    session:stop(3000)
-    assert(session.process == nil and session.client:phase() == "done", session.client:phase())
+function CASES.requests_come_after_changes()
+    local client = start()
+    set("one")
+    for _, method in ipairs({ "textDocument/hover", "textDocument/completion" }) do
+        set("before " .. method)
+        local params = lsp.util.make_position_params(0, client.offset_encoding)
+        local result = lsp.buf_request_sync(0, method, params, 5000)[client.id].result
+        assert((result.contents or result[1].label) == "before " .. method .. "\n", vim.inspect(result))
+    end
+    assert(client.server_capabilities.completionProvider and client.server_capabilities.hoverProvider)
+end
+
+function CASES.beside_another_server()
+    local client, other = start(), start_plain(plain_config())
+    set("one")
+    has(client, "one\n")
+    has(other, "one\n")
+    set("one", "two 😀")
+    has(client, "one\ntwo 😀\n")
+    has(other, "one\ntwo 😀\n")
+    other.stop()
+    wait(other.is_stopped)
+    set("three")
+    has(client, "three\n")
+end
+
+function CASES.own_calls()
+    local calls = {}
+    local client = start({
+        on_init = function(it) calls.init = it.id end,
+        on_attach = function(it, buffer) calls.attach = { it.id, buffer } end,
+        on_exit = function(code) calls.exit = code end,
+    })
+    assert(calls.init == client.id and vim.deep_equal(calls.attach, { client.id, api.nvim_get_current_buf() }))
+    client.stop()
+    wait(function() return calls.exit == 0 end)
     set("after")
     vim.wait(20)
-    assert(#said == 0, said[1])
+    is_silent()
 end
 
 vim.schedule(function()
+    vim.o.hidden = true
     local is_done, problem = xpcall(CASES[vim.env.ONLY], debug.traceback)
     if not is_done then io.stderr:write(problem, "\n") end
     vim.cmd(is_done and "qall!" or "cquit!")

@@ -19,7 +19,8 @@ class Function:
 
     def __init__(self, path, block, trait_of, lines, first, head):
         indent, words, self.name = head.groups()
-        self.path, self.block, self.trait_of, self.first, self.is_const = path, block, trait_of, first, "const" in words.split()
+        self.path, self.block, self.trait_of, self.first = path, block, trait_of, first
+        self.is_const, self.is_public = ("const" in words.split(), "pub" in words.split())
         self.opens = self.ends = first
         for n in range(first, len(lines)):
             outer = lines[n].strip() and not lines[n].startswith(f"{indent} ")
@@ -175,6 +176,12 @@ def files_of(folder):
     parts = [at for part in ("src", "specs", "proofs") for at in os.walk(f"{folder}/{part}")]
     paths = sorted(os.path.relpath(f"{at}/{it}", folder) for at, _, names in parts for it in names)
     return {it: text_of(f"{folder}/{it}") for it in paths}
+
+
+def edits_of(folder):
+    """Returns the paths of a crate's edits, those of must-fail/ first."""
+    folders = [it for it in (f"{folder}/must-fail", f"{folder}/more-must-fail") if os.path.isdir(it)]
+    return [f"{at}/{it}" for at in folders for it in sorted(os.listdir(at)) if it.endswith(".edit")]
 
 
 def named_in(folder):

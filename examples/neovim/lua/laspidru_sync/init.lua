@@ -1,9 +1,8 @@
--- Neovim's buffers as the documents of a language server, by laspidru's client in place of vim.lsp's own computation (README.md).
--- Neovim says that something changed (`on_bytes`, `on_lines`); what changed is read from the buffer, once the command that did it is through.
+-- vim.lsp with laspidru's client in place of its text synchronisation (README.md). vim.lsp starts the server, and says which buffers are
+-- open in it. What changed is read from the buffer, once the command that did it is through, and sent as laspidru's client has it.
 local laspidru = require("laspidru")
-local process = require("laspidru_sync.process")
 local text = require("laspidru_sync.text")
-local api = vim.api
+local api, lsp = vim.api, vim.lsp
 
 local M = {}
 local Session = {}
@@ -13,99 +12,127 @@ local WHY = {
     TOO_LONG = "the text is longer than max_text, or its message than max_body",
     TOO_MANY_CHANGES = "there are too many changes, or too long ones",
     TOO_MANY_DOCUMENTS = "as many documents are open as may be",
+    ALREADY_OPEN = "another buffer has the same name",
     NOT_UTF8 = "it isn't text in UTF-8",
     OUT_OF_MEMORY = "there is no memory left",
 }
 local CHECK_AFTER = 300 -- milliseconds without a change, after which a long buffer is read whole
 local NEW_STATE = { "BufWritePost", "FileChangedShellPost", "TextChanged", "TextChangedI", "TextChangedP" }
 
--- Starts a server. `options.cmd` is its command, a list of words. Buffers of `options.filetypes` are attached as they come. Others:
--- `on_message(body)` gets each notification of the server; `utf8`, `utf32` (both true) are offered beside UTF-16; `max_text`,
--- `max_body`, `max_docs` are laspidru's limits; of a buffer with more than `long` lines (5000) only those are read at once that
--- Neovim reports as changed, and the others a little later.
-function M.start(options)
-    local self = setmetatable({ options = options, entries = {} }, Session)
-    self.group = api.nvim_create_augroup("laspidru_sync", { clear = false })
-    self:listen_to_all()
-    self:restart()
-    return self
-end
-
 local function warn(...)
     vim.notify("laspidru: " .. string.format(...), vim.log.levels.WARN)
 end
 
--- Starts the server, also again after its end. The attached buffers are opened in it.
-function Session:restart()
-    if self.process then self.process.close() end
-    local options = self.options
-    local client = laspidru.Client.new({
-        utf8 = options.utf8 ~= false,
-        utf32 = options.utf32 ~= false,
+-- Returns a configuration of vim.lsp's with the change: for `vim.lsp.start_client`, `vim.lsp.start` or `vim.lsp.config`. In `options`
+-- `max_text`, `max_body` and `max_docs` are laspidru's limits. Of a buffer with more than `long` lines (5000) only those are read at once
+-- that Neovim reports as changed, and the others a little later.
+function M.config(config, options)
+    local calls, on_exit = type(config.on_init) == "table" and config.on_init or { config.on_init }, config.on_exit
+    local session
+    return vim.tbl_extend("force", config, {
+        on_init = function(client, result)
+            for _, call in ipairs(calls) do
+                call(client, result)
+            end
+            session = Session.new(client, result.capabilities, options or {})
+        end,
+        on_exit = function(...)
+            if session then session:stop() end
+            if on_exit then on_exit(...) end
+        end,
+    })
+end
+
+-- Laspidru's client of a session whose `initialize` was vim.lsp's own, or nil and why there can be none. It gets the server's response to
+-- the parts of that which are its own.
+local function client_of(encoding, synchronisation, options)
+    local ours = laspidru.Client.new({
+        utf8 = encoding == "utf-8",
+        utf32 = encoding == "utf-32",
         max_text = options.max_text,
         max_body = options.max_body,
         max_docs = options.max_docs,
     })
-    local started, problem
-    started, problem = process.start(options.cmd, function(bytes)
-        if self.process == started then self:receive(bytes) end
-    end, function(reason)
-        if self.process == started then self:end_with(reason) end
+    ours:start()
+    local capabilities = { positionEncoding = encoding, textDocumentSync = synchronisation }
+    local event = ours:deliver(vim.json.encode({ jsonrpc = "2.0", id = 1, result = { capabilities = capabilities } }))
+    return event.kind == "send" and ours or nil, event.reason
+end
+
+-- Takes the place of vim.lsp's synchronisation with a server, if that wants documents to be opened and changed.
+function Session.new(client, capabilities, options)
+    local encoding = capabilities.positionEncoding or client.offset_encoding
+    local is_done, ours, reason = pcall(client_of, encoding, capabilities.textDocumentSync, options)
+    if not is_done then ours, reason = nil, tostring(ours) end
+    if not ours and reason ~= "NO_SYNC" then warn("%s keeps vim.lsp's own synchronisation: %s", client.name, reason) end
+    if not ours then return nil end
+    client.offset_encoding = encoding
+    local self = setmetatable({ client = client, ours = ours, options = options, entries = {} }, Session)
+    self.group = api.nvim_create_augroup("laspidru_sync_" .. client.id, {})
+    self:take_calls()
+    self:listen_to_all()
+    return self
+end
+
+-- Puts `call` in the place of a call of vim.lsp's client, and passes it that. (From Neovim 0.11 on they are methods.)
+local function replace(client, name, call)
+    local own = client[name]
+    client[name] = function(first, ...)
+        if first == client then return call(function(...) return own(client, ...) end, ...) end
+        return call(own, first, ...)
+    end
+end
+
+-- vim.lsp no longer computes changes, and what it says of documents is done here. What changed is sent before all else.
+function Session:take_calls()
+    local client = self.client
+    local documents = {
+        ["textDocument/didOpen"] = self.attach,
+        ["textDocument/didChange"] = function() end,
+        ["textDocument/didClose"] = self.detach,
+    }
+    replace(client, "notify", function(own, method, params)
+        if documents[method] then
+            documents[method](self, params.textDocument)
+            return true
+        end
+        self:flush_scheduled()
+        return own(method, params)
     end)
-    self.client, self.process, self.is_ready = client, started, false
-    if not started then return warn("%s can't be started: %s", options.cmd[1], problem) end
-    started.write(client:start())
+    replace(client, "request", function(own, method, params, handler, buffer)
+        self:flush_scheduled()
+        self:flush((buffer or 0) ~= 0 and buffer or api.nvim_get_current_buf())
+        return own(method, params, handler, buffer)
+    end)
+    replace(client, "stop", function(own, ...)
+        self:stop()
+        return own(...)
+    end)
+    if client.resolved_capabilities then
+        client.resolved_capabilities.text_document_did_change = lsp.protocol.TextDocumentSyncKind.None
+    elseif type(client.server_capabilities.textDocumentSync) == "table" then
+        client.server_capabilities.textDocumentSync.change = lsp.protocol.TextDocumentSyncKind.None
+    end
 end
 
--- The server's end, or that of its use. The buffers stay attached, for `restart`.
-function Session:end_with(reason)
-    local ended = self.process
-    self.process, self.is_ready = nil, false
-    if ended then ended.close() end
-    for _, entry in pairs(self.entries) do
-        entry.is_open = false
-    end
-    if not self.is_stopping then warn("%s %s; restart() starts it again", self.options.cmd[1], reason) end
-end
-
--- What the server sent.
-function Session:receive(bytes)
-    local is_done, result = pcall(self.client.receive, self.client, bytes)
-    local events = is_done and result or type(result) == "table" and result.events or {}
-    for _, event in ipairs(events) do
-        self:handle(event)
-    end
-    if not is_done then return self:end_with("sent what is no message: " .. tostring(result)) end
-    if self.process and not self.is_ready and self.client:phase() == "ready" then
-        self.is_ready = true
-        for buffer in pairs(self.entries) do
+-- vim.lsp opens a document: that of a buffer which it has attached.
+function Session:attach(document)
+    for _, buffer in ipairs(api.nvim_list_bufs()) do
+        local is_new = not self.entries[buffer] and api.nvim_buf_is_loaded(buffer) and lsp.buf_is_attached(buffer, self.client.id)
+        if is_new and vim.uri_from_bufnr(buffer) == document.uri then
+            local entry = { buffer = buffer, theirs = document.uri, language = document.languageId }
+            self.entries[buffer] = entry
+            self:listen(entry)
             self:flush(buffer)
+            return self:flush_soon(entry) -- (a buffer that is read again may not have all of its text yet)
         end
     end
 end
 
-function Session:handle(event)
-    if event.kind == "send" then
-        self.process.write(event.frame)
-    elseif event.kind == "bad-server" then
-        self:end_with("can't be used: " .. event.reason)
-    elseif event.kind == "noted" then
-        self.process.write(self.client:exit())
-        self.process.close()
-    elseif event.kind == "ignored" and self.options.on_message then
-        self.options.on_message(event.body)
-    end
-end
-
--- Attaches a buffer (0 is the current one): it is opened in the server, and each change is sent. A second time nothing changes.
-function Session:attach(buffer)
-    if buffer == 0 then buffer = api.nvim_get_current_buf() end
-    if self.entries[buffer] then return end
-    vim.fn.bufload(buffer)
-    local entry = { buffer = buffer, version = 0 }
-    self.entries[buffer] = entry
-    self:listen(entry)
-    self:flush(buffer)
+-- vim.lsp closes a document. It names it as it was when it was opened. Where two buffers have the name, `on_detach` says which is meant.
+function Session:detach(document)
+    local found = vim.tbl_filter(function(entry) return entry.theirs == document.uri end, vim.tbl_values(self.entries))
+    if #found == 1 then self:forget(found[1]) end
 end
 
 function Session:listen(entry)
@@ -122,35 +149,29 @@ function Session:listen(entry)
         end,
         on_reload = note,
         on_changedtick = note,
-        on_detach = function() self:lose(entry) end,
+        -- (at once: the next buffer may have the same name)
+        on_detach = function() self:forget(entry) end,
     })
-end
-
--- Neovim detaches a buffer that it unloads, also where it loads it again at once. Then it is attached again, and stays open.
-function Session:lose(entry)
-    vim.schedule(function()
-        if self.entries[entry.buffer] ~= entry then return end
-        if not api.nvim_buf_is_loaded(entry.buffer) then return self:forget(entry) end
-        self:listen(entry)
-        self:flush(entry.buffer)
-    end)
-end
-
--- Detaches a buffer: it is closed in the server.
-function Session:detach(buffer)
-    local entry = self.entries[buffer == 0 and api.nvim_get_current_buf() or buffer]
-    if entry then self:forget(entry) end
 end
 
 function Session:forget(entry)
     if self.entries[entry.buffer] ~= entry then return end
     self.entries[entry.buffer] = nil
     self:close(entry)
+    for _, other in pairs(self.entries) do
+        if not other.is_open then self:flush_soon(other) end
+    end
 end
 
 function Session:close(entry)
-    if self.is_ready and entry.is_open then self.process.write(self.client:close(entry.uri)) end
+    if entry.is_open then self:send(self.ours:close(entry.uri)) end
     entry.is_open, entry.is_behind = false, false
+end
+
+-- Sends a message of laspidru's client, by vim.lsp, which writes its JSON anew.
+function Session:send(frame)
+    local message = vim.json.decode(frame:match("\r\n\r\n(.*)$"))
+    self.client.rpc.notify(message.method, message.params)
 end
 
 -- What on_bytes doesn't say: options that belong to the text, a new name, and for safety each time that Neovim waits for a key.
@@ -159,10 +180,7 @@ function Session:listen_to_all()
         api.nvim_create_autocmd(events, {
             group = self.group,
             pattern = pattern,
-            callback = function(event)
-                local buffer = event.buf ~= 0 and event.buf or api.nvim_get_current_buf()
-                call(buffer, self.entries[buffer])
-            end,
+            callback = function(event) call(self.entries[event.buf ~= 0 and event.buf or api.nvim_get_current_buf()]) end,
         })
     end
     on("OptionSet", { "fileformat", "endofline", "binary" }, function()
@@ -170,35 +188,41 @@ function Session:listen_to_all()
             self:flush_soon(entry)
         end
     end)
-    on(NEW_STATE, "*", function(_, entry)
+    on(NEW_STATE, "*", function(entry)
         if entry then self:flush_soon(entry) end
     end)
-    on("BufFilePost", "*", function(buffer, entry)
-        if entry then self:close(entry) end
-        self:flush(buffer)
+    on("BufFilePost", "*", function(entry)
+        if not entry then return end
+        self:close(entry)
+        self:flush(entry.buffer)
     end)
-    if self.options.filetypes then on("FileType", self.options.filetypes, function(buffer) self:attach(buffer) end) end
-    on("VimLeavePre", "*", function() self:stop(500) end)
 end
 
 -- Sends the changes once the command that made them is through: before that a buffer may be between two states.
 function Session:flush_soon(entry)
     if entry.is_scheduled then return end
     entry.is_scheduled = true
-    vim.schedule(function()
-        entry.is_scheduled = false
-        if self.entries[entry.buffer] ~= entry then return end
-        if entry.span and entry.is_open and not entry.is_behind and #entry.state.lines > (self.options.long or 5000) then
-            self:flush_span(entry)
-        else
-            self:flush(entry.buffer)
-        end
-    end)
+    vim.schedule(function() self:flush_now(entry) end)
+end
+
+function Session:flush_scheduled()
+    for _, entry in pairs(self.entries) do
+        if entry.is_scheduled then self:flush_now(entry) end
+    end
+end
+
+function Session:flush_now(entry)
+    entry.is_scheduled = false
+    if self.entries[entry.buffer] ~= entry then return end
+    if entry.span and entry.is_open and not entry.is_behind and #entry.state.lines > (self.options.long or 5000) then
+        self:flush_span(entry)
+    else
+        self:flush(entry.buffer)
+    end
 end
 
 -- Sends the lines that Neovim reports as changed, and reads all of them once nothing was changed for a little while.
 function Session:flush_span(entry)
-    if not self.is_ready then return end
     local state = text.read_span(entry.buffer, entry.state, entry.span)
     if not state then return self:flush(entry.buffer) end
     entry.span, entry.spans = nil, (entry.spans or 0) + 1
@@ -209,10 +233,10 @@ function Session:flush_span(entry)
     end, CHECK_AFTER)
 end
 
--- Sends what changed in a buffer since the last time, if the server is there. Call it before a request on the buffer.
+-- Sends what changed in a buffer since the last time.
 function Session:flush(buffer)
     local entry = self.entries[buffer]
-    if not entry or not self.is_ready or not api.nvim_buf_is_loaded(buffer) then return end
+    if not entry or not api.nvim_buf_is_loaded(buffer) then return end
     local state = text.read(buffer)
     entry.span = nil
     if not entry.is_open then
@@ -228,52 +252,38 @@ end
 -- and the whole text is sent as soon as that is possible again.
 function Session:attempt(entry, state, call)
     local name = vim.fn.fnamemodify(api.nvim_buf_get_name(entry.buffer), ":t")
-    local is_done, result = pcall(call, self, entry, state)
+    local version = math.max((entry.version or 0) + 1, api.nvim_buf_get_changedtick(entry.buffer))
+    local is_done, result = pcall(call, self, entry, state, version)
     if is_done then
         if entry.problem then warn("%s is sent again", name) end
-        entry.state, entry.is_behind, entry.problem = state, false, nil
-        return self.process.write(result)
+        entry.state, entry.version, entry.is_open, entry.is_behind, entry.problem = state, version, true, false, nil
+        return self:send(result)
     end
     local code = type(result) == "table" and result.code or tostring(result)
     if code ~= entry.problem then warn("%s isn't sent: %s", name, WHY[code] or code) end
     entry.is_behind, entry.problem = true, code
 end
 
-function Session:open(entry, state)
-    local whole = text.whole(state)
-    entry.document = laspidru.Document.new(whole, self.client:encoding())
+function Session:open(entry, state, version)
     entry.uri = vim.uri_from_bufnr(entry.buffer)
-    local frame = self.client:open(entry.uri, vim.bo[entry.buffer].filetype, entry.version + 1, whole)
-    entry.version, entry.is_open = entry.version + 1, true
-    return frame
+    return self.ours:open(entry.uri, entry.language, version, text.whole(state))
 end
 
--- Changes the document in the client and the copy that positions are read from.
-function Session:edit(entry, changes)
-    local frame = self.client:edit(entry.uri, entry.version + 1, changes)
-    entry.version = entry.version + 1
-    entry.document:change(changes)
-    return frame
+function Session:change(entry, state, version)
+    local position = function(offset) return self.ours:position(entry.uri, offset) end
+    local found = text.difference(entry.state, state, function(offset) return (pcall(position, offset)) end)
+    local range = { start = position(found.start), ["end"] = position(found.stop) }
+    return self.ours:edit(entry.uri, version, { { range = range, text = found.text } })
 end
 
-function Session:change(entry, state)
-    local document = entry.document
-    local found = text.difference(entry.state, state, function(offset) return (pcall(document.position, document, offset)) end)
-    local range = { start = document:position(found.start), ["end"] = document:position(found.stop) }
-    return self:edit(entry, { { range = range, text = found.text } })
+function Session:replace(entry, state, version)
+    return self.ours:edit(entry.uri, version, { { text = text.whole(state) } })
 end
 
-function Session:replace(entry, state)
-    return self:edit(entry, { { text = text.whole(state) } })
-end
-
--- Ends the server, and waits so many milliseconds for that.
-function Session:stop(milliseconds)
-    self.is_stopping = true
-    if not self.process then return end
-    if self.is_ready then self.process.write(self.client:shutdown()) end
-    vim.wait(milliseconds or 0, function() return self.process == nil end, 5)
-    if self.process then self.process.close() end
+-- The server ends: nothing more is sent to it.
+function Session:stop()
+    self.entries = {}
+    vim.schedule(function() pcall(api.nvim_del_augroup_by_id, self.group) end)
 end
 
 return M
