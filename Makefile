@@ -47,6 +47,7 @@ define IN_THE_REPOSITORY
   make verify          builds it again in a new clone, and compares (SUMS="file ..")       rt, git, cc                 about an hour
 
 To change it (docs/DEVELOPING.md)
+  make quick           every test of every crate, before any proof (CRATE)            rt                          some minutes
   make ready           what is to be mended before a push (CRATE="lsp_store ..")           rt                          under a minute
   make pages           its part on pages: links, versions, widths, words, and so on        python3                     seconds
   make gate            .ci/run: all proofs, tests, programs and must-fail edits            rt                          90 minutes, later less
@@ -144,6 +145,9 @@ release:
 verify:
 	@install/verify "$(VERSION)" $(or $(SUMS),"$(RELEASES)/laspidru-$(VERSION).sha256")
 
+quick:
+	@tools/quick $(CRATE)
+
 ready:
 	@tools/ready $(CRATE)
 
@@ -192,5 +196,5 @@ bench:
 	$(if $(filter logs,$(BENCH)),bench/end-to-end --scale $(SCALE))
 	$(if $(filter bindings,$(BENCH)),bench/bindings)
 
-.PHONY: release verify ready gate minutes edits refused pages definitions test conformance callers examples bindings c check-install bench
+.PHONY: release verify quick ready gate minutes edits refused pages definitions test conformance callers examples bindings c check-install bench
 endif
