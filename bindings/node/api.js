@@ -1,8 +1,44 @@
 'use strict';
 // Texts that are kept as LSP 3.17 says, and both ends of a session, by a library that is proved (docs/node.md). `TextDocument` has the members
 // of vscode-languageserver-textdocument. Unlike there a position inside a character is refused by a RangeError.
-// The addon calls the library: laspidru.node, or over its WebAssembly module what module.js has.
+let addon; // what calls the library: laspidru.node, or over its WebAssembly module what module.js has
 
+const [encoder, decoder] = [new TextEncoder(), new TextDecoder()];
+
+/** Bytes with what is called of Node's buffers, where there is no Node. */
+class Bytes extends Uint8Array {
+  static from(value) {
+    return new Bytes(typeof value === 'string' ? encoder.encode(value) : value);
+  }
+
+  static alloc(size) {
+    return new Bytes(size);
+  }
+
+  static byteLength(text) {
+    return encoder.encode(text).length;
+  }
+
+  static concat(parts) {
+    const all = new Bytes(parts.reduce((sum, part) => sum + part.length, 0));
+    let used = 0;
+    for (const part of parts) {
+      all.set(part, used);
+      used += part.length;
+    }
+    return all;
+  }
+
+  write(text, start) {
+    return encoder.encodeInto(text, this.subarray(start)).written;
+  }
+
+  toString() {
+    return decoder.decode(this);
+  }
+}
+
+const Buffer = globalThis.Buffer ?? Bytes;
 const UTF16 = 16;
 
 /** A RangeError as the library's refusals are. */
