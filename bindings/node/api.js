@@ -1,0 +1,606 @@
+'use strict';
+// Texts that are kept as LSP 3.17 says, and both ends of a session, by a library that is proved (docs/node.md). `TextDocument` has the members
+// of vscode-languageserver-textdocument. Unlike there a position inside a character is refused by a RangeError.
+let addon; // what calls the library: laspidru.node, or over its WebAssembly module what module.js has
+
+const [encoder, decoder] = [new TextEncoder(), new TextDecoder()];
+
+/** Bytes with what is called of Node's buffers, where there is no Node. */
+class Bytes extends Uint8Array {
+  static from(value) {
+    return new Bytes(typeof value === 'string' ? encoder.encode(value) : value);
+  }
+
+  static alloc(size) {
+    return new Bytes(size);
+  }
+
+  static byteLength(text) {
+    return encoder.encode(text).length;
+  }
+
+  static concat(parts) {
+    const all = new Bytes(parts.reduce((sum, part) => sum + part.length, 0));
+    let used = 0;
+    for (const part of parts) {
+      all.set(part, used);
+      used += part.length;
+    }
+    return all;
+  }
+
+  write(text, start) {
+    return encoder.encodeInto(text, this.subarray(start)).written;
+  }
+
+  toString() {
+    return decoder.decode(this);
+  }
+}
+
+const Buffer = globalThis.Buffer ?? Bytes;
+const UTF16 = 16;
+
+/** A RangeError as the library's refusals are. */
+function refusal(code, message = code) {
+  return Object.assign(new RangeError(message), { code });
+}
+
+/** A line or a character as it is, where the library can take it: an integer from 0 to 2^32 - 1. Of a batch `kind` and `index` say where. */
+function uint(value, kind, index) {
+  if (value >>> 0 === value) return value;
+  if (typeof value !== 'number') throw new TypeError('a line or a character is no number');
+  const error = refusal('OUT_OF_RANGE', `${kind ? `${kind} ${index}: ` : ''}${value} is no line and no character`);
+  throw kind ? Object.assign(error, { [kind]: index }) : error;
+}
+
+/** A text as it is. In UTF-8 a lone surrogate becomes U+FFFD, which is one UTF-16 unit too. */
+function checked(text) {
+  if (typeof text !== 'string') throw new TypeError('a text is no string');
+  return text;
+}
+
+const NUMBERS = 6; // of each change, as the addon takes it
+const WHOLE = { start: { line: 0, character: 0 }, end: { line: 0, character: 0 } };
+const ROOM = Buffer.alloc(65536); // for the texts of a short batch
+
+/** The bytes of texts, one after the other. How many each has comes into its numbers. */
+function joined(texts, units, numbers) {
+  // (a UTF-16 unit has at most 3 bytes)
+  const bytes = 3 * units <= ROOM.length ? ROOM : Buffer.alloc(texts.reduce((sum, text) => sum + Buffer.byteLength(text), 0));
+  let used = 0;
+  for (let index = 0; index < texts.length; index++) {
+    const length = bytes.write(texts[index], used);
+    numbers[NUMBERS * index + 4] = length;
+    used += length;
+  }
+  return bytes;
+}
+
+/** Changes as the addon takes them: six numbers of each, and the bytes of all texts. */
+function passed(changes, kind = 'change') {
+  if (!Array.isArray(changes)) throw new TypeError('changes are no array');
+  const numbers = new Uint32Array(NUMBERS * changes.length);
+  const texts = [];
+  let units = 0;
+  for (let index = 0; index < changes.length; index++) {
+    const { range, text } = changes[index];
+    const { start, end } = range ?? WHOLE;
+    const first = NUMBERS * index;
+    numbers[first] = uint(start.line, kind, index);
+    numbers[first + 1] = uint(start.character, kind, index);
+    numbers[first + 2] = uint(end.line, kind, index);
+    numbers[first + 3] = uint(end.character, kind, index);
+    numbers[first + 5] = range ? 0 : 1;
+    units += checked(text).length;
+    texts.push(text);
+  }
+  return [numbers, joined(texts, units, numbers)];
+}
+
+/** Text edits as the addon takes them. */
+function passedEdits(edits) {
+  return passed(edits.map(({ range, newText }) => {
+    if (!range) throw new TypeError('a text edit has no range');
+    return { range, text: newText };
+  }), 'edit');
+}
+
+/** A change as LSP writes it, from what the addon returns. */
+function written([line, character, endLine, endCharacter, isWhole, text]) {
+  if (isWhole) return { text };
+  return { range: { start: { line, character }, end: { line: endLine, character: endCharacter } }, text };
+}
+
+/** The indexes at which the lines of a text start. CR, LF and CRLF end a line and nothing else does. */
+function lineStarts(text) {
+  const starts = [0];
+  for (const end of text.matchAll(/\r\n|\r|\n/g)) starts.push(end.index + end[0].length);
+  return starts;
+}
+
+/** The number of the last of these indexes that isn't after an index. */
+function lastUpTo(starts, index) {
+  let low = 0;
+  let high = starts.length;
+  while (high - low > 1) {
+    const middle = (low + high) >>> 1;
+    if (starts[middle] > index) high = middle;
+    else low = middle;
+  }
+  return low;
+}
+
+class TextDocument {
+  #uri;
+  #languageId;
+  #version;
+  #document;
+  #text;
+  #starts; // of the lines, once an index was asked for after the last change
+
+  constructor(uri, languageId, version, content) {
+    this.#uri = uri;
+    this.#languageId = languageId;
+    this.#version = version;
+    this.#document = addon.open(Buffer.from(checked(content)));
+  }
+
+  static create(uri, languageId, version, content) {
+    return new TextDocument(uri, languageId, version, content);
+  }
+
+  /** Makes the changes of a didChange, in order, or throws and makes none of them. */
+  static update(document, changes, version) {
+    addon.change(document.#document, UTF16, ...passed(changes));
+    document.#text = document.#starts = undefined;
+    document.#version = version;
+    return document;
+  }
+
+  /** The text that text edits leave, as a formatter returns them. All count in the text as it is, and `document` stays as it is. */
+  static applyEdits(document, edits) {
+    const copy = addon.open(Buffer.from(document.getText()));
+    try {
+      addon.applyEdits(copy, UTF16, ...passedEdits(edits));
+      return addon.text(copy);
+    } finally {
+      addon.close(copy);
+    }
+  }
+
+  /** The one canonical batch that means the same as these changes of a didChange. `document` stays as it is. */
+  static canonical(document, changes) {
+    return addon.canonical(document.#document, UTF16, ...passed(changes)).map(written);
+  }
+
+  /** The canonical batch of what text edits mean: the changes of the didChange that reports them. `document` stays as it is. */
+  static batchOfEdits(document, edits) {
+    return addon.batchOfEdits(document.#document, UTF16, ...passedEdits(edits)).map(written);
+  }
+
+  get uri() {
+    return this.#uri;
+  }
+
+  get languageId() {
+    return this.#languageId;
+  }
+
+  get version() {
+    return this.#version;
+  }
+
+  get lineCount() {
+    return addon.lineCount(this.#document);
+  }
+
+  /** A line, counted from 0, without its line end. The rest of the text is not read. */
+  lineAt(line) {
+    return addon.line(this.#document, uint(line));
+  }
+
+  /** The text, or the part in a range. The ends of a reversed range are swapped. */
+  getText(range) {
+    this.#text ??= addon.text(this.#document);
+    return range ? this.#text.substring(this.offsetAt(range.start), this.offsetAt(range.end)) : this.#text;
+  }
+
+  #lines() {
+    this.#starts ??= lineStarts(this.getText());
+    return this.#starts;
+  }
+
+  /** The exact position of a line and a character, as the library has it. */
+  #exact(line, character) {
+    return addon.position(this.#document, UTF16, addon.offset(this.#document, UTF16, line, character));
+  }
+
+  /** The index in the text of a position. The first call after a change reads the text, and the others its line alone. */
+  offsetAt({ line, character }) {
+    const [exactLine, exactCharacter] = this.#exact(uint(line), uint(character));
+    return this.#lines()[exactLine] + exactCharacter;
+  }
+
+  /** The position of an index in the text. One before the start is the start, one past the end the end, one inside a CRLF
+   * the end of its line. The first call after a change reads the text, and the others the line alone. */
+  positionAt(offset) {
+    if (typeof offset !== 'number') throw new TypeError('an offset is no number');
+    if (!Number.isInteger(offset)) throw refusal('OUT_OF_RANGE', `${offset} is no offset`);
+    const starts = this.#lines();
+    const index = Math.min(Math.max(offset, 0), this.getText().length);
+    const number = lastUpTo(starts, index);
+    const [line, character] = this.#exact(number, index - starts[number]);
+    return { line, character };
+  }
+
+  /** Frees the text at once; else the collector does. Each later call that needs it throws, with the code EMPTY. */
+  close() {
+    addon.close(this.#document);
+    this.#text = this.#starts = undefined;
+  }
+}
+
+/** Bytes that were received, or a body. */
+function bytesOf(value) {
+  if (!(value instanceof Uint8Array)) throw new TypeError('bytes are no Uint8Array');
+  return value;
+}
+
+/** A version, as the library can take it. */
+function int(value) {
+  if (typeof value !== 'number') throw new TypeError('a version is no number');
+  if ((value | 0) !== value) throw refusal('OUT_OF_RANGE', `${value} is no version`);
+  return value;
+}
+
+const utf8 = (text) => Buffer.from(checked(text));
+
+const LIMITS = { maxBody: 16777216, maxText: 16777216, maxDocs: 1024, maxChanges: 65536 };
+
+/** The four limits of options. */
+function limitsOf(options) {
+  const { maxBody, maxText, maxDocs, maxChanges } = { ...LIMITS, ...options };
+  const limits = [maxBody, maxText, maxDocs, maxChanges];
+  if (!limits.every((limit) => limit >>> 0 === limit)) throw refusal('BAD_LIMIT');
+  return limits;
+}
+
+/** A fault of a stream: which of F1 to F7 its `frame` has, and the byte offset `place` on which that was decided. No more of the
+ * stream is taken. `events` has what `receive` had before it. */
+class FrameFault extends Error {
+  constructor(frame, place) {
+    super(`F${frame} at ${place}`);
+    Object.assign(this, { name: 'FrameFault', code: 'BAD_FRAME', place, frame, events: [] });
+  }
+}
+
+/** Takes a stream apart into the bodies of its messages, in whatever pieces it comes (LSP 3.17, Base Protocol). */
+class Framer {
+  #framer;
+  #rest = Buffer.alloc(0);
+  #at = 0;
+
+  constructor({ maxBody = LIMITS.maxBody } = {}) {
+    this.#framer = addon.newFramer(limitsOf({ maxBody })[0]);
+  }
+
+  /** The bodies of the messages that end in these bytes. A faulty frame throws FrameFault, whose `events` are the bodies before it. */
+  receive(bytes) {
+    return receive(this, bytes, (body) => body);
+  }
+
+  /** May the stream end here? No byte of a message is left, and there was no fault. */
+  get isAtRest() {
+    return addon.isAtRest(this.#framer) && this.#at === this.#rest.length;
+  }
+
+  /** Takes bytes, which stay until they are taken apart. */
+  add(bytes) {
+    this.#rest = this.#at < this.#rest.length ? Buffer.concat([this.#rest.subarray(this.#at), bytesOf(bytes)]) : bytesOf(bytes);
+    this.#at = 0;
+  }
+
+  /** The next body that is whole, or undefined. One that waits, since it couldn't be handled yet, comes first. */
+  next() {
+    if (this.waiting !== undefined) return this.waiting;
+    const [count, body] = addon.feed(this.#framer, this.#rest, this.#at);
+    if (count < 0) throw new FrameFault(-count, body);
+    this.#at += count;
+    return body;
+  }
+}
+
+/** What `handle` has of the next body that is whole, or undefined. A body that memory ran out for waits. */
+function nextOf(framer, handle) {
+  const body = framer.next();
+  if (body === undefined) return undefined;
+  framer.waiting = body;
+  try {
+    const event = handle(body);
+    framer.waiting = undefined;
+    return event;
+  } catch (error) {
+    if (error.code !== 'OUT_OF_MEMORY') framer.waiting = undefined;
+    throw error;
+  }
+}
+
+/** What `handle` has of each body that is whole. Each body is handled at its own step. */
+function* steps(framer, handle) {
+  for (let count = 0; ; count++) {
+    let event;
+    try {
+      event = nextOf(framer, handle);
+    } catch (error) {
+      // An end that listens no more has no use for what follows.
+      if (count > 0 && ['ENDED', 'WRONG_PHASE'].includes(error.code)) return;
+      throw error;
+    }
+    if (event === undefined) return;
+    yield event;
+  }
+}
+
+/** What `handle` has of each body that ends in these bytes. Where memory runs out after some they are returned, and a call with no
+ * bytes continues. */
+function receive(framer, bytes, handle) {
+  const events = [];
+  framer.add(bytes);
+  try {
+    for (const event of steps(framer, handle)) events.push(event);
+  } catch (error) {
+    if (error instanceof FrameFault) error.events = events;
+    else if (events.length > 0 && error.code === 'OUT_OF_MEMORY') return events;
+    throw error;
+  }
+  return events;
+}
+
+const WORDS = [
+  'OK', 'NOT_UTF8', 'OUT_OF_MEMORY', 'IN_USE', 'EMPTY', 'TOO_LONG', 'INSIDE_CHARACTER', 'REVERSED_RANGE', 'BAD_ENCODING', 'BAD_LENGTH',
+  'OTHER_KIND', 'OUT_OF_RANGE', 'BAD_LIMIT', 'ENDED', 'NOT_OPEN', 'ALREADY_OPEN', 'TOO_MANY_DOCUMENTS', 'STALE_VERSION',
+  'TOO_MANY_CHANGES', 'INVALID_PARAMS', 'CUT', 'BAD_FRAME', 'BODY_TOO_LONG', 'BAD_LOG', 'TOO_MANY_TURNS', 'OVERLAP', 'FAILED',
+  'NO_MESSAGE', 'WRONG_PHASE', 'NOT_AN_ANSWER', 'ERROR_ANSWER', 'NO_SYNC',
+];
+const SERVER_KINDS = ['replied', 'changed', 'dropped', 'ignored', 'refused', 'exited'];
+const CLIENT_KINDS = { 0: 'send', 3: 'ignored', 6: 'noted', 7: 'bad-server' };
+const PHASES = ['new', 'asked', 'ready', 'closing', 'closed', 'done', 'failed'];
+const NAMES = { 8: 'utf-8', 16: 'utf-16', 32: 'utf-32' };
+
+/** A byte offset as it is, where the library can take it. */
+function byteOffsetOf(value) {
+  if (typeof value !== 'number') throw new TypeError('a byte offset is no number');
+  if (!Number.isSafeInteger(value) || value < 0) throw refusal('OUT_OF_RANGE', `${value} is no byte offset`);
+  return value;
+}
+
+/** What both ends have of their open documents. Each call returns undefined where no document of the URI is open. */
+class End {
+  #end;
+  #isClient;
+
+  constructor(end, isClient) {
+    this.#end = end;
+    this.#isClient = isClient;
+  }
+
+  /** The number of an encoding, or else of the session's; of UTF-16 before one is agreed on. */
+  #units(name = this.encoding ?? 'utf-16') {
+    if (!Object.hasOwn(ENCODINGS, name)) throw refusal('BAD_ENCODING');
+    return ENCODINGS[name];
+  }
+
+  /** The version of the open document of a URI. */
+  version(uri) {
+    return addon.document(this.#end, this.#isClient, utf8(uri), false)?.[0];
+  }
+
+  /** The text of the open document of a URI. */
+  text(uri) {
+    return addon.document(this.#end, this.#isClient, utf8(uri), true)?.[1];
+  }
+
+  /** A line, counted from 0, of the open document of a URI, without its line end. The rest of the text is not read. */
+  lineAt(uri, line) {
+    return addon.lineAt(this.#end, this.#isClient, utf8(uri), uint(line));
+  }
+
+  /** The byte offset of a position in the open document of a URI: in the UTF-8 of its text. One after the line's end is the line's end.
+   * Positions count units of the session's encoding, or of this one. */
+  byteOffset(uri, { line, character }, encoding) {
+    return addon.offsetAt(this.#end, this.#isClient, utf8(uri), this.#units(encoding), uint(line), uint(character));
+  }
+
+  /** The exact position of a byte offset in the open document of a URI, in the session's encoding or in this one. */
+  position(uri, byteOffset, encoding) {
+    const found = addon.positionAt(this.#end, this.#isClient, utf8(uri), this.#units(encoding), byteOffsetOf(byteOffset));
+    return found && { line: found[0], character: found[1] };
+  }
+
+  /** A position of the session's encoding in another one. In 'utf-16' its character is an index in `lineAt(uri, ..)`. */
+  positionIn(uri, position, encoding) {
+    const byteOffset = this.byteOffset(uri, position);
+    return byteOffset === undefined ? undefined : this.position(uri, byteOffset, encoding);
+  }
+}
+
+/** A server's end of a session, without input and output of its own. */
+class Server extends End {
+  #server;
+  #framer;
+
+  constructor({ encoding = 'utf-16', isFixed = false, isFull = false, lenient = false, ...limits } = {}) {
+    if (!Object.hasOwn(ENCODINGS, encoding)) throw refusal('BAD_ENCODING');
+    const numbers = [...limitsOf(limits), ENCODINGS[encoding], isFixed ? 1 : 0, isFull ? 1 : 0, lenient ? 1 : 0];
+    const server = addon.newServer(Uint32Array.from(numbers));
+    super(server, false);
+    this.#server = server;
+    this.#framer = new Framer({ maxBody: numbers[0] });
+  }
+
+  /** What the server does with each message that ends in these bytes. Each is handled at its own step: until the next one the documents
+   * are those that a request speaks of. A faulty frame throws FrameFault at its step, with no `events`. A loop that ends early leaves the
+   * rest to the next call. */
+  messages(bytes) {
+    this.#framer.add(Buffer.from(bytesOf(bytes))); // (a copy, since the steps come later)
+    return steps(this.#framer, (body) => this.handle(body));
+  }
+
+  /** The same as an array, once all of these messages are handled: the documents are then those after the last one. So answer requests by
+   * `messages`. A faulty frame throws FrameFault, whose `events` came before it. */
+  receive(bytes) {
+    return receive(this.#framer, bytes, (body) => this.handle(body));
+  }
+
+  /** What the server does with the body of a message. */
+  handle(body) {
+    const [kind, reason, status, error, frame] = addon.handle(this.#server, bytesOf(body));
+    const event = { kind: SERVER_KINDS[kind], body };
+    if (frame) Object.assign(event, { frame, error });
+    if (event.kind === 'refused') event.reason = WORDS[reason];
+    if (event.kind === 'exited') event.status = status;
+    return event;
+  }
+
+  /** The encoding of positions, once `initialize` was answered; undefined before. */
+  get encoding() {
+    return NAMES[addon.encoding(this.#server)];
+  }
+
+  #units() {
+    return addon.encoding(this.#server) || UTF16;
+  }
+
+  /** The canonical batch of what text edits mean on the open document of a URI: the changes of the didChange that reports them. All
+   * count in the text as it is, which stays. */
+  batchOfEdits(uri, edits) {
+    return addon.batchOfEditsAt(this.#server, utf8(uri), this.#units(), ...passedEdits(edits)).map(written);
+  }
+
+  /** The frame of the one canonical didChange that means the same as these changes of the open document of a URI, under a version
+   * greater than its own. The document stays as it is. */
+  canonicalMessage(uri, version, changes) {
+    return addon.canonicalMessage(this.#server, utf8(uri), int(version), this.#units(), ...passed(changes));
+  }
+
+  get documentCount() {
+    return addon.documents(this.#server);
+  }
+}
+
+/** A client's end of a session: it keeps an editor's documents, and each call returns the bytes to send. */
+class Client extends End {
+  #client;
+  #framer;
+
+  constructor({ utf8 = false, utf32 = false, lenient = false, ...limits } = {}) {
+    const numbers = [...limitsOf(limits), utf8 ? 1 : 0, utf32 ? 1 : 0, lenient ? 1 : 0];
+    const client = addon.newClient(Uint32Array.from(numbers));
+    super(client, true);
+    this.#client = client;
+    this.#framer = new Framer({ maxBody: numbers[0] });
+  }
+
+  /** Begins the session: `initialize`. */
+  start() {
+    return addon.call(this.#client, 0);
+  }
+
+  /** Opens a document: `textDocument/didOpen`. */
+  open(uri, languageId, version, text) {
+    return addon.openAt(this.#client, utf8(uri), utf8(languageId), int(version), utf8(text));
+  }
+
+  /** Changes a document: one `textDocument/didChange`, with the canonical batch, or where the server asked for it the whole text. */
+  edit(uri, version, changes) {
+    return addon.edit(this.#client, utf8(uri), int(version), ...passed(changes));
+  }
+
+  /** Closes a document: `textDocument/didClose`. */
+  close(uri) {
+    return addon.closeAt(this.#client, utf8(uri));
+  }
+
+  /** Asks the server to shut down. */
+  shutdown() {
+    return addon.call(this.#client, 1);
+  }
+
+  /** Ends the session, once `shutdown` was answered. */
+  exit() {
+    return addon.call(this.#client, 2);
+  }
+
+  /** What the client does with each message that ends in these bytes, once all are handled. They change no document: the client's own calls
+   * do. A faulty frame throws FrameFault, whose `events` came before it. */
+  receive(bytes) {
+    return receive(this.#framer, bytes, (body) => this.deliver(body));
+  }
+
+  /** What the client does with the body of a message of the server. */
+  deliver(body) {
+    const [kind, reason, , , frame] = addon.deliver(this.#client, bytesOf(body));
+    const event = { kind: CLIENT_KINDS[kind], body };
+    if (frame) event.frame = frame;
+    if (event.kind === 'bad-server') event.reason = WORDS[reason];
+    return event;
+  }
+
+  get phase() {
+    return PHASES[addon.state(this.#client)[0]];
+  }
+
+  /** The encoding that was agreed on; undefined before. */
+  get encoding() {
+    return NAMES[addon.state(this.#client)[2]];
+  }
+
+  get documentCount() {
+    return addon.state(this.#client)[3];
+  }
+}
+
+const ENCODINGS = { 'utf-8': 8, 'utf-16': 16, 'utf-32': 32 };
+const LOG_DEFAULTS = { ...LIMITS, encoding: 'utf-16', squash: false, lenient: false };
+
+/** A fault of a log: its `code`, its byte offset `place`, which of F1 to F7 a faulty `frame` has, else 0, and the `output` up to it. */
+class LogFault extends Error {
+  constructor({ code, place, frame, output }) {
+    super(`${code} at ${place}`);
+    Object.assign(this, { name: 'LogFault', code, place, frame, output });
+  }
+}
+
+function run(command, log, options) {
+  const { maxBody, maxText, maxDocs, maxChanges, encoding, squash, lenient } = { ...LOG_DEFAULTS, ...options };
+  const limits = [maxBody, maxText, maxDocs, maxChanges];
+  if (!Object.hasOwn(ENCODINGS, encoding)) throw refusal('BAD_ENCODING');
+  if (!limits.every((limit) => limit >>> 0 === limit)) throw refusal('BAD_LIMIT');
+  const ended = addon.log(command, log, Uint32Array.of(...limits, ENCODINGS[encoding], squash ? 1 : 0, lenient ? 1 : 0));
+  if (ended.code !== 'OK') throw new LogFault(ended);
+  const { output, status, messages, refused } = ended;
+  return { output, status, messages, refused };
+}
+
+// The commands of lspsync on the bytes of a log. Options are LOG_DEFAULTS' members.
+
+/** What a server answers to each record of a log, a line for each. */
+const check = (log, options) => run(0, log, options);
+
+/** The documents that are open at the end of a log, a line of JSON for each. */
+const replay = (log, options) => run(1, log, options);
+
+/** The log with each accepted change as its canonical message; with `squash` each run of changes of one document as one. */
+const normalise = (log, options) => run(2, log, options);
+
+/** A log of version 1 in version 2, with the replies that a server gives. */
+const convert = (log, options) => run(3, log, options);
+
+/** What the package has, over an addon. There is one for all that is made of it. */
+function over(its) {
+  addon = its;
+  return { TextDocument, Framer, Server, Client, FrameFault, LogFault, check, replay, normalise, convert };
+}
+
+module.exports = { over, Buffer, WORDS };
