@@ -1,5 +1,5 @@
 -- A text in blocks. Each but the last ends with a character that isn't a carriage return, so no
--- CRLF is in two of them.
+-- CRLF is in two of them. Each but the last has 1024 bytes or more, so there are few.
 use Rattle.std.specs.Prelude.{ℕ, zero, suc, ◌≡◌, ◌≢◌, ◌+◌, ◌-◌, ◌<◌, ◌≤◌, true, List, [], ◌∷◌, length, map, slice_index}
 use Rattle.std.specs.List.{concat}
 use Rattle.std.specs.Str.{is_utf8, chars}
@@ -13,12 +13,17 @@ pub record EndsClear (bytes : List ℕ) : Type 0 where
   pub some : 0 < length bytes
   pub clear : slice_index bytes (length bytes - 1) ≢ carriage_return
 
--- There is at least one block, each is a text, and each but the last ends with no carriage return.
+-- A block that isn't the last: a text that ends with no carriage return, of 1024 bytes or more.
+pub record IsFull (block : List ℕ) : Type 0 where
+  pub utf8 : is_utf8 block ≡ true
+  pub ends : EndsClear block
+  pub enough : 1024 ≤ length block
+
+-- There is at least one block, each is a text, and each but the last is full.
 abbrev pub AreBlocks : List (List ℕ) → Type 0
 AreBlocks [] = ⊥
 AreBlocks (block ∷ []) = is_utf8 block ≡ true
-AreBlocks (block ∷ next ∷ blocks) =
-    (is_utf8 block ≡ true) × EndsClear block × AreBlocks (next ∷ blocks)
+AreBlocks (block ∷ next ∷ blocks) = IsFull block × AreBlocks (next ∷ blocks)
 
 -- How many line ends a block has.
 abbrev pub block_ends : List ℕ → ℕ

@@ -1,5 +1,5 @@
 //! `TextBuffer`, a text in blocks.
-ghost use Rattle.std.specs.Prelude.{◌≡◌, ◌+◌, ◌≤◌, ◌↔◌, ℕ, List, Some, IsTrue, IfOk};
+ghost use Rattle.std.specs.Prelude.{◌≡◌, ◌+◌, ◌/◌, ◌<◌, ◌≤◌, ◌↔◌, ℕ, List, Some, IsTrue, IfOk};
 ghost use Rattle.std.specs.Prelude.{OnOk, OnErr, length, option_map, string_bytes, string_len};
 ghost use Rattle.std.specs.List.{concat, replace_range};
 ghost use Rattle.std.specs.Result.{result_ok};
@@ -150,6 +150,15 @@ impl TextBuffer {
         let last = self.blocks.len() - 1;
         let block = &self.blocks[last];
         self.lines[last] as usize + block.ends() + 1
+    }
+
+    /// Returns how many blocks the text is in. Each but the last has 1024 bytes or more. In constant
+    /// time.
+    pub fn block_count(&self) -> usize
+        ensures some { 0 < result }
+        ensures few { result ≤ length self.now / 1024 + 1 }
+    {
+        self.blocks.len()
     }
 
     /// Returns the byte offset that a position denotes (LSP 3.17, Position).

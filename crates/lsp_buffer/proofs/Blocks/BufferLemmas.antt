@@ -7,7 +7,7 @@ use Rattle.std.proofs.lemmas.List.{length-map, length-append, get_or_default, dr
 use Rattle.std.proofs.lemmas.Str.{IsUtf8-from_is_utf8}
 use Rattle.lsp_text.specs.Starts.{AreStarts, IsLineOf as IsBlockOf}
 use Rattle.lsp_text.specs.TextLines.{line_ends}
-use Rattle.lsp_buffer.specs.Blocks.{EndsClear, AreBlocks, IsBuffer, block_ends}
+use Rattle.lsp_buffer.specs.Blocks.{EndsClear, IsFull, AreBlocks, IsBuffer, block_ends}
 use Rattle.lsp_buffer.proofs.Blocks.SumLemmas.{length-sums, sums_starts, sums_at, row_more}
 use Rattle.lsp_buffer.proofs.Blocks.BlockLemmas.{IsSplit, split, split_text, full_utf8, full_closes, full_ends, full_length, blocks_some, blocks_utf8}
 use Rattle.lsp_buffer.proofs.Blocks.PartLemmas.{AreThree}
@@ -73,8 +73,8 @@ module _ (blocks : List (List ℕ)) (starts lines : List ℕ) (is : IsBuffer blo
       after =
           ⊎_elim
           (λ (e : drop (index + 1) blocks ≡ []). inl (ap concat e))
-          (λ (e : EndsClear (get_or blocks index []) × AreBlocks (drop (index + 1) blocks)). inr
-          (subst EndsClear same e.0))
+          (λ (e : IsFull (get_or blocks index []) × AreBlocks (drop (index + 1) blocks)). inr
+          (subst EndsClear same e.0.ends))
           parts.after;
     }
 

@@ -1,18 +1,19 @@
 -- A change that cuts blocks again.
 use Rattle.std.proofs.Common.{ℕ, ◌≡◌, ◌+◌, ◌-◌, ◌<◌, ◌≤◌, ◌⊎◌, List, [], ◌++◌, length, take, drop, map, sum, get_or, slice_index, ⊎_elim, inl, inr, refl, sym, ap, ◌∙◌, arith, subst}
 use Rattle.std.specs.List.{concat, replace_range}
-use Rattle.std.specs.Str.{IsCharBoundary}
+use Rattle.std.specs.Str.{IsUtf8, IsCharBoundary}
 use Rattle.std.proofs.lemmas.Bool.{cases_lt}
 use Rattle.std.proofs.lemmas.List.{length-append, length-drop, get_or_default, append_assoc, map-append}
 use Rattle.std.proofs.lemmas.List.Folds.{concat-append}
 use Rattle.std.proofs.lemmas.List.Sums.{sum_by-append}
+use Rattle.std.proofs.lemmas.Str.{is_utf8-from_IsUtf8}
 use Rattle.lsp_text.specs.Starts.{IsLineOf as IsBlockOf}
-use Rattle.lsp_buffer.specs.Blocks.{EndsClear, AreBlocks, IsBuffer, block_ends, sums_from}
+use Rattle.lsp_buffer.specs.Blocks.{EndsClear, IsFull, AreBlocks, IsBuffer, block_ends, sums_from}
 use Rattle.lsp_buffer.specs.inside.Cuts.{AreFull}
-use Rattle.lsp_buffer.proofs.Blocks.BlockLemmas.{split, full_length, joined_blocks, blocks_some}
+use Rattle.lsp_buffer.proofs.Blocks.BlockLemmas.{split, full_length, joined_blocks, blocks_some, blocks_utf8}
 use Rattle.lsp_buffer.proofs.Blocks.BufferLemmas.{starts_count, next_start, starts_sum, lines_sum}
 use Rattle.lsp_buffer.proofs.Queries.FoundLemmas.{IsPlaceFound, found_place, blocks_ends, chunk_boundary}
-use Rattle.lsp_buffer.proofs.Changes.ChangeLemmas.{replaced_parts, back_ends, sums_three}
+use Rattle.lsp_buffer.proofs.Changes.ChangeLemmas.{left_length, replaced_parts, back_ends, sums_three}
 
 sum_three : (f : List ℕ → ℕ) (front fresh rest : List (List ℕ)) → sum (map f (front ++ (fresh ++ rest)))
     ≡ sum (map f front) + (sum (map f fresh) + sum (map f rest))
@@ -35,6 +36,7 @@ pub record IsAgain (blocks : List (List ℕ)) (starts lines : List ℕ) (first l
   pub at_start : IsCharBoundary (concat blocks) start
   pub at_end : IsCharBoundary (concat blocks) stop
   pub room : length (replace_range (concat blocks) start stop new) ≤ 2147483648
+  pub enough : last + 1 < length blocks → 1024 ≤ (start - from) + length new + (from' + length block' - stop)
 
 module _ (blocks : List (List ℕ)) (starts lines : List ℕ) (first last : ℕ) (block block' : List ℕ)
     (from from' start stop : ℕ) (new : List ℕ) (again : IsAgain blocks starts lines first last block block' from from'
@@ -94,7 +96,7 @@ module _ (blocks : List (List ℕ)) (starts lines : List ℕ) (first last : ℕ)
   -- The blocks that the text is cut into.
   module _ (text : List ℕ) (fresh : List (List ℕ))
       (text_is : text ≡ take (start - from) block ++ (new ++ drop (stop - from') block'))
-      (fresh_is : concat fresh ≡ text) (fresh_are : AreBlocks fresh) (fresh_full : EndsClear text → AreFull fresh) where
+      (fresh_is : concat fresh ≡ text) (fresh_are : AreBlocks fresh) (fresh_full : IsFull text → AreFull fresh) where
     pub again_text : concat (take first blocks ++ (fresh ++ drop (last + 1) blocks)) ≡ replace_range (concat blocks)
         start stop new
     again_text =
@@ -136,12 +138,30 @@ module _ (blocks : List (List ℕ)) (starts lines : List ℕ) (first last : ℕ)
         subst EndsClear (append_assoc (take (start - from) block) new (drop (stop - from') block') ∙ sym text_is)
         (back_ends block' (take (start - from) block ++ new) (stop - from') (inside_stop are) feed)
 
+    -- The text is a block that isn't the last, if blocks are after it.
+    text_full : IsFull block' → AreBlocks (drop (last + 1) blocks) → IsFull text
+    text_full full are =
+        let more : last + 1 < length blocks =
+        omega (arith, blocks_some (drop (last + 1) blocks) are, length-drop (last + 1) blocks) in
+        record {
+          utf8 = is_utf8-from_IsUtf8 text (subst IsUtf8 fresh_is (blocks_utf8 fresh fresh_are));
+          ends = text_ends full.ends are;
+          enough = omega (
+            arith,
+            again.enough more,
+            two.low,
+            two.from_is,
+            ap length text_is,
+            left_length block block' new (start - from) (stop - from') again_start.0,
+          );
+        }
+
     after : (drop (last + 1) blocks ≡ []) ⊎ (AreFull fresh × AreBlocks (drop (last + 1) blocks))
     after =
         ⊎_elim
         (λ (e : drop (last + 1) blocks ≡ []). inl e)
-        (λ (e : EndsClear (get_or blocks last []) × AreBlocks (drop (last + 1) blocks)). inr (
-          fresh_full (text_ends (subst EndsClear same e.0) e.1),
+        (λ (e : IsFull (get_or blocks last []) × AreBlocks (drop (last + 1) blocks)). inr (
+          fresh_full (text_full (subst IsFull same e.0) e.1),
           e.1,
         ))
         (split blocks last again.is.are last_within).after

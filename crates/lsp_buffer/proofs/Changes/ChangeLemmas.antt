@@ -1,9 +1,11 @@
 -- A change of a text in blocks: in its block, or with the blocks cut again.
-use Rattle.std.proofs.Common.{ℕ, ◌≡◌, ◌+◌, ◌-◌, ◌<◌, ◌≤◌, List, ◌++◌, length, take, drop, map, sum, sym, ap, ◌∙◌, arith, subst}
+use Rattle.std.proofs.Common.{ℕ, ◌≡◌, ◌+◌, ◌-◌, ◌<◌, ◌≤◌, List, [], ◌++◌, length, get_or, take, drop, map, sum, sym, ap, ◌∙◌, arith, subst}
 use Rattle.std.specs.List.{replace_range}
 use Rattle.std.specs.Str.{IsCharBoundary}
-use Rattle.std.proofs.lemmas.List.{length-drop, length-map, length-take-le, append_assoc, map-append, take_at, take-append-drop}
+use Rattle.std.proofs.lemmas.List.{get_or_default, length-append, length-drop, length-map, length-take-le, append_assoc, map-append, take_at, take-append-drop}
+use Rattle.lsp_buffer.specs.declared.text_buffer.change.BlockRange.{BlockRange}
 use Rattle.lsp_buffer.specs.Blocks.{EndsClear, sums_from}
+use Rattle.lsp_buffer.specs.inside.Changes.{LeavesEnough}
 use Rattle.lsp_buffer.proofs.Blocks.SumLemmas.{length-sums, sums_append}
 use Rattle.lsp_buffer.proofs.Blocks.BlockLemmas.{ends_tail, ends_join}
 use Rattle.lsp_buffer.proofs.Blocks.PartLemmas.{take_three, drop_three, boundary_in}
@@ -69,3 +71,29 @@ sums_three f sums blocks front fresh rest first number sums_are front_is within 
     sym (ap (sums_from 0) rows ∙ (sums_append 0 (map f front) (map f fresh ++ map f rest) ∙
     ap (λ xs. sums_from 0 (map f front) ++ xs) (ap (λ n. sums_from n (map f fresh ++ map f rest)) zero_is
     ∙ sums_append number (map f fresh) (map f rest))))
+
+-- How long the text is that a change leaves of its blocks.
+pub left_length : (block block' new : List ℕ) (n m : ℕ) → n ≤ length block →
+    length (take n block ++ (new ++ drop m block')) ≡ n + length new + (length block' - m)
+left_length block block' new n m within = omega (
+  arith,
+  length-append (take n block) (new ++ drop m block'),
+  length-append new (drop m block'),
+  length-take-le n block within,
+  length-drop m block',
+)
+
+-- What a change leaves is enough, as it is read.
+pub read_enough : (blocks : List (List ℕ)) (starts : List ℕ) (range : BlockRange) (new block : List ℕ) (from from' : ℕ)
+    → range.first < length starts → range.last < length starts → range.last < length blocks →
+    block ≡ get_or blocks range.last block → from ≡ get_or starts range.first from →
+    from' ≡ get_or starts range.last from' → LeavesEnough blocks starts range new → range.last + 1 < length blocks →
+    1024 ≤ (range.start - from) + length new + (from' + length block - range.end)
+read_enough blocks starts range new block from from' first last last_block block_is from_is from_is' enough more =
+    omega (
+      arith,
+      enough more,
+      from_is ∙ get_or_default starts range.first from 0 first,
+      from_is' ∙ get_or_default starts range.last from' 0 last,
+      ap length (block_is ∙ get_or_default blocks range.last block [] last_block),
+    )

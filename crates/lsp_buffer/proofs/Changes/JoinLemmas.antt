@@ -1,13 +1,14 @@
 -- A change that takes the rest of its block along: it leaves the same text.
-use Rattle.std.proofs.Common.{ℕ, ◌≡◌, ◌+◌, ◌-◌, ◌<◌, ◌≤◌, List, ◌++◌, length, take, drop, get_or, slice_index, refl, sym, ap, ◌∙◌, arith, subst}
+use Rattle.std.proofs.Common.{ℕ, ◌≡◌, ◌+◌, ◌-◌, ◌<◌, ◌≤◌, ◌⊎◌, List, [], ◌++◌, length, take, drop, get_or, slice_index, ⊎_elim, refl, sym, ap, ◌∙◌, arith, subst}
 use Rattle.std.specs.List.{concat, replace_range}
 use Rattle.std.specs.Str.{IsCharBoundary}
-use Rattle.std.proofs.lemmas.List.{get_or_default, drop_all, append_assoc}
+use Rattle.std.proofs.lemmas.List.{get_or_default, length-drop, drop_all, append_assoc}
 use Rattle.lsp_text.specs.Starts.{IsLineOf as IsBlockOf}
 use Rattle.lsp_text.proofs.Positions.BoundaryLemmas.{boundary_from}
-use Rattle.lsp_buffer.specs.Blocks.{IsBuffer}
-use Rattle.lsp_buffer.proofs.Blocks.BufferLemmas.{starts_count, start_is, next_start, utf8_all}
-use Rattle.lsp_buffer.proofs.Queries.FoundLemmas.{IsPlaceFound, found_place, chunk_boundary}
+use Rattle.lsp_buffer.specs.Blocks.{IsFull, AreBlocks, IsBuffer}
+use Rattle.lsp_buffer.proofs.Blocks.BlockLemmas.{split}
+use Rattle.lsp_buffer.proofs.Blocks.BufferLemmas.{starts_count, starts_are_starts, start_is, next_start, utf8_all, whole_length}
+use Rattle.lsp_buffer.proofs.Queries.FoundLemmas.{IsPlaceFound, found_place, found_within, chunk_boundary}
 use Rattle.lsp_buffer.proofs.Blocks.PartLemmas.{boundary_in, drop_three, place_outer, place_last}
 
 pub record IsJoin (blocks : List (List ℕ)) (starts lines : List ℕ) (last : ℕ) (block : List ℕ)
@@ -57,6 +58,41 @@ module _ (blocks : List (List ℕ)) (starts lines : List ℕ) (last : ℕ) (bloc
     join.at_last.greatest (last + 1) (omega arith) (omega (arith, join.more, starts_count blocks starts lines join.is)),
   )
 
+  -- The next block, if it isn't the last.
+  next_enough : last + 1 + 1 < length blocks → 1024 ≤ length (get_or blocks (last + 1) [])
+  next_enough later =
+      ⊎_elim
+      (λ (e : drop (last + 1 + 1) blocks ≡ []). absurd (omega (
+        arith,
+        later,
+        ap length e,
+        length-drop (last + 1 + 1) blocks,
+      )))
+      (λ (e : IsFull (get_or blocks (last + 1) []) × AreBlocks (drop (last + 1 + 1) blocks)). e.0.enough)
+      (split blocks (last + 1) join.is.are join.more).after
+
+  pub next_in : IsBlockOf starts next (last + 1)
+  next_in = record {
+    within = omega (arith, join.more, starts_count blocks starts lines join.is);
+    at_most = omega (arith, next_at);
+    greatest = λ k after inside.
+        let later : last + 1 + 1 < length blocks =
+        omega (arith, after, inside, starts_count blocks starts lines join.is) in
+        omega (
+          arith,
+          next_at,
+          next_enough later,
+          next_start blocks starts lines join.is (last + 1) (get_or blocks (last + 1) []) join.more
+              (get_or_default blocks (last + 1) [] (get_or blocks (last + 1) []) join.more) later,
+          (starts_are_starts blocks starts lines join.is).ascend (last + 1 + 1) k (omega (arith, after)) inside,
+        );
+  }
+
+  -- With the next block enough is left.
+  pub joined_enough : (front added : ℕ) → last + 1 + 1 < length blocks → 1024 ≤ front + added
+      + (slice_index starts (last + 1) + length (get_or blocks (last + 1) []) - next)
+  joined_enough front added later = omega (arith, next_enough later, next_at)
+
   pub next_boundary : IsCharBoundary (concat blocks) next
   next_boundary =
       subst (IsCharBoundary (concat blocks)) (sym next_end)
@@ -94,3 +130,35 @@ module _ (blocks : List (List ℕ)) (starts lines : List ℕ) (last : ℕ) (bloc
       ap (λ t. (take start bytes ++ t) ++ drop next bytes) whole ∙
       (ap (λ r. (take start bytes ++ (new ++ drop m block)) ++ r) past
       ∙ (shape ∙ ap (λ r. (take start bytes ++ new) ++ r) (sym tail)))
+
+-- The end of the block that a byte offset is in.
+module _ (blocks : List (List ℕ)) (starts lines : List ℕ) (is : IsBuffer blocks starts lines) (place index : ℕ)
+    (at : IsBlockOf starts place index) where
+  at_index : index < length blocks
+  at_index = omega (arith, at.within, starts_count blocks starts lines is)
+
+  block_at : get_or blocks index [] ≡ get_or blocks index (get_or blocks index [])
+  block_at = get_or_default blocks index [] (get_or blocks index []) at_index
+
+  pub end_size : slice_index starts index + length (get_or blocks index []) ≤ 2147483648
+  end_size = omega (
+    arith,
+    is.size,
+    whole_length blocks starts lines is index (get_or blocks index []) at_index block_at,
+    start_is blocks starts lines is index (get_or blocks index []) at_index block_at,
+  )
+
+  pub end_within : place ≤ length (concat blocks) → place ≤ slice_index starts index + length (get_or blocks index [])
+  end_within within =
+      let found : IsPlaceFound (concat blocks) (concat (take index blocks)) (get_or blocks index [])
+      (concat (drop (index + 1) blocks)) place (slice_index starts index) =
+      found_place blocks starts lines (concat blocks) is refl index (get_or blocks index []) block_at place
+      (slice_index starts index) starts refl at
+      (get_or_default starts index 0 (slice_index starts index) at.within) in
+      omega (
+        arith,
+        found_within (concat blocks) (concat (take index blocks)) (get_or blocks index [])
+            (concat (drop (index + 1) blocks)) place (slice_index starts index) found within,
+        found.from_is,
+        found.low,
+      )

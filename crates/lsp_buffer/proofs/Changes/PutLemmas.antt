@@ -7,13 +7,13 @@ use Rattle.std.proofs.lemmas.List.Folds.{concat-append}
 use Rattle.std.proofs.lemmas.List.Sums.{sum_by-append, sum_by-cons}
 use Rattle.std.proofs.lemmas.Str.{IsUtf8-from_is_utf8, is_utf8-from_IsUtf8, IsUtf8-append, IsUtf8-take, IsUtf8-drop}
 use Rattle.lsp_text.specs.Starts.{IsLineOf as IsBlockOf}
-use Rattle.lsp_buffer.specs.Blocks.{EndsClear, AreBlocks, IsBuffer, block_ends, sums_from}
+use Rattle.lsp_buffer.specs.Blocks.{EndsClear, IsFull, AreBlocks, IsBuffer, block_ends, sums_from}
 use Rattle.lsp_buffer.specs.inside.Cuts.{AreFull}
 use Rattle.lsp_buffer.proofs.Blocks.SumLemmas.{length-sums, sums_append, sums_put, sums_low}
 use Rattle.lsp_buffer.proofs.Blocks.BlockLemmas.{IsSplit, split, full_length, joined_blocks, blocks_some}
 use Rattle.lsp_buffer.proofs.Blocks.BufferLemmas.{starts_count, next_start}
 use Rattle.lsp_buffer.proofs.Queries.FoundLemmas.{IsPlaceFound, found_place, blocks_ends, chunk_boundary, ends_low}
-use Rattle.lsp_buffer.proofs.Changes.ChangeLemmas.{replaced_parts, back_ends}
+use Rattle.lsp_buffer.proofs.Changes.ChangeLemmas.{left_length, replaced_parts, back_ends}
 
 sums_high : (first : ℕ) (numbers : List ℕ) (k : ℕ) → k < length numbers → get_or (sums_from first numbers) k 0 ≤ first
     + sum numbers
@@ -106,6 +106,20 @@ module _ (f : List ℕ → ℕ) (sums : List ℕ) (blocks : List (List ℕ)) (in
       ∙ (ap (λ n. sums_from 0 (map f (take index blocks) ++ n ∷ map f (drop (index + 1) blocks))) same
       ∙ sym (ap (sums_from 0) rows_next)))
 
+-- What a change leaves is enough, as it is read.
+pub put_enough : (blocks : List (List ℕ)) (starts : List ℕ) (index : ℕ) (block : List ℕ) (from start stop : ℕ)
+    (new : List ℕ) → index < length starts → index < length blocks → block ≡ get_or blocks index block →
+    from ≡ get_or starts index from → (index + 1 < length blocks → 1024 ≤ (start - slice_index starts index)
+    + length new + (slice_index starts index + length (get_or blocks index []) - stop)) → index + 1 < length blocks →
+    1024 ≤ (start - from) + length new + (from + length block - stop)
+put_enough blocks starts index block from start stop new within block_within block_is from_is enough more =
+    omega (
+      arith,
+      enough more,
+      from_is ∙ get_or_default starts index from 0 within,
+      ap length (block_is ∙ get_or_default blocks index block [] block_within),
+    )
+
 -- What the change has to begin with.
 pub record IsPut (blocks : List (List ℕ)) (starts lines : List ℕ) (index : ℕ) (block : List ℕ) (from start stop : ℕ)
     (new : List ℕ) : Type 0 where
@@ -119,6 +133,7 @@ pub record IsPut (blocks : List (List ℕ)) (starts lines : List ℕ) (index : �
   pub at_end : IsCharBoundary (concat blocks) stop
   pub new_utf8 : IsUtf8 new
   pub room : length (replace_range (concat blocks) start stop new) ≤ 2147483648
+  pub enough : index + 1 < length blocks → 1024 ≤ (start - from) + length new + (from + length block - stop)
 
 module _ (blocks : List (List ℕ)) (starts lines : List ℕ) (index : ℕ) (block : List ℕ) (from start stop : ℕ)
     (new : List ℕ) (put : IsPut blocks starts lines index block from start stop new) where
@@ -211,8 +226,8 @@ module _ (blocks : List (List ℕ)) (starts lines : List ℕ) (index : ℕ) (blo
   after =
       ⊎_elim
       (λ (e : drop (index + 1) blocks ≡ []). inl e)
-      (λ (e : EndsClear (get_or blocks index []) × AreBlocks (drop (index + 1) blocks)).
-      inr ((fresh_utf8, fresh_ends (subst EndsClear same e.0) e.1, tt), e.1))
+      (λ (e : IsFull (get_or blocks index []) × AreBlocks (drop (index + 1) blocks)).
+      inr ((fresh_full (subst IsFull same e.0) e.1, tt), e.1))
       parts.after
     where
       inside_stop : AreBlocks (drop (index + 1) blocks) → stop - from < length block
@@ -234,6 +249,25 @@ module _ (blocks : List (List ℕ)) (starts lines : List ℕ) (index : ℕ) (blo
       fresh_ends : EndsClear block → AreBlocks (drop (index + 1) blocks)
           → EndsClear (replace_range block (start - from) (stop - from) new)
       fresh_ends feed are = back_ends block (take (start - from) block ++ new) (stop - from) (inside_stop are) feed
+
+      fresh_full : IsFull block → AreBlocks (drop (index + 1) blocks)
+          → IsFull (replace_range block (start - from) (stop - from) new)
+      fresh_full full are = record {
+        utf8 = fresh_utf8;
+        ends = fresh_ends full.ends are;
+        enough = omega (
+          arith,
+          put.enough (omega (
+            arith,
+            blocks_some (drop (index + 1) blocks) are,
+            length-drop (index + 1) blocks,
+          )),
+          two.low,
+          two.from_is,
+          ap length regroup,
+          left_length block block new (start - from) (stop - from) put_start.0,
+        );
+      }
 
   pub next_are : AreBlocks (take index blocks ++ replace_range block (start - from) (stop - from) new ∷ drop (index + 1)
       blocks)

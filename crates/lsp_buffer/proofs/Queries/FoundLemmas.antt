@@ -422,8 +422,8 @@ blocks_ends (b ∷ []) are = omega (
 blocks_ends (b ∷ c ∷ blocks) are =
     omega (
       arith,
-      ends_low b (IsUtf8-from_is_utf8 b are.0),
-      blocks_ends (c ∷ blocks) are.2,
+      ends_low b (IsUtf8-from_is_utf8 b are.0.utf8),
+      blocks_ends (c ∷ blocks) are.1,
       sum_by-cons (λ x. x) (block_ends b) (map block_ends (c ∷ blocks)),
       length-append b (concat (c ∷ blocks)),
     )

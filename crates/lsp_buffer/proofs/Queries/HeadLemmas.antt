@@ -28,7 +28,7 @@ AreTexts (block ∷ blocks) = (is_utf8 block ≡ true) × AreTexts blocks
 pub blocks_texts : (blocks : List (List ℕ)) → AreBlocks blocks → AreTexts blocks
 blocks_texts [] are = absurd are
 blocks_texts (b ∷ []) are = (are, tt)
-blocks_texts (b ∷ c ∷ blocks) are = (are.0, blocks_texts (c ∷ blocks) are.2)
+blocks_texts (b ∷ c ∷ blocks) are = (are.0.utf8, blocks_texts (c ∷ blocks) are.1)
 
 -- ---- how many there are
 
@@ -135,8 +135,8 @@ module _ (units : ℕ → ℕ) where
   head_front a [] utf8 closes full = ap (head_of units) (append-nil a)
   head_front a (b ∷ blocks) utf8 closes full =
       ap (head_of units) (sym (append_assoc a b (concat blocks))) ∙
-      (head_front (a ++ b) blocks (IsUtf8-append a b utf8 (IsUtf8-from_is_utf8 b full.0)) (inr (ends_join a b full.1))
-      full.2 ∙
+      (head_front (a ++ b) blocks (IsUtf8-append a b utf8 (IsUtf8-from_is_utf8 b full.0.utf8))
+      (inr (ends_join a b full.0.ends)) full.1 ∙
       ap (λ h. heads_end units h blocks) (head_joined a b utf8 closes))
 
   pub head_full : (blocks : List (List ℕ)) → AreFull blocks → head_of units (concat blocks) ≡ heads_end units 0 blocks

@@ -4,14 +4,14 @@ ghost use Rattle.std.specs.Prelude.{◌≡◌, ◌+◌, ◌≤◌, ◌<◌, ◌+
 ghost use Rattle.std.specs.Prelude.{OnErr, length, take, drop, map, sum, vec_len, slice_index, string_bytes};
 ghost use Rattle.std.specs.List.{concat, replace_range};
 ghost use Rattle.std.specs.Str.{IsCharBoundary};
-ghost use Rattle.lsp_text.specs.Starts.{IsLineOf as IsBlockOf};
+ghost use Rattle.lsp_buffer.specs.inside.Changes.{IsChange, LeavesEnough};
 ghost use Rattle.lsp_buffer.specs.inside.Seams.{row_of};
 ghost use Rattle.lsp_buffer.specs.Blocks.{IsTextBuffer, block_ends, sums_from};
 
 use crate::block::{Block, BlockSplice};
 use crate::cut::blocks_of;
 use crate::heads::Heads;
-use crate::sums::{block_of, push_lines, push_starts};
+use crate::sums::{push_lines, push_starts};
 use crate::text_buffer::change::BlockRange;
 use std::alloc::{AllocError, Global};
 
@@ -117,15 +117,9 @@ pub fn replace_across(
     range: BlockRange,
     new: &str,
 ) -> Result<(), AllocError>
-    requires are { IsTextBuffer blocks.old.items starts.old.items lines.old.items
-        (row_of heads.old) }
-    requires first { IsBlockOf starts.old.items range.start range.first }
-    requires last { IsBlockOf starts.old.items range.end range.last }
-    requires order { range.start ≤ range.end }
-    requires at_start { IsCharBoundary (concat blocks.old.items) range.start }
-    requires at_end { IsCharBoundary (concat blocks.old.items) range.end }
-    requires room { length (replace_range (concat blocks.old.items) range.start range.end new.now)
-        ≤ 2147483648 }
+    requires change { IsChange blocks.old.items starts.old.items lines.old.items
+        (row_of heads.old) range new.now }
+    requires enough { LeavesEnough blocks.old.items starts.old.items range new.now }
     ensures are { IsTextBuffer blocks.new.items starts.new.items lines.new.items
         (row_of heads.new) }
     ensures changed { OnOk result (concat blocks.new.items
@@ -170,16 +164,9 @@ pub fn replace_joined(
     range: BlockRange,
     new: &str,
 ) -> Result<(), AllocError>
-    requires are { IsTextBuffer blocks.old.items starts.old.items lines.old.items
-        (row_of heads.old) }
-    requires first { IsBlockOf starts.old.items range.start range.first }
-    requires last { IsBlockOf starts.old.items range.end range.last }
+    requires change { IsChange blocks.old.items starts.old.items lines.old.items
+        (row_of heads.old) range new.now }
     requires next { range.last + 1 < vec_len blocks.old }
-    requires order { range.start ≤ range.end }
-    requires at_start { IsCharBoundary (concat blocks.old.items) range.start }
-    requires at_end { IsCharBoundary (concat blocks.old.items) range.end }
-    requires room { length (replace_range (concat blocks.old.items) range.start range.end new.now)
-        ≤ 2147483648 }
     ensures are { IsTextBuffer blocks.new.items starts.new.items lines.new.items
         (row_of heads.new) }
     ensures changed { OnOk result (concat blocks.new.items
@@ -193,8 +180,8 @@ pub fn replace_joined(
         .split_at(range.end - starts[range.last] as usize);
     let mut text = String::from_str(alloc, new)?;
     text.push_str(back)?;
-    let end = starts[range.last + 1] as usize;
-    let last = block_of(starts, end);
+    let last = range.last + 1;
+    let end = starts[last] as usize;
     let range = BlockRange { last, end, ..range };
     replace_across(blocks, starts, lines, heads, range, &text)
 }

@@ -1,9 +1,10 @@
 //! A change inside one block.
 
-ghost use Rattle.std.specs.Prelude.{◌≡◌, ◌≤◌, ℕ, List, IfOk, OnOk, OnErr, length, set};
+ghost use Rattle.std.specs.Prelude.{◌≡◌, ◌+◌, ◌-◌, ◌<◌, ◌≤◌, ℕ, List, [], IfOk, OnOk, OnErr, length, get_or, set, slice_index};
 ghost use Rattle.std.specs.List.{concat, replace_range};
 ghost use Rattle.std.specs.Str.{IsCharBoundary};
 ghost use Rattle.lsp_text.specs.Starts.{IsLineOf as IsBlockOf};
+ghost use Rattle.lsp_buffer.specs.inside.Changes.{IsChange, LeavesEnough};
 ghost use Rattle.lsp_buffer.specs.inside.Seams.{row_of};
 ghost use Rattle.lsp_buffer.specs.Blocks.{IsBuffer, IsTextBuffer, block_ends};
 
@@ -69,6 +70,10 @@ fn put_inside(
     requires at_end { IsCharBoundary (concat blocks.old.items) range.end }
     requires room { length (replace_range (concat blocks.old.items) range.start range.end new.now)
         ≤ 2147483648 }
+    requires enough { range.first + 1 < length blocks.old.items → 1024
+        ≤ (range.start - slice_index starts.old.items range.first) + length new.now
+        + (slice_index starts.old.items range.first
+        + length (get_or blocks.old.items range.first []) - range.end) }
     ensures are { IsBuffer blocks.new.items starts.new.items lines.new.items }
     ensures changed { OnOk result (concat blocks.new.items
         ≡ replace_range (concat blocks.old.items) range.start range.end new.now) }
@@ -100,15 +105,10 @@ pub fn replace_inside(
     range: BlockRange,
     new: &str,
 ) -> Result<(), AllocError>
-    requires are { IsTextBuffer blocks.old.items starts.old.items lines.old.items
-        (row_of heads.old) }
-    requires first { IsBlockOf starts.old.items range.start range.first }
-    requires last { IsBlockOf starts.old.items range.end range.first }
-    requires order { range.start ≤ range.end }
-    requires at_start { IsCharBoundary (concat blocks.old.items) range.start }
-    requires at_end { IsCharBoundary (concat blocks.old.items) range.end }
-    requires room { length (replace_range (concat blocks.old.items) range.start range.end new.now)
-        ≤ 2147483648 }
+    requires change { IsChange blocks.old.items starts.old.items lines.old.items
+        (row_of heads.old) range new.now }
+    requires one { range.last ≡ range.first }
+    requires enough { LeavesEnough blocks.old.items starts.old.items range new.now }
     ensures are { IsTextBuffer blocks.new.items starts.new.items lines.new.items
         (row_of heads.new) }
     ensures changed { OnOk result (concat blocks.new.items

@@ -3,6 +3,7 @@ use Rattle.std.specs.List.{concat}
 use Rattle.lsp_text.specs.Units.{units_in}
 use Rattle.lsp_buffer.specs.Blocks.{AreBlocks, block_ends, heads_from, sums_from}
 use Rattle.lsp_buffer.proofs.Blocks.BufferLemmas.{starts_count, lines_count}
+use Rattle.lsp_buffer.proofs.Changes.ChangeLemmas.{read_enough}
 use Rattle.lsp_buffer.proofs.Changes.AgainLemmas.{IsAgain, again_are, again_size, again_start, again_stop, again_text, again_is, first_last, last_within, text_small, starts_room, lines_room}
 use Rattle.lsp_buffer.proofs.text_buffer.change.across.replace_across.Goals as goal
 
@@ -31,18 +32,18 @@ row_shown shown blocks shown_fresh fresh first past a b =
 pub index-requires-3 : goal.index-requires-3
 index-requires-3 c = omega (
   arith,
-  c.requires.first.within,
-  starts_count c.args.blocks.now.items c.args.starts.now.items c.args.lines.now.items c.requires.are.sums,
-  lines_count c.args.blocks.now.items c.args.starts.now.items c.args.lines.now.items c.requires.are.sums,
+  c.requires.change.first.within,
+  starts_count c.args.blocks.now.items c.args.starts.now.items c.args.lines.now.items c.requires.change.are.sums,
+  lines_count c.args.blocks.now.items c.args.starts.now.items c.args.lines.now.items c.requires.change.are.sums,
   c.args.blocks.now.ok.0,
 )
 
 pub index-requires-4 : goal.index-requires-4
 index-requires-4 c = omega (
   arith,
-  c.requires.last.within,
-  starts_count c.args.blocks.now.items c.args.starts.now.items c.args.lines.now.items c.requires.are.sums,
-  lines_count c.args.blocks.now.items c.args.starts.now.items c.args.lines.now.items c.requires.are.sums,
+  c.requires.change.last.within,
+  starts_count c.args.blocks.now.items c.args.starts.now.items c.args.lines.now.items c.requires.change.are.sums,
+  lines_count c.args.blocks.now.items c.args.starts.now.items c.args.lines.now.items c.requires.change.are.sums,
   c.args.blocks.now.ok.0,
 )
 
@@ -52,17 +53,25 @@ joined-requires-clause-to c = let again : IsAgain c.args.blocks.now.items c.args
     c.index-2.result.now
     c.args.range.start c.args.range.end c.args.new.now =
     (record {
-      is = c.requires.are.sums;
+      is = c.requires.change.are.sums;
       block_is = c.index-3.ensures;
       block_is' = c.index-4.ensures;
       from_is = c.index.ensures;
       from_is' = c.index-2.ensures;
-      at_first = c.requires.first;
-      at_last = c.requires.last;
-      order = c.requires.order;
-      at_start = c.requires.at_start;
-      at_end = c.requires.at_end;
-      room = c.requires.room;
+      at_first = c.requires.change.first;
+      at_last = c.requires.change.last;
+      order = c.requires.change.order;
+      at_start = c.requires.change.at_start;
+      at_end = c.requires.change.at_end;
+      room = c.requires.change.room;
+      enough = read_enough c.args.blocks.now.items c.args.starts.now.items c.args.range c.args.new.now
+          c.index-4.result.now c.index.result.now c.index-2.result.now c.requires.change.first.within
+          c.requires.change.last.within (omega (
+            arith,
+            c.requires.change.last.within,
+            starts_count c.args.blocks.now.items c.args.starts.now.items c.args.lines.now.items
+                c.requires.change.are.sums,
+          )) c.index-4.ensures c.index.ensures c.index-2.ensures c.requires.enough;
     }) in again_start c.args.blocks.now.items c.args.starts.now.items c.args.lines.now.items c.args.range.first
     c.args.range.last
     c.index-3.result.now c.index-4.result.now c.index.result.now c.index-2.result.now c.args.range.start
@@ -75,17 +84,25 @@ joined-requires-clause-from c = let again : IsAgain c.args.blocks.now.items c.ar
     c.index.result.now
     c.index-2.result.now c.args.range.start c.args.range.end c.args.new.now =
     (record {
-      is = c.requires.are.sums;
+      is = c.requires.change.are.sums;
       block_is = c.index-3.ensures;
       block_is' = c.index-4.ensures;
       from_is = c.index.ensures;
       from_is' = c.index-2.ensures;
-      at_first = c.requires.first;
-      at_last = c.requires.last;
-      order = c.requires.order;
-      at_start = c.requires.at_start;
-      at_end = c.requires.at_end;
-      room = c.requires.room;
+      at_first = c.requires.change.first;
+      at_last = c.requires.change.last;
+      order = c.requires.change.order;
+      at_start = c.requires.change.at_start;
+      at_end = c.requires.change.at_end;
+      room = c.requires.change.room;
+      enough = read_enough c.args.blocks.now.items c.args.starts.now.items c.args.range c.args.new.now
+          c.index-4.result.now c.index.result.now c.index-2.result.now c.requires.change.first.within
+          c.requires.change.last.within (omega (
+            arith,
+            c.requires.change.last.within,
+            starts_count c.args.blocks.now.items c.args.starts.now.items c.args.lines.now.items
+                c.requires.change.are.sums,
+          )) c.index-4.ensures c.index.ensures c.index-2.ensures c.requires.enough;
     }) in again_stop c.args.blocks.now.items c.args.starts.now.items c.args.lines.now.items c.args.range.first
     c.args.range.last
     c.index-3.result.now c.index-4.result.now c.index.result.now c.index-2.result.now c.args.range.start
@@ -100,17 +117,25 @@ blocks_of-requires c =
     c.args.range.end
     c.args.new.now =
     (record {
-      is = c.requires.are.sums;
+      is = c.requires.change.are.sums;
       block_is = c.index-3.ensures;
       block_is' = c.index-4.ensures;
       from_is = c.index.ensures;
       from_is' = c.index-2.ensures;
-      at_first = c.requires.first;
-      at_last = c.requires.last;
-      order = c.requires.order;
-      at_start = c.requires.at_start;
-      at_end = c.requires.at_end;
-      room = c.requires.room;
+      at_first = c.requires.change.first;
+      at_last = c.requires.change.last;
+      order = c.requires.change.order;
+      at_start = c.requires.change.at_start;
+      at_end = c.requires.change.at_end;
+      room = c.requires.change.room;
+      enough = read_enough c.args.blocks.now.items c.args.starts.now.items c.args.range c.args.new.now
+          c.index-4.result.now c.index.result.now c.index-2.result.now c.requires.change.first.within
+          c.requires.change.last.within (omega (
+            arith,
+            c.requires.change.last.within,
+            starts_count c.args.blocks.now.items c.args.starts.now.items c.args.lines.now.items
+                c.requires.change.are.sums,
+          )) c.index-4.ensures c.index.ensures c.index-2.ensures c.requires.enough;
     }) in
     let text_is : c.deref.result.now ≡ (take (c.args.range.start - c.index.result.now) c.index-3.result.now
     ++ (c.args.new.now ++ drop (c.args.range.end - c.index-2.result.now) c.index-4.result.now)) =
@@ -128,9 +153,9 @@ blocks_of-requires c =
 pub starts_of-requires-clause-past : goal.starts_of-requires-clause-past
 starts_of-requires-clause-past c = omega (
   arith,
-  c.requires.last.within,
-  starts_count c.args.blocks.now.items c.args.starts.now.items c.args.lines.now.items c.requires.are.sums,
-  lines_count c.args.blocks.now.items c.args.starts.now.items c.args.lines.now.items c.requires.are.sums,
+  c.requires.change.last.within,
+  starts_count c.args.blocks.now.items c.args.starts.now.items c.args.lines.now.items c.requires.change.are.sums,
+  lines_count c.args.blocks.now.items c.args.starts.now.items c.args.lines.now.items c.requires.change.are.sums,
   ap length c.as_slice.ensures.value,
 )
 
@@ -142,17 +167,25 @@ starts_of-requires-clause-room c =
     c.args.range.end
     c.args.new.now =
     (record {
-      is = c.requires.are.sums;
+      is = c.requires.change.are.sums;
       block_is = c.index-3.ensures;
       block_is' = c.index-4.ensures;
       from_is = c.index.ensures;
       from_is' = c.index-2.ensures;
-      at_first = c.requires.first;
-      at_last = c.requires.last;
-      order = c.requires.order;
-      at_start = c.requires.at_start;
-      at_end = c.requires.at_end;
-      room = c.requires.room;
+      at_first = c.requires.change.first;
+      at_last = c.requires.change.last;
+      order = c.requires.change.order;
+      at_start = c.requires.change.at_start;
+      at_end = c.requires.change.at_end;
+      room = c.requires.change.room;
+      enough = read_enough c.args.blocks.now.items c.args.starts.now.items c.args.range c.args.new.now
+          c.index-4.result.now c.index.result.now c.index-2.result.now c.requires.change.first.within
+          c.requires.change.last.within (omega (
+            arith,
+            c.requires.change.last.within,
+            starts_count c.args.blocks.now.items c.args.starts.now.items c.args.lines.now.items
+                c.requires.change.are.sums,
+          )) c.index-4.ensures c.index.ensures c.index-2.ensures c.requires.enough;
     }) in
     let text_is : c.deref.result.now ≡ (take (c.args.range.start - c.index.result.now) c.index-3.result.now
     ++ (c.args.new.now ++ drop (c.args.range.end - c.index-2.result.now) c.index-4.result.now)) =
@@ -174,18 +207,18 @@ starts_of-requires-clause-room c =
 pub lines_of-requires-clause-first : goal.lines_of-requires-clause-first
 lines_of-requires-clause-first c = omega (
   arith,
-  c.requires.first.within,
-  starts_count c.args.blocks.now.items c.args.starts.now.items c.args.lines.now.items c.requires.are.sums,
-  lines_count c.args.blocks.now.items c.args.starts.now.items c.args.lines.now.items c.requires.are.sums,
+  c.requires.change.first.within,
+  starts_count c.args.blocks.now.items c.args.starts.now.items c.args.lines.now.items c.requires.change.are.sums,
+  lines_count c.args.blocks.now.items c.args.starts.now.items c.args.lines.now.items c.requires.change.are.sums,
   ap length c.as_slice-4.ensures.value,
 )
 
 pub lines_of-requires-clause-past : goal.lines_of-requires-clause-past
 lines_of-requires-clause-past c = omega (
   arith,
-  c.requires.last.within,
-  starts_count c.args.blocks.now.items c.args.starts.now.items c.args.lines.now.items c.requires.are.sums,
-  lines_count c.args.blocks.now.items c.args.starts.now.items c.args.lines.now.items c.requires.are.sums,
+  c.requires.change.last.within,
+  starts_count c.args.blocks.now.items c.args.starts.now.items c.args.lines.now.items c.requires.change.are.sums,
+  lines_count c.args.blocks.now.items c.args.starts.now.items c.args.lines.now.items c.requires.change.are.sums,
   ap length c.as_slice.ensures.value,
 )
 
@@ -197,17 +230,25 @@ lines_of-requires-clause-room c =
     c.args.range.end
     c.args.new.now =
     (record {
-      is = c.requires.are.sums;
+      is = c.requires.change.are.sums;
       block_is = c.index-3.ensures;
       block_is' = c.index-4.ensures;
       from_is = c.index.ensures;
       from_is' = c.index-2.ensures;
-      at_first = c.requires.first;
-      at_last = c.requires.last;
-      order = c.requires.order;
-      at_start = c.requires.at_start;
-      at_end = c.requires.at_end;
-      room = c.requires.room;
+      at_first = c.requires.change.first;
+      at_last = c.requires.change.last;
+      order = c.requires.change.order;
+      at_start = c.requires.change.at_start;
+      at_end = c.requires.change.at_end;
+      room = c.requires.change.room;
+      enough = read_enough c.args.blocks.now.items c.args.starts.now.items c.args.range c.args.new.now
+          c.index-4.result.now c.index.result.now c.index-2.result.now c.requires.change.first.within
+          c.requires.change.last.within (omega (
+            arith,
+            c.requires.change.last.within,
+            starts_count c.args.blocks.now.items c.args.starts.now.items c.args.lines.now.items
+                c.requires.change.are.sums,
+          )) c.index-4.ensures c.index.ensures c.index-2.ensures c.requires.enough;
     }) in
     let text_is : c.deref.result.now ≡ (take (c.args.range.start - c.index.result.now) c.index-3.result.now
     ++ (c.args.new.now ++ drop (c.args.range.end - c.index-2.result.now) c.index-4.result.now)) =
@@ -229,9 +270,9 @@ pub replace_blocks-requires-clause-within : goal.replace_blocks-requires-clause-
 replace_blocks-requires-clause-within c =
     omega (
       arith,
-      c.requires.last.within,
-      starts_count c.args.blocks.now.items c.args.starts.now.items c.args.lines.now.items c.requires.are.sums,
-      lines_count c.args.blocks.now.items c.args.starts.now.items c.args.lines.now.items c.requires.are.sums,
+      c.requires.change.last.within,
+      starts_count c.args.blocks.now.items c.args.starts.now.items c.args.lines.now.items c.requires.change.are.sums,
+      lines_count c.args.blocks.now.items c.args.starts.now.items c.args.lines.now.items c.requires.change.are.sums,
       c.args.blocks.now.ok.0,
     )
 
@@ -243,17 +284,25 @@ spliced-requires-clause-order c =
     c.args.range.end
     c.args.new.now =
     (record {
-      is = c.requires.are.sums;
+      is = c.requires.change.are.sums;
       block_is = c.index-3.ensures;
       block_is' = c.index-4.ensures;
       from_is = c.index.ensures;
       from_is' = c.index-2.ensures;
-      at_first = c.requires.first;
-      at_last = c.requires.last;
-      order = c.requires.order;
-      at_start = c.requires.at_start;
-      at_end = c.requires.at_end;
-      room = c.requires.room;
+      at_first = c.requires.change.first;
+      at_last = c.requires.change.last;
+      order = c.requires.change.order;
+      at_start = c.requires.change.at_start;
+      at_end = c.requires.change.at_end;
+      room = c.requires.change.room;
+      enough = read_enough c.args.blocks.now.items c.args.starts.now.items c.args.range c.args.new.now
+          c.index-4.result.now c.index.result.now c.index-2.result.now c.requires.change.first.within
+          c.requires.change.last.within (omega (
+            arith,
+            c.requires.change.last.within,
+            starts_count c.args.blocks.now.items c.args.starts.now.items c.args.lines.now.items
+                c.requires.change.are.sums,
+          )) c.index-4.ensures c.index.ensures c.index-2.ensures c.requires.enough;
     }) in
     let text_is : c.deref.result.now ≡ (take (c.args.range.start - c.index.result.now) c.index-3.result.now
     ++ (c.args.new.now ++ drop (c.args.range.end - c.index-2.result.now) c.index-4.result.now)) =
@@ -275,17 +324,25 @@ spliced-requires-clause-within c =
     c.args.range.end
     c.args.new.now =
     (record {
-      is = c.requires.are.sums;
+      is = c.requires.change.are.sums;
       block_is = c.index-3.ensures;
       block_is' = c.index-4.ensures;
       from_is = c.index.ensures;
       from_is' = c.index-2.ensures;
-      at_first = c.requires.first;
-      at_last = c.requires.last;
-      order = c.requires.order;
-      at_start = c.requires.at_start;
-      at_end = c.requires.at_end;
-      room = c.requires.room;
+      at_first = c.requires.change.first;
+      at_last = c.requires.change.last;
+      order = c.requires.change.order;
+      at_start = c.requires.change.at_start;
+      at_end = c.requires.change.at_end;
+      room = c.requires.change.room;
+      enough = read_enough c.args.blocks.now.items c.args.starts.now.items c.args.range c.args.new.now
+          c.index-4.result.now c.index.result.now c.index-2.result.now c.requires.change.first.within
+          c.requires.change.last.within (omega (
+            arith,
+            c.requires.change.last.within,
+            starts_count c.args.blocks.now.items c.args.starts.now.items c.args.lines.now.items
+                c.requires.change.are.sums,
+          )) c.index-4.ensures c.index.ensures c.index-2.ensures c.requires.enough;
     }) in
     let text_is : c.deref.result.now ≡ (take (c.args.range.start - c.index.result.now) c.index-3.result.now
     ++ (c.args.new.now ++ drop (c.args.range.end - c.index-2.result.now) c.index-4.result.now)) =
@@ -308,17 +365,25 @@ spliced-requires-clause-are c =
     c.args.range.end
     c.args.new.now =
     (record {
-      is = c.requires.are.sums;
+      is = c.requires.change.are.sums;
       block_is = c.index-3.ensures;
       block_is' = c.index-4.ensures;
       from_is = c.index.ensures;
       from_is' = c.index-2.ensures;
-      at_first = c.requires.first;
-      at_last = c.requires.last;
-      order = c.requires.order;
-      at_start = c.requires.at_start;
-      at_end = c.requires.at_end;
-      room = c.requires.room;
+      at_first = c.requires.change.first;
+      at_last = c.requires.change.last;
+      order = c.requires.change.order;
+      at_start = c.requires.change.at_start;
+      at_end = c.requires.change.at_end;
+      room = c.requires.change.room;
+      enough = read_enough c.args.blocks.now.items c.args.starts.now.items c.args.range c.args.new.now
+          c.index-4.result.now c.index.result.now c.index-2.result.now c.requires.change.first.within
+          c.requires.change.last.within (omega (
+            arith,
+            c.requires.change.last.within,
+            starts_count c.args.blocks.now.items c.args.starts.now.items c.args.lines.now.items
+                c.requires.change.are.sums,
+          )) c.index-4.ensures c.index.ensures c.index-2.ensures c.requires.enough;
     }) in
     let text_is : c.deref.result.now ≡ (take (c.args.range.start - c.index.result.now) c.index-3.result.now
     ++ (c.args.new.now ++ drop (c.args.range.end - c.index-2.result.now) c.index-4.result.now)) =
@@ -341,17 +406,25 @@ spliced-requires-clause-size c =
     c.args.range.end
     c.args.new.now =
     (record {
-      is = c.requires.are.sums;
+      is = c.requires.change.are.sums;
       block_is = c.index-3.ensures;
       block_is' = c.index-4.ensures;
       from_is = c.index.ensures;
       from_is' = c.index-2.ensures;
-      at_first = c.requires.first;
-      at_last = c.requires.last;
-      order = c.requires.order;
-      at_start = c.requires.at_start;
-      at_end = c.requires.at_end;
-      room = c.requires.room;
+      at_first = c.requires.change.first;
+      at_last = c.requires.change.last;
+      order = c.requires.change.order;
+      at_start = c.requires.change.at_start;
+      at_end = c.requires.change.at_end;
+      room = c.requires.change.room;
+      enough = read_enough c.args.blocks.now.items c.args.starts.now.items c.args.range c.args.new.now
+          c.index-4.result.now c.index.result.now c.index-2.result.now c.requires.change.first.within
+          c.requires.change.last.within (omega (
+            arith,
+            c.requires.change.last.within,
+            starts_count c.args.blocks.now.items c.args.starts.now.items c.args.lines.now.items
+                c.requires.change.are.sums,
+          )) c.index-4.ensures c.index.ensures c.index-2.ensures c.requires.enough;
     }) in
     let text_is : c.deref.result.now ≡ (take (c.args.range.start - c.index.result.now) c.index-3.result.now
     ++ (c.args.new.now ++ drop (c.args.range.end - c.index-2.result.now) c.index-4.result.now)) =
@@ -373,12 +446,12 @@ spliced-requires-clause-size c =
 pub spliced-requires-clause-lines_are : goal.spliced-requires-clause-lines_are
 spliced-requires-clause-lines_are c =
     c.as_slice-5.ensures.value
-    ∙ (c.requires.are.sums.lines_are ∙ ap (λ (bs : List (List ℕ)). sums_from 0 (map block_ends bs))
+    ∙ (c.requires.change.are.sums.lines_are ∙ ap (λ (bs : List (List ℕ)). sums_from 0 (map block_ends bs))
     (sym c.as_slice.ensures.value))
 
 pub spliced-requires-clause-heads_are : goal.spliced-requires-clause-heads_are
 spliced-requires-clause-heads_are c = λ e.
-    c.requires.are.heads_are e ∙ ap (heads_from (units_in e) 0) (sym c.as_slice.ensures.value)
+    c.requires.change.are.heads_are e ∙ ap (heads_from (units_in e) 0) (sym c.as_slice.ensures.value)
 
 pub returns-clause-are : goal.returns-clause-are
 returns-clause-are c =
@@ -388,17 +461,25 @@ returns-clause-are c =
     c.args.range.end
     c.args.new.now =
     (record {
-      is = c.requires.are.sums;
+      is = c.requires.change.are.sums;
       block_is = c.index-3.ensures;
       block_is' = c.index-4.ensures;
       from_is = c.index.ensures;
       from_is' = c.index-2.ensures;
-      at_first = c.requires.first;
-      at_last = c.requires.last;
-      order = c.requires.order;
-      at_start = c.requires.at_start;
-      at_end = c.requires.at_end;
-      room = c.requires.room;
+      at_first = c.requires.change.first;
+      at_last = c.requires.change.last;
+      order = c.requires.change.order;
+      at_start = c.requires.change.at_start;
+      at_end = c.requires.change.at_end;
+      room = c.requires.change.room;
+      enough = read_enough c.args.blocks.now.items c.args.starts.now.items c.args.range c.args.new.now
+          c.index-4.result.now c.index.result.now c.index-2.result.now c.requires.change.first.within
+          c.requires.change.last.within (omega (
+            arith,
+            c.requires.change.last.within,
+            starts_count c.args.blocks.now.items c.args.starts.now.items c.args.lines.now.items
+                c.requires.change.are.sums,
+          )) c.index-4.ensures c.index.ensures c.index-2.ensures c.requires.enough;
     }) in
     let text_is : c.deref.result.now ≡ (take (c.args.range.start - c.index.result.now) c.index-3.result.now
     ++ (c.args.new.now ++ drop (c.args.range.end - c.index-2.result.now) c.index-4.result.now)) =
@@ -448,17 +529,25 @@ returns-clause-changed c =
     c.args.range.end
     c.args.new.now =
     (record {
-      is = c.requires.are.sums;
+      is = c.requires.change.are.sums;
       block_is = c.index-3.ensures;
       block_is' = c.index-4.ensures;
       from_is = c.index.ensures;
       from_is' = c.index-2.ensures;
-      at_first = c.requires.first;
-      at_last = c.requires.last;
-      order = c.requires.order;
-      at_start = c.requires.at_start;
-      at_end = c.requires.at_end;
-      room = c.requires.room;
+      at_first = c.requires.change.first;
+      at_last = c.requires.change.last;
+      order = c.requires.change.order;
+      at_start = c.requires.change.at_start;
+      at_end = c.requires.change.at_end;
+      room = c.requires.change.room;
+      enough = read_enough c.args.blocks.now.items c.args.starts.now.items c.args.range c.args.new.now
+          c.index-4.result.now c.index.result.now c.index-2.result.now c.requires.change.first.within
+          c.requires.change.last.within (omega (
+            arith,
+            c.requires.change.last.within,
+            starts_count c.args.blocks.now.items c.args.starts.now.items c.args.lines.now.items
+                c.requires.change.are.sums,
+          )) c.index-4.ensures c.index.ensures c.index-2.ensures c.requires.enough;
     }) in
     let text_is : c.deref.result.now ≡ (take (c.args.range.start - c.index.result.now) c.index-3.result.now
     ++ (c.args.new.now ++ drop (c.args.range.end - c.index-2.result.now) c.index-4.result.now)) =

@@ -4,7 +4,7 @@ use Rattle.std.proofs.lemmas.List.{with_items_is}
 use Rattle.std.specs.List.{concat, replace_range}
 use Rattle.lsp_buffer.specs.Blocks.{IsBuffer, block_ends, sums_from}
 use Rattle.lsp_buffer.proofs.Blocks.BufferLemmas.{starts_count, lines_count}
-use Rattle.lsp_buffer.proofs.Changes.PutLemmas.{IsPut, put_start, put_stop, put_text, put_size, fresh_small, block_small, block_whole, next_are, next_ends, next_lengths, set_is, sums_after, sums_room, sums_moved, sums_same, ends_small, fresh_ends_small}
+use Rattle.lsp_buffer.proofs.Changes.PutLemmas.{IsPut, put_enough, put_start, put_stop, put_text, put_size, fresh_small, block_small, block_whole, next_are, next_ends, next_lengths, set_is, sums_after, sums_room, sums_moved, sums_same, ends_small, fresh_ends_small}
 use Rattle.lsp_buffer.proofs.text_buffer.change.inside.put_inside.Goals as goal
 
 pub index_mut-requires : goal.index_mut-requires
@@ -30,6 +30,12 @@ put_in_block-requires-clause-at_start c =
       at_end = c.requires.at_end;
       new_utf8 = c.utf8.new;
       room = c.requires.room;
+      enough = put_enough c.args.blocks.now.items c.args.starts.now.items c.args.range.first c.index_mut.result.now
+          c.index.result.now c.args.range.start c.args.range.end c.args.new.now c.requires.first.within (omega (
+            arith,
+            c.requires.first.within,
+            starts_count c.args.blocks.now.items c.args.starts.now.items c.args.lines.now.items c.requires.are,
+          )) c.index_mut.ensures.value c.index.ensures c.requires.enough;
     }) in put_start c.args.blocks.now.items c.args.starts.now.items c.args.lines.now.items c.args.range.first
     c.index_mut.result.now c.index.result.now c.args.range.start c.args.range.end c.args.new.now put
 
@@ -48,6 +54,12 @@ put_in_block-requires-clause-at_end c =
       at_end = c.requires.at_end;
       new_utf8 = c.utf8.new;
       room = c.requires.room;
+      enough = put_enough c.args.blocks.now.items c.args.starts.now.items c.args.range.first c.index_mut.result.now
+          c.index.result.now c.args.range.start c.args.range.end c.args.new.now c.requires.first.within (omega (
+            arith,
+            c.requires.first.within,
+            starts_count c.args.blocks.now.items c.args.starts.now.items c.args.lines.now.items c.requires.are,
+          )) c.index_mut.ensures.value c.index.ensures c.requires.enough;
     }) in put_stop c.args.blocks.now.items c.args.starts.now.items c.args.lines.now.items c.args.range.first
     c.index_mut.result.now c.index.result.now c.args.range.start c.args.range.end c.args.new.now put
 
@@ -66,6 +78,12 @@ put_in_block-requires-clause-room c =
       at_end = c.requires.at_end;
       new_utf8 = c.utf8.new;
       room = c.requires.room;
+      enough = put_enough c.args.blocks.now.items c.args.starts.now.items c.args.range.first c.index_mut.result.now
+          c.index.result.now c.args.range.start c.args.range.end c.args.new.now c.requires.first.within (omega (
+            arith,
+            c.requires.first.within,
+            starts_count c.args.blocks.now.items c.args.starts.now.items c.args.lines.now.items c.requires.are,
+          )) c.index_mut.ensures.value c.index.ensures c.requires.enough;
     }) in fresh_small c.args.blocks.now.items c.args.starts.now.items c.args.lines.now.items c.args.range.first
     c.index_mut.result.now c.index.result.now c.args.range.start c.args.range.end c.args.new.now put
 
@@ -83,6 +101,12 @@ overflow_cast-sizes c = let put : IsPut c.args.blocks.now.items c.args.starts.no
       at_end = c.requires.at_end;
       new_utf8 = c.utf8.new;
       room = c.requires.room;
+      enough = put_enough c.args.blocks.now.items c.args.starts.now.items c.args.range.first c.index_mut.result.now
+          c.index.result.now c.args.range.start c.args.range.end c.args.new.now c.requires.first.within (omega (
+            arith,
+            c.requires.first.within,
+            starts_count c.args.blocks.now.items c.args.starts.now.items c.args.lines.now.items c.requires.are,
+          )) c.index_mut.ensures.value c.index.ensures c.requires.enough;
     }) in omega (
       arith,
       c.in_ok-sizes.ensures.old_len,
@@ -104,6 +128,12 @@ overflow_cast-sizes-2 c = let put : IsPut c.args.blocks.now.items c.args.starts.
       at_end = c.requires.at_end;
       new_utf8 = c.utf8.new;
       room = c.requires.room;
+      enough = put_enough c.args.blocks.now.items c.args.starts.now.items c.args.range.first c.index_mut.result.now
+          c.index.result.now c.args.range.start c.args.range.end c.args.new.now c.requires.first.within (omega (
+            arith,
+            c.requires.first.within,
+            starts_count c.args.blocks.now.items c.args.starts.now.items c.args.lines.now.items c.requires.are,
+          )) c.index_mut.ensures.value c.index.ensures c.requires.enough;
     }) in omega (
       arith,
       c.in_ok-sizes.ensures.len,
@@ -136,6 +166,12 @@ move_from-requires-clause-after c =
       at_end = c.requires.at_end;
       new_utf8 = c.utf8.new;
       room = c.requires.room;
+      enough = put_enough c.args.blocks.now.items c.args.starts.now.items c.args.range.first c.index_mut.result.now
+          c.index.result.now c.args.range.start c.args.range.end c.args.new.now c.requires.first.within (omega (
+            arith,
+            c.requires.first.within,
+            starts_count c.args.blocks.now.items c.args.starts.now.items c.args.lines.now.items c.requires.are,
+          )) c.index_mut.ensures.value c.index.ensures c.requires.enough;
     }) in
     subst (λ (ss : List ℕ). (k : ℕ) → k < length (drop (c.args.range.first + 1) ss) →
     c.in_ok-sizes.sizes.old_len ≤ slice_index (drop (c.args.range.first + 1) ss) k) (sym c.deref_mut.ensures.value)
@@ -169,6 +205,12 @@ move_from-requires-clause-room c =
       at_end = c.requires.at_end;
       new_utf8 = c.utf8.new;
       room = c.requires.room;
+      enough = put_enough c.args.blocks.now.items c.args.starts.now.items c.args.range.first c.index_mut.result.now
+          c.index.result.now c.args.range.start c.args.range.end c.args.new.now c.requires.first.within (omega (
+            arith,
+            c.requires.first.within,
+            starts_count c.args.blocks.now.items c.args.starts.now.items c.args.lines.now.items c.requires.are,
+          )) c.index_mut.ensures.value c.index.ensures c.requires.enough;
     }) in
     let len : c.in_ok-sizes.sizes.len ≡ length (replace_range c.index_mut.result.now (c.args.range.start -
     c.index.result.now)
@@ -210,6 +252,12 @@ overflow_cast-sizes-then-sizes c =
       at_end = c.requires.at_end;
       new_utf8 = c.utf8.new;
       room = c.requires.room;
+      enough = put_enough c.args.blocks.now.items c.args.starts.now.items c.args.range.first c.index_mut.result.now
+          c.index.result.now c.args.range.start c.args.range.end c.args.new.now c.requires.first.within (omega (
+            arith,
+            c.requires.first.within,
+            starts_count c.args.blocks.now.items c.args.starts.now.items c.args.lines.now.items c.requires.are,
+          )) c.index_mut.ensures.value c.index.ensures c.requires.enough;
     }) in omega (
       arith,
       c.in_ok-sizes.ensures.old_ends,
@@ -232,6 +280,12 @@ overflow_cast-sizes-then-sizes-2 c =
       at_end = c.requires.at_end;
       new_utf8 = c.utf8.new;
       room = c.requires.room;
+      enough = put_enough c.args.blocks.now.items c.args.starts.now.items c.args.range.first c.index_mut.result.now
+          c.index.result.now c.args.range.start c.args.range.end c.args.new.now c.requires.first.within (omega (
+            arith,
+            c.requires.first.within,
+            starts_count c.args.blocks.now.items c.args.starts.now.items c.args.lines.now.items c.requires.are,
+          )) c.index_mut.ensures.value c.index.ensures c.requires.enough;
     }) in omega (
       arith,
       c.in_ok-sizes.ensures.ends,
@@ -266,6 +320,12 @@ move_from-requires-then-sizes-clause-after c =
       at_end = c.requires.at_end;
       new_utf8 = c.utf8.new;
       room = c.requires.room;
+      enough = put_enough c.args.blocks.now.items c.args.starts.now.items c.args.range.first c.index_mut.result.now
+          c.index.result.now c.args.range.start c.args.range.end c.args.new.now c.requires.first.within (omega (
+            arith,
+            c.requires.first.within,
+            starts_count c.args.blocks.now.items c.args.starts.now.items c.args.lines.now.items c.requires.are,
+          )) c.index_mut.ensures.value c.index.ensures c.requires.enough;
     }) in
     subst (λ (ss : List ℕ). (k : ℕ) → k < length (drop (c.args.range.first + 1) ss) →
     c.in_ok-sizes.sizes.old_ends ≤ slice_index (drop (c.args.range.first + 1) ss) k) (sym
@@ -299,6 +359,12 @@ move_from-requires-then-sizes-clause-room c =
       at_end = c.requires.at_end;
       new_utf8 = c.utf8.new;
       room = c.requires.room;
+      enough = put_enough c.args.blocks.now.items c.args.starts.now.items c.args.range.first c.index_mut.result.now
+          c.index.result.now c.args.range.start c.args.range.end c.args.new.now c.requires.first.within (omega (
+            arith,
+            c.requires.first.within,
+            starts_count c.args.blocks.now.items c.args.starts.now.items c.args.lines.now.items c.requires.are,
+          )) c.index_mut.ensures.value c.index.ensures c.requires.enough;
     }) in
     let ends : c.in_ok-sizes.sizes.ends
     ≡ block_ends (replace_range c.index_mut.result.now (c.args.range.start - c.index.result.now)
@@ -339,6 +405,12 @@ returns-then-sizes-clause-are c =
       at_end = c.requires.at_end;
       new_utf8 = c.utf8.new;
       room = c.requires.room;
+      enough = put_enough c.args.blocks.now.items c.args.starts.now.items c.args.range.first c.index_mut.result.now
+          c.index.result.now c.args.range.start c.args.range.end c.args.new.now c.requires.first.within (omega (
+            arith,
+            c.requires.first.within,
+            starts_count c.args.blocks.now.items c.args.starts.now.items c.args.lines.now.items c.requires.are,
+          )) c.index_mut.ensures.value c.index.ensures c.requires.enough;
     }) in
     let len : c.in_ok-sizes.sizes.len ≡ length (replace_range c.index_mut.result.now (c.args.range.start -
     c.index.result.now)
@@ -445,6 +517,12 @@ returns-then-sizes-clause-changed c =
       at_end = c.requires.at_end;
       new_utf8 = c.utf8.new;
       room = c.requires.room;
+      enough = put_enough c.args.blocks.now.items c.args.starts.now.items c.args.range.first c.index_mut.result.now
+          c.index.result.now c.args.range.start c.args.range.end c.args.new.now c.requires.first.within (omega (
+            arith,
+            c.requires.first.within,
+            starts_count c.args.blocks.now.items c.args.starts.now.items c.args.lines.now.items c.requires.are,
+          )) c.index_mut.ensures.value c.index.ensures c.requires.enough;
     }) in
     let all : set c.args.blocks.now.items c.args.range.first c.put_in_block.new.block
     ≡ (take c.args.range.first c.args.blocks.now.items
@@ -473,6 +551,12 @@ returns-else-sizes-clause-are c =
       at_end = c.requires.at_end;
       new_utf8 = c.utf8.new;
       room = c.requires.room;
+      enough = put_enough c.args.blocks.now.items c.args.starts.now.items c.args.range.first c.index_mut.result.now
+          c.index.result.now c.args.range.start c.args.range.end c.args.new.now c.requires.first.within (omega (
+            arith,
+            c.requires.first.within,
+            starts_count c.args.blocks.now.items c.args.starts.now.items c.args.lines.now.items c.requires.are,
+          )) c.index_mut.ensures.value c.index.ensures c.requires.enough;
     }) in
     let len : c.in_ok-sizes.sizes.len ≡ length (replace_range c.index_mut.result.now (c.args.range.start -
     c.index.result.now)
@@ -564,6 +648,12 @@ returns-else-sizes-clause-changed c =
       at_end = c.requires.at_end;
       new_utf8 = c.utf8.new;
       room = c.requires.room;
+      enough = put_enough c.args.blocks.now.items c.args.starts.now.items c.args.range.first c.index_mut.result.now
+          c.index.result.now c.args.range.start c.args.range.end c.args.new.now c.requires.first.within (omega (
+            arith,
+            c.requires.first.within,
+            starts_count c.args.blocks.now.items c.args.starts.now.items c.args.lines.now.items c.requires.are,
+          )) c.index_mut.ensures.value c.index.ensures c.requires.enough;
     }) in
     let all : set c.args.blocks.now.items c.args.range.first c.put_in_block.new.block
     ≡ (take c.args.range.first c.args.blocks.now.items

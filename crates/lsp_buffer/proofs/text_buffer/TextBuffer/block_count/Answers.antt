@@ -1,0 +1,10 @@
+use Rattle.std.proofs.Common.{length, arith, ap}
+use Rattle.lsp_buffer.proofs.Blocks.BlockLemmas.{blocks_few}
+use Rattle.lsp_buffer.proofs.text_buffer.TextBuffer.block_count.Goals as goal
+
+pub returns-clause-few : goal.returns-clause-few
+returns-clause-few c = omega (
+  arith,
+  blocks_few c.self.inside.blocks.items c.self.invariant.sums.are,
+  ap length c.self.view_is,
+)
