@@ -278,8 +278,8 @@ class Lisp(Reader):
 
 
 class Neovim(Form):
-    name = "a log of Neovim's client (~/.cache/nvim/lsp.log, or ~/.local/state/nvim/lsp.log)"
-    remedy = "vim.lsp.set_log_level('debug') before the start has them"
+    name = "Neovim's lsp.log, in ~/.local/state/nvim or ~/.cache/nvim"
+    remedy = "it has them after vim.lsp.set_log_level('debug')"
     begins = re.compile(r"^\[(?:START|TRACE|DEBUG|INFO|WARN|ERROR)\]\[\d{4}-\d\d-\d\d \d\d:\d\d:\d\d\]", re.MULTILINE)
     LINE = re.compile(r'^\[(?:(START)|[A-Z]+)\]\[[^]\n]*\](?: \S+\t"rpc\.(send|receive)"\t)?', re.MULTILINE)
 
@@ -306,7 +306,7 @@ class Neovim(Form):
 
 class Eglot(Form):
     name = "eglot's events (M-x eglot-events-buffer)"
-    remedy = "eglot-events-buffer-size, or :size of eglot-events-buffer-config, is 0, or :format is short"
+    remedy = "the :format of eglot-events-buffer-config has to be full or lisp"
     begins = re.compile(r"^\[(?:client|server)-(?:request|notification|reply)\] |^\[internal\] |^\[jsonrpc\] ", re.MULTILINE)
     HEAD = re.compile(r"^\[(client|server)-(?:request|notification|reply)\](?: \(id:[^)\n]*\))?[^\n]*:\n"
                       r"|^\[jsonrpc\] e\[[\d:.]+\] +(-->|<--) [^\s\[]*(?:\[[^]\n]*\])?[^\n{]*", re.MULTILINE)
@@ -333,8 +333,8 @@ class Eglot(Form):
 
 
 class Trace(Form):
-    name = "a trace in words: lsp-mode (lsp-log-io), gopls (-rpc.trace), VS Code (\"verbose\")"
-    remedy = "lsp-log-io, -rpc.trace or \"verbose\" has them"
+    name = "a trace in words, of lsp-mode, gopls (-rpc.trace) or VS Code (\"verbose\")"
+    remedy = "it has them with \"verbose\", not with \"messages\""
     begins = re.compile(r"^\[Trace - [^]\n]*\] (?:Sending|Received) ", re.MULTILINE)
     HEAD = re.compile(r"^\[Trace - [^]\n]*\] (Sending|Received) (request|notification|response) '([^'\n]*?)(?: - \((.*?)\))?'?"
                       r"(?:\.| in )([^\n]*)\n?|^\[Error - [^]\n]*\] (?:Sent|Received) #", re.MULTILINE)
@@ -391,8 +391,8 @@ class Trace(Form):
 
 
 class TraceJson(Form):
-    name = "VS Code's trace in JSON (\"format\": \"json\"), as LSP Inspector reads it"
-    remedy = "\"verbosity\": \"verbose\" has them"
+    name = "VS Code's trace in JSON, as LSP Inspector reads it"
+    remedy = "it has them with \"verbosity\": \"verbose\""
     begins = re.compile(r'^\[LSP *- [^]\n]*\] \{|^\{"(?:isLSPMessage|type)":', re.MULTILINE)
     HEAD = re.compile(r"^\[LSP *- [^]\n]*\] (?=\{)", re.MULTILINE)
     BARE = re.compile(r"^(?=\{)", re.MULTILINE)
@@ -413,7 +413,7 @@ class TraceJson(Form):
 
 class Clangd(Form):
     name = "clangd's standard error (--log=verbose)"
-    remedy = "--log=verbose has them"
+    remedy = "it has them with --log=verbose"
     begins = re.compile(r"^[VIE]\[\d\d:\d\d:\d\d\.\d{3}\] ", re.MULTILINE)
     HEAD = re.compile(r"^V\[\d\d:\d\d:\d\d\.\d{3}\] (<<<|>>>) ", re.MULTILINE)
 
@@ -426,7 +426,7 @@ class Clangd(Form):
 
 class Vim(Form):
     name = "Vim's log of channels (ch_logfile)"
-    remedy = "ch_logfile(FILE, 'w') before the server starts has them"
+    remedy = "it has them where ch_logfile comes before the server's start"
     begins = re.compile(r"^==== start log session |^ *(?:\d+\.\d+ )?(?:SEND|RECV) on \d+\(", re.MULTILINE)
     HEAD = re.compile(r"^==== (start) |^ *(?:\d+\.\d+ )?(SEND|RECV) on (\d+)\((?:in|out|sock)\): '", re.MULTILINE)
     END = re.compile(r"'\r?\n|'\Z")
