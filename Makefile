@@ -22,6 +22,11 @@ SIMULATE_PROGRAM = lsp_simulate
 RELEASE = .
 endif
 HEADER = crates/laspidru/include/laspidru.h
+# The programs over logs, with what they import, and the pages that say what a log, a code and a note are
+TOOLS = record log-from lines-from-log log-from-lines
+TOOL_FILES = bin/session_log.py bin/log_forms.py
+PAGES = docs/PROTOCOL.md docs/LSPSYNC.md docs/LOGS.md docs/CLIENTS.md crates/laspidru/include/CODES.md
+MAN_PAGES = lspsync lsp_simulate $(TOOLS:%=lspsync-%)
 ARCHIVE = crates/laspidru/out/liblaspidru.a
 BUILD = build
 STATIC = $(BUILD)/liblaspidru.a
@@ -98,7 +103,7 @@ needed:
 install: needed
 	$(INSTALL) -d "$(DESTDIR)$(BINDIR)" "$(DESTDIR)$(LIBDIR)/pkgconfig" "$(DESTDIR)$(INCLUDEDIR)" "$(DESTDIR)$(DATADIR)/man/man1" \
 	    "$(DESTDIR)$(DATADIR)/bash-completion/completions" "$(DESTDIR)$(DATADIR)/zsh/site-functions" \
-	    "$(DESTDIR)$(DATADIR)/fish/vendor_completions.d"
+	    "$(DESTDIR)$(DATADIR)/fish/vendor_completions.d" "$(DESTDIR)$(DATADIR)/laspidru" "$(DESTDIR)$(DATADIR)/doc/laspidru"
 	$(INSTALL) -m 755 "$(SYNC_PROGRAM)" "$(DESTDIR)$(BINDIR)/lspsync"
 	$(INSTALL) -m 755 "$(SIMULATE_PROGRAM)" "$(DESTDIR)$(BINDIR)/lsp_simulate"
 	$(INSTALL) -m 644 "$(HEADER)" "$(DESTDIR)$(INCLUDEDIR)/laspidru.h"
@@ -108,9 +113,15 @@ install: needed
 	ln -sf $(SONAME) "$(DESTDIR)$(LIBDIR)/liblaspidru.so"
 	sed -e 's|@PREFIX@|$(PREFIX)|; s|@LIBDIR@|$(LIBDIR)|; s|@INCLUDEDIR@|$(INCLUDEDIR)|; s|@VERSION@|$(VERSION)|' install/laspidru.pc.in \
 	    >"$(DESTDIR)$(LIBDIR)/pkgconfig/laspidru.pc"
-	sed -e 's|@VERSION@|$(VERSION)|' install/lspsync.1 >"$(DESTDIR)$(DATADIR)/man/man1/lspsync.1"
-	sed -e 's|@VERSION@|$(VERSION)|' install/lsp_simulate.1 >"$(DESTDIR)$(DATADIR)/man/man1/lsp_simulate.1"
-	chmod 644 "$(DESTDIR)$(LIBDIR)/pkgconfig/laspidru.pc" "$(DESTDIR)$(DATADIR)/man/man1/lspsync.1" "$(DESTDIR)$(DATADIR)/man/man1/lsp_simulate.1"
+	for name in $(MAN_PAGES); do \
+	    sed -e 's|@VERSION@|$(VERSION)|' "install/$$name.1" >"$(DESTDIR)$(DATADIR)/man/man1/$$name.1" || exit 1; \
+	    chmod 644 "$(DESTDIR)$(DATADIR)/man/man1/$$name.1"; \
+	done
+	chmod 644 "$(DESTDIR)$(LIBDIR)/pkgconfig/laspidru.pc"
+	$(INSTALL) -m 755 $(TOOLS:%=bin/%) "$(DESTDIR)$(DATADIR)/laspidru"
+	$(INSTALL) -m 644 $(TOOL_FILES) "$(DESTDIR)$(DATADIR)/laspidru"
+	for name in $(TOOLS); do ln -sfr "$(DESTDIR)$(DATADIR)/laspidru/$$name" "$(DESTDIR)$(BINDIR)/lspsync-$$name" || exit 1; done
+	$(INSTALL) -m 644 $(PAGES) "$(DESTDIR)$(DATADIR)/doc/laspidru"
 	$(INSTALL) -m 644 install/lspsync.bash "$(DESTDIR)$(DATADIR)/bash-completion/completions/lspsync"
 	$(INSTALL) -m 644 install/_lspsync "$(DESTDIR)$(DATADIR)/zsh/site-functions/_lspsync"
 	$(INSTALL) -m 644 install/lspsync.fish "$(DESTDIR)$(DATADIR)/fish/vendor_completions.d/lspsync.fish"
@@ -119,10 +130,13 @@ install: needed
 uninstall:
 	rm -f "$(DESTDIR)$(BINDIR)/lspsync" "$(DESTDIR)$(BINDIR)/lsp_simulate" "$(DESTDIR)$(INCLUDEDIR)/laspidru.h" \
 	    "$(DESTDIR)$(LIBDIR)/liblaspidru.a" "$(DESTDIR)$(LIBDIR)/liblaspidru.so.$(VERSION)" "$(DESTDIR)$(LIBDIR)/$(SONAME)" \
-	    "$(DESTDIR)$(LIBDIR)/liblaspidru.so" "$(DESTDIR)$(LIBDIR)/pkgconfig/laspidru.pc" "$(DESTDIR)$(DATADIR)/man/man1/lspsync.1" \
-	    "$(DESTDIR)$(DATADIR)/man/man1/lsp_simulate.1" \
+	    "$(DESTDIR)$(LIBDIR)/liblaspidru.so" "$(DESTDIR)$(LIBDIR)/pkgconfig/laspidru.pc" \
+	    $(MAN_PAGES:%="$(DESTDIR)$(DATADIR)/man/man1/%.1") $(TOOLS:%="$(DESTDIR)$(BINDIR)/lspsync-%") \
+	    $(addprefix "$(DESTDIR)$(DATADIR)/laspidru/",$(TOOLS) $(notdir $(TOOL_FILES))) \
+	    $(addprefix "$(DESTDIR)$(DATADIR)/doc/laspidru/",$(notdir $(PAGES))) \
 	    "$(DESTDIR)$(DATADIR)/bash-completion/completions/lspsync" "$(DESTDIR)$(DATADIR)/zsh/site-functions/_lspsync" \
 	    "$(DESTDIR)$(DATADIR)/fish/vendor_completions.d/lspsync.fish"
+	@rmdir "$(DESTDIR)$(DATADIR)/laspidru" "$(DESTDIR)$(DATADIR)/doc/laspidru" 2>/dev/null || true
 
 packages:
 	@install/packages "$(VERSION)" "$(RELEASE)" "$(PACKAGES)" $(KINDS)

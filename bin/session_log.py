@@ -1,7 +1,9 @@
-"""Frames and logs, read as docs/PROTOCOL.md and docs/LOGS.md say: what log-from-lines, record and their test share."""
+"""Frames and logs, read as docs/PROTOCOL.md and docs/LOGS.md say: what the programs of this folder and their tests share."""
 import os
 import re
 import select
+import signal
+import sys
 
 VERSION_LINE = b"lsp-session-log 2\n"
 EDITOR, SERVER = b">", b"<"
@@ -14,8 +16,25 @@ WRITTEN_HEADER = re.compile(rb"Content-Length: (0|[1-9][0-9]{0,9})\r\n\r\n")
 LINE, NAME, VALUE, RETURN, LAST, WHOLE = range(6)
 
 
+# What `make install` puts before the name of each program of this folder
+PREFIX = "lspsync-"
+NAME_IN_HELP = re.compile(r"@([a-z][a-z-]*)")
+
+
+def called(name):
+    """Returns what a program of this folder is called: with a prefix where the one that runs has it."""
+    return PREFIX + name if os.path.basename(sys.argv[0]).startswith(PREFIX) else name
+
+
+def as_called(text):
+    """Returns a help text with the name of each program, written @NAME, as it is called."""
+    return NAME_IN_HELP.sub(lambda name: called(name[1]), text)
+
+
 class Fault(Exception):
-    """What ends a log, in the words of lspsync's line on standard error."""
+    """What ends a log, in the words of lspsync's line on standard error, and the exit status of it."""
+
+    status = 5
 
 
 class Record:
@@ -203,3 +222,25 @@ def say(text):
         write_all(2, text.encode("utf-8", "backslashreplace") + b"\n")
     except OSError:
         pass
+
+
+# Exit statuses of the programs that read a file
+READ_OR_WRITE, NO_MEMORY = 3, 4
+
+
+def run(name, path, work):
+    """Has `work` read a file, or standard input where the path is None or "-". Returns the exit status, and says what went wrong."""
+    signal.signal(signal.SIGPIPE, signal.SIG_DFL)  # (a reader that goes is no fault)
+    try:
+        work(0 if path in (None, "-") else os.open(path, os.O_RDONLY))
+        return 0
+    except WriteFault as error:
+        status, words = READ_OR_WRITE, "write fault: %s" % error
+    except OSError as error:
+        status, words = READ_OR_WRITE, "read fault: %s: %s" % ("standard input" if path in (None, "-") else path, error.strerror)
+    except MemoryError:
+        status, words = NO_MEMORY, "out of memory"
+    except Fault as fault:
+        status, words = fault.status, str(fault)
+    say("%s: %s" % (called(name), words))
+    return status

@@ -1,0 +1,532 @@
+"""The logs that editors and servers write by themselves, read as messages: what log-from knows. A class a form."""
+import json
+import re
+
+from session_log import EDITOR, SERVER, Fault
+
+# The decimal digits that a number keeps in Lua's print
+LUA_DIGITS = 14
+
+
+class Unknown(Fault):
+    """No form begins so."""
+
+    status = 6
+
+
+class Message:
+    """A message: who sent it, the line that it begins in, its value, and its JSON. `stream` names the server where lines do."""
+
+    def __init__(self, line, sender, value, body, stream=None):
+        self.line, self.sender, self.value, self.body, self.stream = line, sender, value, body, stream
+        method = value.get("method")
+        self.method = method if isinstance(method, str) else None
+
+    def uri(self):
+        """Returns the URI of the document that the message is of, or None."""
+        params = self.value.get("params")
+        document = params.get("textDocument") if isinstance(params, dict) else None
+        return document.get("uri") if isinstance(document, dict) else None
+
+
+def ended(line):
+    """What stands for the end of all that wrote into a log."""
+    return Message(line, None, {}, "")
+
+
+# JSON
+
+
+def no_constant(word):
+    raise ValueError("%s is no JSON" % word)
+
+
+DECODER = json.JSONDecoder(parse_constant=no_constant)
+
+
+def json_at(text, at, line):
+    """Returns the value at an offset, its text, and the offset after it."""
+    try:
+        value, end = DECODER.raw_decode(text, at)
+    except RecursionError:
+        raise Fault("line %d: it nests too deep" % line) from None
+    except ValueError as error:
+        raise Fault("line %d: the message isn't whole: %s" % (line, getattr(error, "msg", error))) from None
+    return value, text[at:end], end
+
+
+def message_at(text, at, line, sender, stream=None):
+    """Returns the message whose JSON is at an offset."""
+    value, body, _ = json_at(text, at, line)
+    if not isinstance(value, dict):
+        raise Fault("line %d: the message is no JSON object" % line)
+    return Message(line, sender, value, body, stream)
+
+
+def written(line, sender, value, stream=None):
+    """Returns a message whose JSON isn't in the log."""
+    try:
+        return Message(line, sender, value, json.dumps(value, ensure_ascii=False, separators=(",", ":")), stream)
+    except RecursionError:
+        raise Fault("line %d: it nests too deep" % line) from None
+
+
+def with_version(value):
+    """Returns a message with `jsonrpc`, and with the null that a reply without a result and an error had."""
+    value = {"jsonrpc": "2.0", **value}
+    if "method" not in value and "error" not in value:
+        value.setdefault("result", None)
+    return value
+
+
+class Lines:
+    """Counts the lines of a text up to offsets that grow."""
+
+    def __init__(self, text):
+        self.text, self.at, self.line = text, 0, 1
+
+    def number(self, at):
+        self.line += self.text.count("\n", self.at, at)
+        self.at = at
+        return self.line
+
+
+class Form:
+    """A form of log. `begins` finds the first line of one, and `remedy` says how it comes to have messages."""
+
+    name = begins = remedy = None
+
+    def messages(self, text):
+        """Gives the messages of a text. Raises Fault at the first line that can't be read."""
+        raise NotImplementedError
+
+    def doubts(self, _messages):
+        """Returns what can't be known of messages in this form."""
+        return []
+
+
+# What Lua and Lisp print
+
+
+class Reader:
+    """Reads values from a text at an offset: what the readers of both languages share."""
+
+    BLANKS = re.compile(r"[ \t\r\n\f]*")
+
+    def __init__(self, text, at, line):
+        self.text, self.line = text, line
+        self.at = self.BLANKS.match(text, at).end()
+
+    def fault(self, words):
+        return Fault("line %d: the message can't be read: %s before %r" % (self.line, words, self.text[self.at:self.at + 20]))
+
+    def take(self, pattern):
+        """Takes what matches here, with the blanks after it. Returns the match, or None."""
+        found = pattern.match(self.text, self.at)
+        if found:
+            self.at = self.BLANKS.match(self.text, found.end()).end()
+        return found
+
+    def message(self):
+        try:
+            value = self.value()
+        except RecursionError:
+            raise Fault("line %d: it nests too deep" % self.line) from None
+        if not isinstance(value, dict):
+            raise Fault("line %d: this is no message" % self.line)
+        return with_version(value)
+
+
+class Lua(Reader):
+    """Reads what Neovim's vim.inspect prints."""
+
+    STRING = re.compile(r""""((?:[^"\\]|\\.)*)"|'((?:[^'\\]|\\.)*)'""", re.DOTALL)
+    ESCAPE = re.compile(r"\\(?:(\d{1,3})|x([0-9A-Fa-f]{2})|u\{([0-9A-Fa-f]+)\}|(.))", re.DOTALL)
+    LETTERS = {"a": "\a", "b": "\b", "f": "\f", "n": "\n", "r": "\r", "t": "\t", "v": "\v"}
+    NUMBER = re.compile(r"-?\d+(?:\.\d+)?(?:e[-+]?\d+)?")
+    WORD = re.compile(r"vim\.empty_dict\(\)|vim\.NIL|true|false|nil")
+    WORDS = {"vim.empty_dict()": {}, "vim.NIL": None, "true": True, "false": False, "nil": None}
+    NAME = re.compile(r"([A-Za-z_]\w*)\s*=(?!=)")
+    INDEX = re.compile(r"\[")
+    AFTER_INDEX = re.compile(r"\]\s*=")
+    OPEN, CLOSE, COMMA = re.compile(r"(?:<(\d+)>)?\{"), re.compile(r"\}"), re.compile(r",")
+    AGAIN = re.compile(r"<table (\d+)>")
+    OBJECTS = {"params", "capabilities", "result"}  # (an empty table there was an object)
+
+    def __init__(self, text, at, line):
+        super().__init__(text, at, line)
+        self.tables, self.is_rounded = {}, False
+
+    def value(self, name=None):
+        for pattern, value_of in ((self.STRING, self.string), (self.NUMBER, self.number), (self.WORD, lambda it: self.WORDS[it[0]]),
+                                  (self.AGAIN, lambda it: self.tables.get(it[1]))):
+            found = self.take(pattern)
+            if found:
+                return value_of(found)
+        opened = self.take(self.OPEN)
+        if not opened:
+            raise self.fault("no value")
+        table = self.table(name)
+        self.tables[opened[1]] = table
+        return table
+
+    def string(self, found):
+        return self.ESCAPE.sub(self.character, found[1] if found[1] is not None else found[2])
+
+    def character(self, found):
+        if found[4] is not None:
+            return self.LETTERS.get(found[4], found[4])
+        code = int(found[1]) if found[1] else int(found[2] or found[3], 16)
+        return chr(code) if code < 128 or found[3] else bytes([code & 255]).decode("utf-8", "surrogateescape")
+
+    def number(self, found):
+        if re.fullmatch(r"-?\d+", found[0]):
+            return int(found[0])
+        number = float(found[0])
+        self.is_rounded = self.is_rounded or abs(number) >= 10 ** LUA_DIGITS
+        return int(number) if number.is_integer() and abs(number) < 2 ** 63 else number
+
+    def table(self, name):
+        items, members = [], {}
+        while not self.take(self.CLOSE):
+            named = self.take(self.NAME)
+            if named:
+                members[named[1]] = self.value(named[1])
+            elif self.take(self.INDEX):
+                key = self.value()
+                if not self.take(self.AFTER_INDEX):
+                    raise self.fault("no key")
+                members[str(key)] = self.value(str(key))
+            else:
+                items.append(self.value())
+            if not self.take(self.COMMA) and self.text[self.at:self.at + 1] != "}":
+                raise self.fault("no comma")
+        if items and members:
+            raise self.fault("a table with keys and without")
+        return members if members or not items and name in self.OBJECTS else items
+
+
+class Lisp(Reader):
+    """Reads the property lists that Emacs prints."""
+
+    STRING = re.compile(r'"((?:[^"\\]|\\.)*)"', re.DOTALL)
+    ESCAPE = re.compile(r"\\(?:([0-7]{1,3})|x([0-9A-Fa-f]+)|u([0-9A-Fa-f]{4})|U([0-9A-Fa-f]{8})|\^(.)|(.))", re.DOTALL)
+    LETTERS = {"a": "\a", "b": "\b", "d": "\x7f", "e": "\x1b", "f": "\f", "n": "\n", "r": "\r", "t": "\t", "v": "\v", "\n": "", " ": ""}
+    ATOM = re.compile(r"[^][\s()\"';#]+")
+    NUMBER = re.compile(r"[-+]?(?:\d+\.?|\d*\.\d+(?:e[-+]?\d+)?|\d+e[-+]?\d+)")
+    WORDS = {"nil": None, "t": True, ":json-false": False, ":json-null": None, ":null": None, ":false": False}
+    HASH = re.compile(r"#s\(hash-table\b[^()]*?(?:\bdata\s*)?(?=[()])")
+    OPEN, CLOSE = re.compile(r"\("), re.compile(r"\)")
+    OPEN_VECTOR, CLOSE_VECTOR = re.compile(r"\["), re.compile(r"\]")
+
+    def value(self, name=None):
+        found = self.take(self.STRING)
+        if found:
+            return self.ESCAPE.sub(self.character, found[1])
+        if self.take(self.HASH):
+            return self.hash_table()
+        if self.take(self.OPEN):
+            return self.object()
+        if self.take(self.OPEN_VECTOR):
+            items = []
+            while not self.take(self.CLOSE_VECTOR):
+                items.append(self.value())
+            return items
+        return self.atom(name)
+
+    def character(self, found):
+        if found[5] is not None:
+            return chr(ord(found[5]) & 31)
+        if found[6] is not None:
+            return self.LETTERS.get(found[6], found[6])
+        code = int(found[1], 8) if found[1] else int(found[2] or found[3] or found[4], 16)
+        return bytes([code]).decode("utf-8", "surrogateescape") if found[1] and 128 <= code < 256 else chr(code)
+
+    def atom(self, name):
+        found = self.take(self.ATOM)
+        if not found:
+            raise self.fault("no value")
+        word = found[0]
+        if word in self.WORDS:
+            # (what is never null was an empty object)
+            return {} if word == "nil" and name == "capabilities" else self.WORDS[word]
+        if not self.NUMBER.fullmatch(word):
+            raise self.fault("Emacs cut the message off (%s), or %r is no value," % ("...", word))
+        return int(word.rstrip(".")) if re.fullmatch(r"[-+]?\d+\.?", word) else float(word)
+
+    def object(self):
+        members = {}
+        while not self.take(self.CLOSE):
+            key = self.take(self.ATOM)
+            if not key or key[0][0] != ":":
+                raise self.fault("no key")
+            members.setdefault(key[0][1:], self.value(key[0][1:]))
+        return members
+
+    def hash_table(self):
+        members = {}
+        if self.take(self.OPEN):
+            while not self.take(self.CLOSE):
+                key = self.value()
+                members[str(key)] = self.value(str(key))
+        if not self.take(self.CLOSE):
+            raise self.fault("no end of a hash table")
+        return members
+
+
+# The forms
+
+
+class Neovim(Form):
+    name = "Neovim's lsp.log, in ~/.local/state/nvim or ~/.cache/nvim"
+    remedy = "it has them after vim.lsp.set_log_level('debug')"
+    begins = re.compile(r"^\[(?:START|TRACE|DEBUG|INFO|WARN|ERROR)\]\[\d{4}-\d\d-\d\d \d\d:\d\d:\d\d\]", re.MULTILINE)
+    LINE = re.compile(r'^\[(?:(START)|[A-Z]+)\]\[[^]\n]*\](?: \S+\t"rpc\.(send|receive)"\t)?', re.MULTILINE)
+
+    def __init__(self):
+        self.is_rounded = False
+
+    def messages(self, text):
+        lines = Lines(text)
+        for found in self.LINE.finditer(text):
+            line = lines.number(found.start())
+            if found[1]:
+                yield ended(line)
+            if found[2]:
+                reader = Lua(text, found.end(), line)
+                yield written(line, EDITOR if found[2] == "send" else SERVER, reader.message())
+                self.is_rounded = self.is_rounded or reader.is_rounded
+
+    def doubts(self, messages):
+        if self.is_rounded:
+            yield "numbers of more than %d digits were rounded by Lua" % LUA_DIGITS
+        if any(it.sender == SERVER and "[]" in it.body for it in messages):
+            yield "in the server's messages [] may have been {}: Neovim may print both alike"
+
+
+class Eglot(Form):
+    name = "eglot's events (M-x eglot-events-buffer)"
+    remedy = "the :format of eglot-events-buffer-config has to be full or lisp"
+    begins = re.compile(r"^\[(?:client|server)-(?:request|notification|reply)\] |^\[internal\] |^\[jsonrpc\] ", re.MULTILINE)
+    HEAD = re.compile(r"^\[(client|server)-(?:request|notification|reply)\](?: \(id:[^)\n]*\))?[^\n]*:\n"
+                      r"|^\[jsonrpc\] e\[[\d:.]+\] +(-->|<--) [^\s\[]*(?:\[[^]\n]*\])?[^\n{]*", re.MULTILINE)
+    SENDERS = {"client": EDITOR, "-->": EDITOR, "server": SERVER, "<--": SERVER}
+
+    def messages(self, text):
+        lines, at = Lines(text), 0
+        while True:
+            found = self.HEAD.search(text, at)
+            if not found:
+                return
+            line, sender = lines.number(found.start()), self.SENDERS[found[1] or found[2]]
+            if text[found.end():found.end() + 1] == "{":
+                message = message_at(text, found.end(), line, sender)
+                at = found.end() + len(message.body)
+            else:
+                reader = Lisp(text, found.end(), line)
+                message, at = written(line, sender, reader.message()), reader.at
+            yield message
+
+    def doubts(self, messages):
+        if any(it.sender == SERVER and ":null" in it.body.replace('"result":null', "") for it in messages):
+            yield "in the server's messages null may have been {}: Emacs prints both as nil"
+
+
+class Trace(Form):
+    name = "a trace in words, of lsp-mode, gopls (-rpc.trace) or VS Code (\"verbose\")"
+    remedy = "it has them with \"verbose\", not with \"messages\""
+    begins = re.compile(r"^\[Trace - [^]\n]*\] (?:Sending|Received) ", re.MULTILINE)
+    HEAD = re.compile(r"^\[Trace - [^]\n]*\] (Sending|Received) (request|notification|response) '([^'\n]*?)(?: - \((.*?)\))?'?"
+                      r"(?:\.| in )([^\n]*)\n?|^\[Error - [^]\n]*\] (?:Sent|Received) #", re.MULTILINE)
+    DATA = re.compile(r"(Params|Result|Error data): (?=[^ \r\n])")
+    AT_SERVER = re.compile(r"^\[Trace - [^]\n]*\] Received request 'initialize - ", re.MULTILINE)
+    FAILED = re.compile(r"Request failed: (.*) \((-?\d+)\)\.\s*$")
+
+    def __init__(self):
+        self.left_out = 0
+        self.senders = {"Sending": EDITOR, "Received": SERVER}
+
+    def messages(self, text):
+        lines, at = Lines(text), 0
+        if self.AT_SERVER.search(text):  # (only an editor sends that)
+            self.senders = {"Sending": SERVER, "Received": EDITOR}
+        while True:
+            found = self.HEAD.search(text, at)
+            if not found:
+                return
+            at = found.end()
+            if not found[1]:
+                self.left_out += 1
+                continue
+            line = lines.number(found.start())
+            data, json_text = self.DATA.match(text, at), None
+            if data:
+                _, json_text, at = json_at(text, data.end(), line)
+            elif text.find("\n", at) < 0:  # (a line follows, of data or an empty one)
+                raise Fault("line %d: the message isn't whole" % line)
+            yield self.message(line, found, data and data[1], json_text)
+
+    def message(self, line, found, kind, json_text):
+        way, what, method, number, rest = found.groups()[:5]
+        sender = self.senders[way]
+        identity = [] if number is None else ['"id":%s' % (number if re.fullmatch(r"-?\d+", number) else json.dumps(number))]
+        if what != "response":
+            if json_text is None and method.startswith(("textDocument/did", "initialize")) and method != "initialized":
+                raise Fault("line %d: %s has no Params: %s" % (line, method, self.remedy))
+            members = identity + ['"method":%s' % json.dumps(method, ensure_ascii=False)]
+            members += ['"params":%s' % json_text] if kind == "Params" else []
+        elif self.FAILED.search(rest):
+            words, code = self.FAILED.search(rest).groups()
+            data = ',"data":%s' % json_text if kind == "Error data" else ""
+            members = identity + ['"error":{"code":%s,"message":%s%s}' % (code, json.dumps(words, ensure_ascii=False), data)]
+        else:
+            members = identity + ['"result":%s' % ("null" if json_text is None else json_text)]
+        return message_at('{"jsonrpc":"2.0",%s}' % ",".join(members), 0, line, sender)
+
+    def doubts(self, messages):
+        if self.left_out:
+            yield "%d replies that failed are left out: the trace has no code of theirs" % self.left_out
+        if any(isinstance(it.value.get("id"), int) for it in messages):
+            yield "an id of digits is written as a number: the trace has no quotes around a string"
+
+
+class TraceJson(Form):
+    name = "VS Code's trace in JSON, as LSP Inspector reads it"
+    remedy = "it has them with \"verbosity\": \"verbose\""
+    begins = re.compile(r'^\[LSP *- [^]\n]*\] \{|^\{"(?:isLSPMessage|type)":', re.MULTILINE)
+    HEAD = re.compile(r"^\[LSP *- [^]\n]*\] (?=\{)", re.MULTILINE)
+    BARE = re.compile(r"^(?=\{)", re.MULTILINE)
+
+    def messages(self, text):
+        lines, at = Lines(text), 0
+        head = self.HEAD if self.HEAD.search(text) else self.BARE
+        while True:
+            found = head.search(text, at)
+            if not found:
+                return
+            line = lines.number(found.start())
+            value, body, at = json_at(text, found.end(), line)
+            kind = value.get("type")
+            if isinstance(kind, str) and kind.startswith(("send-", "receive-")) and isinstance(value.get("message"), dict):
+                yield Message(line, EDITOR if kind.startswith("send-") else SERVER, value["message"], member_of(body, "message"))
+
+
+class Clangd(Form):
+    name = "clangd's standard error (--log=verbose)"
+    remedy = "it has them with --log=verbose"
+    begins = re.compile(r"^[VIE]\[\d\d:\d\d:\d\d\.\d{3}\] ", re.MULTILINE)
+    HEAD = re.compile(r"^V\[\d\d:\d\d:\d\d\.\d{3}\] (<<<|>>>) ", re.MULTILINE)
+
+    def messages(self, text):
+        lines = Lines(text)
+        for found in self.HEAD.finditer(text):
+            line = lines.number(found.start())
+            yield message_at(text, found.end(), line, EDITOR if found[1] == "<<<" else SERVER)
+
+
+class Vim(Form):
+    name = "Vim's log of channels (ch_logfile)"
+    remedy = "it has them where ch_logfile comes before the server's start"
+    begins = re.compile(r"^==== start log session |^ *(?:\d+\.\d+ )?(?:SEND|RECV) on \d+\(", re.MULTILINE)
+    HEAD = re.compile(r"^==== (start) |^ *(?:\d+\.\d+ )?(SEND|RECV) on (\d+)\((?:in|out|sock)\): '", re.MULTILINE)
+    END = re.compile(r"'\r?\n|'\Z")
+    FRAME = re.compile(rb"(?:Content-Type:[^\r\n]*\r\n)?Content-Length: *(\d+)\r\n(?:Content-Type:[^\r\n]*\r\n)?\r\n", re.IGNORECASE)
+
+    def __init__(self):
+        self.not_whole = 0
+
+    def messages(self, text):
+        lines, waiting = Lines(text), {}
+        for found in self.HEAD.finditer(text):
+            line = lines.number(found.start())
+            if found[1]:
+                self.not_whole += sum(map(len, waiting.values()))
+                waiting.clear()
+                yield ended(line)
+                continue
+            end = self.END.search(text, found.end())
+            if not end:
+                raise Fault("line %d: what was %s isn't whole" % (line, "sent" if found[2] == "SEND" else "received"))
+            key = found[2], found[3]
+            waiting[key] = waiting.get(key, b"") + text[found.end():end.start()].encode("utf-8", "surrogateescape")
+            while True:
+                body, waiting[key] = self.frame(waiting[key])
+                if body is None:
+                    break
+                yield message_at(body, 0, line, EDITOR if found[2] == "SEND" else SERVER, found[3])
+        self.not_whole += sum(map(len, waiting.values()))
+
+    def frame(self, data):
+        """Returns the body of the first frame, or None, and what comes after it. A channel without frames is of no language server."""
+        head = self.FRAME.match(data)
+        if not head:
+            return None, data if b"content-" in data.lower() or b"content-".startswith(data[:8].lower()) else b""
+        end = head.end() + int(head[1])
+        if len(data) < end:
+            return None, data
+        return data[head.end():end].decode("utf-8", "surrogateescape"), data[end:]
+
+    def doubts(self, _messages):
+        if self.not_whole:
+            yield "%d bytes are no whole message, and left out" % self.not_whole
+
+
+class Devtools(Form):
+    name = "lsp-devtools' lines of JSON (lsp-devtools record --to-file)"
+    remedy = "each line has `source` and a message"
+    begins = re.compile(r'^\{(?=[^\n]*"source": ?"(?:client|server)")', re.MULTILINE)
+    SENDERS = {"client": EDITOR, "server": SERVER}
+    MEMBERS = ("id", "method", "params", "result", "error")
+
+    def messages(self, text):
+        for line, words in enumerate(text.split("\n"), 1):
+            if not words.strip():
+                continue
+            value, body, _ = json_at(words, len(words) - len(words.lstrip()), line)
+            if not isinstance(value, dict) or value.get("source") not in self.SENDERS:
+                raise Fault("line %d: there is no `source`" % line)
+            sender, stream = self.SENDERS[value["source"]], value.get("session")
+            if isinstance(value.get("message"), dict):
+                yield Message(line, sender, value["message"], member_of(body, "message"), stream)
+            else:
+                found = {it: value[it] for it in self.MEMBERS if value.get(it) is not None}
+                yield written(line, sender, with_version(found), stream)
+
+
+def member_of(body, name):
+    """Returns the text of an object's member, as it is there."""
+    at = body.index("{")
+    while True:
+        at = DECODER.raw_decode(body, skip_blanks(body, at + 1))
+        key, start = at[0], skip_blanks(body, skip_blanks(body, at[1]) + 1)
+        _, end = DECODER.raw_decode(body, start)
+        if key == name:
+            return body[start:end]
+        at = skip_blanks(body, end)
+
+
+def skip_blanks(text, at):
+    return re.compile(r"[ \t\r\n]*").match(text, at).end()
+
+
+FORMS = (Neovim, Eglot, Trace, TraceJson, Clangd, Vim, Devtools)
+
+# What is no log of an editor, and what it is
+OTHERS = (
+    (re.compile(r"lsp-session-log 2\n|(?i:content-length|content-type):"), "this is a log of a session already, which lspsync reads"),
+    (re.compile(r"\x1f\udc8b"), "this is packed by gzip: `gzip -d` unpacks it"),
+    (re.compile(r'\{"(?:number|body|from)":'), "these are lines of messages, which log-from-lines reads"),
+    (re.compile(r"\s*\Z"), "this is empty"),
+)
+
+
+def form_of(text):
+    """Returns the form whose line comes first. Raises Unknown where there is none."""
+    for pattern, words in OTHERS:
+        if pattern.match(text):
+            raise Unknown("line 1: " + words)
+    found = [(it.begins.search(text), it) for it in FORMS]
+    found = [(match.start(), at) for at, (match, _) in enumerate(found) if match]
+    if not found:
+        raise Unknown("line 1: no form that is known begins like %r; --help has those that are" % text.split("\n", 1)[0][:60])
+    return FORMS[min(found)[1]]()
