@@ -171,7 +171,8 @@ def global_(line):
     if not re.search(r"\bptr\b", line):
         return line
     kind, middle, value = line.partition("}> <{")
-    if not middle or len(re.findall(r"\bptr\b", kind)) != len(CONSTANT.findall(value)) or "{" in value + kind.partition("<{")[2]:
+    if not middle or len(re.findall(r"\bptr\b", kind)) != len(CONSTANT.findall(value)) or \
+            "{" in value + kind.partition("<{")[2] or " x ptr" in kind:
         raise Refused("a pointer in a constant of another form")
     return re.sub(r"\bptr\b", "ptr, [4 x i8]", kind) + middle + CONSTANT.sub(lambda it: f"{it.group()}, [4 x i8] zeroinitializer", value)
 
@@ -190,7 +191,7 @@ def narrowed(line, fresh):
         lines = [wide(bare)]
     elif bare.startswith(" ") and re.search(r"\bptr\b|@llvm\.mem|\{ ", bare):
         lines = next((way(*found.groups()) for found, way in ((form.fullmatch(bare), way) for form, way in NARROWED) if found), None)
-        if not lines and not UNCHANGED.fullmatch(bare):
+        if not lines and (re.search(r"\bptr\b.*@llvm|@llvm.*\bptr\b", bare) or not UNCHANGED.fullmatch(bare)):
             raise Refused("a pointer in a form that it doesn't know")
         lines = lines or [wide(bare)]
     name = f"%w32.{next(fresh)}"
