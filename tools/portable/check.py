@@ -59,7 +59,7 @@ class Target:
     def program(self, name):
         """The words that start a program, and its environment."""
         if self.is_wasm:
-            return self.prefix, {**self.env, "LASPIDRU_PROGRAM": f"build/{self.name}/{name}.wasm"}
+            return [*self.prefix, name], {**self.env, "LASPIDRU_PROGRAM": f"build/{self.name}/{name}.wasm"}
         return [*self.prefix, f"build/{self.name}/{name}{'.exe' * ('windows' in self.name)}"], self.env
 
     def compiled(self, *sources):
