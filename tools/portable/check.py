@@ -335,4 +335,6 @@ def check(targets, page, counts):
         right, wrong = found[0] if found else (0, 0)
         is_right = is_right and not wrong
         print(f"{name:28}{what:18}" + (f"{right:>7} right{f', {wrong} wrong' if wrong else ''}" if found else ""))
+    wrong, left = sum(bool(row[2][1]) for row in rows if len(row) > 2), sum(len(row) == 2 for row in rows)
+    print(f"{len(rows) - wrong - left} passed, {wrong} failed, {left} not run")
     return is_right
