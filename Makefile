@@ -33,7 +33,7 @@ STATIC = $(BUILD)/liblaspidru.a
 SHARED = $(BUILD)/liblaspidru.so.$(VERSION)
 RELEASES = release
 PACKAGES = packages
-KINDS = wheel npm crate deb lua
+KINDS = wheel npm crate deb lua zip
 SUMS = $(wildcard $(RELEASES)/laspidru-$(VERSION).sha256 $(PACKAGES)/laspidru-$(VERSION)-packages.sha256)
 
 define IN_A_RELEASE_TOO
@@ -43,7 +43,7 @@ To use Laspidru
   make library         both libraries for C, with their heap, in build/                    cc, the archive for C       seconds
   make install         programs, library, man pages and so on (PREFIX, DESTDIR)            it says what                seconds
   make uninstall       takes them away again (PREFIX, DESTDIR)                                                         seconds
-  make packages        wheel, npm, crate, deb and lua (KINDS) in packages/; no network     a release, their tools      a minute
+  make packages        wheel, npm, crate, deb, lua, zip (KINDS) in packages/; no network   a release, their tools      a minute
   make check-packages  installs each in a root without compilers                           root, debootstrap or ROOT   some minutes
 endef
 
@@ -61,6 +61,7 @@ To change it (docs/DEVELOPING.md)
   make refused         out of memory at each request that a test makes (CRATE)             rt, after the gate          seconds
   make definitions     what a clause speaks of (OF=Pair::step.history), or all such pages  python3                     seconds
   make c               the archive for C, and its test in C                                rt                          up to an hour
+  make targets         for other systems, in build/ (TARGET="wasm32 ..", ARGS=--check)     rt, it says what else       minutes, once proved
 
 To test what the gate doesn't
   make test            each of these that this machine can run (PART="examples ..")        python3                     some minutes
@@ -139,7 +140,7 @@ uninstall:
 	@rmdir "$(DESTDIR)$(DATADIR)/laspidru" "$(DESTDIR)$(DATADIR)/doc/laspidru" 2>/dev/null || true
 
 packages:
-	@install/packages "$(VERSION)" "$(RELEASE)" "$(PACKAGES)" $(KINDS)
+	@BUILT="$(BUILD)" install/packages "$(VERSION)" "$(RELEASE)" "$(PACKAGES)" $(KINDS)
 
 check-packages:
 	@install/test_packages "$(VERSION)" "$(PACKAGES)"
@@ -150,6 +151,8 @@ ifneq ($(wildcard launch),)
 CRATE =
 OF =
 PART =
+TARGET =
+ARGS =
 BENCH = layers logs bindings
 SCALE = 0.1
 
@@ -201,6 +204,9 @@ bindings:
 c:
 	@tools/c
 
+targets:
+	@tools/targets $(ARGS) $(TARGET)
+
 check-install:
 	@install/test
 
@@ -210,5 +216,5 @@ bench:
 	$(if $(filter logs,$(BENCH)),bench/end-to-end --scale $(SCALE))
 	$(if $(filter bindings,$(BENCH)),bench/bindings)
 
-.PHONY: release verify quick ready gate minutes edits refused pages definitions test conformance callers examples bindings c check-install bench
+.PHONY: release verify quick ready gate minutes edits refused pages definitions test conformance callers examples bindings c targets check-install bench
 endif

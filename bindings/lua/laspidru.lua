@@ -50,18 +50,27 @@ uint32_t laspidru_client_position(laspidru_handle *, const char *, size_t, uint3
 uint32_t laspidru_client_line(laspidru_handle *, const char *, size_t, uint32_t, laspidru_line *);
 ]])
 
+-- How systems name the library: for the loader, and beside this file for several processors
+local LOADED = ({ Windows = "laspidru.dll", OSX = "liblaspidru.dylib" })[ffi.os] or "laspidru.so.0"
+local ENDING = ({ Windows = "dll", OSX = "dylib" })[ffi.os] or "so"
+
 -- The library's path: the one that LASPIDRU_LIBRARY names, or the one beside this file, or a name that the loader searches for.
 local function path_of_library()
-    local beside = (debug.getinfo(1, "S").source:match("^@(.*/)") or "./") .. "liblaspidru.so.0"
-    local file = io.open(beside, "rb")
-    if file then file:close() end
-    return os.getenv("LASPIDRU_LIBRARY") or file and beside or "laspidru.so.0"
+    local folder = debug.getinfo(1, "S").source:match("^@(.*[/\\])") or "./"
+    for _, name in ipairs({ ("laspidru-%s-%s.%s"):format(ffi.os, ffi.arch, ENDING), "liblaspidru.so.0" }) do
+        local file = io.open(folder .. name, "rb")
+        if file then
+            file:close()
+            return os.getenv("LASPIDRU_LIBRARY") or folder .. name
+        end
+    end
+    return os.getenv("LASPIDRU_LIBRARY") or LOADED
 end
 
 -- Why the library can't be loaded, in a sentence. `problem` is what the loader says.
 local function why(problem)
-    if ffi.os ~= "Linux" or ffi.arch ~= "x64" then
-        return "laspidru's library is for Linux on x64, and this is " .. ffi.os .. " on " .. ffi.arch
+    if not (ffi.arch == "x64" or ffi.arch == "arm64") or not ({ Linux = 1, OSX = 1, Windows = 1 })[ffi.os] then
+        return "laspidru's library is for Linux, macOS and Windows on x64 and arm64, and this is " .. ffi.os .. " on " .. ffi.arch
     end
     local needed = problem:match("GLIBC_([0-9.]+)' not found")
     if needed then return "laspidru's library needs glibc " .. needed .. " or newer, and this C library is older" end

@@ -62,7 +62,11 @@ function runProgram(module_, words, system) {
     },
   };
   exported = new WebAssembly.Instance(module_, { env }).exports;
-  return exported.rattle_main();
+  try {
+    return exported.rattle_main();
+  } catch (cause) {
+    throw new Error('the program has trapped, as it does where its stack is spent', { cause });
+  }
 }
 
 /** A system whose standard input is bytes in memory, and which has no files. What is written to standard output goes to `take`, piece by piece,

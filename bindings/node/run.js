@@ -1,14 +1,11 @@
-#!/usr/bin/env node
 'use strict';
-// lspsync in Node, on any system: run.js WORD .. is what `lspsync WORD ..` is elsewhere. Under the name lsp_simulate it is that program.
-// LASPIDRU_PROGRAM names another module than the one beside this file.
+// The programs in Node, on any system: run.js NAME WORD .. is what `NAME WORD ..` is elsewhere. LASPIDRU_PROGRAM names another module than the one
+// beside this file.
 const fs = require('fs');
 const path = require('path');
 const tty = require('tty');
 const { compiled } = require('./module.js');
 const { runProgram } = require('./program.js');
-
-const name = path.basename(process.argv[1], '.js') === 'lsp_simulate' ? 'lsp_simulate' : 'lspsync';
 
 /** Makes a call again while a pipe that doesn't wait has nothing, or no room. */
 function waited(call) {
@@ -30,10 +27,17 @@ const system = {
   close: (file) => fs.closeSync(file),
   isTerminal: (file) => tty.isatty(file),
 };
-try {
+
+/** Runs a program with these words, and sets the status of the process: 70 where the module can't be run to its end. */
+function run(name, words) {
   const file = process.env.LASPIDRU_PROGRAM || path.join(__dirname, `${name}.wasm`);
-  process.exitCode = runProgram(compiled(fs.readFileSync(file)), process.argv.slice(2), system);
-} catch (error) {
-  console.error(error instanceof WebAssembly.RuntimeError || error instanceof RangeError ? `${name}: the stack is spent (${error.message})` : `${name}: ${error.message}`);
-  process.exitCode = 70;
+  try {
+    process.exitCode = runProgram(compiled(fs.readFileSync(file)), words, system);
+  } catch (error) {
+    console.error(`${name}: ${error.message}`);
+    process.exitCode = 70;
+  }
 }
+
+module.exports = { run };
+if (require.main === module) run(process.argv[2], process.argv.slice(3));

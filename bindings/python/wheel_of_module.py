@@ -4,7 +4,8 @@ Where there is a C compiler (`cc`, or $CC) and Python.h, the wheel has the exten
 compiles that in its place.
 
 `build_wheel(folder, {"library": path})` makes a wheel with that shared library in it, for any Linux whose C library is new enough:
-so `make packages` does. Then the extension has to be there, and SOURCE_DATE_EPOCH is the time of all files."""
+so `make packages` does. Then the extension has to be there, and SOURCE_DATE_EPOCH is the time of all files. With "platform" too it
+is for that one, as `win_amd64` or `linux_aarch64`, and has no extension."""
 import base64
 import hashlib
 import os
@@ -23,7 +24,7 @@ with open(os.path.join(FOLDER, "pyproject.toml"), encoding="utf-8") as _file:
     VERSION = re.search(r'^version = "(.*)"$', _file.read(), re.MULTILINE).group(1)
 INFO = f"laspidru-{VERSION}.dist-info"
 EXTENSION = "laspidru/_fast.abi3.so"
-LIBRARY = "laspidru/liblaspidru.so.0"
+LIBRARIES = {"win": "laspidru.dll", "macosx": "liblaspidru.dylib", "linux": "liblaspidru.so.0"}
 LICENCES = ["LICENSE-MIT", "LICENSE-APACHE"]
 METADATA = f"""Metadata-Version: 2.1
 Name: laspidru
@@ -68,8 +69,11 @@ def glibc_needed(*files):
     return max((int(major), int(minor)) for major, minor in names)
 
 
-def _tag(extension, library):
+def _tag(extension, library, platform):
     """Which Pythons and platforms a wheel is for. manylinux2014 is the name that also an old pip knows for glibc 2.17."""
+    if platform:
+        major, minor = max(glibc_needed(library), (2, 17)) if platform.startswith("linux") else (0, 0)
+        return "py3-none-" + platform.replace("linux", f"manylinux_{major}_{minor}")
     if library:
         major, minor = glibc_needed(extension, library)
         return "cp38-abi3-" + ("manylinux2014_x86_64" if (major, minor) <= (2, 17) else f"manylinux_{major}_{minor}_x86_64")
@@ -81,19 +85,19 @@ def _metadata(readme):
     return METADATA.encode() + (b"Description-Content-Type: text/markdown\n\n" + _read(readme) if readme else b"")
 
 
-def _files(tag, extension, library, readme):
+def _files(tag, extension, library, name_of_library, readme):
     for name in sorted(os.listdir(os.path.join(FOLDER, "laspidru"))):
         if name.endswith(".py") or name == "py.typed":
             yield f"laspidru/{name}", _read(FOLDER, "laspidru", name)
     if extension:
         yield EXTENSION, extension
     if library:
-        yield LIBRARY, library
+        yield f"laspidru/{name_of_library}", library
     yield f"{INFO}/METADATA", _metadata(readme)
     for name in LICENCES:
         if os.path.exists(os.path.join(TOP, name)):
             yield f"{INFO}/licenses/{name}", _read(TOP, name)
-    is_pure = "false" if extension else "true"
+    is_pure = "false" if extension or library else "true"
     yield f"{INFO}/WHEEL", f"Wheel-Version: 1.0\nGenerator: wheel_of_module\nRoot-Is-Purelib: {is_pure}\nTag: {tag}\n".encode()
 
 
@@ -116,12 +120,13 @@ def _write(path, files):
 def build_wheel(wheel_directory, config_settings=None, metadata_directory=None):
     settings = config_settings or {}
     library = _read(settings["library"]) if "library" in settings else b""
-    extension, problem = _extension()
+    platform = settings.get("platform", "")
+    extension, problem = (b"", None) if platform else _extension()
     if library and problem is not None:
         raise RuntimeError(f"the extension can't be compiled: {problem}")
-    tag = _tag(extension, library)
+    tag = _tag(extension, library, platform)
     name = f"laspidru-{VERSION}-{tag}.whl"
-    _write(os.path.join(wheel_directory, name), _files(tag, extension, library, settings.get("readme")))
+    _write(os.path.join(wheel_directory, name), _files(tag, extension, library, LIBRARIES[(platform or "linux").partition("_")[0]], settings.get("readme")))
     return name
 
 

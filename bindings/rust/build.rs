@@ -1,12 +1,13 @@
-//! Links liblaspidru.a: of the folder that LASPIDRU_LIB_DIR names, else of this package's folder lib, else the installed one.
+//! Links liblaspidru.a: of the folder that LASPIDRU_LIB_DIR names, else the target's in this package's folder lib, else the installed one.
 
 use std::env;
+use std::fs;
 use std::path::{Path, PathBuf};
 use std::process::Command;
 
 const ARCHIVE: &str = "liblaspidru.a";
 
-/// The folder lib of this package. The crate that `make packages` makes has it, the repository doesn't.
+/// The folder lib of this package, with a folder for each target. The crate that `make packages` makes has it, the repository doesn't.
 fn packaged() -> PathBuf {
     Path::new(&env::var_os("CARGO_MANIFEST_DIR").unwrap_or_default()).join("lib")
 }
@@ -24,12 +25,11 @@ fn folder() -> Option<PathBuf> {
         assert!(Path::new(&folder).is_absolute(), "LASPIDRU_LIB_DIR must be an absolute path");
         return Some(folder.into());
     }
-    let [system, processor] = ["CARGO_CFG_TARGET_OS", "CARGO_CFG_TARGET_ARCH"].map(|name| env::var(name).unwrap_or_default());
-    assert!(
-        system == "linux" && processor == "x86_64",
-        "laspidru's library is for Linux on x86-64, and this is built for {system} on {processor}"
-    );
-    Some(packaged()).filter(|it| it.join(ARCHIVE).exists()).or_else(installed)
+    let Ok(found) = fs::read_dir(packaged()) else { return installed() };
+    let targets: Vec<String> = found.flatten().map(|it| it.file_name().to_string_lossy().into()).collect();
+    let target = env::var("TARGET").unwrap_or_default();
+    assert!(targets.contains(&target), "laspidru's library is for {} here, and this is built for {target}", targets.join(", "));
+    Some(packaged().join(target))
 }
 
 fn main() {

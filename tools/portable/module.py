@@ -7,6 +7,7 @@ what it is given before it compiles that. Of a crate there are then, in the fold
     CRATE.ll     the module after them, and after the kit's own mending of it, for 64-bit ARM
     CRATE.a      the kit's own archive of a library for 64-bit ARM on Linux, or object file of a program
     CRATE.sum    what these were made of, so that nothing is done again while that is the same"""
+import functools
 import hashlib
 import os
 import re
@@ -26,6 +27,7 @@ class Failed(Exception):
     """What can't be built, and why."""
 
 
+@functools.lru_cache(None)
 def kit():
     """The folder of the kit, and the line of its version."""
     try:

@@ -1,8 +1,9 @@
 """Rewrites the LLVM module of a proved crate for another target than the one that the kit made it for.
 
 The module is the one that the kit hands to its clang for aarch64-unknown-linux-gnu: not optimised yet, with pointers of 64 bits and little
-endian bytes. Each rewriting below is a function that takes one line, or declines it. It states the form that it takes, and a line of the
-same kind in another form is refused: the error names it. All but `narrowed` leave the meaning of each instruction as it is.
+endian bytes. It is rewritten as text, line by line, since no library that Debian has reads modules of LLVM 22. Each rewriting below is a function
+of a line. It states the form that it takes, and a line of the same kind in another form is refused: the error names it. All but `narrowed`
+leave the meaning of each instruction as it is.
 
 `narrowed` is for wasm32, whose pointers have 32 bits. The layout of memory stays that of 64 bits: sizes are i64, and each pointer in memory
 keeps its 8 bytes, of which the high 4 are 0."""
@@ -160,8 +161,8 @@ UNCHANGED = re.compile("|".join((
     rf"\s+{NAME} = load (?!ptr){TYPE}, ptr {NAME}(, align \d+)?(, !\w+ !\d+)*", rf"\s+store (?!ptr){TYPE} \S.*, ptr {NAME}(, align \d+)?",
     rf"\s+{NAME} = load \{{ {TYPE}, {TYPE} \}}, ptr {NAME}, align \d+", rf"\s+ret (\{{ {TYPE}, {TYPE} \}}|ptr) {NAME}",
     rf"\s+{NAME} = getelementptr (inbounds )?(nuw )?i8, ptr ({NAME}|null), i64 ({NAME}|-?\d+)",
-    rf"\s+{NAME} = icmp (eq|ne|ult|ule|ugt|uge) ptr {NAME}, ({NAME}|null)", rf"\s+{NAME} = inttoptr i64 {NAME} to ptr",
-    rf"\s+{NAME} = ptrtoint ptr {NAME} to i64", rf"\s+({NAME} = )?call ({TYPE}|void|\{{ {TYPE}, {TYPE} \}})( \(ptr, i32, \.\.\.\))? {NAME}{ARGUMENTS}( #\d+)?",
+    rf"\s+{NAME} = icmp (eq|ne|ult|ule|ugt|uge) ptr {NAME}, ({NAME}|null)",
+    rf"\s+({NAME} = )?call ({TYPE}|void|\{{ {TYPE}, {TYPE} \}})( \(ptr, i32, \.\.\.\))? {NAME}{ARGUMENTS}( #\d+)?",
 )))
 CONSTANT = re.compile(r"\bptr (getelementptr inbounds \([^()]*\)|getelementptr \([^()]*\)|@[^,\s]+|null)")
 
@@ -171,7 +172,8 @@ def global_(line):
     if not re.search(r"\bptr\b", line):
         return line
     kind, middle, value = line.partition("}> <{")
-    if not middle or len(re.findall(r"\bptr\b", kind)) != len(CONSTANT.findall(value)) or "{" in value + kind.partition("<{")[2]:
+    if not middle or len(re.findall(r"\bptr\b", kind)) != len(CONSTANT.findall(value)) or \
+            "{" in value + kind.partition("<{")[2] or " x ptr" in kind:
         raise Refused("a pointer in a constant of another form")
     return re.sub(r"\bptr\b", "ptr, [4 x i8]", kind) + middle + CONSTANT.sub(lambda it: f"{it.group()}, [4 x i8] zeroinitializer", value)
 
@@ -190,7 +192,7 @@ def narrowed(line, fresh):
         lines = [wide(bare)]
     elif bare.startswith(" ") and re.search(r"\bptr\b|@llvm\.mem|\{ ", bare):
         lines = next((way(*found.groups()) for found, way in ((form.fullmatch(bare), way) for form, way in NARROWED) if found), None)
-        if not lines and not UNCHANGED.fullmatch(bare):
+        if not lines and (re.search(r"\bptr\b.*@llvm|@llvm.*\bptr\b", bare) or not UNCHANGED.fullmatch(bare)):
             raise Refused("a pointer in a form that it doesn't know")
         lines = lines or [wide(bare)]
     name = f"%w32.{next(fresh)}"

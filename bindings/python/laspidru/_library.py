@@ -93,7 +93,9 @@ class Ending(ctypes.Structure):
                 ("place", c_uint64), ("output_len", c_size_t)]
 
 
-NAME = "liblaspidru.so.0"
+NAME = {"Windows": "laspidru.dll", "Darwin": "liblaspidru.dylib"}.get(platform.system(), "liblaspidru.so.0")
+# The systems that the library is built for, each with its processors
+BUILT = {"Linux": ("x86_64", "aarch64"), "Windows": ("AMD64",), "Darwin": ("x86_64", "arm64")}
 
 
 def _path() -> str:
@@ -105,12 +107,13 @@ def _path() -> str:
 def _why(problem: str) -> str:
     """Why the library can't be loaded, in a sentence. `problem` is what the loader says."""
     system, machine, bits = platform.system(), platform.machine(), 8 * struct.calcsize("P")
-    if (system, machine, bits) != ("Linux", "x86_64", 64):
-        return f"laspidru's library is for Linux on x86-64 with 64 bits, and this Python is for {system} on {machine} with {bits} bits"
+    if machine not in BUILT.get(system, ()) or bits != 64:
+        built = "; ".join(f"{name} on {' and '.join(them)}" for name, them in BUILT.items())
+        return f"laspidru's library is for {built}, with 64 bits, and this Python is for {system} on {machine} with {bits} bits"
     needed, (libc, version) = re.search(r"GLIBC_([0-9.]+)' not found", problem), platform.libc_ver()
     if needed:
         return f"laspidru's library needs glibc {needed.group(1)} or newer, and this is glibc {version}"
-    if libc != "glibc":
+    if system == "Linux" and libc != "glibc":
         return "laspidru's library needs the C library glibc, and this Python has another one"
     return f"laspidru's library can't be loaded ({problem}); LASPIDRU_LIBRARY names it if it is elsewhere"
 
