@@ -43,6 +43,7 @@ def messages():
         ("astral-on-earlier-line", "😀\nab", ch("X", 1, 1), "Units are counted from the start of the line alone."),
         ("astral-deleted-then-typed", "😀b", ch("", 0, 0, 2), "A deletion of the two units leaves what is after them."),
         ("last-of-bmp", "\uffffb", ch("X", 0, 1), "U+FFFF is the last character of one unit."),
+        ("after-bmp", "\ue000\uffffab", ch("X", 0, 3), "U+E000 and U+FFFF are one unit each, so a is character 2."),
         ("first-astral", "\U00010000b", ch("X", 0, 2), "U+10000 is the first character of two units."),
         ("last-astral", "\U0010ffffb", ch("X", 0, 2), "U+10FFFF, the last character, is two units."),
         ("wide", "漢字b", ch("X", 0, 2), "A wide character of the Basic Multilingual Plane is one unit."),
@@ -51,7 +52,7 @@ def messages():
         ("inside-cluster", "e\u0301b", ch("X", 0, 1), "A position between a letter and its combining mark is a position."),
         ("joined", "👩\u200d💻b", ch("X", 0, 5), "A joined emoji is as many units as its parts and the joiner."),
         ("flag", "🇫🇷b", ch("X", 0, 4), "A flag is two characters of two units each."),
-        ("tab", "\tb", ch("X", 0, 1), "A tab is one unit, not the columns that it fills."),
+        ("tab", "\tab", ch("X", 0, 2), "A tab is one unit, not the columns that it fills."),
         ("astral-inserted", "ab", ch("😀", 0, 1), "An inserted character may be of two units."),
     ]:
         one("units/" + name, about, POSITION, text, change)
@@ -60,7 +61,9 @@ def messages():
         ("utf8-three", "utf-8", "漢b", ch("X", 0, 3), "A character of three bytes."),
         ("utf8-four", "utf-8", "😀b", ch("X", 0, 4), "A character of four bytes."),
         ("utf8-replace", "utf-8", "x😀y", ch("z", 0, 1, 5), "The four bytes of a character are replaced together."),
-        ("utf8-borders", "utf-8", "\x7f\x80\u07ff\u0800b", ch("X", 0, 8), "The first and last characters of one, two and three bytes."),
+        ("utf8-borders", "utf-8", "\x7f\x80\u07ff\u0800ab", ch("X", 0, 9), "The first and last characters of one, two and three bytes."),
+        ("utf8-last-three", "utf-8", "\uffffab", ch("X", 0, 4), "U+FFFF is the last character of three bytes."),
+        ("utf8-first-four", "utf-8", "\U00010000ab", ch("X", 0, 5), "U+10000 is the first character of four bytes."),
         ("utf32-astral", "utf-32", "😀b", ch("X", 0, 1), "In UTF-32 each character is one unit."),
         ("utf32-joined", "utf-32", "👩\u200d💻b", ch("X", 0, 3), "Also in UTF-32 a joined emoji is as many units as it has characters."),
         ("utf32-mixed", "utf-32", "aé漢😀b", ch("", 0, 3, 4), "Characters of one to four bytes are one unit each."),
@@ -87,6 +90,7 @@ def messages():
         ("delete-to", "abc\nde", ch("", 0, 1, 99), "A deletion to a character past the end keeps the line end."),
         ("start", "ab\ncd", ch("X", 0, 9, 1, 1), "A range that starts past the end of its line joins that line with what is left."),
         ("both", "ab\ncd", ch("X", 0, 7, 9), "A range both of whose ends lie past the end is empty."),
+        ("lines", "abc\ndef\nghi", ch("X", 0, 1, 99, 1), "A range over lines to a character past the end keeps the last line end."),
         ("last-line", "ab\ncd", ch("X", 1, 9), "Past the end of the last line is the end of the text."),
         ("empty-line", "a\n\nb", ch("X", 1, 5), "Each character of an empty line is its start."),
         ("empty-text", "", ch("X", 0, 5), "The one line of an empty text is empty."),
@@ -152,16 +156,22 @@ def messages():
 
     # What a text may have
     for name, text, change, about in [
-        ("bom", "\ufeffab", ch("X", 0, 1), "A byte order mark in a text is a character like others."),
+        ("bom", "\ufeffab", ch("X", 0, 2), "A byte order mark in a text is a character like others."),
         ("bom-inserted", "ab", ch("\ufeff", 0, 0), "It may be inserted, and it stays."),
         ("nul", "a\0b", ch("X", 0, 2), "NUL is a character like others."),
         ("control", "a\x01\x1b\x7fb", ch("X", 0, 4), "So are control characters."),
         ("quotes", 'a"\\b', ch('"\\', 0, 3), "Quotes and backslashes are escaped in JSON, and are one unit each."),
-        ("noncharacter", "\ufdd0b", ch("X", 0, 1), "A noncharacter of Unicode is kept."),
+        ("noncharacter", "\ufdd0ab", ch("X", 0, 2), "A noncharacter of Unicode is kept."),
         ("bidi", "\u202eabc", ch("X", 0, 2), "Marks of direction don't reorder positions."),
         ("no-final-line-end", "a\nb", ch("X", 0, 1), "A text that ends in no line end doesn't get one."),
         ("kept-crlf", "a\r\nb\r\n", ch("X", 0, 1), "Line ends outside the range stay as they are."),
         ("composed", "é", ch("e\u0301", 0, 0), "Texts aren't normalised: composed and decomposed letters stay as sent."),
+        ("blanks", "a\nb", ch("  ", 0, 1), "Inserted blanks stay, also at a line's end."),
+        ("crlf-inserted", "a\nb", ch("\r\n", 0, 1), "A CRLF that is inserted among LFs stays as it was sent."),
+        ("lf-inserted", "a\r\nb", ch("\n", 1, 1), "So does an LF among CRLFs."),
+        ("final-line-ends", "a\n\n\n", ch("X", 0, 1), "Line ends at the end of a text stay."),
+        ("patterns", "ab", ch("$& $1 \\1 \\g<0> %s {0}", 0, 1), "What a function that replaces or formats takes for a pattern is text."),
+        ("escapes", "ab", ch("\\n\\u0041&amp;%41", 0, 1), "What looks like an escape, once JSON is read, is text."),
     ]:
         one("contents/" + name, about, EVENT, text, change)
 
@@ -172,6 +182,7 @@ def messages():
         ("descending", "abc", [ch("3", 0, 2, 3), ch("1", 0, 0, 1)], "Changes from the last to the first, as many editors send them."),
         ("undo", "abc", [ch("", 0, 1, 2), ch("b", 0, 1)], "A change and its undoing in one message."),
         ("same-place", "ab", [ch("1", 0, 1), ch("2", 0, 2), ch("3", 0, 3)], "Typing in one message."),
+        ("twice", "ab", [ch("X", 0, 1), ch("X", 0, 1)], "Two changes that are alike are two changes."),
         ("grow-lines", "a", [ch("\n\n", 0, 1), ch("X", 2, 0)], "A line that the first change made is there for the second."),
         ("shrink-lines", "a\nb\nc", [ch("", 0, 1, 1, 1), ch("X", 1, 0)], "A line that the first change took away isn't counted any more."),
         ("longer-line", "ab", [ch("cdef", 0, 2), ch("X", 0, 6)], "The length of a line is that of the current text."),
@@ -225,6 +236,9 @@ def text_edits():
     edits("insert-before-replace", "An insertion at the start of a later replacement comes before it.", "abc", ("1", 0, 1), ("2", 0, 1, 2))
     edits("insert-at-end", "An insertion at the end of a replacement comes after it.", "abc", ("1", 0, 1, 2), ("2", 0, 2))
     edits("touch", "Edits that touch don't overlap.", "abcd", ("1", 0, 0, 2), ("2", 0, 2, 4))
+    edits("insertion-after", "An insertion at the end of a replacement comes after it, wherever it is in the list.", "abc", ("Y", 0, 2), ("X", 0, 1, 2))
+    edits("clamped-ties", "Two insertions past a line's end are at one place, and keep their order.", "ab\ncd", ("1", 0, 9), ("2", 0, 2), ("3", 0, 5))
+    edits("clamped-touch", "A deletion to past the line's end and an insertion there touch.", "ab\ncd", ("", 0, 1, 9), ("X", 0, 5))
     edits("lines", "Line ends that an edit inserts don't move the others.", "a\nb\nc", ("1\n\n", 0, 0), ("X", 2, 0, 1))
     edits("delete-lines", "Nor do those that an edit deletes.", "a\nb\nc", ("", 0, 0, 0, 1), ("X", 2, 0, 1))
     edits("astral", "Positions count units of the old text.", "😀b😀d", ("", 0, 0, 2), ("X", 0, 3, 5))
@@ -235,6 +249,8 @@ def text_edits():
     edits("import", "A code action's edits: an import on top, and a use below.", "x\ny\n", ("import z\n", 0, 0), ("z.y", 1, 0, 1))
     edits("utf8", "Positions in bytes.", "éa", ("X", 0, 2, 3), ("Y", 0, 0), encoding="utf-8")
     edits("utf32", "Positions in characters.", "😀a", ("X", 0, 1, 2), ("Y", 0, 0), encoding="utf-32")
+    edits("line-ten", "Lines are compared as numbers: 10 is after 2.", "".join(f"{line}\n" for line in range(12)), ("X\n", 2, 0), ("Y", 10, 0))
+    edits("character-ten", "So are characters.", "abcdefghijkl", ("XX", 0, 2), ("Y", 0, 10))
     edits("overlap", "Edits that overlap are against the standard: both are named here.", "abcd", ("1", 0, 0, 2), ("2", 0, 1, 3), standard="open")
     edits("overlap-unsorted", "The one with the lower start is named first.", "abcd", ("1", 0, 1, 3), ("2", 0, 0, 2), standard="open")
     edits("inside-another", "An insertion inside a replaced range overlaps it.", "abcd", ("1", 0, 0, 3), ("2", 0, 1), standard="open")
@@ -246,17 +262,31 @@ def text_edits():
 def sessions():
     def session(name, about, section, *rows, standard="says", encoding="utf-16"):
         put("session/" + name, about, section, standard, encoding=encoding, messages=[{"method": "textDocument/" + m, "params": p} for m, p in rows])
-    opened = lambda text, version=1, uri="a": ("didOpen", {"textDocument": {"uri": "file:///" + uri, "languageId": "plaintext", "version": version, "text": text}})
-    changed = lambda version, *changes, uri="a": ("didChange", {"textDocument": {"uri": "file:///" + uri, "version": version}, "contentChanges": list(changes)})
+    opened = lambda text, version=1, uri="a", scheme="file:///": (
+        "didOpen", {"textDocument": {"uri": scheme + uri, "languageId": "plaintext", "version": version, "text": text}})
+    changed = lambda version, *changes, uri="a", scheme="file:///": (
+        "didChange", {"textDocument": {"uri": scheme + uri, "version": version}, "contentChanges": list(changes)})
     closed = lambda uri="a": ("didClose", {"textDocument": {"uri": "file:///" + uri}})
     session("open", "An opened document has the text and the version that came.", OPEN, opened("a\nb", 7))
     session("typing", "Each message counts in the text that the one before left.", CHANGE, opened(""), changed(2, ch("a", 0, 0)), changed(3, ch("b", 0, 1)), changed(4, ch("\n", 0, 2)), changed(5, ch("c", 1, 0)))
     session("skip", "Versions increase, and needn't be consecutive.", VERSION, opened("a"), changed(5, ch("b", 0, 1)), changed(9, ch("c", 0, 2)))
     session("from-zero", "A version may be 0.", VERSION, opened("a", 0), changed(1, ch("b", 0, 1)))
     session("negative", "Versions are integers, also negative ones.", VERSION, opened("a", -3), changed(-2, ch("b", 0, 1)))
+    session("zero", "An opened document may have the version 0.", VERSION, opened("a", 0))
+    session("to-zero", "A change may have the version 0.", VERSION, opened("a", -1), changed(0, ch("b", 0, 1)))
+    session("ten", "Versions are compared as numbers: 10 is greater than 9.", VERSION, opened("a", 9), changed(10, ch("b", 0, 1)))
+    session("greatest", "The greatest integer is a version.", VERSION, opened("a", 2147483646), changed(2147483647, ch("b", 0, 1)))
+    session("least", "So is the least one.", VERSION, opened("a", -2147483648), changed(-2147483647, ch("b", 0, 1)))
     session("no-changes", "A message without changes sets the version.", CHANGE, opened("a"), changed(2), changed(3, ch("b", 0, 1)))
+    session("no-changes-last", "So it does where no other message follows.", CHANGE, opened("a"), changed(2))
     session("two", "Documents are apart.", OPEN, opened("a"), opened("x", uri="b"), changed(2, ch("b", 0, 1)), changed(2, ch("y", 0, 1), uri="b"))
+    session("alternate", "So are their lines, where changes alternate.", OPEN, opened("a\nb"), opened("x", uri="b"), changed(2, ch("c", 1, 1)), changed(2, ch("y", 0, 1), uri="b"), changed(3, ch("d", 1, 2)))
+    session("bom", "A byte order mark of an opened text is a character of it.", OPEN, opened("\ufeffab"), changed(2, ch("X", 0, 1)))
+    session("bom-whole", "So is one of a whole text.", EVENT, opened("a"), changed(2, ch("\ufeffab")), changed(3, ch("X", 0, 2)))
+    session("line-ends", "Line ends of an opened text stay as they came.", OPEN, opened("a\r\nb\rc\n"), changed(2, ch("X", 2, 0)))
     session("close", "A closed document isn't open any more.", CLOSE, opened("a"), opened("x", uri="b"), closed())
+    session("schemes", "URIs of other schemes, queries and fragments name other documents.", OPEN, opened("a"), opened("b", scheme="git:/", uri="a?1"),
+            opened("c", scheme="git:/", uri="a?2"), opened("d", scheme="cell:/", uri="a#1"), changed(2, ch("X", 0, 1), scheme="git:/", uri="a?1"), closed())
     session("open-again", "A document may be opened again, with a lower version.", OPEN, opened("a", 5), closed(), opened("b", 1), changed(2, ch("c", 0, 1)))
     session("cr-lf-later", "A CR and an LF that come in two messages end one line.", EOL, opened("a"), changed(2, ch("\r", 0, 1)), changed(3, ch("\n", 1, 0)), changed(4, ch("b", 1, 0)))
     session("whole-then-range", "A whole text, and then a range in it.", CHANGE, opened("a\nb"), changed(2, ch("x\ny\nz")), changed(3, ch("!", 2, 1)))
@@ -289,21 +319,25 @@ def frames():
     frame("type", "Content-Type may name the charset.", head("{}") + "Content-Type: application/vscode-jsonrpc; charset=utf-8\r\n\r\n{}")
     frame("type-utf8", "utf8 is taken for utf-8, for old implementations.", head("{}") + "Content-Type: application/vscode-jsonrpc; charset=utf8\r\n\r\n{}", "open")
     frame("type-first", "The header fields come in any order.", "Content-Type: application/vscode-jsonrpc; charset=utf-8\r\n" + head("{}") + "\r\n{}")
+    frame("length-in-type", "A parameter of the type isn't the length, whatever it looks like.", 'Content-Type: application/vscode-jsonrpc; charset=utf-8; note="Content-Length: 1"\r\n' + head("{}") + "\r\n{}")
     frame("names", "Names of header fields have no case.", "content-length: 2\r\n\r\n{}CONTENT-LENGTH: 2\r\n\r\n[]")
     frame("cut-header", "A part of a header at the end of the stream is no frame yet.", framed("{}") + "Content-Le")
     frame("cut-body", "A part of a body at the end of the stream is no frame yet.", framed("{}") + "Content-Length: 9\r\n\r\n{}")
     frame("hundred", "A hundred frames.", framed("[1]") * 100)
+    frame("long", "A body may be longer than what is read at once.", framed('"' + 5000 * "x" + '"') + framed("{}"))
     frame("no-blank", "No blank after the colon.", "Content-Length:2\r\n\r\n{}", "open")
     frame("zeroes", "A length with leading zeroes.", "Content-Length: 0002\r\n\r\n{}", "open")
     frame("lf", "Lines that end in LF alone.", "Content-Length: 2\n\n{}", "open")
     frame("no-length", "A header without a length.", "Content-Type: application/vscode-jsonrpc\r\n\r\n{}", "open")
     frame("empty-header", "A header without fields.", framed("{}") + "\r\n\r\n{}", "open")
     frame("twice", "Two lengths that are equal.", "Content-Length: 2\r\nContent-Length: 2\r\n\r\n{}", "open")
+    frame("two-lengths", "Two lengths that differ.", "Content-Length: 2\r\nContent-Length: 4\r\n\r\n{}[]", "open")
     frame("negative", "A negative length.", "Content-Length: -2\r\n\r\n{}", "open")
     frame("words", "A length that is no number.", "Content-Length: two\r\n\r\n{}", "open")
     frame("too-long", "A length above the default limit of 16 MiB.", "Content-Length: 16777217\r\n\r\n{}", "open")
     frame("charset", "Another charset.", head("{}") + "Content-Type: application/vscode-jsonrpc; charset=latin-1\r\n\r\n{}", "open")
     frame("other-field", "A field that the protocol doesn't name.", "X-Trace: 1\r\n" + head("{}") + "\r\n{}", "open")
+    frame("almost-length", "Fields whose names end, or begin, as that of the length.", "X-Content-Length: 9\r\n" + head("{}") + "Content-Length-X: 7\r\n\r\n{}", "open")
     frame("log-line", "Text of a log among the frames.", framed("{}") + "starting up\r\n" + framed("{}"), "open")
 
 

@@ -1,8 +1,11 @@
 """Text synchronisation as LSP 3.17 says it, in plain Python, and the mistakes that implementations make.
 
 It was written from the standard's words and this project's choices, not from its code. `Plain()` answers each vector;
-`Plain("code-points")` makes one mistake, which `test` expects a named case to find. MISTAKES has them all."""
+`Plain("code-points")` makes one mistake, which `test` expects a named case to find. MISTAKES has them all. It can be asked as a
+program too: ask.py python3 plain.py [MISTAKE]"""
+import json
 import re
+import sys
 
 WIDTHS = {"utf-8": lambda c: len(c.encode("utf-8", "surrogatepass")), "utf-16": lambda c: 1 + (c > "\uffff"), "utf-32": lambda c: 1}
 
@@ -10,6 +13,7 @@ MISTAKES = {
     "code-points": "a character counts as one unit, whatever the encoding",
     "only-utf-16": "UTF-16 units are counted, whatever was negotiated",
     "graphemes": "a combining mark or a joiner counts as nothing",
+    "bmp-end": "U+FFFF counts two units",
     "splitlines": "U+2028, U+2029, U+0085, VT, FF, FS, GS and RS end lines, as in Python's str.splitlines",
     "no-lone-cr": "a CR alone ends no line",
     "crlf-is-two": "a CRLF ends two lines",
@@ -27,6 +31,11 @@ MISTAKES = {
     "whole-refused": "a whole text among ranges is refused",
     "range-length-refused": "a change with a rangeLength is refused",
     "drop-bom": "a byte order mark at the start of a text is dropped",
+    "open-bom": "a byte order mark is dropped where a document is opened",
+    "strip-inserted": "blanks around an inserted text are dropped",
+    "own-line-ends": "inserted line ends become the first one of the document",
+    "template": "an inserted text is taken for a template of a replace function",
+    "no-twins": "a change that is like the one before is dropped",
     "cut-at-nul": "a text ends at a NUL",
     "normalise": "CRLF and CR become LF",
     "final-line-end": "a text that ends in no line end gets one",
@@ -34,15 +43,29 @@ MISTAKES = {
     "edits-ties": "insertions at one position come in the reverse order",
     "edits-unsorted": "text edits that come unsorted are refused",
     "edits-touch": "text edits that touch are refused as overlapping",
+    "edits-as-words": "positions of text edits are sorted as words: 10 is before 2",
+    "edits-unclamped": "text edits are sorted by their numbers, also past a line's end",
     "consecutive": "a version has to be the one after the current one",
     "keep-closed": "a document that is closed stays open",
     "one-document": "all documents share one text",
+    "paths": "a document is known by the path of its URI",
     "old-version": "the version of a document stays the one that it was opened with",
+    "no-zero": "the version 0 counts as a missing one",
+    "versions-as-words": "versions are compared as words: 10 is less than 9",
+    "unsigned": "versions are compared as numbers without a sign",
+    "idle-version": "a message without changes leaves the version",
+    "versions-after-close": "a document that is opened again needs a greater version",
     "length-in-characters": "Content-Length counts characters of the body",
     "case-of-names": "header names are compared with their case",
     "one-header": "a header has one field",
     "trim-body": "blanks and line ends around a body are dropped",
-    "one-frame": "a read has one frame",
+    "length-anywhere": "the length is whatever follows Content-Length: somewhere in the header",
+    "one-frame": "a read has one frame, and the rest of it is lost",
+    "whole-reads": "a frame that comes in two reads is lost",
+    "whole-headers": "a header that comes in two reads is lost",
+    "two-reads": "a body's rest is in the next read",
+    "texts-of-reads": "each read is decoded by itself, also where it ends inside a character",
+    "small-buffer": "a body has at most 4,096 bytes",
 }
 
 
@@ -65,6 +88,8 @@ class Plain:
             return 0
         if self.mistake == "code-points":
             return 1
+        if self.mistake == "bmp-end" and character == "\uffff" and encoding == "utf-16":
+            return 2
         return WIDTHS["utf-16" if self.mistake == "only-utf-16" else encoding](character)
 
     def lines(self, text):
@@ -127,7 +152,9 @@ class Plain:
         if self.mistake in ("last-change", "first-change"):
             changes = changes[-1:] if self.mistake == "last-change" else changes[:1]
         for number, change in enumerate(changes):
-            new, range_ = change["text"], change.get("range")
+            if self.mistake == "no-twins" and number and change == changes[number - 1]:
+                continue
+            new, range_ = self.inserted(change["text"], text), change.get("range")
             if range_ is None:
                 if self.mistake == "whole-refused" and len(changes) > 1:
                     raise Refused("whole")
@@ -138,18 +165,31 @@ class Plain:
             start, end = self.ends(old if self.mistake == "old-text" else text, encoding, range_, number, lines=lines)
             if self.mistake == "range-length-refused" and "rangeLength" in change:
                 raise Refused("range-length")
-            if lines:  # as an array of line starts that is patched: what is before and after the change stays
-                line = [sum(a <= at for a, _ in lines) - 1 for at in (start, end)]
-                inner = [(start + a, start + b) for a, b in self.lines(new)]
-                by = len(new) - (end - start)
-                tail = [(a + by, b + by) for a, b in lines[line[1] + 1:]]
-                first, last = lines[line[0]][0], lines[line[1]][1] + by
-                inner[0] = (first, inner[0][1])
-                inner[-1] = (inner[-1][0], last)
-                lines = lines[:line[0]] + inner + tail
+            lines = lines and self.patched(lines, start, end, new)
             text = text[:start] + new + text[end:]
             kept[start:end] = [None] * len(new)
         return self.stored(text), kept
+
+    def patched(self, lines, start, end, new):
+        """An array of line starts that is patched: what is before and after the change stays."""
+        line = [sum(a <= at for a, _ in lines) - 1 for at in (start, end)]
+        inner = [(start + a, start + b) for a, b in self.lines(new)]
+        by = len(new) - (end - start)
+        tail = [(a + by, b + by) for a, b in lines[line[1] + 1:]]
+        first, last = lines[line[0]][0], lines[line[1]][1] + by
+        inner[0] = (first, inner[0][1])
+        inner[-1] = (inner[-1][0], last)
+        return lines[:line[0]] + inner + tail
+
+    def inserted(self, new, text):
+        """What a change puts in."""
+        if self.mistake == "strip-inserted":
+            return new.strip(" ")
+        if self.mistake == "own-line-ends" and (end := re.search("\r\n|\r|\n", text)):
+            return re.sub("\r\n|\r|\n", end.group(), new)
+        if self.mistake == "template":
+            return re.sub("\\\\[1-9]|\\\\g<0>", "", new)
+        return new
 
     def stored(self, text):
         if self.mistake == "drop-bom":
@@ -188,7 +228,10 @@ class Plain:
             return self.message(text, encoding, [{"range": e["range"], "text": e["newText"]} for e in edits])
         self.valid([{"range": e["range"]} for e in edits])
         placed = [(*self.ends(text, encoding, e["range"], n, "edit"), n, e["newText"]) for n, e in enumerate(edits)]
-        ordered = sorted(placed, key=lambda p: (p[0], -p[2] if self.mistake == "edits-ties" else p[2]))
+        as_words = lambda p: [str(edits[p[2]]["range"]["start"][part]) for part in ("line", "character")]
+        in_order = lambda p: (p[0], -p[2] if self.mistake == "edits-ties" else p[2])
+        as_numbers = lambda p: [edits[p[2]]["range"]["start"][part] for part in ("line", "character")]
+        ordered = sorted(placed, key={"edits-as-words": as_words, "edits-unclamped": as_numbers}.get(self.mistake, in_order))
         if self.mistake == "edits-unsorted" and ordered != placed:
             raise Refused("unsorted")
         for (_, stop, first, _), (start, _, second, _) in zip(ordered, ordered[1:]):
@@ -203,7 +246,7 @@ class Plain:
     # Sessions: the answers, and the open documents
 
     def session(self, encoding, messages):
-        documents, answers = {}, []
+        documents, answers, self.closed = {}, [], {}
         for message in messages:
             try:
                 self.take(documents, encoding, message["method"].split("/")[1], message["params"])
@@ -215,12 +258,16 @@ class Plain:
     def take(self, documents, encoding, method, params):
         document = params["textDocument"]
         uri, version = "file:///all" if self.mistake == "one-document" else document["uri"], document.get("version")
+        if self.mistake == "paths":
+            uri = "file:///" + re.sub("^[a-z]+:/+|[?#].*", "", uri)
         if method != "didClose" and (isinstance(version, bool) or not isinstance(version, int) or not -2 ** 31 <= version < 2 ** 31):
             raise Refused("invalid-params")
         if method == "didOpen":
             if uri in documents and self.mistake != "keep-closed":
                 raise Refused("already-open")
-            documents[uri] = (version, self.stored(document["text"]))
+            if self.mistake == "versions-after-close" and uri in self.closed and version <= self.closed[uri]:
+                raise Refused("stale-version")
+            documents[uri] = (version, self.stored(document["text"].removeprefix("\ufeff" if self.mistake == "open-bom" else "")))
             return
         if method == "didChange":
             self.valid(params["contentChanges"])
@@ -229,40 +276,78 @@ class Plain:
         held, text = documents[uri]
         if method == "didClose":
             if self.mistake != "keep-closed":
-                del documents[uri]
+                self.closed[uri] = documents.pop(uri)[0]
             return
-        if version <= held or self.mistake == "consecutive" and version != held + 1:
+        if self.mistake == "no-zero" and version == 0:
+            version = held
+        elif self.is_stale(version, held):
             raise Refused("stale-version")
         text = self.message(text, encoding, params["contentChanges"])[0]
-        documents[uri] = (held if self.mistake == "old-version" else version, text)
+        stays = self.mistake == "old-version" or self.mistake == "idle-version" and not params["contentChanges"]
+        documents[uri] = (held if stays else version, text)
 
-    # Frames of a stream whose bytes are the characters U+0000 to U+00FF
+    def is_stale(self, version, held):
+        """Whether a version isn't greater than the current one."""
+        if self.mistake == "consecutive":
+            return version != held + 1
+        if self.mistake == "versions-as-words":
+            return str(version) <= str(held)
+        if self.mistake == "unsigned":
+            return version % 2 ** 32 <= held % 2 ** 32
+        return version <= held
 
-    def bodies(self, stream):
-        """The bodies of a stream's frames, up to a header that is none. Why it is none isn't found."""
-        data, found = stream.encode("latin-1"), []
-        while True:
-            match = re.match(rb"((?:[!#-'*+\-.0-9A-Z^-z|~]+:[^\r\n]*\r\n)+)\r\n", data)
-            if not match:
-                return found
-            fields = [line.split(b":", 1) for line in match.group(1).split(b"\r\n")[:-1]]
-            if self.mistake == "one-header" and len(fields) > 1:
-                return found
-            named = lambda name: [v.strip(b" \t") for n, v in fields if n == name or self.mistake != "case-of-names" and n.lower() == name.lower()]
-            lengths, types = named(b"Content-Length"), named(b"Content-Type")
-            charset = re.search(rb"charset=\"?([^\";]*)", types[0], re.I) if types else None
-            if len(lengths) != 1 or len(types) > 1 or not re.fullmatch(rb"[0-9]+", lengths[0]) or charset and charset.group(1).lower() not in (b"utf-8", b"utf8"):
-                return found
-            length, rest = int(lengths[0]), data[match.end():]
-            if self.mistake == "length-in-characters":
-                length = len(rest.decode("utf-8", "replace")[:length].encode())
-            if length > 16777216 or len(rest) < length:
-                return found
-            body = rest[:length]
-            found.append((body.strip() if self.mistake == "trim-body" else body).decode("latin-1"))
-            data = rest[length:]
-            if self.mistake == "one-frame":
-                return found
+    # Frames of a stream, which comes in pieces. Its bytes are the characters U+0000 to U+00FF.
+
+    def bodies(self, pieces):
+        """The bodies of the frames of a stream, up to a header that is none. Why it is none isn't found."""
+        data, found, reads = b"", [], 0
+        for piece in pieces:
+            data += self.read(piece)
+            reads += 1
+            while taken := self.frame(data, reads):
+                body, data = taken
+                found.append((body.strip() if self.mistake == "trim-body" else body).decode("latin-1"))
+                reads = 1
+                if self.mistake == "one-frame":
+                    data = b""
+            if self.mistake == "whole-reads" or self.mistake == "whole-headers" and b"\r\n\r\n" not in data:
+                data = b""
+            if b"\r\n\r\n" not in data:
+                reads = 0
+        return found
+
+    def read(self, piece):
+        data = piece.encode("latin-1")
+        return data.decode("utf-8", "replace").encode() if self.mistake == "texts-of-reads" else data
+
+    def frame(self, data, reads):
+        """The body of the first frame, and what is after it; None where it isn't whole, or its header is none."""
+        match = re.match(rb"((?:[!#-'*+\-.0-9A-Z^-z|~]+:[^\r\n]*\r\n)+)\r\n", data)
+        length, rest = self.length(match.group(1)) if match else None, data[match.end():] if match else b""
+        if length is None:
+            return None
+        if self.mistake == "length-in-characters":
+            length = len(rest.decode("utf-8", "replace")[:length].encode())
+        if self.mistake == "small-buffer":
+            length = min(length, 4096)
+        if len(rest) < length and not (self.mistake == "two-reads" and reads > 1):
+            return None
+        return rest[:length], rest[length:]
+
+    def length(self, header):
+        """The length that the fields of a header give, or None."""
+        fields = [line.split(b":", 1) for line in header.split(b"\r\n")[:-1]]
+        if self.mistake == "one-header" and len(fields) > 1:
+            return None
+        if self.mistake == "length-anywhere":
+            found = re.search(rb"Content-Length: *([0-9]+)", header, re.I)
+            return int(found.group(1)) if found else None
+        is_named = lambda field, name: field == name or self.mistake != "case-of-names" and field.lower() == name.lower()
+        lengths, types = ([value.strip(b" \t") for field, value in fields if is_named(field, name)] for name in (b"Content-Length", b"Content-Type"))
+        charset = re.search(rb"charset=\"?([^\";]*)", types[0], re.I) if types else None
+        if len(lengths) != 1 or len(types) > 1 or not re.fullmatch(rb"[0-9]+", lengths[0]) or charset and charset.group(1).lower() not in (b"utf-8", b"utf8"):
+            return None
+        return int(lengths[0]) if int(lengths[0]) <= 16777216 else None
 
     # A vector
 
@@ -271,10 +356,15 @@ class Plain:
         try:
             if "messages" in case:
                 return self.session(case["encoding"], case["messages"])
-            if "bytes" in case:
-                return {"bodies": self.bodies(case["bytes"])}
+            if "pieces" in case:
+                return {"bodies": self.bodies(case["pieces"])}
             old, encoding = self.stored(case["text"]), case["encoding"]
             text, kept = self.edited(old, encoding, case["edits"]) if "edits" in case else self.message(old, encoding, case["changes"])
-            return {"text": text, "canonical": self.canonical(old, encoding, text, kept) if self.mistake is None else None}
+            return {"text": text} if self.mistake else {"text": text, "canonical": self.canonical(old, encoding, text, kept)}
         except Refused as why:
             return why.expect
+
+
+if __name__ == "__main__":
+    for line in sys.stdin.buffer:
+        print(json.dumps(Plain(*sys.argv[1:2]).answer(json.loads(line))), flush=True)

@@ -1,43 +1,100 @@
-// Asks a library the vectors of single messages, and counts the right answers by group: node run.js [FILE]
-// `library` is what is asked: put a function of yours there. It gets a vector and returns the text that is left, throws where yours
-// refuses, and returns null if it can't be asked. Status 1 says that it differs where LSP 3.17 decides.
+// Answers the vectors by laspidru, for ask.py: a vector on each line of standard input, and a line of JSON for it.
+//
+// Copy this file, and replace `answer` by what asks your library. LASPIDRU_ADDON names the addon, if it isn't in bindings/node.
 'use strict';
-const fs = require('fs');
-const path = require('path');
+const readline = require('readline');
+const { FrameFault, Framer, Server, TextDocument } = require('../bindings/node');
 
-/** Loads the binding once: that it isn't there is no answer to a vector. */
-function laspidru() {
-  const { TextDocument } = require('../bindings/node');
-  return ({ encoding, text, changes }) => {
-    if (encoding !== 'utf-16') return null;
-    const document = TextDocument.create('file:///a', 'plaintext', 1, text);
-    return TextDocument.update(document, changes, 2).getText();
-  };
+const REFUSALS = {
+  INSIDE_CHARACTER: 'inside-character',
+  REVERSED_RANGE: 'reversed-range',
+  OVERLAP: 'overlap',
+  OUT_OF_RANGE: 'invalid-params',
+  INVALID_PARAMS: 'invalid-params',
+  ALREADY_OPEN: 'already-open',
+  NOT_OPEN: 'not-open',
+  STALE_VERSION: 'stale-version',
+};
+const FAULTS = ['bad-header', 'header-too-long', 'missing-length', 'repeated-header', 'bad-length', 'body-too-long', 'bad-charset'];
+const URI = 'file:///a';
+
+/** A refusal of the library, and no other error. */
+function refused(fault) {
+  const word = REFUSALS[fault.code];
+  if (!word) throw fault;
+  const { change, edit, other, atEnd } = fault;
+  const end = word === 'inside-character' && atEnd !== undefined ? { end: atEnd ? 'end' : 'start' } : {};
+  return { refused: word, ...(word === 'invalid-params' ? {} : { change, edit, other, ...end }) };
 }
 
-const library = laspidru(); // the line to replace
+const bytesOf = (message) => Buffer.from(JSON.stringify({ jsonrpc: '2.0', ...message }));
 
-function verdict(vector) {
-  let text;
+function serverOf(encoding) {
+  const server = new Server({ encoding, isFixed: true });
+  server.handle(bytesOf({ id: 1, method: 'initialize', params: { capabilities: {} } }));
+  return server;
+}
+
+/** The word for what a server did with a message. */
+function wordOf({ kind, reason }) {
+  return kind === 'refused' ? REFUSALS[reason] : kind;
+}
+
+/** `TextDocument` counts UTF-16. Other units are counted by a server. */
+function leftByServer({ encoding, text, changes, edits }) {
+  const server = serverOf(encoding);
+  server.handle(bytesOf({ method: 'textDocument/didOpen', params: { textDocument: { uri: URI, languageId: 'a', version: 1, text } } }));
+  const contentChanges = edits ? server.batchOfEdits(URI, edits) : changes;
+  const event = server.handle(bytesOf({ method: 'textDocument/didChange', params: { textDocument: { uri: URI, version: 2 }, contentChanges } }));
+  return event.kind === 'changed' ? { text: server.text(URI) } : { refused: wordOf(event) };
+}
+
+function textLeft(vector) {
+  if (vector.encoding !== 'utf-16') return leftByServer(vector);
+  const document = TextDocument.create(URI, 'a', 1, vector.text);
+  const canonical = vector.edits ? TextDocument.batchOfEdits(document, vector.edits) : TextDocument.canonical(document, vector.changes);
+  const text = vector.edits ? TextDocument.applyEdits(document, vector.edits) : TextDocument.update(document, vector.changes, 2).getText();
+  return { text, canonical };
+}
+
+function session(encoding, messages) {
+  const server = serverOf(encoding);
+  const answers = messages.map((message) => wordOf(server.handle(bytesOf(message))));
+  const uris = [...new Set(messages.map(({ params }) => params.textDocument.uri))];
+  const open = uris.filter((uri) => server.version(uri) !== undefined);
+  return { answers, documents: open.map((uri) => ({ uri, version: server.version(uri), text: server.text(uri) })) };
+}
+
+function frames(pieces) {
+  const framer = new Framer();
+  const bodies = [];
+  const write = (found) => bodies.push(...found.map((body) => body.toString('latin1')));
   try {
-    text = library(vector);
+    for (const piece of pieces) write(framer.receive(Buffer.from(piece, 'latin1')));
+    return { bodies, fault: null };
   } catch (fault) {
-    text = undefined;
+    if (!(fault instanceof FrameFault)) throw fault;
+    write(fault.events);
+    return { bodies, fault: { why: FAULTS[fault.frame - 1], offset: fault.place } };
   }
-  if (text === null) return 'not asked';
-  return text === vector.expect.text ? 'right' : vector.standard === 'says' ? 'WRONG' : 'other';
 }
 
-const file = process.argv[2] || path.join(__dirname, 'vectors.jsonl');
-const counts = {};
-for (const line of fs.readFileSync(file, 'utf8').split('\n').slice(0, -1)) {
-  const vector = JSON.parse(line);
-  const found = verdict(vector);
-  const group = (counts[vector.name.split('/')[0]] ||= {});
-  group[found] = (group[found] || 0) + 1;
-  if (found === 'WRONG') {
-    console.log(`${vector.name}: ${vector.about || ''}`);
-    process.exitCode = 1;
+function answer(vector) {
+  if (vector.messages) return session(vector.encoding, vector.messages);
+  if (vector.pieces) return frames(vector.pieces);
+  try {
+    return textLeft(vector);
+  } catch (fault) {
+    return refused(fault);
   }
 }
-for (const [group, found] of Object.entries(counts)) console.log(group.padEnd(16), JSON.stringify(found));
+
+readline.createInterface({ input: process.stdin }).on('line', (line) => {
+  let found;
+  try {
+    found = answer(JSON.parse(line));
+  } catch (fault) {
+    found = { error: String(fault) };
+  }
+  console.log(JSON.stringify(found));
+});

@@ -1,52 +1,85 @@
-#!/usr/bin/env python3
-"""Asks a library the vectors, and counts the right answers by group: run.py [FILE ..], by default all four files.
+"""Answers the vectors by laspidru, for ask.py: a vector on each line of standard input, and a line of JSON for it.
 
-`LIBRARY` is what is asked: put a function of yours there. It gets a vector and returns what came of it, as the member `expect` has it:
-{"text": ..} of a message or of text edits, {"documents": [..]} of a session, {"bodies": [..]} of a stream; {"refused": ..} where your
-library refuses; None if it can't be asked. More members of `expect` may be there. Status 1: it differs where LSP 3.17 decides."""
-import collections
+Copy this file, and replace `answer` by what asks your library. LASPIDRU_LIBRARY names the shared library that `make library` builds."""
 import json
 import os
 import sys
 
-HERE = os.path.dirname(os.path.abspath(__file__))
-FILES = [os.path.join(HERE, name) for name in ("vectors.jsonl", "edits.jsonl", "sessions.jsonl", "frames.jsonl")]
+sys.path.insert(0, os.path.join(os.path.dirname(os.path.realpath(__file__)), "..", "bindings", "python"))
+import laspidru  # noqa: E402
+
+REFUSALS = {laspidru.INSIDE_CHARACTER: "inside-character", laspidru.REVERSED_RANGE: "reversed-range", laspidru.OVERLAP: "overlap",
+            laspidru.OUT_OF_RANGE: "invalid-params"}
+WORDS = {"M4": "invalid-params", "S1": "already-open", "S4": "not-open", "S5": "stale-version", "E1": "inside-character", "E2": "reversed-range"}
+FAULTS = ("bad-header", "header-too-long", "missing-length", "repeated-header", "bad-length", "body-too-long", "bad-charset")
 
 
-def laspidru(vector):
-    import with_laspidru
-    return with_laspidru.answer(vector)
+def refused(fault):
+    """A refusal of the library, and no other error."""
+    if fault.code not in REFUSALS:
+        raise fault
+    found = {"refused": REFUSALS[fault.code]}
+    for name in ("change", "edit", "other"):
+        if getattr(fault, name, None) is not None:
+            found[name] = getattr(fault, name)
+    if fault.code == laspidru.INSIDE_CHARACTER:
+        found["end"] = "end" if fault.at_end else "start"
+    return found
 
 
-LIBRARY = laspidru  # the line to replace
+def text_left(vector):
+    document = laspidru.Document(vector["text"], vector["encoding"])
+    try:
+        if "edits" in vector:
+            canonical = document.batch_of_edits(vector["edits"])
+            document.apply_edits(vector["edits"])
+        else:
+            canonical = document.canonical(vector["changes"])
+            document.change(vector["changes"])
+    except laspidru.LaspidruError as fault:
+        return refused(fault)
+    return {"text": document.text, "canonical": canonical}
 
 
-def is_right(expect, got):
-    """Compares the members that both have, among which is the result; a refusal is one for whatever reason."""
-    if "refused" in expect or "refused" in got:
-        return "refused" in expect and "refused" in got
-    needed = {"text", "documents", "bodies"} & expect.keys()
-    return all(got.get(name) == expect[name] for name in expect if name in needed or got.get(name) is not None)
+def framed(value):
+    body = json.dumps({"jsonrpc": "2.0", **value}).encode()
+    return b"Content-Length: %d\r\n\r\n%s" % (len(body), body)
 
 
-def run(library, files=(), say=print):
-    """Returns the names of the vectors that are wrong."""
-    counts, wrong = collections.defaultdict(collections.Counter), []
-    for vector in (json.loads(line) for file in files or FILES for line in open(file, encoding="utf-8", newline="\n")):
-        got = library(vector)
-        differs = "WRONG" if vector["standard"] == "says" else "other"
-        found = "not asked" if got is None else "right" if is_right(vector["expect"], got) else differs
-        counts[vector["name"].split("/")[0]][found] += 1
-        if found == "WRONG":
-            wrong.append(vector["name"])
-            say(f"{vector['name']}: {vector.get('about', '')}")
-    for group, found in counts.items():
-        say(f"{group:16}" + ", ".join(f"{count} {word}" for word, count in sorted(found.items())))
-    return wrong
+def session(encoding, messages):
+    log = framed({"id": 1, "method": "initialize", "params": {"capabilities": {}}}) + b"".join(map(framed, messages))
+    answers = [line.split(" ")[-1] for line in laspidru.check(log, encoding=encoding).output.decode().splitlines()[1:]]
+    documents = map(json.loads, laspidru.replay(log, encoding=encoding).output.decode().split("\n")[:-1])
+    return {"answers": [WORDS.get(word, word) for word in answers],
+            "documents": [{name: document[name] for name in ("text", "uri", "version")} for document in documents]}
+
+
+def frames(pieces):
+    framer, bodies, fault = laspidru.Framer(), [], None
+    for piece in pieces:
+        try:
+            bodies += framer.receive(piece.encode("latin-1"))
+        except laspidru.FrameFault as found:
+            bodies += found.events
+            fault = {"offset": found.place, "why": FAULTS[found.frame - 1]}
+            break
+    return {"bodies": [body.decode("latin-1") for body in bodies], "fault": fault}
+
+
+def answer(vector):
+    if "messages" in vector:
+        return session(vector["encoding"], vector["messages"])
+    return frames(vector["pieces"]) if "pieces" in vector else text_left(vector)
+
+
+def main():
+    for line in sys.stdin:
+        try:
+            found = answer(json.loads(line))
+        except Exception as fault:
+            found = {"error": repr(fault)}
+        print(json.dumps(found), flush=True)
 
 
 if __name__ == "__main__":
-    if "--help" in sys.argv[1:]:
-        print(__doc__)
-        sys.exit(0)
-    sys.exit(1 if run(LIBRARY, sys.argv[1:]) else 0)
+    main()

@@ -1,53 +1,131 @@
-//! Asks a library the vectors of single messages: ./lines.py | cargo run --example conformance, with this file as an example of your
-//! crate, named conformance.rs. `library` is what is asked: put a function of yours there. It returns the text that is left, or None
-//! where yours refuses. Status 1: it differs where LSP 3.17 decides. lines.py writes plain lines, so no crate that reads JSON is needed.
-use std::collections::BTreeMap;
+//! Answers the vectors by laspidru, for ask.py: a vector on each line of standard input, and a line of JSON for it.
+//!
+//! Copy this file, and replace `answer` by what asks your library. As an example of your crate, `examples/vectors.rs`, it is run by
+//! `ask.py cargo run -q --example vectors`. It needs `serde_json`.
+use laspidru::framer::{FrameError, Framer};
+use laspidru::server::{Answer, EncodingChoice, Refusal, Server, Settings};
+use laspidru::{Change, Document, Encoding, Error, Position, Range, TextEdit};
+use serde_json::{json, Value};
+use std::collections::BTreeSet;
+use std::io::{stdin, stdout, Write};
 
-/// The range of a change, if it has one (start and end, line and character), and its text.
-type Change = (Option<[(u32, u32); 2]>, String);
+type Result<T> = std::result::Result<T, Box<dyn std::error::Error>>;
 
-fn laspidru(text: &str, encoding: &str, changes: &[Change]) -> Option<String> {
-    use laspidru::{Change, Document, Encoding, Position, Range};
-    let position = |(line, character)| Position { line, character };
-    let range = |[start, end]: [(u32, u32); 2]| Range { start: position(start), end: position(end) };
-    let changes: Vec<_> = changes.iter().map(|(ends, text)| Change { range: ends.map(range), text: text.clone() }).collect();
-    let units = match encoding { "utf-8" => Encoding::Utf8, "utf-16" => Encoding::Utf16, _ => Encoding::Utf32 };
-    let mut document = Document::new(text, units).ok()?;
-    document.change(&changes).ok()?;
-    Some(document.text().to_string())
+const FAULTS: [&str; 7] =
+    ["bad-header", "header-too-long", "missing-length", "repeated-header", "bad-length", "body-too-long", "bad-charset"];
+
+fn encoding_of(vector: &Value) -> Encoding {
+    match vector["encoding"].as_str() {
+        Some("utf-8") => Encoding::Utf8,
+        Some("utf-32") => Encoding::Utf32,
+        _ => Encoding::Utf16,
+    }
 }
 
-use laspidru as library; // the line to replace
-
-/// Undoes the escapes of lines.py.
-fn plain(text: &str) -> String {
-    text.split("\\\\").map(|part| part.replace("\\n", "\n").replace("\\r", "\r").replace("\\0", "\0")).collect::<Vec<_>>().join("\\")
+/// A position, or `None` if a number of it is no `u32`: such a vector can't be asked.
+fn position(value: &Value) -> Option<Position> {
+    let number = |name| value[name].as_u64().and_then(|number| number.try_into().ok());
+    Some(Position { line: number("line")?, character: number("character")? })
 }
 
-fn main() {
-    let (mut head, mut text, mut changes, mut counts) = (vec![], String::new(), vec![], BTreeMap::new());
-    for line in std::io::stdin().lines().map(|line| line.expect("lines.py writes UTF-8")) {
-        let (word, rest) = line.split_once(' ').unwrap_or((&line, ""));
-        match word {
-            "case" => (head, changes) = (rest.split(' ').map(String::from).collect(), vec![]),
-            "text" => text = plain(rest),
-            "change" | "whole" => {
-                let parts: Vec<&str> = rest.splitn(5, ' ').collect();
-                let at = |part: usize| parts[part].parse().expect("a number");
-                changes.push(((word == "change").then(|| [(at(0), at(1)), (at(2), at(3))]), plain(parts[4])));
-            }
-            _ => {
-                let is_right = library(&text, &head[2], &changes) == (word == "left").then(|| plain(rest));
-                let found = if is_right { "right" } else if head[1] == "says" { "WRONG" } else { "other" };
-                if found == "WRONG" {
-                    println!("{}", head[0]);
+fn range(value: &Value) -> Option<Range> {
+    Some(Range { start: position(&value["start"])?, end: position(&value["end"])? })
+}
+
+fn change(value: &Value) -> Option<Change> {
+    let found = if value["range"].is_null() { None } else { Some(range(&value["range"])?) };
+    Some(Change { range: found, text: value["text"].as_str()?.into() })
+}
+
+fn edit(value: &Value) -> Option<TextEdit> {
+    Some(TextEdit { range: range(&value["range"])?, new_text: value["newText"].as_str()?.into() })
+}
+
+fn all<T>(values: &Value, read: fn(&Value) -> Option<T>) -> Option<Vec<T>> {
+    values.as_array()?.iter().map(read).collect()
+}
+
+/// A refusal of the library, and no other error.
+fn refused(error: Error) -> Result<Value> {
+    let end = |at_end| if at_end { "end" } else { "start" };
+    Ok(match error {
+        Error::InsideCharacter { change, at_end } => json!({"refused": "inside-character", "change": change, "end": end(at_end)}),
+        Error::ReversedRange { change } => json!({"refused": "reversed-range", "change": change}),
+        Error::EditInsideCharacter { edit, at_end } => json!({"refused": "inside-character", "edit": edit, "end": end(at_end)}),
+        Error::EditReversedRange { edit } => json!({"refused": "reversed-range", "edit": edit}),
+        Error::Overlap { first, second } => json!({"refused": "overlap", "edit": first, "other": second}),
+        error => return Err(error.into()),
+    })
+}
+
+fn text_left(vector: &Value) -> Result<Value> {
+    let mut document = Document::new(vector["text"].as_str().ok_or("no text")?, encoding_of(vector))?;
+    let done = if vector["edits"].is_array() {
+        let Some(edits) = all(&vector["edits"], edit) else { return Ok(Value::Null) };
+        document.apply_edits(&edits)
+    } else {
+        let Some(changes) = all(&vector["changes"], change) else { return Ok(Value::Null) };
+        document.change(&changes)
+    };
+    done.map_or_else(refused, |()| Ok(json!({"text": document.text()})))
+}
+
+fn word(answer: &Answer) -> Result<&'static str> {
+    Ok(match answer {
+        Answer::Changed => "changed",
+        Answer::Refused(Refusal::InvalidParams) => "invalid-params",
+        Answer::Refused(Refusal::AlreadyOpen) => "already-open",
+        Answer::Refused(Refusal::NotOpen) => "not-open",
+        Answer::Refused(Refusal::StaleVersion) => "stale-version",
+        Answer::Refused(Refusal::InsideCharacter) => "inside-character",
+        Answer::Refused(Refusal::ReversedRange) => "reversed-range",
+        answer => return Err(format!("an unexpected answer: {answer:?}").into()),
+    })
+}
+
+fn session(vector: &Value) -> Result<Value> {
+    let mut server = Server::new(&Settings { choice: EncodingChoice::Fixed(encoding_of(vector)), ..Default::default() })?;
+    server.handle(br#"{"jsonrpc":"2.0","id":1,"method":"initialize","params":{"capabilities":{}}}"#)?;
+    let (mut answers, mut uris) = (vec![], BTreeSet::new());
+    for message in vector["messages"].as_array().ok_or("no messages")? {
+        let body = json!({"jsonrpc": "2.0", "method": message["method"], "params": message["params"]});
+        answers.push(word(&server.handle(body.to_string().as_bytes())?)?);
+        uris.extend(message["params"]["textDocument"]["uri"].as_str());
+    }
+    let document = |uri| Some(json!({"uri": uri, "version": server.version(uri)?, "text": server.text(uri)?}));
+    Ok(json!({"answers": answers, "documents": uris.into_iter().filter_map(document).collect::<Vec<_>>()}))
+}
+
+fn stream(vector: &Value) -> Result<Value> {
+    let (mut framer, mut bodies) = (Framer::new(16_777_216)?, vec![]);
+    for piece in vector["pieces"].as_array().ok_or("no pieces")? {
+        let bytes = piece.as_str().ok_or("no text")?.chars().map(u8::try_from).collect::<std::result::Result<Vec<_>, _>>()?;
+        framer.receive(&bytes);
+        for body in framer.bodies() {
+            match body {
+                Ok(body) => bodies.push(body.into_iter().map(char::from).collect::<String>()),
+                Err(FrameError::Fault { number, offset }) => {
+                    return Ok(json!({"bodies": bodies, "fault": {"why": FAULTS[number as usize - 1], "offset": offset}}));
                 }
-                *counts.entry((found, head[0].split('/').next().map(String::from))).or_insert(0) += 1;
+                Err(error) => return Err(error.into()),
             }
         }
     }
-    for ((found, group), count) in &counts {
-        println!("{:16}{count} {found}", group.as_deref().unwrap_or_default());
+    Ok(json!({"bodies": bodies, "fault": null}))
+}
+
+fn answer(vector: &Value) -> Result<Value> {
+    match vector {
+        vector if vector["messages"].is_array() => session(vector),
+        vector if vector["pieces"].is_array() => stream(vector),
+        vector => text_left(vector),
     }
-    std::process::exit(i32::from(counts.is_empty() || counts.keys().any(|(found, _)| *found == "WRONG")));
+}
+
+fn main() -> Result<()> {
+    for line in stdin().lines() {
+        let found = answer(&serde_json::from_str(&line?)?).unwrap_or_else(|error| json!({"error": error.to_string()}));
+        writeln!(stdout(), "{found}")?;
+    }
+    Ok(())
 }
