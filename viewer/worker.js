@@ -1,0 +1,134 @@
+"use strict";
+// What the page's worker does: it runs lspsync, a WebAssembly module, on a log. viewer/page puts bindings/node/program.js before this.
+
+const LONGEST_BODY = 20000, MOST_GATHERED = 1 << 18, BETWEEN_POSTS = 50;
+const SIMD = Uint8Array.of(0, 97, 115, 109, 1, 0, 0, 0, 1, 5, 1, 96, 0, 1, 123, 3, 2, 1, 0, 10, 10, 1, 8, 0, 65, 0, 253, 15, 253, 98, 11);
+const LACKS = "This browser's WebAssembly has no vectors of 128 bits (SIMD). Chrome and Edge 97, Firefox 102, Safari 16.4 and newer ones do.";
+
+/** How many of at most so many UTF-16 units are equal at the start or the end of two texts. */
+function common(old, text, most, isEnd) {
+  let low = 0, high = most;
+  while (low < high) {
+    const middle = (low + high + 1) >> 1, part = it => isEnd ? it.slice(it.length - middle, it.length - low) : it.slice(low, middle);
+    if (part(old) === part(text)) low = middle; else high = middle - 1;
+  }
+  return low;
+}
+
+/** What makes one text of another: the numbers of units that stay before and after it, and a text. No character is cut in two. */
+function delta(old, text) {
+  const shorter = Math.min(old.length, text.length);
+  let before = common(old, text, shorter, false);
+  if (before > 0 && (text.charCodeAt(before - 1) & 0xfc00) === 0xd800) before--;
+  let after = common(old, text, shorter - before, true);
+  if (after > 0 && (text.charCodeAt(text.length - after) & 0xfc00) === 0xdc00) after--;
+  return [before, after, text.slice(before, text.length - after)];
+}
+
+/** Puts 0 for each text in a list of changes that is the document's whole text anyway. */
+function leaveOut(changes, text) {
+  for (const change of Array.isArray(changes) ? changes : []) if (change?.text === text) change.text = 0;
+}
+
+/** Makes a line of the trace what the page keeps: of a text what differs from the one before, of `canonical` the changes. */
+function shorten(record, texts) {
+  const { text, uri, body, canonical } = record, changes = canonical?.params?.contentChanges, params = body?.params;
+  delete record.text;
+  delete record.canonical;
+  if (Array.isArray(changes)) record.canonical = changes;
+  if (text !== undefined) {
+    record.delta = delta(texts.get(uri) ?? "", text);
+    texts.set(uri, text);
+    for (const list of [changes, params?.contentChanges, [params?.textDocument]]) leaveOut(list, text);
+  } else if (record.method === "textDocument/didSave") {
+    leaveOut([params], texts.get(params?.textDocument?.uri) ?? 0);
+  } else if (uri === undefined && body !== undefined) {
+    const written = JSON.stringify(body);
+    if (written.length > LONGEST_BODY) record.body = `${written.slice(0, 2000)} … (${written.length} characters in all)`;
+  }
+  return record;
+}
+
+/** Gathers what is written, and posts it to the page now and then, with how much of the log was read. */
+class Gathered {
+  constructor() {
+    Object.assign(this, { parts: [], size: 0, read: 0, posted: performance.now(), fault: "" });
+  }
+
+  add(part, size) {
+    this.parts.push(part);
+    this.size += size;
+    if (this.size > MOST_GATHERED || performance.now() - this.posted > BETWEEN_POSTS) this.post();
+  }
+
+  post() {
+    postMessage({ parts: this.parts, read: this.read });
+    Object.assign(this, { parts: [], size: 0, posted: performance.now() });
+  }
+}
+
+/** Takes the trace piece by piece, and gives its lines as records, up to one that is none. */
+function linesOf(gathered) {
+  const texts = new Map(), decoder = new TextDecoder("utf-8", { ignoreBOM: true });
+  let line = "", count = 0;
+  return piece => {
+    for (let end; !gathered.fault && (end = piece.indexOf(10)) >= 0; piece = piece.subarray(end + 1)) {
+      line += decoder.decode(piece.subarray(0, end));
+      count++;
+      try {
+        gathered.add(shorten(JSON.parse(line), texts), line.length);
+      } catch {
+        gathered.fault = `Line ${count} of what the program wrote is no line of a trace.`; // (program.js takes what is thrown for a failed write)
+      }
+      line = "";
+    }
+    line += decoder.decode(piece, { stream: true });
+  };
+}
+
+/** The program's standard input, which is the log, and its outputs. */
+function systemOf(log, gathered, take, said) {
+  const reader = new FileReaderSync(), refuse = () => { throw Object.assign(new Error("no file"), { code: "ENOENT" }); };
+  return {
+    read(file, bytes) {
+      const part = new Uint8Array(reader.readAsArrayBuffer(log.slice(gathered.read, gathered.read + bytes.length)));
+      bytes.set(part);
+      gathered.read += part.length;
+      return part.length;
+    },
+    write(file, bytes) {
+      if (file === 1) take(bytes); else said.push(bytes.slice());
+      return bytes.length;
+    },
+    open: refuse, close: refuse, isTerminal: () => false,
+  };
+}
+
+/** Bytes that were packed by gzip and written in base64. */
+function unpacked(text) {
+  const bytes = Uint8Array.from(atob(text), it => it.charCodeAt(0));
+  return new Response(new Blob([bytes]).stream().pipeThrough(new DecompressionStream("gzip")));
+}
+
+async function compiled(engine) {
+  try {
+    return await WebAssembly.compile(await unpacked(engine).arrayBuffer());
+  } catch (error) {
+    throw globalThis.WebAssembly?.validate(SIMD) ? error : new Error(LACKS);
+  }
+}
+
+onmessage = async ({ data: { engine, words, log, isTrace } }) => {
+  const gathered = new Gathered(), said = [], take = isTrace ? linesOf(gathered) : piece => gathered.add(piece.slice(), piece.length);
+  try {
+    const blob = typeof log === "string" ? await unpacked(log).blob() : log;
+    postMessage({ log: blob });
+    const status = runProgram(await compiled(engine), words, systemOf(blob, gathered, take, said));
+    gathered.post();
+    postMessage({ status: gathered.fault ? -1 : status, said: gathered.fault || await new Blob(said).text() });
+  } catch (error) {
+    gathered.post();
+    const why = error instanceof WebAssembly.RuntimeError ? `The program has stopped, since its stack or its memory is spent: ${error.message}.` : error.message;
+    postMessage({ status: -1, said: why });
+  }
+};
