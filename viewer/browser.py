@@ -1,16 +1,19 @@
-"""A headless Chromium that is steered by chromedriver, over HTTP alone (W3C WebDriver)."""
+"""A headless Chromium that is steered by chromedriver, over HTTP alone (W3C WebDriver), and a headless Firefox, by its Marionette."""
 import base64
 import json
 import os
 import re
 import shutil
+import socket
 import subprocess
 import tempfile
+import time
 import urllib.error
 import urllib.request
 
 CHROMIUM = shutil.which("chromium") or shutil.which("google-chrome")
 DRIVER = shutil.which("chromedriver")
+FIREFOX = shutil.which("firefox-esr") or shutil.which("firefox")
 ELEMENT = "element-6066-11e4-a52e-4f735466cecf"
 SECONDS = 120
 
@@ -99,4 +102,62 @@ class Browser:
         self.driver.terminate()
         self.driver.wait()
         self.driver.stdout.close()
+        self.home.cleanup()
+
+
+class Firefox:
+    def __init__(self):
+        self.home, self.count, self.stream = tempfile.TemporaryDirectory(), 0, None
+        with open(self.home.name + "/user.js", "w", encoding="utf-8") as file:
+            file.write('user_pref("marionette.port", 0);\n')
+        words = [FIREFOX, "--headless", "--no-remote", "--marionette", "--profile", self.home.name]
+        self.process = subprocess.Popen(words, stdout=subprocess.DEVNULL, stderr=subprocess.DEVNULL)
+        try:
+            self.begin()
+        except BaseException:
+            self.close()
+            raise
+
+    def begin(self):
+        path, end = self.home.name + "/MarionetteActivePort", time.time() + SECONDS
+        while not os.path.exists(path) or not os.path.getsize(path):
+            assert time.time() < end, "Firefox doesn't start"
+            time.sleep(.2)
+        with open(path, encoding="ascii") as file:
+            self.stream = socket.create_connection(("127.0.0.1", int(file.read())), SECONDS).makefile("rwb")
+        self.receive()
+        self.ask("WebDriver:NewSession", capabilities={"alwaysMatch": {}})
+
+    def receive(self):
+        """A message of Marionette: its length, a colon, and JSON."""
+        size = b""
+        while not size.endswith(b":"):
+            size += self.stream.read(1)
+        return json.loads(self.stream.read(int(size[:-1])))
+
+    def ask(self, command, **values):
+        self.count += 1
+        data = json.dumps([0, self.count, command, values]).encode()
+        self.stream.write(b"%d:%s" % (len(data), data))
+        self.stream.flush()
+        _, _, error, result = self.receive()
+        assert not error, error
+        return result["value"] if "value" in result else result
+
+    def open(self, path):
+        self.ask("WebDriver:Navigate", url="file://" + os.path.abspath(path))
+
+    def run(self, script, *values):
+        """Runs a script beside the page: it sees the page's elements, and none of its names."""
+        return self.ask("WebDriver:ExecuteScript", script=script, args=list(values))
+
+    def shoot(self, path):
+        with open(path, "wb") as file:
+            file.write(base64.b64decode(self.ask("WebDriver:TakeScreenshot", full=False)))
+
+    def close(self):
+        if self.stream:
+            self.stream.close()
+        self.process.terminate()
+        self.process.wait()
         self.home.cleanup()

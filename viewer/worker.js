@@ -1,7 +1,7 @@
 "use strict";
 // What the page's worker does: it runs lspsync, a WebAssembly module, on a log. viewer/page puts bindings/node/program.js before this.
 
-const LONGEST_BODY = 20000, MOST_GATHERED = 1 << 18, BETWEEN_POSTS = 50;
+const LONGEST_BODY = 20000, MOST_GATHERED = 1 << 18, LONGEST_PIECE = 1 << 20, BETWEEN_POSTS = 50;
 const SIMD = Uint8Array.of(0, 97, 115, 109, 1, 0, 0, 0, 1, 5, 1, 96, 0, 1, 123, 3, 2, 1, 0, 10, 10, 1, 8, 0, 65, 0, 253, 15, 253, 98, 11);
 const LACKS = "This browser's WebAssembly has no vectors of 128 bits (SIMD). Chrome and Edge 97, Firefox 102, Safari 16.4 and newer ones do.";
 
@@ -86,13 +86,16 @@ function linesOf(gathered) {
   };
 }
 
-/** The program's standard input, which is the log, and its outputs. */
+/** The program's standard input, which is the log, and its outputs. A browser reads few long pieces faster than many short ones. */
 function systemOf(log, gathered, take, said) {
   const reader = new FileReaderSync(), refuse = () => { throw Object.assign(new Error("no file"), { code: "ENOENT" }); };
+  let piece = new Uint8Array();
   return {
     read(file, bytes) {
-      const part = new Uint8Array(reader.readAsArrayBuffer(log.slice(gathered.read, gathered.read + bytes.length)));
+      if (!piece.length) piece = new Uint8Array(reader.readAsArrayBuffer(log.slice(gathered.read, gathered.read + LONGEST_PIECE)));
+      const part = piece.subarray(0, bytes.length);
       bytes.set(part);
+      piece = piece.subarray(part.length);
       gathered.read += part.length;
       return part.length;
     },
