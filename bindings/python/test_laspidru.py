@@ -127,7 +127,7 @@ def random_edit(choices):
 
 
 def blocks_of(choices, width):
-    """A text of 20,000 letters whose lines have about WIDTH of them, and batches of up to three changes. Their letters come from numbers."""
+    """A text of 20,000 letters whose lines have about WIDTH of them, and batches of up to three changes."""
     head, *changes = choices
     chance, lines = random.Random(head.below(65536)), 20000 // width + 1
     text = random_text(chance, 20000, width)
