@@ -1,16 +1,16 @@
 """The test of both ends in Python."""
+import itertools
 import json
 import os
-import random
 import threading
 import unittest
 
 import laspidru
 from laspidru import Client, Document, FrameFault, Framer, LaspidruError, Server
-from test_laspidru import at, change
+from test_choices import each_of
+from test_laspidru import ENCODINGS, LETTERS, at, change, random_change
 
 URIS = ["file:///a", "file:///b", ""]
-LETTERS = ["a", "\r", "\n", "\r\n", "\u00e9", "\u2028", "\U0001F600"]
 
 
 def frame(body):
@@ -37,22 +37,37 @@ def outcome(call, *arguments):
         return error.code
 
 
+def random_session(choices):
+    """What both ends are, how the bytes of the start are cut, and up to 30 steps: pieces that arrive, and calls of an editor."""
+    options, start, *steps = choices
+    ends = {"encoding": options.of(ENCODINGS), "is_full": options.is_one_in(5), "utf8": options.is_one_in(2), "utf32": options.is_one_in(2)}
+    return ends, [1 + start.below(40) for _ in range(20)], [random_step(it) for it in steps if it.is_one_in(2)]
+
+
+def random_step(choices):
+    kind = choices.of(["serve", "hear", "edit", "edit", "edit", "edit", "edit", "edit", "open", "close"])
+    if kind in ("serve", "hear"):
+        return kind, choices.below(300), choices.is_one_in(2)
+    uri, ahead = choices.of(URIS), choices.below(4)
+    if kind == "edit":
+        return kind, uri, ahead, [random_change(choices) for _ in range(choices.below(4))]
+    return kind, uri, ahead, choices.text(LETTERS, 12) if kind == "open" else None
+
+
 class Pair:
     """Both ends, and the bytes between them."""
 
-    def __init__(self, chance):
-        self.chance = chance
-        self.server = Server(chance.choice(["utf-8", "utf-16", "utf-32"]), is_full=chance.random() < 0.2)
-        self.client = Client(utf8=chance.random() < 0.5, utf32=chance.random() < 0.5)
+    def __init__(self, encoding, is_full, utf8, utf32):
+        self.server, self.client = Server(encoding, is_full=is_full), Client(utf8=utf8, utf32=utf32)
         self.to_server, self.to_client, self.kinds = b"", b"", []
 
-    def serve(self, count):
+    def serve(self, count, at_once):
         piece, self.to_server = self.to_server[:count], self.to_server[count:]
-        for event in self.chance.choice([self.server.receive, self.server.messages])(piece):
+        for event in (self.server.receive if at_once else self.server.messages)(piece):
             self.kinds.append(event.kind)
             self.to_client += event.frame
 
-    def hear(self, count):
+    def hear(self, count, _):
         piece, self.to_client = self.to_client[:count], self.to_client[count:]
         for event in self.client.receive(piece):
             self.kinds.append(event.kind)
@@ -60,34 +75,27 @@ class Pair:
 
     def carry_all(self):
         while self.to_server or self.to_client:
-            self.serve(len(self.to_server))
-            self.hear(len(self.to_client))
-
-    def text(self, most):
-        return "".join(self.chance.choice(LETTERS) for _ in range(self.chance.randrange(most)))
-
-    def change(self):
-        def place():
-            return at(self.chance.randrange(4), self.chance.randrange(6))
-        return {"text": self.text(4)} if self.chance.random() < 0.1 else change(place(), place(), self.text(4))
+            self.serve(len(self.to_server), True)
+            self.hear(len(self.to_client), True)
 
     def documents(self, end):
         return [(end.version(uri), end.text(uri)) for uri in URIS] + [end.document_count]
 
-    def call(self):
+    def call(self, kind, uri, ahead, more):
         """A call of an editor; a refused one leaves all as it was."""
-        uri, before = self.chance.choice(URIS), self.documents(self.client)
-        version = (self.client.version(uri) or 0) + self.chance.randrange(4)
-        kind = self.chance.randrange(8)
+        before, version = self.documents(self.client), (self.client.version(uri) or 0) + ahead
         try:
-            if kind == 0:
-                self.to_server += self.client.open(uri, "c", version, self.text(12))
-            elif kind == 1:
+            if kind == "open":
+                self.to_server += self.client.open(uri, "c", version, more)
+            elif kind == "close":
                 self.to_server += self.client.close(uri)
             else:
-                self.to_server += self.client.edit(uri, version, [self.change() for _ in range(self.chance.randrange(4))])
+                self.to_server += self.client.edit(uri, version, more)
         except LaspidruError:
             assert self.documents(self.client) == before
+
+    def step(self, kind, *arguments):
+        {"serve": self.serve, "hear": self.hear}.get(kind, lambda *call: self.call(kind, *call))(*arguments)
 
 
 class Tests(unittest.TestCase):
@@ -99,29 +107,28 @@ class Tests(unittest.TestCase):
 
     def test_random_sessions(self):
         """Sessions with late deliveries, in three encodings; as many as LASPIDRU_SESSIONS says."""
-        chance = random.Random(3)
-        for _ in range(int(os.environ.get("LASPIDRU_SESSIONS", "200"))):
-            pair = Pair(chance)
-            pair.to_server += pair.client.start()
-            while pair.client.phase != "ready":
-                pair.serve(chance.randrange(40))
-                pair.hear(chance.randrange(40))
-            for _ in range(chance.randrange(30)):
-                step = chance.randrange(4)
-                if step == 0:
-                    pair.serve(chance.randrange(300))
-                elif step == 1:
-                    pair.hear(chance.randrange(300))
-                else:
-                    pair.call()
-            pair.carry_all()
-            self.assertEqual(pair.documents(pair.client), pair.documents(pair.server))
-            pair.to_server += pair.client.shutdown()
-            pair.carry_all()
-            pair.to_server += pair.client.exit()
-            pair.carry_all()
-            self.assertEqual((pair.client.phase, pair.kinds[-1]), ("done", "exited"))
-            self.assertFalse({"refused", "dropped", "bad-server"} & set(pair.kinds))
+        count = int(os.environ.get("LASPIDRU_SESSIONS", "200"))
+        each_of(count, [4, 20, *[40] * 30], random_session, self.session_is_right, 3)
+
+    def session_is_right(self, session):
+        ends, cuts, steps = session
+        pair = Pair(**ends)
+        pair.to_server += pair.client.start()
+        for cut in itertools.cycle(cuts):
+            if pair.client.phase == "ready":
+                break
+            pair.serve(cut, True)
+            pair.hear(cut, True)
+        for step in steps:
+            pair.step(*step)
+        pair.carry_all()
+        self.assertEqual(pair.documents(pair.client), pair.documents(pair.server))
+        pair.to_server += pair.client.shutdown()
+        pair.carry_all()
+        pair.to_server += pair.client.exit()
+        pair.carry_all()
+        self.assertEqual((pair.client.phase, pair.kinds[-1]), ("done", "exited"))
+        self.assertFalse({"refused", "dropped", "bad-server"} & set(pair.kinds))
 
     def ready(self):
         client = Client(utf8=True)

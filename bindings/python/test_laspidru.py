@@ -10,7 +10,11 @@ import urllib.parse
 
 import laspidru
 from laspidru import Document, EditsFault, LaspidruError, LogFault, TextDocument, check, convert, normalise, replay
+from test_choices import each_of
 
+BATCHES = int(os.environ.get("LASPIDRU_BATCHES", "2000"))
+ENCODINGS = ["utf-16", "utf-8", "utf-32"]
+LETTERS = ["a", "\r", "\n", "\r\n", "\u00e9", "\u2028", "\U0001F600"]
 EXAMPLES = os.path.join(os.path.dirname(os.path.abspath(__file__)), "..", "..", "examples")
 
 
@@ -93,6 +97,57 @@ def edited(text, edits, encoding):
             return last, number
         out, low, last = out + text[low:start] + new, end, number
     return out + text[low:]
+
+
+def random_place(choices):
+    return at(choices.below(4), choices.below(6))
+
+
+def random_batch(choices):
+    """An encoding, a text, up to three changes of it, and a position."""
+    head, *changes, place = choices
+    return (head.of(ENCODINGS), head.text(LETTERS, 10), [random_change(it) for it in changes if it.is_one_in(2)], random_place(place))
+
+
+def random_change(choices):
+    if choices.is_one_in(10):
+        return {"text": choices.text(LETTERS, 4)}
+    return change(random_place(choices), random_place(choices), choices.text(LETTERS, 4))
+
+
+def random_edits(choices):
+    """An encoding, a text, and up to three text edits of it."""
+    head, *edits = choices
+    return head.of(ENCODINGS), head.text(LETTERS, 10), [random_edit(it) for it in edits if it.is_one_in(2)]
+
+
+def random_edit(choices):
+    start = random_place(choices)
+    return edit(start, random_place(choices) if choices.is_one_in(2) else start, choices.text(LETTERS, 4))
+
+
+def blocks_of(choices, width):
+    """A text of 20,000 letters whose lines have about WIDTH of them, and batches of up to three changes."""
+    head, *changes = choices
+    chance, lines = random.Random(head.below(65536)), 20000 // width + 1
+    text = random_text(chance, 20000, width)
+    made = [block_change(it, lines, width) for it in changes if not it.is_one_in(2)]
+    return text, [made[number:number + 1 + number % 3] for number in range(0, len(made), 3)]
+
+
+def random_text(chance, count, width):
+    letters = "abcdefgh" * 4 + "\u00e9\u2028\U0001F600"
+    return "".join(chance.choice(["\r", "\n", "\r\n"]) if chance.random() < 1 / width else chance.choice(letters) for _ in range(count))
+
+
+def block_change(choices, lines, width):
+    start = at(choices.below(lines + 1), choices.below(width))
+    end = dict(start)
+    if choices.is_one_in(10):
+        end = at(start["line"] + choices.below(lines // 10 + 1), choices.below(width))
+    elif choices.is_one_in(2):
+        end["character"] += choices.below(9)
+    return change(start, end, random_text(random.Random(choices.below(256)), choices.of([0, 1, 5, 1000]), width))
 
 
 class Tests(unittest.TestCase):
@@ -257,25 +312,15 @@ class Tests(unittest.TestCase):
 
     def test_random(self):
         """Random batches against the plain program, in three encodings; as many as LASPIDRU_BATCHES says."""
-        chance = random.Random(1)
-        letters = ["a", "\r", "\n", "\r\n", "\u00e9", "\u2028", "\U0001F600"]
+        each_of(BATCHES, [12, 10, 10, 10, 2], random_batch, self.batch_is_right)
 
-        def text(most):
-            return "".join(chance.choice(letters) for _ in range(chance.randrange(most)))
-
-        def place():
-            return at(chance.randrange(4), chance.randrange(6))
-
-        for _ in range(int(os.environ.get("LASPIDRU_BATCHES", "2000"))):
-            encoding = chance.choice(["utf-8", "utf-16", "utf-32"])
-            old = text(10)
-            changes = [{"text": text(4)} if chance.random() < 0.1 else change(place(), place(), text(4))
-                       for _ in range(chance.randrange(4))]
-            document = Document(old, encoding)
-            wanted = self.changes_plainly(document, old, changes, encoding)
-            lines = [document.line(number) for number in range(document.line_count)]
-            self.assertEqual(lines, re.split("\r\n|\r|\n", wanted))
-            self.has_places(document, wanted, place(), encoding)
+    def batch_is_right(self, case):
+        encoding, old, changes, place = case
+        document = Document(old, encoding)
+        wanted = self.changes_plainly(document, old, changes, encoding)
+        lines = [document.line(number) for number in range(document.line_count)]
+        self.assertEqual(lines, re.split("\r\n|\r|\n", wanted))
+        self.has_places(document, wanted, place, encoding)
 
     def changes_plainly(self, document, old, changes, encoding):
         """Changes a document of the old text, compares it and the canonical batch with the plain program, and returns its text."""
@@ -295,44 +340,30 @@ class Tests(unittest.TestCase):
         """Random batches, one after another, on texts of 20,000 letters against the plain program, in three encodings.
 
         The library keeps such a text in blocks. Lines are short, long, or longer than a block."""
-        chance = random.Random(3)
-        letters = "abcdefgh" * 4 + "\u00e9\u2028\U0001F600"
-
-        def text(count, width):
-            return "".join(chance.choice(["\r", "\n", "\r\n"]) if chance.random() < 1 / width else chance.choice(letters)
-                           for _ in range(count))
-
-        def one(lines, width):
-            start = at(chance.randrange(lines + 1), chance.randrange(width))
-            end = dict(start)
-            if chance.random() < 0.1:
-                end = at(start["line"] + chance.randrange(lines // 10 + 1), chance.randrange(width))
-            elif chance.random() < 0.5:
-                end["character"] += chance.randrange(9)
-            return change(start, end, text(chance.choice([0, 1, 5, 1000]), width))
-
-        for encoding in ("utf-8", "utf-16", "utf-32"):
+        for encoding in ENCODINGS:
             for width in (10, 60, 2000, 9000):
-                old = text(20000, width)
-                document = Document(old, encoding)
-                for _ in range(20):
-                    lines = document.line_count
-                    old = self.changes_plainly(document, old, [one(lines, width) for _ in range(chance.choice([1, 1, 3]))], encoding)
-                    self.assertEqual(document.line_count, len(line_starts(old)))
-                    place = at(chance.randrange(lines + 1), chance.randrange(width))
-                    index = denoted(old, place, encoding)
-                    if index is None:
-                        self.refuses(6, document.byte_offset, place)
-                    else:
-                        self.assertEqual(document.byte_offset(place), len(old[:index].encode()))
+                with self.subTest(encoding=encoding, width=width):
+                    each_of(1, [2, *[12] * 60], lambda choices: (encoding, width, *blocks_of(choices, width)), self.blocks_are_right, width)
 
-    def has_places(self, document, text, place, encoding):
-        """Compares the offset of a position, and the position of each offset, with the plain program."""
+    def blocks_are_right(self, case):
+        encoding, width, old, batches = case
+        document = Document(old, encoding)
+        for changes in batches:
+            old = self.changes_plainly(document, old, changes, encoding)
+            self.assertEqual(document.line_count, len(line_starts(old)))
+            for place in (at(document.line_count // 2, width // 2), at(document.line_count, 0)):
+                self.has_offset(document, old, place, encoding)
+
+    def has_offset(self, document, text, place, encoding):
         index = denoted(text, place, encoding)
         if index is None:
             self.refuses(6, document.byte_offset, place)
         else:
             self.assertEqual(document.byte_offset(place), len(text[:index].encode()))
+
+    def has_places(self, document, text, place, encoding):
+        """Compares the offset of a position, and the position of each offset, with the plain program."""
+        self.has_offset(document, text, place, encoding)
         wanted = {len(text[:index].encode()): position for index, position in enumerate(positions(text, encoding)) if position}
         for offset in range(len(text.encode()) + 2):
             if offset in wanted:
@@ -343,31 +374,21 @@ class Tests(unittest.TestCase):
 
     def test_random_edits(self):
         """Random text edits against the plain program, in three encodings; as many as LASPIDRU_BATCHES says."""
-        chance = random.Random(2)
-        letters = ["a", "\r", "\n", "\r\n", "\u00e9", "\u2028", "\U0001F600"]
+        each_of(BATCHES, [12, 10, 10, 10], random_edits, self.edits_are_right, 2)
 
-        def text(most):
-            return "".join(chance.choice(letters) for _ in range(chance.randrange(most)))
-
-        def place():
-            return at(chance.randrange(4), chance.randrange(6))
-
-        for _ in range(int(os.environ.get("LASPIDRU_BATCHES", "2000"))):
-            encoding = chance.choice(["utf-8", "utf-16", "utf-32"])
-            old = text(10)
-            edits = [edit(start, start if chance.random() < 0.5 else place(), text(4))
-                     for start in (place() for _ in range(chance.randrange(4)))]
-            wanted, document = edited(old, edits, encoding), Document(old, encoding)
-            if isinstance(wanted, str):
-                batch = document.batch_of_edits(edits)
-                self.assertEqual((changed(old, batch, encoding), document.text), (wanted, old))
-                self.assertEqual(document.canonical(batch), batch)
+    def edits_are_right(self, case):
+        encoding, old, edits = case
+        wanted, document = edited(old, edits, encoding), Document(old, encoding)
+        if isinstance(wanted, str):
+            batch = document.batch_of_edits(edits)
+            self.assertEqual((changed(old, batch, encoding), document.text), (wanted, old))
+            self.assertEqual(document.canonical(batch), batch)
+            document.apply_edits(edits)
+            self.assertEqual(document.text, wanted)
+        else:
+            with self.assertRaises(EditsFault) as raised:
                 document.apply_edits(edits)
-                self.assertEqual(document.text, wanted)
-            else:
-                with self.assertRaises(EditsFault) as raised:
-                    document.apply_edits(edits)
-                self.assertEqual((raised.exception.edit, raised.exception.other, document.text), wanted + (old,))
+            self.assertEqual((raised.exception.edit, raised.exception.other, document.text), wanted + (old,))
 
     def test_logs(self):
         stale = check(example("stale-version"))
