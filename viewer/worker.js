@@ -1,7 +1,7 @@
 "use strict";
 // What the page's worker does: it runs lspsync, a WebAssembly module, on a log. viewer/page puts bindings/node/program.js before this.
 
-const LONGEST_BODY = 20000, MOST_GATHERED = 1 << 18, LONGEST_PIECE = 1 << 20, BETWEEN_POSTS = 50;
+const LONGEST_BODY = 20000, SHORTENED_BODY = 2000, MOST_BODIES = 2e8, MOST_GATHERED = 1 << 18, LONGEST_PIECE = 1 << 20, BETWEEN_POSTS = 50;
 const SIMD = Uint8Array.of(0, 97, 115, 109, 1, 0, 0, 0, 1, 5, 1, 96, 0, 1, 123, 3, 2, 1, 0, 10, 10, 1, 8, 0, 65, 0, 253, 15, 253, 98, 11);
 const LACKS = "This browser's WebAssembly has no vectors of 128 bits (SIMD). Chrome and Edge 97, Firefox 102, Safari 16.4 and newer ones do.";
 
@@ -30,21 +30,23 @@ function leaveOut(changes, text) {
   for (const change of Array.isArray(changes) ? changes : []) if (change?.text === text) change.text = 0;
 }
 
-/** Makes a line of the trace what the page keeps: of a text what differs from the one before, of `canonical` the changes. */
-function shorten(record, texts) {
+/** Makes a line of the trace what the page keeps: of a text what differs from the one before, of `canonical` the changes. `kept` has the texts,
+ * and how long the bodies are together that concern no document: past a bound all long ones are shortened. */
+function shorten(record, kept) {
   const { text, uri, body, canonical } = record, changes = canonical?.params?.contentChanges, params = body?.params;
   delete record.text;
   delete record.canonical;
   if (Array.isArray(changes)) record.canonical = changes;
   if (text !== undefined) {
-    record.delta = delta(texts.get(uri) ?? "", text);
-    texts.set(uri, text);
+    record.delta = delta(kept.texts.get(uri) ?? "", text);
+    kept.texts.set(uri, text);
     for (const list of [changes, params?.contentChanges, [params?.textDocument]]) leaveOut(list, text);
   } else if (record.method === "textDocument/didSave") {
-    leaveOut([params], texts.get(params?.textDocument?.uri) ?? 0);
+    leaveOut([params], kept.texts.get(params?.textDocument?.uri) ?? 0);
   } else if (uri === undefined && body !== undefined) {
-    const written = JSON.stringify(body);
-    if (written.length > LONGEST_BODY) record.body = `${written.slice(0, 2000)} … (${written.length} characters in all)`;
+    const written = JSON.stringify(body), isLong = written.length > (kept.bodies > MOST_BODIES ? SHORTENED_BODY : LONGEST_BODY);
+    kept.bodies += isLong ? SHORTENED_BODY : written.length;
+    if (isLong) record.body = `${written.slice(0, SHORTENED_BODY)} … (${written.length} characters in all)`;
   }
   return record;
 }
@@ -69,14 +71,14 @@ class Gathered {
 
 /** Takes the trace piece by piece, and gives its lines as records, up to one that is none. */
 function linesOf(gathered) {
-  const texts = new Map(), decoder = new TextDecoder("utf-8", { ignoreBOM: true });
+  const kept = { texts: new Map(), bodies: 0 }, decoder = new TextDecoder("utf-8", { ignoreBOM: true });
   let line = "", count = 0;
   return piece => {
     for (let end; !gathered.fault && (end = piece.indexOf(10)) >= 0; piece = piece.subarray(end + 1)) {
       line += decoder.decode(piece.subarray(0, end));
       count++;
       try {
-        gathered.add(shorten(JSON.parse(line), texts), line.length);
+        gathered.add(shorten(JSON.parse(line), kept), line.length);
       } catch {
         gathered.fault = `Line ${count} of what the program wrote is no line of a trace.`; // (program.js takes what is thrown for a failed write)
       }
@@ -131,7 +133,7 @@ onmessage = async ({ data: { engine, words, log, isTrace } }) => {
     postMessage({ status: gathered.fault ? -1 : status, said: gathered.fault || await new Blob(said).text() });
   } catch (error) {
     gathered.post();
-    const why = error instanceof WebAssembly.RuntimeError ? `The program has stopped, since its stack or its memory is spent: ${error.message}.` : error.message;
-    postMessage({ status: -1, said: why });
+    const isTrap = globalThis.WebAssembly && error instanceof WebAssembly.RuntimeError;
+    postMessage({ status: -1, said: `${isTrap ? "The program has stopped, since its stack or its memory is spent: " : ""}${error.message}` });
   }
 };
