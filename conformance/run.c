@@ -215,10 +215,13 @@ static json_t *stream(const json_t *pieces) {
     size_t index;
     const json_t *value;
     json_array_foreach(pieces, index, value) {
+        if (code != LASPIDRU_OK) break;
         size_t len = json_string_length(value);
         unsigned char *piece = malloc(len + 1);
-        if (piece == NULL) code = LASPIDRU_OUT_OF_MEMORY;
-        if (code != LASPIDRU_OK) break;
+        if (piece == NULL) {
+            code = LASPIDRU_OUT_OF_MEMORY;
+            break;
+        }
         memcpy(piece, json_string_value(value), len);
         code = take(&framer, piece, to_bytes(piece, len), bodies, &taken);
         free(piece);

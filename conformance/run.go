@@ -10,7 +10,10 @@ package main
 #cgo LDFLAGS: ${SRCDIR}/../build/liblaspidru.a
 #include "laspidru.h"
 
-static const laspidru_settings defaults = LASPIDRU_SETTINGS_DEFAULT;
+static laspidru_settings defaults(void) {
+	laspidru_settings settings = LASPIDRU_SETTINGS_DEFAULT;
+	return settings;
+}
 */
 import "C"
 
@@ -195,7 +198,7 @@ func documentOf(server *C.laspidru_handle, uri string) (object, error) {
 func session(it vector) (object, error) {
 	var server C.laspidru_handle
 	defer C.laspidru_close(&server)
-	settings := C.defaults
+	settings := C.defaults()
 	settings.encoding, settings.is_fixed = units[it.Encoding], true
 	if err := demand(C.laspidru_server_new(&server, &settings)); err != nil {
 		return nil, err

@@ -49,7 +49,9 @@ fn all<T>(values: &Value, read: fn(&Value) -> Option<T>) -> Option<Vec<T>> {
 fn refused(error: Error) -> Result<Value> {
     let end = |at_end| if at_end { "end" } else { "start" };
     Ok(match error {
-        Error::InsideCharacter { change, at_end } => json!({"refused": "inside-character", "change": change, "end": end(at_end)}),
+        Error::InsideCharacter { change, at_end } => {
+            json!({"refused": "inside-character", "change": change, "end": end(at_end)})
+        }
         Error::ReversedRange { change } => json!({"refused": "reversed-range", "change": change}),
         Error::EditInsideCharacter { edit, at_end } => json!({"refused": "inside-character", "edit": edit, "end": end(at_end)}),
         Error::EditReversedRange { edit } => json!({"refused": "reversed-range", "edit": edit}),
