@@ -133,7 +133,6 @@ onmessage = async ({ data: { engine, words, log, isTrace } }) => {
     postMessage({ status: gathered.fault ? -1 : status, said: gathered.fault || await new Blob(said).text() });
   } catch (error) {
     gathered.post();
-    const isTrap = globalThis.WebAssembly && error instanceof WebAssembly.RuntimeError;
-    postMessage({ status: -1, said: `${isTrap ? "The program has stopped, since its stack or its memory is spent: " : ""}${error.message}` });
+    postMessage({ status: -1, said: error.message });
   }
 };
