@@ -99,6 +99,7 @@ $(ARCHIVE):
 	@echo "$@ isn't built: tools/c proves and builds it ($$(cat install/kit); README.md, What is needed)" >&2; exit 1
 
 needed:
+	@case "$(PREFIX)" in /*) ;; *) echo "PREFIX has to begin with /, and it is $(PREFIX)" >&2; exit 1 ;; esac
 	@install/needed "$(SYNC_PROGRAM)" "$(SIMULATE_PROGRAM)" "$(ARCHIVE)" "$(STATIC)" "$(SHARED)"
 
 install: needed
