@@ -40,7 +40,7 @@ class Failure(Exception):
 
 
 class Program:
-    """A program that is asked. It is started again after it ended or was silent."""
+    """A program that is asked. It is started again after it gave no answer."""
 
     def __init__(self, command, errors=None):
         self.command, self.errors, self.process, self.deaths = command, errors, None, 0
@@ -56,33 +56,30 @@ class Program:
             self.process.stdin.flush()
         except BrokenPipeError:
             pass  # what is read says that it ended
-        line = self._line()
-        self.deaths = 0
-        try:
-            return json.loads(line)
-        except ValueError:
-            raise Failure(f"no line of JSON: {line[:SHOWN]!r}") from None
-
-    def _line(self):
-        output, line, latest = self.process.stdout, b"", time.monotonic() + SECONDS
+        line, latest = b"", time.monotonic() + SECONDS
         while not line.endswith(b"\n"):
-            is_ready = select.select([output], [], [], max(0, latest - time.monotonic()))[0]
-            piece = os.read(output.fileno(), 1 << 16) if is_ready else b""
+            is_ready = select.select([self.process.stdout], [], [], max(0, latest - time.monotonic()))[0]
+            piece = os.read(self.process.stdout.fileno(), 1 << 16) if is_ready else b""
+            if not is_ready:
+                self.process.kill()
+                raise self._failure(f"no answer in {SECONDS} seconds")
             if not piece:
-                raise Failure(self._ended(bool(is_ready)))
+                raise self._failure(f"the program ended with status {self.close()}")
             line += piece
-        return line
+        try:
+            found = json.loads(line)
+        except ValueError:
+            raise self._failure(f"no line of JSON: {line[:SHOWN]!r}") from None
+        self.deaths = 0
+        return found
 
-    def _ended(self, by_itself):
-        """Why the program wrote no line. It has to be started again."""
-        if not by_itself:
-            self.process.kill()
-        status = self.close()
+    def _failure(self, why):
+        """Ends the program, whose next line may be of this question too, and returns the error."""
+        self.close()
         self.deaths += 1
-        why = f"the program ended with status {status}" if by_itself else f"no answer in {SECONDS} seconds"
         if self.deaths == DEATHS:
-            raise Unusable(f"{self.command[0]}: {DEATHS} times without an answer, at last: {why}")
-        return why
+            return Unusable(f"{self.command[0]}: {DEATHS} times without an answer, at last: {why}")
+        return Failure(why)
 
     def close(self):
         """Ends the program, and returns its status: 0 too where there is none."""
