@@ -8,7 +8,7 @@ const ERRORS = {
   EPERM: [1, 'Operation not permitted'], ENOENT: [2, 'No such file or directory'], EIO: [5, 'Input/output error'], EBADF: [9, 'Bad file descriptor'],
   EAGAIN: [11, 'Resource temporarily unavailable'], ENOMEM: [12, 'Cannot allocate memory'], EACCES: [13, 'Permission denied'],
   EBUSY: [16, 'Device or resource busy'], ENOTDIR: [20, 'Not a directory'], EISDIR: [21, 'Is a directory'], EINVAL: [22, 'Invalid argument'],
-  EMFILE: [24, 'Too many open files'], ENOSPC: [28, 'No space left on device'], ESPIPE: [29, 'Illegal seek'], EPIPE: [32, 'Broken pipe'],
+  EMFILE: [24, 'Too many open files'], ENOSPC: [28, 'No space left on device'], EPIPE: [32, 'Broken pipe'],
   ENAMETOOLONG: [36, 'File name too long'], ELOOP: [40, 'Too many levels of symbolic links'],
 };
 const fault = (code) => Object.assign(new Error(code), { code });
@@ -46,7 +46,6 @@ function runProgram(module_, words, system) {
     }, -1),
     rattle_close: asked((file) => (system.close(file), 0), -1),
     rattle_isatty: asked((file) => Number(system.isTerminal(file)), 0),
-    rattle_lseek: asked(() => { throw fault('ESPIPE'); }, -1n),
     rattle_signal: () => 0n,
     rattle_errno: () => errno,
     rattle_set_errno: (number) => void (errno = number),

@@ -20,7 +20,7 @@ LAYOUTS = {
 PROCESSORS = {"aarch64": "generic", "x86_64": "x86-64-v2", "wasm32": "lime1", "wasm64": "lime1"}
 # What a program asks of a C library, by the names that system.c and program.js have.
 FOREIGN = {"main": "rattle_main", "__sysv_signal": "rattle_signal", "__xpg_strerror_r": "rattle_strerror",
-           **{name: f"rattle_{name}" for name in ("open", "close", "read", "write", "lseek", "isatty")}}
+           **{name: f"rattle_{name}" for name in ("open", "close", "read", "write", "isatty")}}
 NAME = r'(?:%|@)(?:"[^"]*"|[\w.$-]+)'
 TYPE = r"(?:ptr|i\d+|float|double|<\d+ x i\d+>|\[\d+ x i\d+\])"
 
@@ -161,7 +161,9 @@ UNCHANGED = re.compile("|".join((
     rf"\s+{NAME} = load (?!ptr){TYPE}, ptr {NAME}(, align \d+)?(, !\w+ !\d+)*", rf"\s+store (?!ptr){TYPE} \S.*, ptr {NAME}(, align \d+)?",
     rf"\s+{NAME} = load \{{ {TYPE}, {TYPE} \}}, ptr {NAME}, align \d+", rf"\s+ret (\{{ {TYPE}, {TYPE} \}}|ptr) {NAME}",
     rf"\s+{NAME} = getelementptr (inbounds )?(nuw )?i8, ptr ({NAME}|null), i64 ({NAME}|-?\d+)",
-    rf"\s+{NAME} = icmp (eq|ne|ult|ule|ugt|uge) ptr {NAME}, ({NAME}|null)",
+    rf"\s+{NAME} = icmp (eq|ne|ult|ule|ugt|uge) ptr {NAME}, ({NAME}|null)", rf"\s+{NAME} = load atomic i64, ptr {NAME} seq_cst, align 8",
+    rf"\s+{NAME} = atomicrmw (add|sub) ptr {NAME}, i64 \S+ seq_cst, align 8",
+    rf"\s+{NAME} = cmpxchg ptr {NAME}, i64 \S+, i64 \S+ seq_cst seq_cst, align 8",
     rf"\s+({NAME} = )?call ({TYPE}|void|\{{ {TYPE}, {TYPE} \}})( \(ptr, i32, \.\.\.\))? {NAME}{ARGUMENTS}( #\d+)?",
 )))
 CONSTANT = re.compile(r"\bptr (getelementptr inbounds \([^()]*\)|getelementptr \([^()]*\)|@[^,\s]+|null)")

@@ -1,47 +1,38 @@
 /* What a program of the repository asks of a system, for any with a C library: Linux with glibc or musl, macOS, Windows. Its main is
    rattle_main, and each of these has the name and the types that it has in the module (retarget.py). Numbers of errors and flags are Linux's. */
-#ifdef __APPLE__
-/* What is used of the C library of macOS, so that no headers are needed. */
+#ifdef _WIN32
+#include <errno.h>
+#include <fcntl.h>
+#include <io.h>
+#include <stdint.h>
+#include <stdlib.h>
+#include <string.h>
+#include <windows.h>
+#include <shellapi.h>
+/* No one call reads or writes more than this. */
+static unsigned part(uint64_t size) { return size < 1 << 30 ? (unsigned)size : 1 << 30; }
+#define read(file, to, room) _read(file, to, part(room))
+#define write(file, from, length) _write(file, from, part(length))
+#elif defined __APPLE__
+/* Declared here, so that no headers of macOS are needed. */
 typedef __SIZE_TYPE__ size_t;
 typedef __INT32_TYPE__ int32_t;
 typedef __INT64_TYPE__ int64_t;
 typedef __UINT64_TYPE__ uint64_t;
-int *__error(void);
-void (*signal(int number, void (*way)(int)))(int);
-char *strerror(int error);
-size_t strlen(const char *text);
-void *memcpy(void *to, const void *from, size_t length);
-int open(const char *path, int flags, ...);
-int close(int file);
-int isatty(int file);
-long read(int file, void *to, size_t room);
-long write(int file, const void *from, size_t length);
-long long lseek(int file, long long by, int from);
+int *__error(void), open(const char *, int, ...), close(int), isatty(int);
+long read(int, void *, size_t), write(int, const void *, size_t);
+void *memcpy(void *, const void *, size_t), (*signal(int, void (*)(int)))(int);
+size_t strlen(const char *);
+char *strerror(int);
 #define errno (*__error())
-#define SIG_IGN ((void (*)(int))1)
-#define SIG_DFL ((void (*)(int))0)
 enum { SIGPIPE = 13, EINVAL = 22, ERANGE = 34, EAGAIN = 35, O_RDONLY = 0, O_CLOEXEC = 0x1000000 };
+#define SIG_IGN ((void (*)(int))1)
 #else
 #include <errno.h>
 #include <fcntl.h>
 #include <signal.h>
 #include <stdint.h>
-#include <stdlib.h>
 #include <string.h>
-#endif
-
-#ifdef _WIN32
-#include <io.h>
-#include <windows.h>
-#include <shellapi.h>
-/* No one call reads or writes more. */
-static unsigned part(uint64_t size) { return size < 1 << 30 ? (unsigned)size : 1 << 30; }
-#define read(file, to, room) _read(file, to, part(room))
-#define write(file, from, length) _write(file, from, part(length))
-#define lseek _lseeki64
-#define close _close
-#define isatty _isatty
-#elif !defined __APPLE__
 #include <unistd.h>
 #endif
 
@@ -54,8 +45,6 @@ static char **words;
 int32_t rattle_errno(void) { return errno == EAGAIN ? LINUX_EAGAIN : errno; }
 void rattle_set_errno(int32_t error) { errno = error == LINUX_EAGAIN ? EAGAIN : error; }
 
-uint64_t rattle_arg_count(void) { return count; }
-
 /* The length of a word, which is put into `out`: -1 where there is none, -2 where it doesn't fit, and then `out` is full. */
 int64_t rattle_arg(uint64_t index, unsigned char *out, uint64_t room) {
     if (index >= count)
@@ -67,66 +56,40 @@ int64_t rattle_arg(uint64_t index, unsigned char *out, uint64_t room) {
 
 /* Opens a file to read it; to write is not needed, and refused. */
 int32_t rattle_open(const char *path, int32_t flags, ...) {
-    if (flags & 3) {
-        errno = EINVAL;
-        return -1;
-    }
 #ifdef _WIN32
     wchar_t wide[32768];
-    if (!MultiByteToWideChar(CP_UTF8, MB_ERR_INVALID_CHARS, path, -1, wide, 32768)) {
-        errno = EINVAL;
-        return -1;
-    }
-    return _wopen(wide, _O_RDONLY | _O_BINARY | _O_NOINHERIT);
+    if (!(flags & 3) && MultiByteToWideChar(CP_UTF8, MB_ERR_INVALID_CHARS, path, -1, wide, 32768))
+        return _wopen(wide, _O_RDONLY | _O_BINARY | _O_NOINHERIT);
 #else
-    return open(path, O_RDONLY | O_CLOEXEC);
+    if (!(flags & 3))
+        return open(path, O_RDONLY | O_CLOEXEC);
 #endif
+    errno = EINVAL;
+    return -1;
 }
 
 int32_t rattle_close(int32_t file) { return close(file); }
 int32_t rattle_isatty(int32_t file) { return isatty(file) != 0; }
 int64_t rattle_read(int32_t file, unsigned char *to, uint64_t room) { return read(file, to, room); }
 int64_t rattle_write(int32_t file, const unsigned char *from, uint64_t length) { return write(file, from, length); }
-int64_t rattle_lseek(int32_t file, int64_t by, int32_t from) { return lseek(file, by, from); }
 
-/* A write to a closed pipe fails, and does not end the program. */
+/* The programs ask for one thing: that a write to a closed pipe fails and doesn't end them. Windows has no signal for that. */
 int64_t rattle_signal(int32_t number, int64_t way) {
-#ifdef _WIN32
     (void)number, (void)way;
-#else
-    signal(number == 13 ? SIGPIPE : number, way == 1 ? SIG_IGN : SIG_DFL);
+#ifndef _WIN32
+    signal(SIGPIPE, SIG_IGN);
 #endif
     return 0;
 }
 
 int32_t rattle_strerror(int32_t error, unsigned char *out, uint64_t room) {
     const char *text = strerror(error == LINUX_EAGAIN ? EAGAIN : error);
-    size_t length = strlen(text);
-    if (room > 0) {
-        size_t kept = length < room ? length : room - 1;
-        memcpy(out, text, kept);
-        out[kept] = 0;
-    }
-    return length < room ? 0 : ERANGE;
+    size_t length = strlen(text) + 1;
+    if (length > room)
+        return ERANGE;
+    memcpy(out, text, length);
+    return 0;
 }
-
-#ifdef _WIN32
-/* The words in UTF-8, and bytes as they are. */
-static int begin(void) {
-    int wide_count;
-    wchar_t **wide = CommandLineToArgvW(GetCommandLineW(), &wide_count);
-    _setmode(0, _O_BINARY), _setmode(1, _O_BINARY), _setmode(2, _O_BINARY);
-    if (!wide || !(words = calloc((size_t)wide_count, sizeof *words)))
-        return 0;
-    for (; count < (size_t)wide_count; count++) {
-        int size = WideCharToMultiByte(CP_UTF8, 0, wide[count], -1, NULL, 0, NULL, NULL);
-        if (!(words[count] = malloc((size_t)size)))
-            return 0;
-        WideCharToMultiByte(CP_UTF8, 0, wide[count], -1, words[count], size, NULL, NULL);
-    }
-    return 1;
-}
-#endif
 
 /* Whether the processor has x86-64-v2, for which the code is: SSE3, SSSE3, CMPXCHG16B, SSE4.1, SSE4.2 and POPCNT. */
 static int is_new_enough(void) {
@@ -141,16 +104,23 @@ static int is_new_enough(void) {
 
 int main(int argc, char **argv) {
     static const char lacking[] = "the processor is too old: it lacks x86-64-v2\n";
-    if (!is_new_enough()) {
-        (void)!write(2, lacking, sizeof lacking - 1);
-        return 127;
-    }
-#ifdef _WIN32
-    (void)argc, (void)argv;
-    if (!begin())
-        return 4;
-#else
+    if (!is_new_enough())
+        return (void)!write(2, lacking, sizeof lacking - 1), 127;
     count = (size_t)argc, words = argv;
+#ifdef _WIN32
+    /* The words in UTF-8, and bytes as they are */
+    wchar_t **wide = CommandLineToArgvW(GetCommandLineW(), &argc);
+    char **made = wide ? calloc((size_t)argc, sizeof *made) : NULL;
+    for (int i = 0, size; made && i < argc; i++) {
+        size = WideCharToMultiByte(CP_UTF8, 0, wide[i], -1, NULL, 0, NULL, NULL);
+        if (!(made[i] = malloc((size_t)size)))
+            return 4;
+        WideCharToMultiByte(CP_UTF8, 0, wide[i], -1, made[i], size, NULL, NULL);
+    }
+    if (!made)
+        return 4;
+    count = (size_t)argc, words = made;
+    _setmode(0, _O_BINARY), _setmode(1, _O_BINARY), _setmode(2, _O_BINARY);
 #endif
     return rattle_main();
 }
