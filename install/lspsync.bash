@@ -18,16 +18,16 @@ _lspsync() {
         *)
             words="--encoding --max-body --max-text --max-docs --max-changes --lenient --help"
             case $command in
-                serve) words="$words --sync" ;;
+                serve) words="$words --sync --stdio" ;;
                 check) words="$words --explain" ;;
                 normalise) words="$words --documents --squash" ;;
                 trace) words="$words --texts --bodies" ;;
                 replay) words="$words --at --uri" ;;
                 convert) ;;
                 help) words=$commands ;;
-                *) words="$commands --help" ;;
+                *) words="$commands --help --version" ;;
             esac
-            [ "$COMP_CWORD" -gt 1 ] || words="$commands --help"
+            [ "$COMP_CWORD" -gt 1 ] || words="$commands --help --version"
             ;;
     esac
     mapfile -t COMPREPLY < <(compgen -W "$words" -- "$word")

@@ -11,8 +11,10 @@ complete -c lspsync -n $none -f -a convert -d 'Write a log in version 2, with th
 complete -c lspsync -n $none -f -a help -d 'Print help'
 complete -c lspsync -n '__fish_seen_subcommand_from help' -f -a "$commands"
 complete -c lspsync -s h -l help -f -d 'Print help'
+complete -c lspsync -n $none -s V -l version -f -d 'Print the version'
 complete -c lspsync -n $some -l encoding -x -a 'utf-8 utf-16 utf-32' -d 'What positions count'
 complete -c lspsync -n '__fish_seen_subcommand_from serve' -l sync -x -a 'full incremental' -d 'How changes are asked for'
+complete -c lspsync -n '__fish_seen_subcommand_from serve' -l stdio -d 'Changes nothing'
 complete -c lspsync -n '__fish_seen_subcommand_from check' -l explain -d 'Print reasons, and what to do next'
 complete -c lspsync -n '__fish_seen_subcommand_from normalise' -l documents -d "Only what is about the session and the documents' texts"
 complete -c lspsync -n '__fish_seen_subcommand_from normalise' -l squash -d 'One message for changes that follow each other'

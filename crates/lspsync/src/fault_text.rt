@@ -1,7 +1,7 @@
 //! The text of a fault's line. It is written here because a derived `Display` has no contract.
 
-ghost use Rattle.std.specs.Prelude.{Some};
-ghost use Rattle.lspsync.specs.FaultText.{fault_text, frame_text};
+ghost use Rattle.std.specs.Prelude.{◌≡◌, Some, option_map};
+ghost use Rattle.lspsync.specs.FaultText.{fault_cause, fault_text, frame_cause, frame_text};
 
 use lsp_frame::FrameFault;
 use lsp_replay::EngineFault;
@@ -47,5 +47,35 @@ impl fmt::Display for FrameText {
             FrameFault::Failed => write!(f, "frame fault F8"),
             FrameFault::NoMemory => write!(f, "out of memory"),
         }
+    }
+}
+
+/// Returns the cause of a fault of the log, for a reader who doesn't know its code. Other faults
+/// have none.
+pub fn cause_of(fault: EngineFault) -> Option<&'static str>
+    ensures { option_map (λ cause. cause.now) result ≡ fault_cause fault }
+{
+    match fault {
+        EngineFault::Frame(fault) => frame_cause(fault),
+        EngineFault::Truncated { .. } => Some("the log ends inside a message"),
+        EngineFault::BodyTooLong { .. } => Some("the message to write is over --max-body"),
+        EngineFault::BadLog { .. } => Some("this record can't come here"),
+        _ => None,
+    }
+}
+
+/// Returns the cause of a fault of a frame.
+fn frame_cause(fault: FrameFault) -> Option<&'static str>
+    ensures { option_map (λ cause. cause.now) result ≡ frame_cause fault }
+{
+    match fault {
+        FrameFault::BadHeader { .. } => Some("no header can have this byte here"),
+        FrameFault::HeaderTooLong { .. } => Some("the header has over 8192 bytes"),
+        FrameFault::MissingLength { .. } => Some("the header has no Content-Length"),
+        FrameFault::RepeatedHeader { .. } => Some("a line of the header comes twice"),
+        FrameFault::BadLength { .. } => Some("the Content-Length is no number"),
+        FrameFault::BodyTooLong { .. } => Some("the Content-Length is over --max-body"),
+        FrameFault::BadCharset { .. } => Some("the charset is not utf-8"),
+        _ => None,
     }
 }

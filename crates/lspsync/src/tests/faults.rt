@@ -1,7 +1,7 @@
 //! The line and the status of each fault.
 
 use super::*;
-use crate::run::{refuse, report};
+use crate::ends::{refuse, report};
 use lsp_frame::FrameFault;
 use lsp_replay::EngineFault;
 use lsp_samples::bodies::{INITIALIZE, OPEN, WHOLE};

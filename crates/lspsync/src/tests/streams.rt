@@ -6,8 +6,6 @@ use lsp_samples::bodies::{INITIALIZE, OPEN, WHOLE};
 use lsp_samples::logs::log;
 use std::test::Fail;
 
-const ALL: CallEnd = Take(usize::MAX);
-
 const READ_FAULT: &str = "lspsync: read fault\n";
 
 const WRITE_FAULT: &str = "lspsync: write fault\n";
@@ -164,7 +162,15 @@ fn has_status(alloc: Global, words: &[&str], reads: &[CallEnd], status: u8) -> b
     let mut reader = Told::new(StopReader::new(b"\r\n", reads, ALL));
     let mut writer = Told::new(Vec::new(alloc));
     let mut errors = StopWriter::new(alloc, &[], Fails);
-    let found = run(alloc, words, &mut reader, &mut writer, &mut errors).status;
+    let found = run(
+        alloc,
+        words,
+        &Shelf(&[]),
+        &mut reader,
+        &mut writer,
+        &mut errors,
+    )
+    .status;
     found == status && errors.bytes().is_empty()
 }
 

@@ -1,0 +1,145 @@
+//! Logs by the names of their files.
+
+use super::*;
+use crate::process::Announced;
+use lsp_replay::CallEnd::{Fail as Fails, Take};
+use lsp_samples::bodies::{INITIALIZE, OPEN, WHOLE};
+use lsp_samples::logs::log;
+use std::io::Read;
+use std::str;
+use std::test::Fail;
+
+/// What `check` prints of a good log, of its first two records, and of the log twice.
+const GOOD: &str = "1 reply\n2 changed\n3 changed\n";
+
+const TWO: &str = "1 reply\n2 changed\n";
+
+const TWICE: &str = "1 reply\n2 changed\n3 changed\n1 reply\n2 changed\n3 changed\n";
+
+/// What is printed on standard error of a file that isn't there, and of it between two that are.
+const GONE: &str = "lspsync: gone.log: entity not found\n";
+
+const BETWEEN: &str =
+    "==> good.log <==\n==> gone.log <==\nlspsync: gone.log: entity not found\n==> standard input <==\n";
+
+const INPUTS: &str = "==> standard input <==\n==> good.log <==\n";
+
+const CUT: &str =
+    "lspsync: cut.log: truncated at 400: the log ends inside a message (docs/PROTOCOL.md#codes)\n";
+
+const NVIM: &str =
+    "lspsync: nvim.log: frame fault F1 at 8: no header can have this byte here (docs/PROTOCOL.md#codes)\nlspsync: nvim.log: a log of Neovim; bin/log-from makes a session of it\n";
+
+const BROKEN: &str = "lspsync: broken.log: a call that was to fail\n";
+
+const NO_URI: &str = "lspsync: good.log: the document was never open\n";
+
+const NO_RECORD: &str = "lspsync: good.log: the log has no record of this number\n";
+
+/// Words, the status, the output, and what is printed on standard error.
+static ROWS: [(&str, u8, &str, &str); 12] = [
+    ("lspsync check good.log", 0, GOOD, ""),
+    ("lspsync check -- gone.log", 3, "", GONE),
+    ("lspsync check -", 0, GOOD, ""),
+    ("lspsync check broken.log", 3, TWO, BROKEN),
+    ("lspsync check cut.log", 5, TWO, CUT),
+    ("lspsync normalise nvim.log", 5, "", NVIM),
+    ("lspsync replay --uri=file:///a good.log", 0, "aXc", ""),
+    ("lspsync replay --uri=file:///b good.log", 1, "", NO_URI),
+    ("lspsync replay --at=9 good.log", 1, "", NO_RECORD),
+    ("lspsync check good.log gone.log -", 3, TWICE, BETWEEN),
+    ("lspsync check - --lenient good.log", 0, TWICE, INPUTS),
+    (
+        "lspsync check --lenient -- --lenient",
+        3,
+        "",
+        "lspsync: --lenient: entity not found\n",
+    ),
+];
+
+/// Returns whether a row's words have the row's status, output and lines on standard error.
+fn is_answered(alloc: Global, row: &(&str, u8, &str, &str)) -> Result<bool, AllocError> {
+    let (words, status, output, errors) = *row;
+    let words: Vec<&str> = words.split(' ').collect(alloc)?;
+    let good = log(alloc, &[INITIALIZE, OPEN, WHOLE])?;
+    let cut = Vec::from_slice(alloc, good.get(..400).unwrap_or(&[]))?;
+    let files: [Held<'_>; 4] = [
+        ("good.log", &good, &[Take(1), Take(30)]),
+        ("cut.log", &cut, &[]),
+        ("broken.log", &good, &[Take(350), Fails]),
+        ("nvim.log", b"[START][ LSP logging", &[Take(1), Take(2)]),
+    ];
+    let answer = shelved(alloc, &words, &files, &good, &[], &[])?;
+    Ok(answer.is(status, output.as_bytes(), errors))
+}
+
+#[test]
+fn files_are_read_by_name(rt: HostRuntime) -> Result<(), Fail> {
+    for row in &ROWS {
+        assert!(rt; is_answered(rt.alloc(), row)?, "at {:?}", row.0);
+    }
+    Ok(())
+}
+
+/// The first bytes of a file, and a part of what is said of it.
+static BEGINNINGS: [(&[u8], &str); 12] = [
+    (b"[DEBUG][2026-11-27 20:00:01] rpc.lua:347", "Neovim"),
+    (b"[client-notification] Fri Nov 27", "eglot"),
+    (b"[Trace - 07:42:45 PM] Sending", "VS Code"),
+    (b"I[20:00:00.001] clangd version 14.0.6\n", "clangd"),
+    (b"==== start log session Fri Nov 27", "Vim"),
+    (b"{\"jsonrpc\": \"2.0\"}\n", "lines of JSON"),
+    (b"lsp-session-log 3\n", "`lsp-session-log 2`"),
+    (b"\x1f\x8b\x08\x00", "gzip"),
+    (
+        b"\xef\xbb\xbfContent-Length: 2\r\n\r\n{}",
+        "byte order mark",
+    ),
+    (b"\xff\xfeC\x00", "UTF-16"),
+    (b"Content-Length: 2\n\n{}", "LF alone"),
+    (b"Content-Length: 2\r\n\n{}", ""),
+];
+
+/// Returns whether the second line of what is printed of a file that begins so says this, or there
+/// is no such line.
+fn is_said(alloc: Global, bytes: &[u8], said: &str) -> Result<bool, Fail> {
+    let files: [Held<'_>; 1] = [("a.log", bytes, &[])];
+    let answer = shelved(alloc, &["lspsync", "check", "a.log"], &files, b"", &[], &[])?;
+    let mut lines = str::from_utf8(&answer.errors)?.lines();
+    let _ = lines.next();
+    Ok(lines.next().unwrap_or("").contains(said) && lines.next().is_none())
+}
+
+#[test]
+fn a_file_that_is_no_log_is_known_by_its_beginning(rt: HostRuntime) -> Result<(), Fail> {
+    for (bytes, said) in &BEGINNINGS {
+        assert!(rt; is_said(rt.alloc(), bytes, said)?, "at {said}");
+    }
+    Ok(())
+}
+
+#[test]
+fn a_failed_output_ends_the_run(rt: HostRuntime) -> Result<(), Fail> {
+    let good = log(rt.alloc(), &[INITIALIZE, OPEN, WHOLE])?;
+    let files: [Held<'_>; 1] = [("a.log", &good, &[])];
+    let words = ["lspsync", "check", "a.log", "a.log"];
+    let answer = shelved(rt.alloc(), &words, &files, b"", &[], &[Take(5), Fails])?;
+    assert!(rt; answer.is(3, b"1 rep", "==> a.log <==\nlspsync: write fault\n"));
+    Ok(())
+}
+
+#[test]
+fn a_terminal_is_told_that_it_is_read(rt: HostRuntime) -> Result<(), Fail> {
+    for (is_due, said) in [(true, "lspsync: reading standard input\n"), (false, "")] {
+        let mut errors = Vec::new(rt.alloc());
+        let mut text = Vec::new(rt.alloc());
+        let mut reader = Announced {
+            input: &b"ab"[..],
+            errors: &mut errors,
+            is_due,
+        };
+        assert_eq!(rt; reader.read_to_end(&mut text)?, 2);
+        assert!(rt; errors.as_slice() == said.as_bytes(), "{is_due}");
+    }
+    Ok(())
+}
