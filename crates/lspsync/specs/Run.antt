@@ -20,7 +20,7 @@ use Rattle.lsp_replay.specs.Trace.{trace_engine}
 use Rattle.lsp_replay.specs.Run.{Engine, IsEngineRun, check_engine, convert_engine, normalise_engine, replay_engine, serve_engine}
 use Rattle.lspsync.specs.declared.command_line.Call.{Call}
 use Rattle.lspsync.specs.declared.command_line.Call.TheVariants as call
-use Rattle.lspsync.specs.declared.run.Ending.{Ending}
+use Rattle.lspsync.specs.declared.ends.Ending.{Ending}
 use Rattle.lspsync.specs.declared.command_line.Task.{Task}
 use Rattle.lspsync.specs.Beginning.{hint_of}
 use Rattle.lspsync.specs.Call.{AreWordsReadAs, file_of}

@@ -100,10 +100,9 @@ fn tasks_of(alloc: Global, matches: &ArgMatches<'_>) -> Result<Option<Vec<Task>>
 fn files_of<'a>(options: &'a ArgMatches<'_>) -> &'a [&'a str]
     ensures { map (λ file. file.now) result.now ≡ files_given options.now }
 {
-    match options.get_strs("FILE") {
-        Some(files) => files,
-        None => &STANDARD_INPUT,
-    }
+    options
+        .get_strs("FILE")
+        .unwrap_or(STANDARD_INPUT.as_slice())
 }
 
 /// Returns the file that a word names. `-` is standard input.

@@ -48,7 +48,7 @@ pub fn both(first: Ending, second: Ending) -> Ending
 /// Ends with an outcome's status. If something is missing that was asked for, a line says what, with
 /// the name of the file.
 pub fn end_well<E: Write>(name: Option<&str>, outcome: Outcome, errors: &mut E) -> Ending
-    ensures { IsOutcomeEnd (option_map (λ name. name.now) name) outcome
+    ensures { IsOutcomeEnd (option_map (λ name. name.now) name.entry) outcome
         (E.contents errors.old) (E.contents errors.new) result }
 {
     match outcome.missing {
@@ -69,7 +69,7 @@ fn missing_text(missing: Missing) -> &'static str
 
 /// Ends with a status, and prints a line, about a file if one is named.
 pub fn say<E: Write>(status: u8, name: Option<&str>, what: &str, errors: &mut E) -> Ending
-    ensures { Ends status (line (option_map (λ name. name.now) name) what.now) false
+    ensures { Ends status (line (option_map (λ name. name.now) name.entry) what.now) false
         (E.contents errors.old) (E.contents errors.new) result }
 {
     match name {

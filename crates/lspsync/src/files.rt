@@ -26,7 +26,7 @@ pub trait Folder {
 
     /// Opens a file to be read from its beginning on.
     fn open(&self, name: &str) -> io::Result<Self::File>
-        ensures { IfOk result (λ file. Keeps (bytes self.now name.now) (File.remaining file)) };
+        ensures { IfOk result (λ file. Keeps (bytes self.now name.now) (Self.File.remaining file)) };
 }
 
 /// How many bytes of a log's beginning are kept.

@@ -110,8 +110,8 @@ pub static PREFERRED_ENCODING: &str = "What a position's character is to count, 
 offers it, else utf-16: utf-8, utf-16 or
 utf-32";
 
-pub static SYNC: &str = "How the editor is asked to send changes: `full` as whole
-texts, `incremental` as ranges";
+pub static SYNC: &str = "How the editor is asked to send changes: `full` as
+whole texts, `incremental` as ranges";
 
 pub static STDIO: &str = "Changes nothing: it talks by standard input and output
 anyway, as editors that pass it expect";

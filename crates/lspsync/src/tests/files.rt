@@ -6,7 +6,6 @@ use lsp_replay::CallEnd::{Fail as Fails, Take};
 use lsp_samples::bodies::{INITIALIZE, OPEN, WHOLE};
 use lsp_samples::logs::log;
 use std::io::Read;
-use std::str;
 use std::test::Fail;
 
 /// What `check` prints of a good log, of its first two records, and of the log twice.
@@ -30,6 +29,9 @@ const CUT: &str =
 const NVIM: &str =
     "lspsync: nvim.log: frame fault F1 at 8: no header can have this byte here (docs/PROTOCOL.md#codes)\nlspsync: nvim.log: a log of Neovim; bin/log-from makes a session of it\n";
 
+const BARE: &str =
+    "lspsync: bare.log: frame fault F1 at 17: no header can have this byte here (docs/PROTOCOL.md#codes)\nlspsync: bare.log: its lines end in LF alone, where those of a header end in CR LF\n";
+
 const BROKEN: &str = "lspsync: broken.log: a call that was to fail\n";
 
 const NO_URI: &str = "lspsync: good.log: the document was never open\n";
@@ -37,13 +39,14 @@ const NO_URI: &str = "lspsync: good.log: the document was never open\n";
 const NO_RECORD: &str = "lspsync: good.log: the log has no record of this number\n";
 
 /// Words, the status, the output, and what is printed on standard error.
-static ROWS: [(&str, u8, &str, &str); 12] = [
+static ROWS: [(&str, u8, &str, &str); 13] = [
     ("lspsync check good.log", 0, GOOD, ""),
     ("lspsync check -- gone.log", 3, "", GONE),
     ("lspsync check -", 0, GOOD, ""),
     ("lspsync check broken.log", 3, TWO, BROKEN),
     ("lspsync check cut.log", 5, TWO, CUT),
     ("lspsync normalise nvim.log", 5, "", NVIM),
+    ("lspsync trace bare.log", 5, "", BARE),
     ("lspsync replay --uri=file:///a good.log", 0, "aXc", ""),
     ("lspsync replay --uri=file:///b good.log", 1, "", NO_URI),
     ("lspsync replay --at=9 good.log", 1, "", NO_RECORD),
@@ -63,7 +66,8 @@ fn is_answered(alloc: Global, row: &(&str, u8, &str, &str)) -> Result<bool, Allo
     let words: Vec<&str> = words.split(' ').collect(alloc)?;
     let good = log(alloc, &[INITIALIZE, OPEN, WHOLE])?;
     let cut = Vec::from_slice(alloc, good.get(..400).unwrap_or(&[]))?;
-    let files: [Held<'_>; 4] = [
+    let files: [Held<'_>; 5] = [
+        ("bare.log", b"Content-Length: 2\n\n{}", &[]),
         ("good.log", &good, &[Take(1), Take(30)]),
         ("cut.log", &cut, &[]),
         ("broken.log", &good, &[Take(350), Fails]),
@@ -77,43 +81,6 @@ fn is_answered(alloc: Global, row: &(&str, u8, &str, &str)) -> Result<bool, Allo
 fn files_are_read_by_name(rt: HostRuntime) -> Result<(), Fail> {
     for row in &ROWS {
         assert!(rt; is_answered(rt.alloc(), row)?, "at {:?}", row.0);
-    }
-    Ok(())
-}
-
-/// The first bytes of a file, and a part of what is said of it.
-static BEGINNINGS: [(&[u8], &str); 12] = [
-    (b"[DEBUG][2026-11-27 20:00:01] rpc.lua:347", "Neovim"),
-    (b"[client-notification] Fri Nov 27", "eglot"),
-    (b"[Trace - 07:42:45 PM] Sending", "VS Code"),
-    (b"I[20:00:00.001] clangd version 14.0.6\n", "clangd"),
-    (b"==== start log session Fri Nov 27", "Vim"),
-    (b"{\"jsonrpc\": \"2.0\"}\n", "lines of JSON"),
-    (b"lsp-session-log 3\n", "`lsp-session-log 2`"),
-    (b"\x1f\x8b\x08\x00", "gzip"),
-    (
-        b"\xef\xbb\xbfContent-Length: 2\r\n\r\n{}",
-        "byte order mark",
-    ),
-    (b"\xff\xfeC\x00", "UTF-16"),
-    (b"Content-Length: 2\n\n{}", "LF alone"),
-    (b"Content-Length: 2\r\n\n{}", ""),
-];
-
-/// Returns whether the second line of what is printed of a file that begins so says this, or there
-/// is no such line.
-fn is_said(alloc: Global, bytes: &[u8], said: &str) -> Result<bool, Fail> {
-    let files: [Held<'_>; 1] = [("a.log", bytes, &[])];
-    let answer = shelved(alloc, &["lspsync", "check", "a.log"], &files, b"", &[], &[])?;
-    let mut lines = str::from_utf8(&answer.errors)?.lines();
-    let _ = lines.next();
-    Ok(lines.next().unwrap_or("").contains(said) && lines.next().is_none())
-}
-
-#[test]
-fn a_file_that_is_no_log_is_known_by_its_beginning(rt: HostRuntime) -> Result<(), Fail> {
-    for (bytes, said) in &BEGINNINGS {
-        assert!(rt; is_said(rt.alloc(), bytes, said)?, "at {said}");
     }
     Ok(())
 }
