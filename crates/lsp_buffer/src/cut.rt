@@ -1,8 +1,8 @@
 //! A text is cut into blocks, so that no CRLF is in two of them.
-ghost use Rattle.std.specs.Prelude.{◌≡◌, ◌≤◌, ◌<◌, IfOk, IfSome, IsTrue, length};
+ghost use Rattle.std.specs.Prelude.{◌≡◌, ◌+◌, ◌≤◌, ◌<◌, IfOk, IfSome, IsTrue, length};
 ghost use Rattle.std.specs.List.{concat};
 ghost use Rattle.std.specs.Str.{IsCharBoundary};
-ghost use Rattle.lsp_buffer.specs.Blocks.{AreBlocks, EndsClear};
+ghost use Rattle.lsp_buffer.specs.Blocks.{AreBlocks, IsFull};
 ghost use Rattle.lsp_buffer.specs.inside.Cuts.{AreFull, IsCut, IsFeed};
 
 use crate::block::Block;
@@ -15,13 +15,16 @@ use std::alloc::{AllocError, Global};
 pub const CUT: usize = 4_096;
 
 /// How many bytes may be left in one block at the end of a text.
-pub const LAST: usize = CUT + CUT / 2;
+const LAST: usize = CUT + CUT / 2;
 
-/// Returns whether a text can be cut at an offset inside it: a character begins there, and the one
-/// before it is no carriage return.
+/// How many bytes a block has at the least, if it isn't the last.
+pub const SMALL: usize = CUT / 4;
+
+/// Returns whether a text can be cut at an offset that leaves both parts enough bytes: a character
+/// begins there, and the one before it is no carriage return.
 fn can_cut(text: &str, at: usize) -> bool
-    requires some { 0 < at }
-    requires within { at < length text.now }
+    requires enough { SMALL ≤ at }
+    requires left { at + SMALL ≤ length text.now }
     ensures cut { IsTrue result → IsCut text.now at }
     ensures boundary { IsTrue result → IsCharBoundary text.now at }
 {
@@ -30,11 +33,12 @@ fn can_cut(text: &str, at: usize) -> bool
 
 /// Returns where a text can be cut at an offset or after it, in the middle of a line.
 fn cut_from(text: &str, first: usize) -> Option<usize>
-    requires { 0 < first }
+    requires enough { SMALL ≤ first }
+    requires left { SMALL ≤ length text.now }
     ensures cut { IfSome result (IsCut text.now) }
     ensures boundary { IfSome result (IsCharBoundary text.now) }
 {
-    for at in first..text.len() {
+    for at in first..=text.len() - SMALL {
         if can_cut(text, at) {
             return Some(at);
         }
@@ -53,7 +57,7 @@ fn feed_of(bytes: &[u8]) -> Option<usize>
 }
 
 /// Returns where the first block of a text ends, if it isn't the last: after the last line feed of
-/// its first `CUT` bytes. If they have none, after them.
+/// its first `CUT` bytes. If that leaves too few, after them.
 fn cut_of(text: &str) -> Option<usize>
     ensures cut { IfSome result (IsCut text.now) }
     ensures boundary { IfSome result (IsCharBoundary text.now) }
@@ -63,8 +67,8 @@ fn cut_of(text: &str) -> Option<usize>
         return None;
     }
     match feed_of(bytes) {
-        Some(at) => Some(at + 1),
-        None => cut_from(text, CUT),
+        Some(at) if at >= SMALL => Some(at + 1),
+        _ => cut_from(text, CUT),
     }
 }
 
@@ -73,7 +77,7 @@ pub fn blocks_of(alloc: Global, text: &str) -> Result<Vec<Block>, AllocError>
     requires { length text.now ≤ 2147483648 }
     ensures text { IfOk result (λ blocks. concat blocks.items ≡ text.now) }
     ensures blocks { IfOk result (λ blocks. AreBlocks blocks.items) }
-    ensures full { IfOk result (λ blocks. EndsClear text.now → AreFull blocks.items) }
+    ensures full { IfOk result (λ blocks. IsFull text.now → AreFull blocks.items) }
 {
     let mut blocks = Vec::new(alloc);
     let mut rest = text;

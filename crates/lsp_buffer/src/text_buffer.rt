@@ -1,5 +1,5 @@
 //! `TextBuffer`, a text in blocks.
-ghost use Rattle.std.specs.Prelude.{◌≡◌, ◌+◌, ◌≤◌, ◌↔◌, ℕ, List, Some, IsTrue, IfOk};
+ghost use Rattle.std.specs.Prelude.{◌≡◌, ◌+◌, ◌/◌, ◌<◌, ◌≤◌, ◌↔◌, ℕ, List, Some, IsTrue, IfOk};
 ghost use Rattle.std.specs.Prelude.{OnOk, OnErr, length, option_map, string_bytes, string_len};
 ghost use Rattle.std.specs.List.{concat, replace_range};
 ghost use Rattle.std.specs.Result.{result_ok};
@@ -9,19 +9,19 @@ ghost use Rattle.lsp_text.specs.TextLines.{line_ends};
 ghost use Rattle.lsp_text.specs.LineStarts.{IsPlace};
 ghost use Rattle.lsp_text.specs.Units.{units_in};
 ghost use Rattle.lsp_text.specs.Positions.{exact_position, denoted};
-ghost use Rattle.lsp_buffer.specs.Blocks.{AreBlocks};
+ghost use Rattle.lsp_buffer.specs.Blocks.{AreBlocks, counts_of};
+ghost use Rattle.lsp_buffer.specs.inside.Parts.{IsPart};
 
-pub(crate) mod change;
+mod change;
 mod reading;
 
 use crate::block::{Block, shared_blocks};
+use crate::counts::Counts;
 use crate::cut::blocks_of;
-use crate::heads::Heads;
-use crate::seams::{block_at, position_after, position_from};
-use crate::sums::{block_of, push_lines, push_starts};
-use crate::text_buffer::change::across::{replace_across, replace_joined};
-use crate::text_buffer::change::inside::replace_inside;
-use crate::text_buffer::change::{BlockRange, fits, joins};
+use crate::find::{Target, find};
+use crate::groups::fill;
+use crate::seams::{position_after, position_from};
+use crate::text_buffer::change::{BlockRange, replace};
 use lsp_text::{Encoding, InsideCharacter, Position};
 use std::alloc::{AllocError, Global};
 use std::fmt;
@@ -37,26 +37,26 @@ use std::marker::Model;
 #[derive(Debug, Drop)]
 pub struct TextBuffer {
     blocks: Vec<Block>,
-    // The first byte of each block.
-    starts: Vec<u32>,
-    // The line that each block begins in.
-    lines: Vec<u32>,
-    // The units before each block in that line.
-    heads: Heads,
+    // What each 64 blocks count.
+    groups: Vec<Counts>,
+}
+
+/// A block of a text, and what comes before it.
+struct Part<'a> {
+    block: &'a Block,
+    before: Counts,
 }
 
 impl Model for TextBuffer {
     ghost use Rattle.std.specs.Prelude.{ℕ, List};
     ghost use Rattle.std.specs.List.{concat};
     ghost use Rattle.lsp_buffer.specs.Blocks.{IsTextBuffer};
-    ghost use Rattle.lsp_buffer.specs.inside.Seams.{row_of};
 
     ghost Value = { List ℕ };
 
     ghost view = { λ text. concat text.blocks.items };
 
-    ghost invariant = { λ text. IsTextBuffer text.blocks.items text.starts.items text.lines.items
-        (row_of text.heads) };
+    ghost invariant = { λ text. IsTextBuffer text.blocks.items text.groups.items };
 }
 
 impl TextBuffer {
@@ -68,7 +68,7 @@ impl TextBuffer {
     {
         let mut blocks = Vec::with_capacity(alloc, 1)?;
         blocks.push(Block::new(alloc, text)?)?;
-        TextBuffer::of_blocks(alloc, blocks)
+        Ok(TextBuffer::of_blocks(alloc, blocks))
     }
 
     /// Copies a text of at most 2,147,483,648 bytes. Fails only where memory runs out. Linear in
@@ -78,26 +78,18 @@ impl TextBuffer {
         ensures { IfOk result (λ buffer. buffer ≡ text.now) }
     {
         let blocks = blocks_of(alloc, text)?;
-        TextBuffer::of_blocks(alloc, blocks)
+        Ok(TextBuffer::of_blocks(alloc, blocks))
     }
 
-    /// Sums up what comes before each of some blocks.
-    fn of_blocks(alloc: Global, blocks: Vec<Block>) -> Result<Self, AllocError>
+    /// Takes some blocks, and counts their groups.
+    fn of_blocks(alloc: Global, blocks: Vec<Block>) -> Self
         requires are { AreBlocks blocks.items }
         requires size { length (concat blocks.items) ≤ 2147483648 }
-        ensures { IfOk result (λ buffer. buffer ≡ concat blocks.items) }
+        ensures { result ≡ concat blocks.items }
     {
-        let mut starts = Vec::with_capacity(alloc, blocks.len())?;
-        let mut lines = Vec::with_capacity(alloc, blocks.len())?;
-        let _ = push_starts(&mut starts, &blocks, 0)?;
-        let _ = push_lines(&mut lines, &blocks, 0)?;
-        let heads = Heads::new(alloc, &blocks)?;
-        Ok(TextBuffer {
-            blocks,
-            starts,
-            lines,
-            heads,
-        })
+        let mut groups = Vec::new(alloc);
+        fill(&mut groups, &blocks);
+        TextBuffer { blocks, groups }
     }
 
     /// Returns a copy, which shares its blocks with this text. Fails only where memory runs out.
@@ -107,15 +99,8 @@ impl TextBuffer {
         ensures utf8 { OnOk result (IsUtf8 self.now) }
     {
         let blocks = shared_blocks(alloc, &self.blocks)?;
-        let starts = Vec::from_slice(alloc, &self.starts)?;
-        let lines = Vec::from_slice(alloc, &self.lines)?;
-        let heads = self.heads.clone_in(alloc)?;
-        Ok(TextBuffer {
-            blocks,
-            starts,
-            lines,
-            heads,
-        })
+        let groups = Vec::from_slice(alloc, &self.groups)?;
+        Ok(TextBuffer { blocks, groups })
     }
 
     /// Returns the text's allocator.
@@ -123,33 +108,59 @@ impl TextBuffer {
         self.blocks.allocator()
     }
 
-    /// Returns how many bytes the text has. In constant time.
+    /// Returns the block that a byte offset or a position is in.
+    fn part_at(&self, target: Target) -> Part<'_>
+        ensures { IsPart self.now target result.block.now result.before }
+    {
+        let found = find(&self.blocks, &self.groups, target);
+        Part {
+            block: &self.blocks[found.index],
+            before: found.before,
+        }
+    }
+
+    /// Returns what the whole text counts.
+    fn counts(&self) -> Counts
+        ensures counts { result ≡ counts_of self.now }
+        ensures size { length self.now ≤ 2147483648 }
+        ensures utf8 { IsUtf8 self.now }
+    {
+        let last = self.part_at(Target::Offset(usize::MAX));
+        last.before.plus(last.block.counts())
+    }
+
+    /// Returns how many bytes the text has. Costs an addition for each 64 blocks.
     pub fn len(&self) -> usize
         ensures len { result ≡ length self.now }
         ensures size { length self.now ≤ 2147483648 }
         ensures utf8 { IsUtf8 self.now }
     {
-        let last = self.blocks.len() - 1;
-        let block = &self.blocks[last];
-        self.starts[last] as usize + block.len()
+        self.counts().len as usize
     }
 
-    /// Returns whether the text has no bytes. In constant time.
+    /// Returns whether the text has no bytes. Costs what [`TextBuffer::len`] costs.
     pub fn is_empty(&self) -> bool
         ensures { IsTrue result ↔ (length self.now ≡ 0) }
     {
         self.len() == 0
     }
 
-    /// Returns how many lines there are: one more than line ends, so at least one. In constant
-    /// time.
+    /// Returns how many lines there are: one more than line ends, so at least one. Costs an addition
+    /// for each 64 blocks.
     pub fn line_count(&self) -> usize
         ensures count { result ≡ line_ends (chars self.now) + 1 }
         ensures few { result ≤ 2147483649 }
     {
-        let last = self.blocks.len() - 1;
-        let block = &self.blocks[last];
-        self.lines[last] as usize + block.ends() + 1
+        self.counts().ends as usize + 1
+    }
+
+    /// Returns how many blocks the text is in. Each but the last has 1,024 bytes or more. In
+    /// constant time.
+    pub fn block_count(&self) -> usize
+        ensures some { 0 < result }
+        ensures few { result ≤ length self.now / 1024 + 1 }
+    {
+        self.blocks.len()
     }
 
     /// Returns the byte offset that a position denotes (LSP 3.17, Position).
@@ -164,12 +175,10 @@ impl TextBuffer {
         ensures place { IfOk result (IsPlace (chars self.now)) }
         ensures boundary { IfOk result (IsCharBoundary self.now) }
     {
-        let heads = self.heads.of(encoding);
-        let index = block_at(&self.lines, heads, position);
-        let block = &self.blocks[index];
-        let inner = position_after(self.lines[index], heads[index], position);
+        let Part { block, before } = self.part_at(Target::Denoted(encoding, position));
+        let inner = position_after(before.ends, before.head(encoding), position);
         let offset = block.resolve(encoding, inner)?;
-        Ok(self.starts[index] as usize + offset)
+        Ok(before.len as usize + offset)
     }
 
     /// Returns the exact position of a byte offset (LSP 3.17, Position). The offset is one that a
@@ -185,10 +194,9 @@ impl TextBuffer {
             (denoted (units_in encoding) (chars self.now) result) ≡ Some offset }
         ensures utf8 { IsUtf8 self.now }
     {
-        let index = block_of(&self.starts, offset);
-        let block = &self.blocks[index];
-        let inner = block.position(encoding, offset - self.starts[index] as usize);
-        position_from(self.lines[index], self.heads.of(encoding)[index], inner)
+        let Part { block, before } = self.part_at(Target::Offset(offset));
+        let inner = block.position(encoding, offset - before.len as usize);
+        position_from(before.ends, before.head(encoding), inner)
     }
 
     /// Returns whether a character begins at this byte offset, or the text ends there. Costs a
@@ -197,9 +205,8 @@ impl TextBuffer {
         ensures boundary { IsTrue result ↔ IsCharBoundary self.now offset }
         ensures utf8 { IsUtf8 self.now }
     {
-        let index = block_of(&self.starts, offset);
-        let block = &self.blocks[index];
-        block.is_char_boundary(offset - self.starts[index] as usize)
+        let Part { block, before } = self.part_at(Target::Offset(offset));
+        block.is_char_boundary(offset - before.len as usize)
     }
 
     /// Returns whether a position can denote this byte offset: it is a boundary of characters that
@@ -208,9 +215,8 @@ impl TextBuffer {
         ensures place { IsTrue result ↔ IsPlace (chars self.now) offset }
         ensures boundary { IsTrue result → IsCharBoundary self.now offset }
     {
-        let index = block_of(&self.starts, offset);
-        let block = &self.blocks[index];
-        block.is_place(offset - self.starts[index] as usize)
+        let Part { block, before } = self.part_at(Target::Offset(offset));
+        block.is_place(offset - before.len as usize)
     }
 
     /// Replaces the bytes from `start` to `end` by another text. Out of memory changes nothing.
@@ -230,23 +236,15 @@ impl TextBuffer {
         ensures changed { OnOk result (self.new ≡ replace_range self.old start end new.now) }
         ensures unchanged { OnErr result (self.new ≡ self.old) }
     {
-        let first = block_of(&self.starts, start);
-        let last = block_of(&self.starts, end);
-        let (blocks, starts, lines) = (&mut self.blocks, &mut self.starts, &mut self.lines);
-        let heads = &mut self.heads;
+        let from = find(&self.blocks, &self.groups, Target::Offset(start));
+        let to = find(&self.blocks, &self.groups, Target::Offset(end));
         let range = BlockRange {
-            first,
-            last,
-            start,
-            end,
+            first: from.index,
+            start: start - from.before.len as usize,
+            last: to.index,
+            end: end - to.before.len as usize,
         };
-        if joins(blocks, starts, range, new) {
-            replace_joined(blocks, starts, lines, heads, range, new)
-        } else if first == last && fits(blocks, first, new) {
-            replace_inside(blocks, starts, lines, heads, range, new)
-        } else {
-            replace_across(blocks, starts, lines, heads, range, new)
-        }
+        replace(&mut self.blocks, &mut self.groups, range, new)
     }
 }
 

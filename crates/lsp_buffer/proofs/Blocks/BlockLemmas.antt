@@ -1,16 +1,17 @@
 -- Blocks: what comes before one and after it, and the lines of both.
-use Rattle.std.proofs.Common.{ℕ, zero, suc, ◌≡◌, ◌+◌, ◌-◌, ◌<◌, ◌⊎◌, true, List, [], ◌∷◌, ◌++◌, length, take, drop, map, sum, get_or, slice_index, ⊎_elim, inl, inr, refl, sym, ap, ◌∙◌, arith, subst}
+use Rattle.std.proofs.Common.{ℕ, zero, suc, ◌≡◌, ◌+◌, ◌-◌, ◌*◌, ◌<◌, ◌≤◌, ◌⊎◌, true, List, [], ◌∷◌, ◌++◌, length, take, drop, map, sum, get_or, slice_index, ⊎_elim, inl, inr, refl, sym, ap, ◌∙◌, arith, subst}
 use Rattle.std.specs.Prelude.{encode_utf8_all}
 use Rattle.std.specs.List.{concat}
 use Rattle.std.specs.Str.{chars, is_utf8, IsUtf8}
 use Rattle.std.proofs.Math.Utf8.{encode}
-use Rattle.std.proofs.lemmas.List.{length-append, get_or-append_right, append-nil}
+use Rattle.std.proofs.lemmas.List.{length-append, get_or-append_right, append-nil, take-append-drop}
 use Rattle.std.proofs.lemmas.List.Folds.{concat-append}
 use Rattle.std.proofs.lemmas.List.Sums.{sum_by-cons}
 use Rattle.std.proofs.lemmas.Str.{IsUtf8-from_is_utf8, IsUtf8-append, encodes-chars, length-encode, len_utf8_bounds, chars-append, chars-nil}
 use Rattle.lsp_text.specs.TextLines.{line_ends}
-use Rattle.lsp_buffer.specs.Blocks.{EndsClear, AreBlocks, block_ends}
+use Rattle.lsp_buffer.specs.Blocks.{EndsClear, IsFull, AreBlocks, block_ends}
 use Rattle.lsp_buffer.specs.inside.Cuts.{AreFull}
+use Rattle.lsp_buffer.specs.inside.Parts.{Closes}
 use Rattle.lsp_buffer.proofs.Blocks.SeamLemmas.{seam_count}
 
 -- ---- no carriage return at the end
@@ -53,10 +54,6 @@ clear_text (x ∷ y ∷ text) ends =
 pub clear_chars : (bytes : List ℕ) → IsUtf8 bytes → EndsClear bytes → EndsClear (chars bytes)
 clear_chars bytes utf8 ends = clear_text (chars bytes) (subst EndsClear (sym (encodes-chars bytes utf8)) ends)
 
--- Nothing, or it ends with no carriage return.
-abbrev pub Closes : List ℕ → Type 0
-Closes bytes = (bytes ≡ []) ⊎ EndsClear bytes
-
 pub chars_close : (bytes : List ℕ) → IsUtf8 bytes → Closes bytes → Closes (chars bytes)
 chars_close bytes utf8 closes =
     ⊎_elim
@@ -69,24 +66,25 @@ chars_close bytes utf8 closes =
 pub full_utf8 : (blocks : List (List ℕ)) → AreFull blocks → IsUtf8 (concat blocks)
 unfolding is_utf8 chars
 full_utf8 [] full = IsUtf8-from_is_utf8 [] refl
-full_utf8 (b ∷ blocks) full = IsUtf8-append b (concat blocks) (IsUtf8-from_is_utf8 b full.0) (full_utf8 blocks full.2)
+full_utf8 (b ∷ blocks) full = IsUtf8-append b (concat blocks) (IsUtf8-from_is_utf8 b full.0.utf8)
+    (full_utf8 blocks full.1)
 
 pub full_closes : (blocks : List (List ℕ)) → AreFull blocks → Closes (concat blocks)
 full_closes [] full = inl refl
 full_closes (b ∷ blocks) full =
     ⊎_elim
-    (λ (e : concat blocks ≡ []). inr (rw e (rw (append-nil b) full.1)))
+    (λ (e : concat blocks ≡ []). inr (rw e (rw (append-nil b) full.0.ends)))
     (λ (e : EndsClear (concat blocks)). inr (ends_join b (concat blocks) e))
-    (full_closes blocks full.2)
+    (full_closes blocks full.1)
 
 pub full_ends : (blocks : List (List ℕ)) → AreFull blocks → line_ends (chars (concat blocks))
     ≡ sum (map block_ends blocks)
 full_ends [] full = ap line_ends chars-nil
 full_ends (b ∷ blocks) full =
-    let utf8 : IsUtf8 b = IsUtf8-from_is_utf8 b full.0 in
+    let utf8 : IsUtf8 b = IsUtf8-from_is_utf8 b full.0.utf8 in
     ap line_ends (chars-append b (concat blocks) utf8) ∙
-    (seam_count (chars b) (chars (concat blocks)) (clear_chars b utf8 full.1) ∙
-    (ap (λ n. block_ends b + n) (full_ends blocks full.2)
+    (seam_count (chars b) (chars (concat blocks)) (clear_chars b utf8 full.0.ends) ∙
+    (ap (λ n. block_ends b + n) (full_ends blocks full.1)
     ∙ sym (sum_by-cons (λ x. x) (block_ends b) (map block_ends blocks))))
 
 pub full_length : (blocks : List (List ℕ)) → length (concat blocks) ≡ sum (map length blocks)
@@ -106,32 +104,31 @@ pub record IsSplit (blocks : List (List ℕ)) (index : ℕ) : Type 0 where
   pub full : AreFull (take index blocks)
   pub utf8 : is_utf8 (get_or blocks index []) ≡ true
   pub after : (drop (index + 1) blocks ≡ [])
-      ⊎ (EndsClear (get_or blocks index []) × AreBlocks (drop (index + 1) blocks))
+      ⊎ (IsFull (get_or blocks index []) × AreBlocks (drop (index + 1) blocks))
 
 pub split : (blocks : List (List ℕ)) (index : ℕ) → AreBlocks blocks → index < length blocks → IsSplit blocks index
 split [] index are h = absurd are
 split (b ∷ []) zero are h = record { whole = refl; full = tt; utf8 = are; after = inl refl }
 split (b ∷ []) (suc index) are h = absurd (omega arith)
-split (b ∷ c ∷ blocks) zero are h = record { whole = refl; full = tt; utf8 = are.0; after = inr (are.1, are.2) }
+split (b ∷ c ∷ blocks) zero are h = record { whole = refl; full = tt; utf8 = are.0.utf8; after = inr are }
 split (b ∷ c ∷ blocks) (suc index) are h =
     let at : suc index + 1 ≡ suc (index + 1) = omega arith in
-    let later = split (c ∷ blocks) index are.2 (omega arith) in
+    let later = split (c ∷ blocks) index are.1 (omega arith) in
     record {
       whole = rw at (ap (λ bs. b ∷ bs) later.whole);
-      full = (are.0, are.1, later.full);
+      full = (are.0, later.full);
       utf8 = later.utf8;
       after = rw at later.after;
     }
 
-put_first : (b : List ℕ) (blocks : List (List ℕ)) → is_utf8 b ≡ true → EndsClear b → AreBlocks blocks
-    → AreBlocks (b ∷ blocks)
-put_first b [] utf8 feed are = absurd are
-put_first b (c ∷ blocks) utf8 feed are = (utf8, feed, are)
+put_first : (b : List ℕ) (blocks : List (List ℕ)) → IsFull b → AreBlocks blocks → AreBlocks (b ∷ blocks)
+put_first b [] full are = absurd are
+put_first b (c ∷ blocks) full are = (full, are)
 
 pub full_front : (front blocks : List (List ℕ)) → AreFull front → AreBlocks blocks → AreBlocks (front ++ blocks)
 full_front [] blocks full are = are
 full_front (b ∷ front) blocks full are =
-    put_first b (front ++ blocks) full.0 full.1 (full_front front blocks full.2 are)
+    put_first b (front ++ blocks) full.0 (full_front front blocks full.1 are)
 
 -- Blocks in three parts.
 pub joined_blocks : (front fresh rest : List (List ℕ)) → AreFull front → AreBlocks fresh → (rest ≡ [])
@@ -144,16 +141,26 @@ joined_blocks front fresh rest full are after =
     after)
 
 -- The last of some blocks is another one.
-pub full_last : (front : List (List ℕ)) (b : List ℕ) → AreFull front → is_utf8 b ≡ true → EndsClear b
-    → AreFull (front ++ b ∷ [])
-full_last [] b full utf8 feed = (utf8, feed, tt)
-full_last (c ∷ front) b full utf8 feed = (full.0, full.1, full_last front b full.2 utf8 feed)
+pub full_last : (front : List (List ℕ)) (b : List ℕ) → AreFull front → IsFull b → AreFull (front ++ b ∷ [])
+full_last [] b full is = (is, tt)
+full_last (c ∷ front) b full is = (full.0, full_last front b full.1 is)
 
 pub blocks_utf8 : (blocks : List (List ℕ)) → AreBlocks blocks → IsUtf8 (concat blocks)
 blocks_utf8 [] are = absurd are
 blocks_utf8 (b ∷ []) are = subst IsUtf8 (sym (append-nil b)) (IsUtf8-from_is_utf8 b are)
-blocks_utf8 (b ∷ c ∷ blocks) are = IsUtf8-append b (concat (c ∷ blocks)) (IsUtf8-from_is_utf8 b are.0)
-    (blocks_utf8 (c ∷ blocks) are.2)
+blocks_utf8 (b ∷ c ∷ blocks) are = IsUtf8-append b (concat (c ∷ blocks)) (IsUtf8-from_is_utf8 b are.0.utf8)
+    (blocks_utf8 (c ∷ blocks) are.1)
+
+-- There are few.
+pub blocks_few : (blocks : List (List ℕ)) → AreBlocks blocks → 1024 * length blocks ≤ length (concat blocks) + 1024
+blocks_few [] are = absurd are
+blocks_few (b ∷ []) are = omega arith
+blocks_few (b ∷ c ∷ blocks) are = omega (
+  arith,
+  blocks_few (c ∷ blocks) are.1,
+  are.0.enough,
+  length-append b (concat (c ∷ blocks)),
+)
 
 pub blocks_some : (blocks : List (List ℕ)) → AreBlocks blocks → 0 < length blocks
 blocks_some [] are = absurd are
@@ -164,3 +171,24 @@ pub split_text : (blocks : List (List ℕ)) (index : ℕ) → IsSplit blocks ind
     ≡ concat (take index blocks) ++ (get_or blocks index [] ++ concat (drop (index + 1) blocks))
 split_text blocks index is =
     ap concat is.whole ∙ concat-append (take index blocks) (get_or blocks index [] ∷ drop (index + 1) blocks)
+
+-- Some of the first blocks, and some after these.
+pub full_take : (n : ℕ) (blocks : List (List ℕ)) → AreFull blocks → AreFull (take n blocks)
+full_take zero blocks full = tt
+full_take (suc n) [] full = tt
+full_take (suc n) (b ∷ blocks) full = (full.0, full_take n blocks full.1)
+
+pub full_drop : (n : ℕ) (blocks : List (List ℕ)) → AreFull blocks → AreFull (drop n blocks)
+full_drop zero blocks full = full
+full_drop (suc n) [] full = tt
+full_drop (suc n) (b ∷ blocks) full = full_drop n blocks full.1
+
+pub full_at : (index : ℕ) (blocks : List (List ℕ)) → index < length blocks → AreFull blocks
+    → IsFull (get_or blocks index [])
+full_at index [] h full = absurd (omega arith)
+full_at zero (b ∷ blocks) h full = full.0
+full_at (suc index) (b ∷ blocks) h full = full_at index blocks (omega arith) full.1
+
+-- The first bytes of a text in blocks, up to a block, are no more than all.
+pub concat_split : (n : ℕ) (blocks : List (List ℕ)) → concat blocks ≡ concat (take n blocks) ++ concat (drop n blocks)
+concat_split n blocks = ap concat (sym (take-append-drop n blocks)) ∙ concat-append (take n blocks) (drop n blocks)

@@ -9,8 +9,8 @@ ghost use Rattle.lsp_text.specs.TextLines.{line_ends, line_start, line_stop};
 ghost use Rattle.lsp_buffer.specs.Contents.{IsContentOf};
 
 use crate::block::are_text;
-use crate::sums::block_of;
-use crate::text_buffer::TextBuffer;
+use crate::find::Target;
+use crate::text_buffer::{Part, TextBuffer};
 use lsp_text::{Encoding, Position};
 use std::alloc::{AllocError, Global};
 use std::ops::Range;
@@ -63,9 +63,8 @@ impl TextBuffer {
         ensures some { offset < length self.now → 0 < length result.now }
         ensures next { IsCharBoundary self.now (offset + length result.now) }
     {
-        let index = block_of(&self.starts, offset);
-        let block = &self.blocks[index];
-        &block.text()[offset - self.starts[index] as usize..]
+        let Part { block, before } = self.part_at(Target::Offset(offset));
+        &block.text()[offset - before.len as usize..]
     }
 
     /// Returns the part of the text from `offset` to `end`, or to the end of its block if that is
@@ -150,10 +149,9 @@ impl TextBuffer {
         ensures part { result.now ≡ take (length result.now) (drop offset self.now) }
         ensures some { offset < length self.now → 0 < length result.now }
     {
-        let index = block_of(&self.starts, offset);
-        let block = &self.blocks[index];
+        let Part { block, before } = self.part_at(Target::Offset(offset));
         let bytes = block.text().as_bytes();
-        let (_, rest) = bytes.split_at(offset - self.starts[index] as usize);
+        let (_, rest) = bytes.split_at(offset - before.len as usize);
         rest
     }
 

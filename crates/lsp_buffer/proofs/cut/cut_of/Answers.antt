@@ -8,8 +8,8 @@ returns-in-Some-clause-cut c =
     let feed : IsFeed c.args.text.now c.in-Some.at =
     subst (λ (bytes : List ℕ). IsFeed bytes c.in-Some.at) c.as_bytes-bytes.ensures.value c.in-Some.ensures.feed in
     record {
-      some = omega arith;
-      within = omega (
+      enough = omega arith;
+      left = omega (
         arith,
         c.in-Some.ensures.front,
         c.if-bytes-le-LAST.false,
