@@ -50,11 +50,11 @@ counts_of text = record {
   utf32 = head_of (units_in Utf32) text;
 }
 
--- Some groups of 64 blocks each, from the first block on, before the last block: what each counts.
+-- Some groups of 32 blocks each, from the first block on, before the last block: what each counts.
 pub record AreGroups (blocks : List (List ℕ)) (groups : List Counts) : Type 0 where
-  pub within : 64 * length groups < length blocks
+  pub within : 32 * length groups < length blocks
   pub counts : (group : ℕ) → group < length groups → get_or groups group (counts_of [])
-      ≡ counts_of (concat (take 64 (drop (64 * group) blocks)))
+      ≡ counts_of (concat (take 32 (drop (32 * group) blocks)))
 
 -- Blocks of a text that isn't too long, with their groups.
 pub record IsTextBuffer (blocks : List (List ℕ)) (groups : List Counts) : Type 0 where

@@ -2,6 +2,7 @@
 ghost use Rattle.std.specs.Prelude.{◌≡◌, ◌≤◌, ◌↔◌, IsTrue, length};
 ghost use Rattle.std.specs.List.{concat};
 ghost use Rattle.lsp_buffer.specs.Blocks.{AreBlocks, IsTextBuffer};
+ghost use Rattle.lsp_buffer.specs.declared.find.Target.TheVariants.{Offset};
 ghost use Rattle.lsp_buffer.specs.inside.Parts.{BeginsBefore, IsFound, Reaches};
 
 use crate::block::Block;
@@ -41,21 +42,17 @@ fn find_group(blocks: &[Block], groups: &[Counts], target: Target) -> Found
     requires { IsTextBuffer blocks.now groups.now }
     ensures { BeginsBefore blocks.now target result }
 {
-    let mut found = Found {
-        index: 0,
-        before: Counts::none(),
-    };
-    for group in groups {
-        let next = found.before.plus(*group);
+    let mut before = Counts::none();
+    for (number, group) in groups.iter().enumerate() {
+        let next = before.plus(*group);
         if !reaches(target, next) {
-            return found;
+            let index = GROUP * number;
+            return Found { index, before };
         }
-        found = Found {
-            index: found.index + GROUP,
-            before: next,
-        };
+        before = next;
     }
-    found
+    let index = GROUP * groups.len();
+    Found { index, before }
 }
 
 /// Returns the last block that begins at the target or before it, from one on that does.
@@ -65,18 +62,19 @@ fn find_from(blocks: &[Block], first: Found, target: Target) -> Found
     requires first { BeginsBefore blocks.now target first }
     ensures { IsFound blocks.now target result }
 {
-    let mut found = first;
-    while found.index + 1 < blocks.len() {
-        let next = found.before.plus(blocks[found.index].counts());
+    let last = blocks.len() - 1;
+    let mut before = first.before;
+    for index in first.index..last {
+        let next = before.plus(blocks[index].counts());
         if !reaches(target, next) {
-            return found;
+            return Found { index, before };
         }
-        found = Found {
-            index: found.index + 1,
-            before: next,
-        };
+        before = next;
     }
-    found
+    Found {
+        index: last,
+        before,
+    }
 }
 
 /// Returns the last block that begins at the target or before it. Costs an addition for each group
@@ -87,4 +85,21 @@ pub fn find(blocks: &[Block], groups: &[Counts], target: Target) -> Found
 {
     let group = find_group(blocks, groups, target);
     find_from(blocks, group, target)
+}
+
+/// Returns the last block that begins at a byte offset or before it, from one on that does. Costs
+/// a search, if that isn't the block itself.
+pub fn find_later(blocks: &[Block], groups: &[Counts], first: Found, offset: usize) -> Found
+    requires are { IsTextBuffer blocks.now groups.now }
+    requires first { BeginsBefore blocks.now (Offset offset) first }
+    ensures { IsFound blocks.now (Offset offset) result }
+{
+    if first.index + 1 == blocks.len() {
+        return first;
+    }
+    let inner = offset - first.before.len as usize;
+    if inner < blocks[first.index].len() {
+        return first;
+    }
+    find(blocks, groups, Target::Offset(offset))
 }

@@ -8,7 +8,7 @@ use crate::block::Block;
 use crate::counts::Counts;
 
 /// How many blocks are in a group.
-pub const GROUP: usize = 64;
+pub const GROUP: usize = 32;
 
 /// Returns what some blocks count together.
 fn total(blocks: &[Block]) -> Counts
@@ -31,8 +31,8 @@ pub fn fill(groups: &mut Vec<Counts>, blocks: &[Block])
     requires groups { AreGroups blocks.now groups.old.items }
     ensures { AreGroups blocks.now groups.new.items }
 {
-    while GROUP * (groups.len() + 1) < blocks.len() {
-        let first = GROUP * groups.len();
+    for group in groups.len()..(blocks.len() - 1) / GROUP {
+        let first = GROUP * group;
         let counts = total(&blocks[first..first + GROUP]);
         if groups.push(counts).is_err() {
             return;
@@ -50,6 +50,7 @@ pub fn recount(groups: &mut [Counts], blocks: &[Block], index: usize)
     let group = index / GROUP;
     if group < groups.len() {
         let first = GROUP * group;
-        groups[group] = total(&blocks[first..first + GROUP]);
+        let counts = total(&blocks[first..first + GROUP]);
+        groups[group] = counts;
     }
 }

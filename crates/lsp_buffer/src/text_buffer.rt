@@ -9,7 +9,7 @@ ghost use Rattle.lsp_text.specs.TextLines.{line_ends};
 ghost use Rattle.lsp_text.specs.LineStarts.{IsPlace};
 ghost use Rattle.lsp_text.specs.Units.{units_in};
 ghost use Rattle.lsp_text.specs.Positions.{exact_position, denoted};
-ghost use Rattle.lsp_buffer.specs.Blocks.{AreBlocks, counts_of};
+ghost use Rattle.lsp_buffer.specs.Blocks.{AreBlocks};
 ghost use Rattle.lsp_buffer.specs.inside.Parts.{IsPart};
 
 mod change;
@@ -18,7 +18,7 @@ mod reading;
 use crate::block::{Block, shared_blocks};
 use crate::counts::Counts;
 use crate::cut::blocks_of;
-use crate::find::{Target, find};
+use crate::find::{Target, find, find_later};
 use crate::groups::fill;
 use crate::seams::{position_after, position_from};
 use crate::text_buffer::change::{BlockRange, replace};
@@ -28,27 +28,29 @@ use std::fmt;
 use std::marker::Model;
 
 /// A text of at most 2,147,483,648 bytes in blocks of some kilobytes each. A change costs its
-/// block, and an addition for each later block. That is so in long lines too: a line may be in
-/// many blocks, and one of many megabytes costs what many lines cost. (A run of carriage returns
-/// alone is never cut.) The first change of a text that [`TextBuffer::new`] took costs the text
-/// once: it is cut into blocks then.
+/// block, and a search for it: an addition for each 32 blocks, and at most 32 more. That is so in
+/// long lines too: a line may be in many blocks, and one of many megabytes costs what many lines
+/// cost. (A run of carriage returns alone is never cut.) The first change of a text that
+/// [`TextBuffer::new`] took costs the text once: it is cut into blocks then.
 ///
 /// Clauses see the bytes of the text.
 #[derive(Debug, Drop)]
 pub struct TextBuffer {
     blocks: Vec<Block>,
-    // What each 64 blocks count.
+    // What each 32 blocks count.
     groups: Vec<Counts>,
+    len: usize,
 }
 
 /// A block of a text, and what comes before it.
+#[derive(Drop)]
 struct Part<'a> {
     block: &'a Block,
     before: Counts,
 }
 
 impl Model for TextBuffer {
-    ghost use Rattle.std.specs.Prelude.{ℕ, List};
+    ghost use Rattle.std.specs.Prelude.{◌≡◌, ℕ, List, length};
     ghost use Rattle.std.specs.List.{concat};
     ghost use Rattle.lsp_buffer.specs.Blocks.{IsTextBuffer};
 
@@ -56,7 +58,8 @@ impl Model for TextBuffer {
 
     ghost view = { λ text. concat text.blocks.items };
 
-    ghost invariant = { λ text. IsTextBuffer text.blocks.items text.groups.items };
+    ghost invariant = { λ text. (IsTextBuffer text.blocks.items text.groups.items)
+        × (text.len ≡ length (concat text.blocks.items)) };
 }
 
 impl TextBuffer {
@@ -66,9 +69,10 @@ impl TextBuffer {
         requires { string_len text ≤ 2147483648 }
         ensures { IfOk result (λ buffer. buffer ≡ string_bytes text) }
     {
+        let len = text.len();
         let mut blocks = Vec::with_capacity(alloc, 1)?;
         blocks.push(Block::new(alloc, text)?)?;
-        Ok(TextBuffer::of_blocks(alloc, blocks))
+        Ok(TextBuffer::of_blocks(alloc, blocks, len))
     }
 
     /// Copies a text of at most 2,147,483,648 bytes. Fails only where memory runs out. Linear in
@@ -78,18 +82,23 @@ impl TextBuffer {
         ensures { IfOk result (λ buffer. buffer ≡ text.now) }
     {
         let blocks = blocks_of(alloc, text)?;
-        Ok(TextBuffer::of_blocks(alloc, blocks))
+        Ok(TextBuffer::of_blocks(alloc, blocks, text.len()))
     }
 
-    /// Takes some blocks, and counts their groups.
-    fn of_blocks(alloc: Global, blocks: Vec<Block>) -> Self
+    /// Takes some blocks of so many bytes in all, and counts their groups.
+    fn of_blocks(alloc: Global, blocks: Vec<Block>, len: usize) -> Self
         requires are { AreBlocks blocks.items }
-        requires size { length (concat blocks.items) ≤ 2147483648 }
+        requires size { len ≤ 2147483648 }
+        requires len { len ≡ length (concat blocks.items) }
         ensures { result ≡ concat blocks.items }
     {
         let mut groups = Vec::new(alloc);
         fill(&mut groups, &blocks);
-        TextBuffer { blocks, groups }
+        TextBuffer {
+            blocks,
+            groups,
+            len,
+        }
     }
 
     /// Returns a copy, which shares its blocks with this text. Fails only where memory runs out.
@@ -100,7 +109,12 @@ impl TextBuffer {
     {
         let blocks = shared_blocks(alloc, &self.blocks)?;
         let groups = Vec::from_slice(alloc, &self.groups)?;
-        Ok(TextBuffer { blocks, groups })
+        let len = self.len;
+        Ok(TextBuffer {
+            blocks,
+            groups,
+            len,
+        })
     }
 
     /// Returns the text's allocator.
@@ -119,39 +133,30 @@ impl TextBuffer {
         }
     }
 
-    /// Returns what the whole text counts.
-    fn counts(&self) -> Counts
-        ensures counts { result ≡ counts_of self.now }
-        ensures size { length self.now ≤ 2147483648 }
-        ensures utf8 { IsUtf8 self.now }
-    {
-        let last = self.part_at(Target::Offset(usize::MAX));
-        last.before.plus(last.block.counts())
-    }
-
-    /// Returns how many bytes the text has. Costs an addition for each 64 blocks.
+    /// Returns how many bytes the text has. In constant time.
     pub fn len(&self) -> usize
         ensures len { result ≡ length self.now }
         ensures size { length self.now ≤ 2147483648 }
         ensures utf8 { IsUtf8 self.now }
     {
-        self.counts().len as usize
+        self.len
     }
 
-    /// Returns whether the text has no bytes. Costs what [`TextBuffer::len`] costs.
+    /// Returns whether the text has no bytes. In constant time.
     pub fn is_empty(&self) -> bool
         ensures { IsTrue result ↔ (length self.now ≡ 0) }
     {
         self.len() == 0
     }
 
-    /// Returns how many lines there are: one more than line ends, so at least one. Costs an addition
-    /// for each 64 blocks.
+    /// Returns how many lines there are: one more than line ends, so at least one. Costs a search
+    /// for the last block.
     pub fn line_count(&self) -> usize
         ensures count { result ≡ line_ends (chars self.now) + 1 }
         ensures few { result ≤ 2147483649 }
     {
-        self.counts().ends as usize + 1
+        let last = self.part_at(Target::Offset(usize::MAX));
+        last.before.plus(last.block.counts()).ends as usize + 1
     }
 
     /// Returns how many blocks the text is in. Each but the last has 1,024 bytes or more. In
@@ -166,8 +171,8 @@ impl TextBuffer {
     /// Returns the byte offset that a position denotes (LSP 3.17, Position).
     ///
     /// A position past the last line denotes the end of the text, one past a line's content the end
-    /// of that content. A position inside a character is an error. Costs a binary search over the
-    /// blocks, and the line's text up to the position in its block; in UTF-8 only the search.
+    /// of that content. A position inside a character is an error. Costs a search for the block, and
+    /// the line's text up to the position in it; in UTF-8 only the search.
     pub fn resolve(&self, encoding: Encoding, position: Position) -> Result<usize, InsideCharacter>
         ensures value { result_ok result
             ≡ option_map (place_of (chars self.now))
@@ -184,8 +189,7 @@ impl TextBuffer {
     /// Returns the exact position of a byte offset (LSP 3.17, Position). The offset is one that a
     /// position can denote ([`TextBuffer::is_place`]).
     ///
-    /// Costs a binary search over the blocks, one over a block's lines, and the line's text in the
-    /// block up to the offset.
+    /// Costs a search for the block, one over its lines, and the line's text in it up to the offset.
     pub fn position(&self, encoding: Encoding, offset: usize) -> Position
         requires { IsPlace (chars self.now) offset }
         ensures exact { (k : ℕ) → k ≤ length (chars self.now) → place_of (chars self.now) k ≡ offset
@@ -200,7 +204,7 @@ impl TextBuffer {
     }
 
     /// Returns whether a character begins at this byte offset, or the text ends there. Costs a
-    /// binary search over the blocks.
+    /// search for the block.
     pub fn is_char_boundary(&self, offset: usize) -> bool
         ensures boundary { IsTrue result ↔ IsCharBoundary self.now offset }
         ensures utf8 { IsUtf8 self.now }
@@ -210,7 +214,7 @@ impl TextBuffer {
     }
 
     /// Returns whether a position can denote this byte offset: it is a boundary of characters that
-    /// splits no CRLF. Costs a binary search over the blocks.
+    /// splits no CRLF. Costs a search for the block.
     pub fn is_place(&self, offset: usize) -> bool
         ensures place { IsTrue result ↔ IsPlace (chars self.now) offset }
         ensures boundary { IsTrue result → IsCharBoundary self.now offset }
@@ -224,9 +228,9 @@ impl TextBuffer {
     /// `start` is at most `end`, and both are character boundaries
     /// ([`TextBuffer::is_char_boundary`]). The changed text has at most 2,147,483,648 bytes.
     ///
-    /// Costs the new text, the blocks of the two ends, and an addition for each later block. Blocks
-    /// are cut again if the ends are in two of them, or if one gets too long, and one that gets
-    /// short is joined with the next: then the sums of all blocks are built anew. The one block of
+    /// Costs the new text, the blocks of the two ends, and a search for each. Blocks are cut
+    /// again if the ends are in two of them, or if one gets too long, and one that gets short is
+    /// joined with the next: then the later blocks are counted anew. The one block of
     /// [`TextBuffer::new`] is too long from 8 kilobytes on: its first change costs the text once.
     pub fn replace_range(&mut self, start: usize, end: usize, new: &str) -> Result<(), AllocError>
         requires order { start ≤ end }
@@ -237,14 +241,17 @@ impl TextBuffer {
         ensures unchanged { OnErr result (self.new ≡ self.old) }
     {
         let from = find(&self.blocks, &self.groups, Target::Offset(start));
-        let to = find(&self.blocks, &self.groups, Target::Offset(end));
+        let to = find_later(&self.blocks, &self.groups, from, end);
         let range = BlockRange {
             first: from.index,
             start: start - from.before.len as usize,
             last: to.index,
             end: end - to.before.len as usize,
         };
-        replace(&mut self.blocks, &mut self.groups, range, new)
+        let len = self.len - (end - start) + new.len();
+        replace(&mut self.blocks, &mut self.groups, range, new)?;
+        self.len = len;
+        Ok(())
     }
 }
 

@@ -4,7 +4,7 @@ use Rattle.std.specs.Prelude.{encode_utf8_all}
 use Rattle.std.specs.List.{concat}
 use Rattle.std.specs.Str.{chars, is_utf8, IsUtf8}
 use Rattle.std.proofs.Math.Utf8.{encode}
-use Rattle.std.proofs.lemmas.List.{length-append, get_or-append_right, append-nil, take-append-drop}
+use Rattle.std.proofs.lemmas.List.{length-append, get_or-append_right, get_or_default, append-nil, take-append-drop}
 use Rattle.std.proofs.lemmas.List.Folds.{concat-append}
 use Rattle.std.proofs.lemmas.List.Sums.{sum_by-cons}
 use Rattle.std.proofs.lemmas.Str.{IsUtf8-from_is_utf8, IsUtf8-append, encodes-chars, length-encode, len_utf8_bounds, chars-append, chars-nil}
@@ -192,3 +192,10 @@ full_at (suc index) (b ∷ blocks) h full = full_at index blocks (omega arith) f
 -- The first bytes of a text in blocks, up to a block, are no more than all.
 pub concat_split : (n : ℕ) (blocks : List (List ℕ)) → concat blocks ≡ concat (take n blocks) ++ concat (drop n blocks)
 concat_split n blocks = ap concat (sym (take-append-drop n blocks)) ∙ concat-append (take n blocks) (drop n blocks)
+
+-- A full block is a text.
+pub full_text : (blocks : List (List ℕ)) (index : ℕ) (block : List ℕ) → index < length blocks
+    → block ≡ get_or blocks index block → AreFull blocks → IsUtf8 block
+full_text blocks index block within block_is full =
+    subst IsUtf8 (get_or_default blocks index [] block within ∙ sym block_is)
+    (IsUtf8-from_is_utf8 (get_or blocks index []) (full_at index blocks within full).utf8)

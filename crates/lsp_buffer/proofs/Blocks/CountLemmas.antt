@@ -1,5 +1,5 @@
 -- What texts count, one after the other.
-use Rattle.std.proofs.Common.{ℕ, zero, suc, ◌≡◌, ◌+◌, ◌*◌, ◌<◌, ◌≤◌, ◌^◌, List, [], ◌++◌, length, take, drop, get_or, ⊎_elim, refl, sym, ap, ◌∙◌, arith, subst}
+use Rattle.std.proofs.Common.{ℕ, zero, suc, ◌≡◌, ◌+◌, ◌*◌, ◌<◌, ◌≤◌, ◌^◌, List, [], ◌∷◌, ◌++◌, length, take, drop, get_or, ⊎_elim, refl, sym, ap, ◌∙◌, arith, subst}
 use Rattle.std.specs.List.{concat}
 use Rattle.std.specs.Str.{chars, IsUtf8}
 use Rattle.std.proofs.Math.Seq.{take-add}
@@ -21,6 +21,15 @@ use Rattle.lsp_buffer.proofs.Blocks.BlockLemmas.{chars_close, concat_split, full
 use Rattle.lsp_buffer.proofs.Blocks.CutLemmas.{concat_more}
 use Rattle.lsp_buffer.proofs.Blocks.PartLemmas.{head_of_both}
 use Rattle.lsp_buffer.proofs.Blocks.SeamLemmas.{head, seam_count}
+
+pub none_count : counts_of [] ≡ record { len = 0; ends = 0; utf8 = 0; utf16 = 0; utf32 = 0 }
+none_count = λ i. record {
+  len = 0;
+  ends = ap line_ends chars-nil i;
+  utf8 = ap (head (units_in Utf8)) chars-nil i;
+  utf16 = ap (head (units_in Utf16)) chars-nil i;
+  utf32 = ap (head (units_in Utf32)) chars-nil i;
+}
 
 line_low : (text : List ℕ) (k : ℕ) → line_at text k ≤ k
 line_low text zero = omega arith
@@ -49,7 +58,7 @@ module _ (a b : List ℕ) (utf8 : IsUtf8 a) (closes : Closes a) where
   ends_both =
       ap line_ends (chars-append a b utf8) ∙
       ⊎_elim
-      (λ (e : chars a ≡ []). rw e refl)
+      (λ (e : chars a ≡ []). rw e (omega arith))
       (λ (e : EndsClear (chars a)). seam_count (chars a) (chars b) e)
       (chars_close a utf8 closes)
 

@@ -52,6 +52,17 @@ back_ends block front n h feed =
     (ends_tail (take n block) (drop n block) (omega (arith, length-drop n block))
     (subst EndsClear (sym (take-append-drop n block)) feed))
 
+-- How long a changed text is.
+pub replaced_length : (bytes new : List ℕ) (start stop : ℕ) → start ≤ stop → stop ≤ length bytes
+    → length (replace_range bytes start stop new) ≡ length bytes - (stop - start) + length new
+replaced_length bytes new start stop order within = omega (
+  arith,
+  length-append (take start bytes ++ new) (drop stop bytes),
+  length-append (take start bytes) new,
+  length-take-le start bytes (omega (arith, order, within)),
+  length-drop stop bytes,
+)
+
 -- ---- the range of a change
 
 first_texts : (blocks : List (List ℕ)) (i j : ℕ) → i ≤ j → length (concat (take i blocks)) ≤ length
@@ -162,12 +173,6 @@ drop_are (suc n) (b ∷ []) h are = absurd (omega arith)
 drop_are (suc n) (b ∷ c ∷ blocks) h are = drop_are n (c ∷ blocks) (omega arith) are.1
 
 module _ (blocks : List (List ℕ)) (range : BlockRange) (new : List ℕ) (change : IsChange blocks range new) where
-  front : List ℕ
-  front = get_or blocks range.first []
-
-  back : List ℕ
-  back = get_or blocks range.last []
-
   pub first_within : range.first < length blocks
   first_within = omega (arith, change.order, change.within)
 
@@ -244,12 +249,12 @@ module _ (blocks : List (List ℕ)) (range : BlockRange) (new : List ℕ) (chang
   -- What is left is full, or joined with the next block.
   pub left_full : IsUtf8 new → (JoinsNext blocks (range.last + 1) (length (text_left blocks range new)) → ⊥)
       → range.last + 1 < length blocks → IsFull (text_left blocks range new)
-  left_full utf8 no more = record {
+  left_full utf8 never more = record {
     utf8 = is_utf8-from_IsUtf8 (text_left blocks range new) (left_utf8 utf8);
     ends = left_ends more;
     enough =
         ⊎_elim
-        (λ (h : length (text_left blocks range new) < 1024). absurd (no (more, h)))
+        (λ (h : length (text_left blocks range new) < 1024). absurd (never (more, h)))
         (λ (h : 1024 ≤ length (text_left blocks range new)). h)
         (cases_lt (length (text_left blocks range new)) 1024);
   }
@@ -258,7 +263,7 @@ module _ (blocks : List (List ℕ)) (range : BlockRange) (new : List ℕ) (chang
 
   pub taken_alone : (text : List ℕ) (past : ℕ) → IsUtf8 new → text ≡ text_left blocks range new → past ≡ range.last + 1
       → (JoinsNext blocks past (length text) → ⊥) → IsTaken blocks range new text past
-  taken_alone text past utf8 text_is past_is no = record {
+  taken_alone text past utf8 text_is past_is never = record {
     order = omega (arith, past_is, change.order);
     within = omega (arith, past_is, change.within);
     whole = ap (λ t. concat (take range.first blocks) ++ (t ++ concat (drop past blocks))) text_is
@@ -267,7 +272,7 @@ module _ (blocks : List (List ℕ)) (range : BlockRange) (new : List ℕ) (chang
         subst IsFull (sym text_is)
         (left_full utf8
         (subst (λ (p : ℕ). JoinsNext blocks p (length (text_left blocks range new)) → ⊥) past_is
-        (subst (λ (t : List ℕ). JoinsNext blocks past (length t) → ⊥) text_is no))
+        (subst (λ (t : List ℕ). JoinsNext blocks past (length t) → ⊥) text_is never))
         (omega (arith, more, past_is)));
   }
 
@@ -345,7 +350,7 @@ module _ (blocks : List (List ℕ)) (range : BlockRange) (new : List ℕ) (chang
     }
 
     pub cut_groups : (next : List (List ℕ)) (groups now : List Counts) → next ≡ take range.first blocks
-        ++ (fresh ++ drop past blocks) → AreGroups blocks groups → now ≡ take (range.first / 64) groups
+        ++ (fresh ++ drop past blocks) → AreGroups blocks groups → now ≡ take (range.first / 32) groups
         → AreGroups next now
     cut_groups next groups now next_is groups_are now_is =
         subst (λ (bs : List (List ℕ)). AreGroups bs now) (sym next_is)

@@ -1,10 +1,10 @@
 -- The block that is found for a byte offset or a position, and what it says of the text.
-use Rattle.std.proofs.Common.{ℕ, zero, suc, ◌≡◌, ◌+◌, ◌-◌, ◌<◌, ◌≤◌, ◌⊎◌, false, List, [], ◌∷◌, ◌++◌, length, take, drop, get_or, Option, option_map, ⊎_elim, inl, inr, refl, sym, ap, ◌∙◌, arith, subst}
+use Rattle.std.proofs.Common.{ℕ, zero, suc, ◌≡◌, ◌+◌, ◌-◌, ◌*◌, ◌<◌, ◌≤◌, ◌⊎◌, false, List, [], ◌∷◌, ◌++◌, length, take, drop, get_or, Option, option_map, ⊎_elim, inl, inr, refl, sym, ap, ◌∙◌, arith, subst}
 use Rattle.std.specs.List.{concat}
 use Rattle.std.specs.Str.{chars, IsUtf8, IsCharBoundary}
 use Rattle.std.proofs.lemmas.Bool.{cases_lt}
 use Rattle.std.proofs.lemmas.List.{append-nil, drop_all, length-append, length-drop, get_or_default, take_at}
-use Rattle.std.proofs.lemmas.Str.{chars-nil, encodes-chars, length-le-encodes, IsUtf8-from_is_utf8}
+use Rattle.std.proofs.lemmas.Str.{encodes-chars, length-le-encodes, IsUtf8-from_is_utf8}
 use Rattle.lsp_text.specs.declared.position.Position.{Position}
 use Rattle.lsp_text.specs.declared.encoding.Encoding.{Encoding}
 use Rattle.lsp_text.specs.declared.encoding.Encoding.TheVariants.{Utf8, Utf16, Utf32}
@@ -21,14 +21,13 @@ use Rattle.lsp_buffer.specs.declared.counts.Counts.{Counts}
 use Rattle.lsp_buffer.specs.declared.find.Found.{Found}
 use Rattle.lsp_buffer.specs.declared.find.Target.{Target}
 use Rattle.lsp_buffer.specs.declared.find.Target.TheVariants.{Denoted, Offset}
-use Rattle.lsp_buffer.specs.Blocks.{AreBlocks, EndsClear, IsFull, carried, block_ends, counts_of, head_of}
+use Rattle.lsp_buffer.specs.Blocks.{AreBlocks, EndsClear, IsFull, IsTextBuffer, carried, block_ends, counts_of, head_of}
 use Rattle.lsp_buffer.specs.inside.Counts.{HaveRoom, counts_sum, head_in}
 use Rattle.lsp_buffer.specs.inside.Parts.{AreThree, BeginsBefore, IsFound, IsPart, IsPartAt, Reaches}
 use Rattle.lsp_buffer.specs.inside.Seams.{IsAtOrAfter, IsBefore, position_after, position_from}
 use Rattle.lsp_buffer.proofs.Blocks.BlockLemmas.{IsSplit, blocks_some, blocks_utf8, full_closes, full_utf8, split, split_text}
-use Rattle.lsp_buffer.proofs.Blocks.CountLemmas.{are_sum, ends_both, have_room, head_both}
+use Rattle.lsp_buffer.proofs.Blocks.CountLemmas.{are_sum, ends_both, have_room, head_both, none_count, room_more, room_some, sum_more, sum_some}
 use Rattle.lsp_buffer.proofs.Blocks.CutLemmas.{concat_more}
-use Rattle.lsp_buffer.proofs.Blocks.SeamLemmas.{head}
 use Rattle.lsp_buffer.proofs.Blocks.PartLemmas.{resolved_three, inner_index, exact_three, boundary_in, carried_low, drop_three}
 
 pub units_some : (encoding : Encoding) (c : ℕ) → 1 ≤ units_in encoding c
@@ -52,15 +51,6 @@ pub record IsLineFound (bytes front block rest : List ℕ) (units : ℕ → ℕ)
   pub inside : (rest ≡ []) ⊎ IsBefore (block_ends block) (head_of units block) (position_after first head p)
 
 -- ---- the search
-
-none_count : counts_of [] ≡ record { len = 0; ends = 0; utf8 = 0; utf16 = 0; utf32 = 0 }
-none_count = λ i. record {
-  len = 0;
-  ends = ap line_ends chars-nil i;
-  utf8 = ap (head (units_in Utf8)) chars-nil i;
-  utf16 = ap (head (units_in Utf16)) chars-nil i;
-  utf32 = ap (head (units_in Utf32)) chars-nil i;
-}
 
 pub head_counted : (encoding : Encoding) (text : List ℕ) → head_in (counts_of text) encoding
     ≡ head_of (units_in encoding) text
@@ -92,6 +82,92 @@ begins_first blocks target before are is = record {
   before = is;
   low = subst (Reaches target) (sym is) (reaches_first target);
 }
+
+-- One group more.
+module _ (blocks : List (List ℕ)) (groups : List Counts) (is : IsTextBuffer blocks groups) (target : Target)
+    (number : ℕ) (group before : Counts) (within : number < length groups) (group_is : group ≡ get_or groups number group)
+    (begins : BeginsBefore blocks target (record { index = 32 * number; before = before })) where
+  group_within : 32 * number + 32 < length blocks
+  group_within = omega (arith, within, is.groups_are.within)
+
+  group_counts : group ≡ counts_of (concat (take 32 (drop (32 * number) blocks)))
+  group_counts = group_is ∙ (get_or_default groups number group (counts_of []) within
+      ∙ is.groups_are.counts number within)
+
+  pub group_room : HaveRoom before group
+  group_room = room_some blocks is.are (32 * number) 32 group_within before group begins.before group_counts is.size
+
+  pub group_next : (next : Counts) → next ≡ counts_sum before group → Reaches target next
+      → BeginsBefore blocks target (record { index = 32 * (number + 1); before = next })
+  group_next next next_is reaches = record {
+    within = omega (arith, group_within);
+    before = sum_some blocks is.are (32 * number) 32 group_within before group begins.before group_counts next next_is
+        ∙ ap (λ (n : ℕ). counts_of (concat (take n blocks))) (let e : 32 * number + 32 ≡ 32 * (number + 1) = omega arith in e);
+    low = reaches;
+  }
+
+-- One block more.
+module _ (blocks : List (List ℕ)) (are : AreBlocks blocks) (size : length (concat blocks) ≤ 2147483648)
+    (target : Target) (index : ℕ) (block : List ℕ) (counts before : Counts) (more : index + 1 < length blocks)
+    (block_is : block ≡ get_or blocks index block) (counts_is : counts ≡ counts_of block)
+    (begins : BeginsBefore blocks target (record { index = index; before = before })) where
+  here : IsSplit blocks index
+  here = split blocks index are begins.within
+
+  pub block_room : HaveRoom before counts
+  block_room =
+      room_more blocks index block begins.within block_is here.full before counts begins.before counts_is
+      (subst IsUtf8 (get_or_default blocks index [] block begins.within ∙ sym block_is)
+      (IsUtf8-from_is_utf8 (get_or blocks index []) here.utf8)) size
+
+  next_counts : (next : Counts) → next ≡ counts_sum before counts → next ≡ counts_of (concat (take (index + 1) blocks))
+  next_counts next next_is = sum_more blocks index block begins.within block_is here.full before counts begins.before
+      counts_is next next_is
+
+  pub block_next : (next : Counts) → next ≡ counts_sum before counts → Reaches target next
+      → BeginsBefore blocks target (record { index = index + 1; before = next })
+  block_next next next_is reaches = record { within = more; before = next_counts next next_is; low = reaches }
+
+  pub block_found : (next : Counts) → next ≡ counts_sum before counts → (Reaches target next → ⊥)
+      → IsFound blocks target (record { index = index; before = before })
+  block_found next next_is never = record {
+    begins = begins;
+    last = λ _ reaches. never (subst (Reaches target) (sym (next_counts next next_is)) reaches);
+  }
+
+pub last_found : (blocks : List (List ℕ)) (target : Target) (index : ℕ) (before : Counts) → length blocks ≤ index + 1
+    → BeginsBefore blocks target (record { index = index; before = before })
+    → IsFound blocks target (record { index = index; before = before })
+last_found blocks target index before all begins = record { begins = begins; last = λ more. absurd (omega arith) }
+
+-- A later byte offset.
+pub begins_later : (blocks : List (List ℕ)) (start stop : ℕ) (found : Found) → start ≤ stop
+    → BeginsBefore blocks (Offset start) found → BeginsBefore blocks (Offset stop) found
+begins_later blocks start stop found order begins = record {
+  within = begins.within;
+  before = begins.before;
+  low = omega (arith, begins.low, order);
+}
+
+pub same_found : (blocks : List (List ℕ)) (place : ℕ) (found : Found) (block : List ℕ)
+    → BeginsBefore blocks (Offset place) found → block ≡ get_or blocks found.index block
+    → place - found.before.len < length block → IsFound blocks (Offset place) found
+same_found blocks place found block begins block_is inside = record {
+  begins = begins;
+  last = λ _ reaches. omega (
+    arith,
+    reaches,
+    inside,
+    begins.low,
+    ap (λ (c : Counts). c.len) begins.before,
+    ap length (concat_more blocks found.index block begins.within block_is),
+    length-append (concat (take found.index blocks)) block,
+  );
+}
+
+pub end_found : (blocks : List (List ℕ)) (target : Target) (found : Found) → length blocks ≤ found.index + 1
+    → BeginsBefore blocks target found → IsFound blocks target found
+end_found blocks target found all begins = record { begins = begins; last = λ more. absurd (omega arith) }
 
 -- ---- the block that is found
 
@@ -166,10 +242,10 @@ module _ (bytes front block rest : List ℕ) (before : Counts) (place : ℕ)
     inside =
         ⊎_elim
         (λ (e : rest ≡ []). inl e)
-        (λ (no : Reaches (Offset place) (counts_of (front ++ block)) → ⊥).
+        (λ (never : Reaches (Offset place) (counts_of (front ++ block)) → ⊥).
         ⊎_elim
         (λ (h : place < length front + length block). inr (omega (arith, h, front_length, part.low)))
-        (λ (h : length front + length block ≤ place). absurd (no (past h)))
+        (λ (h : length front + length block ≤ place). absurd (never (past h)))
         (cases_lt place (length front + length block)))
         part.last;
   }
@@ -183,8 +259,8 @@ module _ (bytes front block rest : List ℕ) (before : Counts) (place : ℕ)
   last_none far =
       ⊎_elim
       (λ (e : rest ≡ []). e)
-      (λ (no : Reaches (Offset place) (counts_of (front ++ block)) → ⊥).
-      absurd (no (past (omega (arith, far, whole_length)))))
+      (λ (never : Reaches (Offset place) (counts_of (front ++ block)) → ⊥).
+      absurd (never (past (omega (arith, far, whole_length)))))
       part.last
 
   pub last_room : (next : Counts) → next ≡ counts_of block → HaveRoom before next
@@ -200,16 +276,16 @@ module _ (bytes front block rest : List ℕ) (before : Counts) (place : ℕ)
 
 -- A position.
 not_after : (line head : ℕ) (p : Position) → (IsAtOrAfter line head p → ⊥) → IsBefore line head p
-not_after line head p no =
+not_after line head p never =
     ⊎_elim
     (λ (h : p.line < line). inl h)
     (λ (h : line ≤ p.line).
     ⊎_elim
-    (λ (g : line < p.line). absurd (no (inl g)))
+    (λ (g : line < p.line). absurd (never (inl g)))
     (λ (g : p.line ≤ line).
     ⊎_elim
     (λ (k : p.character < head). inr (omega (arith, h, g), k))
-    (λ (k : head ≤ p.character). absurd (no (inr (omega (arith, h, g), k))))
+    (λ (k : head ≤ p.character). absurd (never (inr (omega (arith, h, g), k))))
     (cases_lt p.character head))
     (cases_lt line p.line))
     (cases_lt p.line line)
@@ -253,13 +329,13 @@ module _ (bytes front block rest : List ℕ) (before : Counts) (encoding : Encod
     inside =
         ⊎_elim
         (λ (e : rest ≡ []). inl e)
-        (λ (no : Reaches (Denoted encoding p) (counts_of (front ++ block)) → ⊥).
+        (λ (never : Reaches (Denoted encoding p) (counts_of (front ++ block)) → ⊥).
         inr (before_after before.ends (head_in before encoding) (block_ends block) (head_of (units_in encoding) block) p
         part.low (not_after (before.ends + block_ends block)
         (carried (block_ends block) (head_in before encoding) + head_of (units_in encoding) block) p
         (λ (after : IsAtOrAfter (before.ends + block_ends block)
         (carried (block_ends block) (head_in before encoding) + head_of (units_in encoding) block) p).
-        no (subst (λ (l : ℕ). IsAtOrAfter l (head_in (counts_of (front ++ block)) encoding) p) (sym ends_next)
+        never (subst (λ (l : ℕ). IsAtOrAfter l (head_in (counts_of (front ++ block)) encoding) p) (sym ends_next)
         (subst (λ (h : ℕ). IsAtOrAfter (before.ends + block_ends block) h p) (sym units_next) after))))))
         part.last;
   }

@@ -105,7 +105,7 @@ struct Taken {
 }
 
 /// Returns what a change leaves of its blocks, joined with the next block if it is short.
-fn taken(
+fn text_taken(
     alloc: Global,
     blocks: &[Block],
     range: BlockRange,
@@ -161,7 +161,7 @@ fn replace_across(
     ensures unchanged { OnErr result (concat blocks.new.items ≡ concat blocks.old.items) }
 {
     let alloc = *blocks.allocator();
-    let Taken { text, past } = taken(alloc, blocks, range, new)?;
+    let Taken { text, past } = text_taken(alloc, blocks, range, new)?;
     let fresh = blocks_of(alloc, &text)?;
     replace_blocks(blocks, range.first, past, fresh)?;
     groups.truncate(range.first / GROUP);

@@ -17,7 +17,7 @@ use std::ops::Range;
 
 impl TextBuffer {
     /// Returns the byte offsets of a line's content, without its line end, or `None` if there is no
-    /// such line. Costs two binary searches over the blocks.
+    /// such line. Costs two searches for blocks.
     pub fn line(&self, line: u32) -> Option<Range<usize>>
         ensures content { IfSome result (IsContentOf self.now line) }
         ensures some { OnSome result (line ≤ line_ends (chars self.now)) }
@@ -56,7 +56,7 @@ impl TextBuffer {
     /// Returns the text from an offset on, up to the end of its block. It is empty only at the end
     /// of the text. The offset is a character boundary ([`TextBuffer::is_char_boundary`]).
     ///
-    /// The next chunk begins at `offset + chunk.len()`. Costs a binary search over the blocks.
+    /// The next chunk begins at `offset + chunk.len()`. Costs a search for the block.
     pub fn chunk_from(&self, offset: usize) -> &str
         requires { IsCharBoundary self.now offset }
         ensures part { result.now ≡ take (length result.now) (drop offset self.now) }
@@ -91,8 +91,7 @@ impl TextBuffer {
     /// Copies the bytes from `start` to `end`. `start` is at most `end`, and both are character
     /// boundaries ([`TextBuffer::is_char_boundary`]).
     ///
-    /// Fails only where memory runs out. Costs a binary search for each block of the range, and its
-    /// bytes.
+    /// Fails only where memory runs out. Costs a search for each block of the range, and its bytes.
     pub fn slice(&self, alloc: Global, start: usize, end: usize) -> Result<String, AllocError>
         requires order { start ≤ end }
         requires at_start { IsCharBoundary self.now start }
@@ -107,8 +106,7 @@ impl TextBuffer {
     /// Appends the bytes from `start` to `end` to a string. `start` is at most `end`, and both are
     /// character boundaries ([`TextBuffer::is_char_boundary`]).
     ///
-    /// Fails only where memory runs out. Costs a binary search for each block of the range, and its
-    /// bytes.
+    /// Fails only where memory runs out. Costs a search for each block of the range, and its bytes.
     pub fn push_range(&self, out: &mut String, start: usize, end: usize) -> Result<(), AllocError>
         requires order { start ≤ end }
         requires at_start { IsCharBoundary self.now start }
@@ -143,7 +141,7 @@ impl TextBuffer {
     }
 
     /// Returns the bytes from an offset on, up to the end of their block. There are none only at
-    /// the end of the text. Costs a binary search over the blocks.
+    /// the end of the text. Costs a search for the block.
     fn bytes_from(&self, offset: usize) -> &[u8]
         requires { offset ≤ length self.now }
         ensures part { result.now ≡ take (length result.now) (drop offset self.now) }
@@ -158,7 +156,7 @@ impl TextBuffer {
     /// Copies the bytes from `start` on, as many as `out` has room for, and returns how many.
     /// `start` is at most the text's length.
     ///
-    /// Costs a binary search for each block of these bytes, and the copy.
+    /// Costs a search for each block of these bytes, and the copy.
     pub fn copy_to(&self, start: usize, out: &mut [u8]) -> usize
         requires { start ≤ length self.now }
         ensures count { result ≡ min (length (drop start self.now)) (length out.old) }
