@@ -172,7 +172,3 @@ module _ (limits : LimitsData) (before : List ℕ) where
       let bad : ◌≡◌ {A = Result (List ℕ) BatchFault} (Ok (bytes_left before items)) (Err fault) =
       rw (is, le-ltb limits.max_text (length (bytes_left before items)) within) at e in absurd (cc))
       error
-
-  pub meant_within : (meant : Result (List Item) (ℕ × Fault)) (items : List Item) → meant ≡ Ok items
-      → length (bytes_left before items) ≤ limits.max_text → meaning_refusal limits before meant ≡ None
-  meant_within meant items is within = rw (is, le-ltb limits.max_text (length (bytes_left before items)) within) refl
