@@ -214,12 +214,8 @@ impl<'a> Pieces<'a> {
             → meaning (units_in encoding) self.now.edited.before batch ≡ Ok self.now.edited.items
             → IsCanonical (units_in encoding) self.now.edited.before batch self.now.edited.items }
     {
-        canonical_of(
-            self.alloc,
-            self.before.get(),
-            self.spans.as_slice(),
-            encoding,
-        )
+        let before = self.before.get();
+        canonical_of(self.alloc, before, self.spans.as_slice(), encoding)
     }
 
     /// Returns the spans of the current text: parts of the old text in order, and texts of the
@@ -244,11 +240,7 @@ impl<'a> Pieces<'a> {
     pub fn text(&self) -> Result<String, AllocError>
         ensures { IfOk result (λ text. string_bytes text ≡ edited_bytes self.now.edited) }
     {
-        text_of_spans(
-            self.alloc,
-            self.before.get(),
-            self.spans.as_slice(),
-            self.len,
-        )
+        let before = self.before.get();
+        text_of_spans(self.alloc, before, self.spans.as_slice(), self.len)
     }
 }
