@@ -25,7 +25,7 @@ def print_page(pages, closure, page):
     repository = closure.repository
     if page:
         print(page.title + (f" (docs/PROVED.md, \"{page.sentence}\")" if page.sentence else ""))
-    print("docs/DEFINITIONS.md, \"How to read a page\", says what each sign means")
+    print("(tools/definitions --signs: what each sign means)")
     for call, clauses in clauses_by_call(closure).items():
         heading(f"{call.short()}, {repository.place(call.file.path, call.line)}")
         block(call.signature)
