@@ -1,7 +1,7 @@
 #!/usr/bin/env python3
-"""Asks the peers that are installed the vectors, and prints the page of what they answer: table.py [--named] [--why] [PEER ..]
+"""Asks the peers that are installed the vectors, and prints what they answer: table.py [--named] [--why] [PEER ..]
 
-    /usr/bin/python3 peers/table.py --named > RESULTS.md
+    /usr/bin/python3 peers/table.py --named > RESULTS.txt
 
 Each module of this folder is a peer, with TITLE, the FILES that it is asked, and `answers`. Where LSP 3.17 decides, an answer is right or
 wrong (or refused); where it leaves a case open, none is wrong, but a peer that hangs or ends. `--named` asks no random vectors, and
@@ -57,7 +57,7 @@ def print_table(rows):
     """Prints rows with their columns under each other."""
     widths = [max(map(len, column)) for column in zip(*rows)]
     for row in rows:
-        print("    " + "  ".join(cell.ljust(width) for cell, width in zip(row, widths)).rstrip())
+        print("  ".join(cell.ljust(width) for cell, width in zip(row, widths)).rstrip())
 
 
 def group_of(vector):
@@ -70,15 +70,14 @@ def share(words):
     return f"{sum(word.startswith('right') for word in words)}/{len(words)}" if words else "-"
 
 
-HEAD = """# What peers answer
-
-Written by `peers/table.py --named > RESULTS.md` on {day}. [README.md](README.md#what-peers-answer) says how each is asked. The named
-cases are nasty on purpose: no share here is a rate of daily life.
+HEAD = """\
+What peers answer, written by peers/table.py --named > RESULTS.txt on {day}. README.md says how each is asked. The named cases are nasty
+on purpose: no share here is a rate of daily life.
 
 Cases that LSP 3.17 decides, and how many of each group are right:
 """
 OPEN = """
-Named cases that it leaves open. `same` is as this project chose, `other` another meaning, `refuses` an error and no text, `-` not asked:
+Named cases that it leaves open. same is as this project chose, other another meaning, refuses an error and no text, - not asked:
 """
 
 
