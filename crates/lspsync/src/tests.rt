@@ -1,10 +1,8 @@
 //! The program on whole inputs: its output, its status, and the line that reports a fault.
 
 mod command_line;
-mod converted;
-mod explained;
 mod faults;
-mod logs;
+mod options;
 mod parts;
 mod sessions;
 mod streams;

@@ -21,11 +21,9 @@ type Failing = (
     &'static str,
 );
 
-static FAILING: [Failing; 15] = [
+static FAILING: [Failing; 9] = [
     ("serve", &[Take(172), Fails], &[], 152, READ_FAULT),
     ("serve", &[], &[Take(100), Fails], 100, WRITE_FAULT),
-    ("serve", &[], &[Take(100), Take(0)], 100, WRITE_FAULT),
-    ("serve", &[], &[ALL, Fails], 152, WRITE_FAULT),
     // the reply is flushed before more is read
     (
         "serve",
@@ -43,18 +41,8 @@ static FAILING: [Failing; 15] = [
         18,
         READ_FAULT,
     ),
-    (
-        "serve",
-        &[Take(172), Fails],
-        &[ALL, ALL, Fails],
-        152,
-        READ_FAULT,
-    ),
     ("check", &[], &[ALL, ALL, Fails], 18, WRITE_FAULT),
     ("check", &[], &[ALL, ALL, ALL, Fails], 28, WRITE_FAULT),
-    ("trace", &[Take(340), Fails], &[], 205, READ_FAULT),
-    ("trace", &[], &[ALL, ALL, Fails], 205, WRITE_FAULT),
-    ("trace", &[], &[ALL, Take(100), Fails], 184, WRITE_FAULT),
     ("replay", &[Fails], &[], 0, READ_FAULT),
     ("normalise", &[], &[Take(0)], 0, WRITE_FAULT),
 ];
@@ -80,33 +68,6 @@ fn a_stream_that_fails_has_its_line_and_status_3(rt: HostRuntime) -> Result<(), 
             "at {} {}",
             row.0,
             row.3
-        );
-    }
-    Ok(())
-}
-
-static COMMANDS: [&str; 6] = ["serve", "check", "trace", "replay", "normalise", "convert"];
-
-/// Returns whether the result is the same if reader and writer are slow.
-fn is_the_same(
-    alloc: Global,
-    command: &str,
-    input: &[u8],
-    slow: &[CallEnd],
-) -> Result<bool, AllocError> {
-    let words = ["lspsync", command];
-    let whole = ran(alloc, &words, input)?;
-    Ok(stopped(alloc, &words, input, slow, slow)?.is(whole.status, &whole.output, ""))
-}
-
-#[test]
-fn a_slow_stream_changes_nothing(rt: HostRuntime) -> Result<(), Fail> {
-    let input = log(rt.alloc(), &[INITIALIZE, OPEN, WHOLE])?;
-    let slow = [Interrupt, Take(1)].repeat(rt.alloc(), 700)?;
-    for command in &COMMANDS {
-        assert!(rt;
-            is_the_same(rt.alloc(), command, &input, &slow)?,
-            "at {command}"
         );
     }
     Ok(())
