@@ -173,11 +173,7 @@ fn kept(alloc: Global, text: &str) -> Result<IndexedText, AllocError>
 }
 
 /// Returns a kept text, made again where memory ran out.
-fn kept_again(
-    alloc: Global,
-    text: &str,
-    refused: &mut usize,
-) -> Result<IndexedText, AllocError> {
+fn kept_again(alloc: Global, text: &str, refused: &mut usize) -> Result<IndexedText, AllocError> {
     match kept(alloc, text) {
         Ok(kept) => Ok(kept),
         Err(AllocError) => {
@@ -188,11 +184,7 @@ fn kept_again(
 }
 
 /// Changes a kept text by a batch.
-fn applied(
-    kept: &mut IndexedText,
-    changes: &[Change],
-    max_len: usize,
-) -> Result<(), BatchFault> {
+fn applied(kept: &mut IndexedText, changes: &[Change], max_len: usize) -> Result<(), BatchFault> {
     if kept.len() > MAX_OLD_TEXT || !fits(changes) {
         return Err(BatchFault::TooLong);
     }

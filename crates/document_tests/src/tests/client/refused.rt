@@ -48,7 +48,7 @@ fn is_done(
 ) -> Result<Phase, Fail> {
     let mut session = Session {
         client: new_client(alloc)?,
-        refused: 0,
+        refused: *refused,
     };
     for asked in calls {
         assert!(rt; session.call(rt, alloc, *asked), "{asked:?}");
@@ -60,7 +60,7 @@ fn is_done(
 /// The response of a server that asks for whole texts.
 const FULL: &str = r#"{"id":1,"jsonrpc":"2.0","result":{"capabilities":{"textDocumentSync":1}}}"#;
 
-static LIFECYCLE: [Ask; 5] = [
+const LIFECYCLE: &[Ask] = &[
     Ask::Start,
     Ask::Deliver(ACCEPTED),
     Ask::Shutdown,
@@ -68,7 +68,7 @@ static LIFECYCLE: [Ask; 5] = [
     Ask::Exit,
 ];
 
-static DOCUMENTS: [Ask; 5] = [
+const DOCUMENTS: &[Ask] = &[
     Ask::Start,
     Ask::Deliver(ACCEPTED),
     Ask::Open("abc"),
@@ -76,42 +76,26 @@ static DOCUMENTS: [Ask; 5] = [
     Ask::Close,
 ];
 
-static WHOLE: [Ask; 4] = [
+const WHOLE: &[Ask] = &[
     Ask::Start,
     Ask::Deliver(FULL),
     Ask::Open("abc"),
     Ask::Edit(2, 1, 2, "X"),
 ];
 
-#[test]
-fn refused_lifecycle(rt: HostRuntime) -> Result<(), Fail> {
-    let mut refused = 0;
-    assert_eq!(rt;
-        is_done(&rt, rt.alloc(), &LIFECYCLE, &mut refused)?,
-        Phase::Done
-    );
-    println!(rt; "refused {refused}")?;
-    Ok(())
-}
+/// The calls of a session, and its last phase.
+static SESSIONS: [(&[Ask], Phase); 3] = [
+    (LIFECYCLE, Phase::Done),
+    (DOCUMENTS, Phase::Ready),
+    (WHOLE, Phase::Ready),
+];
 
 #[test]
-fn refused_documents(rt: HostRuntime) -> Result<(), Fail> {
+fn refused_calls(rt: HostRuntime) -> Result<(), Fail> {
     let mut refused = 0;
-    assert_eq!(rt;
-        is_done(&rt, rt.alloc(), &DOCUMENTS, &mut refused)?,
-        Phase::Ready
-    );
-    println!(rt; "refused {refused}")?;
-    Ok(())
-}
-
-#[test]
-fn refused_whole_texts(rt: HostRuntime) -> Result<(), Fail> {
-    let mut refused = 0;
-    assert_eq!(rt;
-        is_done(&rt, rt.alloc(), &WHOLE, &mut refused)?,
-        Phase::Ready
-    );
+    for (calls, phase) in &SESSIONS {
+        assert_eq!(rt; is_done(&rt, rt.alloc(), calls, &mut refused)?, *phase);
+    }
     println!(rt; "refused {refused}")?;
     Ok(())
 }

@@ -85,17 +85,14 @@ fn run_session(alloc: Global, sync: ChangeForm) -> Result<Option<u32>, Fail> {
 
 #[test]
 fn refused_run(rt: HostRuntime) -> Result<(), Fail> {
-    let refused = run_session(rt.alloc(), ChangeForm::Incremental)?;
-    assert!(rt; refused.is_some());
-    println!(rt; "refused {}", refused.unwrap_or(0))?;
-    Ok(())
-}
-
-#[test]
-fn refused_run_by_whole_texts(rt: HostRuntime) -> Result<(), Fail> {
-    let refused = run_session(rt.alloc(), ChangeForm::Full)?;
-    assert!(rt; refused.is_some());
-    println!(rt; "refused {}", refused.unwrap_or(0))?;
+    let ranges = run_session(rt.alloc(), ChangeForm::Incremental)?;
+    assert!(rt; ranges.is_some());
+    let texts = run_session(rt.alloc(), ChangeForm::Full)?;
+    assert!(rt; texts.is_some());
+    println!(rt;
+        "refused {}",
+        ranges.unwrap_or(0).saturating_add(texts.unwrap_or(0))
+    )?;
     Ok(())
 }
 

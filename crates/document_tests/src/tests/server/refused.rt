@@ -85,7 +85,7 @@ fn has_errors(session: &mut Session) -> bool {
 }
 
 /// What a session on a new server is about.
-#[derive(Clone, Copy)]
+#[derive(Clone, Copy, Debug)]
 enum Part {
     Lifecycle,
     Documents,
@@ -103,26 +103,16 @@ fn run(alloc: Global, part: Part) -> Result<Option<u32>, BadLimits> {
     Ok(if is_good { Some(session.refused) } else { None })
 }
 
-#[test]
-fn refused_handle_lifecycle(rt: HostRuntime) -> Result<(), Fail> {
-    let refused = run(rt.alloc(), Part::Lifecycle)?;
-    assert!(rt; refused.is_some());
-    println!(rt; "refused {}", refused.unwrap_or(0))?;
-    Ok(())
-}
+static PARTS: [Part; 3] = [Part::Lifecycle, Part::Documents, Part::Errors];
 
 #[test]
-fn refused_handle_documents(rt: HostRuntime) -> Result<(), Fail> {
-    let refused = run(rt.alloc(), Part::Documents)?;
-    assert!(rt; refused.is_some());
-    println!(rt; "refused {}", refused.unwrap_or(0))?;
-    Ok(())
-}
-
-#[test]
-fn refused_handle_errors(rt: HostRuntime) -> Result<(), Fail> {
-    let refused = run(rt.alloc(), Part::Errors)?;
-    assert!(rt; refused.is_some());
-    println!(rt; "refused {}", refused.unwrap_or(0))?;
+fn refused_handle(rt: HostRuntime) -> Result<(), Fail> {
+    let mut refused: u32 = 0;
+    for part in &PARTS {
+        let more = run(rt.alloc(), *part)?;
+        assert!(rt; more.is_some(), "{part:?}");
+        refused = refused.saturating_add(more.unwrap_or(0));
+    }
+    println!(rt; "refused {refused}")?;
     Ok(())
 }

@@ -1,5 +1,4 @@
-//! Whole runs of calls on one store, in which a call that runs out of memory is repeated. Each test
-//! prints the number of refused allocations.
+//! Whole runs of calls on one store, in which a call that runs out of memory is repeated.
 
 use super::{Open, Row, Step, URI, answer, is_current, narrow};
 use lsp_edit::EditFault;
@@ -49,7 +48,7 @@ fn are_answered(alloc: Global, limits: Limits, rows: &[Row], refused: &mut usize
     true
 }
 
-static AFTER_A_FAULT: [Row; 3] = [
+const AFTER_A_FAULT: &[Row] = &[
     (Step::Open(URI, 1, "abc"), Ok(0), Some((1, "abc"))),
     (
         Step::Change(
@@ -69,7 +68,7 @@ static AFTER_A_FAULT: [Row; 3] = [
 ];
 
 /// Texts of at most 8 bytes. The canonical message has a body of 303 bytes and a header of 23.
-static LONG_TEXTS: [Row; 4] = [
+const LONG_TEXTS: &[Row] = &[
     (Step::Open(URI, 1, "abcdefgh"), Ok(0), Some((1, "abcdefgh"))),
     (
         Step::Change(URI, 2, Encoding::Utf16, &[(0, 8, 0, 8, "x")]),
@@ -96,26 +95,11 @@ static LONG_TEXTS: [Row; 4] = [
 const LAST: i32 = 2_147_483_647;
 
 /// One document and one change.
-static REFUSALS: [Row; 14] = [
+const REFUSALS: &[Row] = &[
     (Step::Open(URI, 5, "a"), Ok(0), Some((5, "a"))),
     (
         Step::Change(URI, 5, Encoding::Utf16, &[]),
         Err(StoreFault::StaleVersion { held: 5 }),
-        Some((5, "a")),
-    ),
-    (
-        Step::Change(URI, 4, Encoding::Utf16, &[]),
-        Err(StoreFault::StaleVersion { held: 5 }),
-        Some((5, "a")),
-    ),
-    (
-        Step::Change(
-            URI,
-            6,
-            Encoding::Utf16,
-            &[(0, 0, 0, 0, "b"), (0, 0, 0, 0, "c")],
-        ),
-        Err(StoreFault::TooManyChanges),
         Some((5, "a")),
     ),
     (Step::Canonical(URI, LAST, &[]), Ok(161), Some((5, "a"))),
@@ -124,34 +108,14 @@ static REFUSALS: [Row; 14] = [
         Ok(0),
         Some((LAST, "a")),
     ),
-    (
-        Step::Change(URI, LAST, Encoding::Utf16, &[]),
-        Err(StoreFault::StaleVersion { held: LAST }),
-        Some((LAST, "a")),
-    ),
-    (
-        Step::Open("file:///b", 1, ""),
-        Err(StoreFault::TooManyDocuments),
-        Some((LAST, "a")),
-    ),
     (Step::Close(URI), Ok(0), None),
     (Step::Open(URI, 1, "a"), Ok(0), Some((1, "a"))),
-    (
-        Step::Open(URI, 2, "b"),
-        Err(StoreFault::AlreadyOpen),
-        Some((1, "a")),
-    ),
     (Step::Close(URI), Ok(0), None),
     (Step::Close(URI), Err(StoreFault::NotOpen), None),
-    (
-        Step::Change(URI, 9, Encoding::Utf16, &[]),
-        Err(StoreFault::NotOpen),
-        None,
-    ),
 ];
 
 /// Bodies of 217, 214 and 129 bytes.
-static WHOLE_TEXTS: [Row; 6] = [
+const WHOLE_TEXTS: &[Row] = &[
     (Step::Open(URI, 1, "abc"), Ok(0), Some((1, "abc"))),
     (
         Step::Canonical(URI, 2, &[(ALL, 0, 0, 0, "abc")]),
@@ -172,38 +136,24 @@ static WHOLE_TEXTS: [Row; 6] = [
     ),
 ];
 
-fn wide() -> Result<Limits, StoreFault> {
-    narrow(4, 4)
-}
+/// The greatest number of documents and of changes, and calls on one store.
+static RUNS: [(usize, usize, &[Row]); 4] = [
+    (4, 4, AFTER_A_FAULT),
+    (4, 4, LONG_TEXTS),
+    (1, 1, REFUSALS),
+    (4, 4, WHOLE_TEXTS),
+];
 
 #[test]
-fn refused_calls_after_a_fault(rt: HostRuntime) -> Result<(), Fail> {
+fn refused_calls_on_one_store(rt: HostRuntime) -> Result<(), Fail> {
     let mut refused = 0;
-    assert!(rt; are_answered(rt.alloc(), wide()?, &AFTER_A_FAULT, &mut refused));
-    println!(rt; "refused {refused}")?;
-    Ok(())
-}
-
-#[test]
-fn refused_calls_on_a_text_at_the_limit(rt: HostRuntime) -> Result<(), Fail> {
-    let mut refused = 0;
-    assert!(rt; are_answered(rt.alloc(), wide()?, &LONG_TEXTS, &mut refused));
-    println!(rt; "refused {refused}")?;
-    Ok(())
-}
-
-#[test]
-fn refused_calls_among_refusals(rt: HostRuntime) -> Result<(), Fail> {
-    let mut refused = 0;
-    assert!(rt; are_answered(rt.alloc(), narrow(1, 1)?, &REFUSALS, &mut refused));
-    println!(rt; "refused {refused}")?;
-    Ok(())
-}
-
-#[test]
-fn refused_canonical_messages_of_whole_texts(rt: HostRuntime) -> Result<(), Fail> {
-    let mut refused = 0;
-    assert!(rt; are_answered(rt.alloc(), wide()?, &WHOLE_TEXTS, &mut refused));
+    for (index, (docs, changes, rows)) in RUNS.iter().enumerate() {
+        let limits = narrow(*docs, *changes)?;
+        assert!(rt;
+            are_answered(rt.alloc(), limits, rows, &mut refused),
+            "{index}"
+        );
+    }
     println!(rt; "refused {refused}")?;
     Ok(())
 }

@@ -1,6 +1,6 @@
 //! Logs of which only what is about the session and the documents' texts is written.
 
-use super::squashed::{BOTH, SAVE, TYPED};
+use super::squashed::{SAVE, TYPED};
 use super::*;
 
 /// A request that no server of documents knows, and the answer of one that does.
@@ -37,7 +37,7 @@ const REFUSED_AGAIN: &str =
 /// A log, what is written of it, and how that ends.
 struct Row(Command, Bytes, Bytes, End);
 
-static ROWS: [Row; 4] = [
+static ROWS: [Row; 3] = [
     Row(
         Command::Documents,
         Bytes::Frames(&[
@@ -66,13 +66,6 @@ static ROWS: [Row; 4] = [
             EXIT,
         ]),
         Ended(0, 9, 0),
-    ),
-    // With squash the changes become one.
-    Row(
-        Command::SquashDocuments,
-        Bytes::Frames(&[INITIALIZE, OPEN, WHOLE, HOVER, CANCEL, TYPED, SAVE]),
-        Bytes::Frames(&[INITIALIZE, OPEN, BOTH, SAVE]),
-        Ended(0, 5, 0),
     ),
     // Of the server's records the answers to `initialize` and `shutdown` stay.
     Row(

@@ -7,7 +7,7 @@ const TWO_LINES: &str =
     r#"{"jsonrpc":"2.0","method":"textDocument/didOpen","params":{"textDocument":{"languageId":"c","text":"one\ntwo😀\n","uri":"file:///a","version":1}}}"#;
 
 /// The changes of a message on this text, and its notes.
-static ROWS: [(&str, &[&str]); 12] = [
+static ROWS: [(&str, &[&str]); 10] = [
     (
         r#"{"range":{"start":{"line":0,"character":3},"end":{"line":1,"character":0}},"text":" "}"#,
         &[],
@@ -48,14 +48,6 @@ static ROWS: [(&str, &[&str]); 12] = [
             "change 1 ends at line 0, character 9, past the line's end (taken as line 0, character 3)",
             "change 1 changes nothing",
         ],
-    ),
-    (
-        r#"{"text":"x"},{"range":{"start":{"line":0,"character":0},"end":{"line":0,"character":1}},"text":"x"}"#,
-        &["change 2 changes nothing"],
-    ),
-    (
-        r#"{"range":{"start":{"line":1,"character":3},"end":{"line":1,"character":5}},"rangeLength":2,"text":""}"#,
-        &[],
     ),
     (
         r#"{"range":{"start":{"line":1,"character":3},"end":{"line":1,"character":5}},"rangeLength":1,"text":""}"#,

@@ -1,11 +1,11 @@
 //! Two batches that are joined by `Joined`.
 
-ghost use Rattle.std.specs.Prelude.{◌≡◌, IfOk, OnErr, OnOk};
+ghost use Rattle.std.specs.Prelude.{◌≡◌, IfOk, OnErr};
 ghost use Rattle.lsp_edit.specs.Joined.{IsReached};
 
 use super::{kept, kept_again};
 use lsp_edit::{BatchFault, Change, IndexedText, Joined, MAX_OLD_TEXT, fits};
-use lsp_samples::edits::{Edit, batch, batch_again};
+use lsp_samples::edits::{Edit, batch_again};
 use lsp_text::Encoding;
 use std::alloc::{AllocError, Global};
 use std::test::Fail;

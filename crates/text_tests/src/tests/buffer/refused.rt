@@ -156,26 +156,14 @@ fn first_wrong(
     Ok(None)
 }
 
-#[test]
-fn refused_change_of_a_copy(rt: HostRuntime) -> Result<(), Fail> {
-    let mut refused: usize = 0;
-    assert_eq!(rt; first_wrong(rt.alloc(), Kind::Copy, &mut refused)?, None);
-    println!(rt; "refused {refused}")?;
-    Ok(())
-}
+static KINDS: [Kind; 3] = [Kind::Copy, Kind::Own, Kind::Moved];
 
 #[test]
 fn refused_change_of_a_text(rt: HostRuntime) -> Result<(), Fail> {
     let mut refused: usize = 0;
-    assert_eq!(rt; first_wrong(rt.alloc(), Kind::Own, &mut refused)?, None);
-    println!(rt; "refused {refused}")?;
-    Ok(())
-}
-
-#[test]
-fn refused_first_change_of_a_text_that_is_moved_in(rt: HostRuntime) -> Result<(), Fail> {
-    let mut refused: usize = 0;
-    assert_eq!(rt; first_wrong(rt.alloc(), Kind::Moved, &mut refused)?, None);
+    for kind in &KINDS {
+        assert_eq!(rt; first_wrong(rt.alloc(), *kind, &mut refused)?, None);
+    }
     println!(rt; "refused {refused}")?;
     Ok(())
 }
