@@ -2,11 +2,9 @@
 
 mod failing_runs;
 mod failures;
-mod left_out;
 mod notes;
 mod refused;
 mod sessions;
-mod squashed;
 mod words;
 
 use lsp_frame::{Limits, frame};
@@ -55,6 +53,21 @@ const CHECK_2: &[u8] = b"1 reply\n2 server\n3 changed\n4 changed\n";
 /// The output of `trace` with texts for [`WORKED`].
 const TRACED: &[u8] =
     b"{\"number\":1,\"offset\":0,\"from\":\"editor\",\"method\":\"initialize\",\"id\":1,\"word\":\"reply\"}\n{\"number\":2,\"offset\":172,\"from\":\"editor\",\"method\":\"textDocument/didOpen\",\"uri\":\"file:///a\",\"word\":\"changed\",\"version\":1,\"text\":\"abc\"}\n{\"number\":3,\"offset\":340,\"from\":\"editor\",\"method\":\"textDocument/didChange\",\"uri\":\"file:///a\",\"word\":\"changed\",\"version\":2,\"canonical\":{\"jsonrpc\":\"2.0\",\"method\":\"textDocument/didChange\",\"params\":{\"contentChanges\":[{\"range\":{\"end\":{\"character\":3,\"line\":0},\"start\":{\"character\":0,\"line\":0}},\"text\":\"aXc\"}],\"textDocument\":{\"uri\":\"file:///a\",\"version\":2}}},\"text\":\"aXc\"}\n";
+
+/// A letter more after `aXc`.
+const TYPED: &str =
+    r#"{"jsonrpc":"2.0","method":"textDocument/didChange","params":{"contentChanges":[{"range":{"end":{"character":3,"line":0},"start":{"character":3,"line":0}},"text":"d"}],"textDocument":{"uri":"file:///a","version":3}}}"#;
+
+/// The whole text and the letter, as one.
+const BOTH: &str =
+    r#"{"jsonrpc":"2.0","method":"textDocument/didChange","params":{"contentChanges":[{"range":{"end":{"character":3,"line":0},"start":{"character":0,"line":0}},"text":"aXcd"}],"textDocument":{"uri":"file:///a","version":3}}}"#;
+
+const SAVE: &str =
+    r#"{"jsonrpc":"2.0","method":"textDocument/didSave","params":{"textDocument":{"uri":"file:///a"}}}"#;
+
+/// A request that no server of documents knows.
+const HOVER: &str =
+    r#"{"id":3,"jsonrpc":"2.0","method":"textDocument/hover","params":{"position":{"character":1,"line":0},"textDocument":{"uri":"file:///a"}}}"#;
 
 /// An editor's session.
 const SESSION: &[&str] = &[INITIALIZE, INITIALIZED, OPEN, EDITED, CLOSE, SHUTDOWN, EXIT];

@@ -1,7 +1,6 @@
 //! Readers and writers that move few bytes, are interrupted or fail.
 
 use super::failing_runs::{Case, Runs};
-use super::squashed::{BOTH, TYPED};
 use super::*;
 
 /// An editor's session up to its exit, a frame for each read.

@@ -1,6 +1,5 @@
 //! Runs that are once out of memory, and are then repeated.
 
-use super::left_out::HOVER;
 use super::*;
 
 /// The first body of a session, with few parts.

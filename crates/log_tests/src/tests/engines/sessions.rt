@@ -81,6 +81,63 @@ fn a_session_ends_with_its_exit_or_its_input(rt: HostRuntime) -> Result<(), Fail
     Ok(())
 }
 
+/// A server's notification.
+const DIAGNOSTICS: &str =
+    r#"{"jsonrpc":"2.0","method":"textDocument/publishDiagnostics","params":{"diagnostics":[],"uri":"file:///a"}}"#;
+
+static JOINED: [Row; 4] = [
+    Row(
+        Command::Squash,
+        Bytes::Frames(&[INITIALIZE, OPEN, WHOLE, TYPED]),
+        Ended(0, 4, 0),
+        Bytes::Frames(&[INITIALIZE, OPEN, BOTH]),
+    ),
+    // A record between them ends the series.
+    Row(
+        Command::Squash,
+        Bytes::Frames(&[INITIALIZE, OPEN, WHOLE, SAVE, TYPED]),
+        Ended(0, 5, 0),
+        Bytes::Frames(&[INITIALIZE, OPEN, CANONICAL, SAVE, TYPED]),
+    ),
+    // What isn't about documents is left out, and ends none.
+    Row(
+        Command::SquashDocuments,
+        Bytes::Frames(&[INITIALIZE, OPEN, WHOLE, HOVER, TYPED, SAVE]),
+        Ended(0, 5, 0),
+        Bytes::Frames(&[INITIALIZE, OPEN, BOTH, SAVE]),
+    ),
+    // Of the server's records the answers to `initialize` and `shutdown` stay.
+    Row(
+        Command::Documents,
+        Bytes::Marked(&[
+            (">", INITIALIZE),
+            ("<", REPLY),
+            (">", OPEN),
+            ("<", DIAGNOSTICS),
+            (">", HOVER),
+            (">", WHOLE),
+            (">", SHUTDOWN),
+            ("<", SHUT_DOWN),
+            ("<", SHUT_DOWN),
+        ]),
+        Ended(0, 4, 0),
+        Bytes::Marked(&[
+            (">", INITIALIZE),
+            ("<", REPLY),
+            (">", OPEN),
+            (">", CANONICAL),
+            (">", SHUTDOWN),
+            ("<", SHUT_DOWN),
+        ]),
+    ),
+];
+
+#[test]
+fn changes_are_joined_and_other_messages_left_out(rt: HostRuntime) -> Result<(), Fail> {
+    assert!(rt; all_give(rt.alloc(), &JOINED)?);
+    Ok(())
+}
+
 /// Logs of version 2: converted, checked, normalised, and empty.
 static VERSION_2: [Row; 5] = [
     Row(

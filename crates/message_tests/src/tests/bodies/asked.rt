@@ -1,23 +1,21 @@
-//! What unusual bodies ask, printed by `Debug`.
+//! What unusual bodies ask, printed by `Debug`, as it was worked out by hand.
 
+use super::by_tree;
 use lsp_reader::Incoming;
 use std::alloc::{AllocError, Global};
 use std::test::Fail;
 
-fn shown(alloc: Global, body: &[u8]) -> Result<String, AllocError> {
+/// Returns whether a body asks this, read by its tokens and by a tree.
+fn asks(alloc: Global, body: &[u8], wanted: &str) -> Result<bool, AllocError> {
     let incoming = Incoming::read(alloc, body)?;
-    format!(in alloc; "{incoming:?}")
-}
-
-/// Returns whether a body asks this.
-fn asks(alloc: Global, body: &str, wanted: &str) -> Result<bool, AllocError> {
-    Ok(shown(alloc, body.as_bytes())?.as_str() == wanted)
+    let shown = format!(in alloc; "{incoming:?}")?;
+    Ok(shown.as_str() == wanted && incoming == by_tree(alloc, body)?)
 }
 
 /// Returns whether all bodies ask this.
 fn all_ask(alloc: Global, bodies: &[&str], wanted: &str) -> Result<bool, AllocError> {
     for body in bodies {
-        if !asks(alloc, body, wanted)? {
+        if !asks(alloc, body.as_bytes(), wanted)? {
             return Ok(false);
         }
     }
@@ -53,7 +51,7 @@ fn what_is_no_json(rt: HostRuntime) -> Result<(), Fail> {
 #[test]
 fn what_is_no_utf8(rt: HostRuntime) -> Result<(), Fail> {
     let body = b"{\"jsonrpc\":\"2.0\",\"method\":\"x\",\"y\":\"\xff\"}";
-    assert_eq!(rt; shown(rt.alloc(), body)?.as_str(), "NotJson");
+    assert!(rt; asks(rt.alloc(), body, "NotJson")?);
     Ok(())
 }
 
@@ -74,7 +72,7 @@ fn nested(alloc: Global, open: &str, close: &str, count: u32) -> Result<String, 
 fn asks_nested(alloc: Global, row: &(&str, &str, u32, &str)) -> Result<bool, AllocError> {
     let (open, close, count, wanted) = *row;
     let body = nested(alloc, open, close, count)?;
-    asks(alloc, &body, wanted)
+    asks(alloc, body.as_bytes(), wanted)
 }
 
 static NESTED: [(&str, &str, u32, &str); 6] = [
@@ -94,7 +92,7 @@ fn arrays_and_objects_nest_127_deep(rt: HostRuntime) -> Result<(), Fail> {
     Ok(())
 }
 
-static WANTED: [(&str, &str); 30] = [
+static WANTED: [(&str, &str); 35] = [
     // The last of a repeated member counts.
     (
         r#"{"jsonrpc":"1.0","jsonrpc":"2.0","method":"a","method":"b"}"#,
@@ -216,6 +214,26 @@ static WANTED: [(&str, &str); 30] = [
         r#"{"jsonrpc":"2.0","result":1}"#,
         "NotAMessage { id: None }",
     ),
+    (
+        r#"{"id":1,"jsonrpc":"2.0","method":"x","id":null}"#,
+        "NotAMessage { id: None }",
+    ),
+    (
+        r#"{"id":-9223372036854775808,"jsonrpc":"2.0","method":""}"#,
+        r#"OtherRequest { id: Whole(-9223372036854775808), method: "" }"#,
+    ),
+    (
+        r#"[{"id":1,"jsonrpc":"2.0","method":"x"}]"#,
+        "NotAMessage { id: None }",
+    ),
+    (
+        r#"{"id":"","jsonrpc":"2.0","params":[]}"#,
+        r#"NotAMessage { id: Some(Text("")) }"#,
+    ),
+    (
+        r#"{"jsonrpc":"2.0","method":"\"\\\/\n\r\t\ud83d\uDE00"}"#,
+        r#"OtherNotification { method: "\"\\/\n\r\t😀" }"#,
+    ),
     // `initialize` is read by a tree.
     (
         r#"{"id":1,"jsonrpc":"2.0","method":"initialize","params":{"capabilities":3}}"#,
@@ -230,7 +248,7 @@ static WANTED: [(&str, &str); 30] = [
 #[test]
 fn what_bodies_ask(rt: HostRuntime) -> Result<(), Fail> {
     for row in &WANTED {
-        assert!(rt; asks(rt.alloc(), row.0, row.1)?, "{}", row.0);
+        assert!(rt; asks(rt.alloc(), row.0.as_bytes(), row.1)?, "{}", row.0);
     }
     Ok(())
 }

@@ -1,13 +1,38 @@
 //! What the params and the result of `initialize` are read as.
 
-use super::{Call, INVALID, Row, wrong_row, wrong_text};
+use lsp_message::{params_initialize, result_initialize};
+use serde_json::Value;
+use std::alloc::{AllocError, Global};
+use std::fmt::Debug;
 use std::test::Fail;
+
+/// A text, and what it is read as, printed by `Debug`.
+type Row = (&'static str, &'static str);
+
+/// What a call returns for a text that doesn't fit.
+const INVALID: &str = "Err(InvalidParams)";
+
+/// Returns whether `Debug` prints a value as this.
+fn prints<T: Debug>(alloc: Global, value: &T, wanted: &str) -> Result<bool, AllocError> {
+    let text = format!(in alloc; "{value:?}")?;
+    Ok(text.as_str() == wanted)
+}
+
+/// Returns whether params are read as these offers.
+fn offers(alloc: Global, text: &str, wanted: &str) -> Result<bool, Fail> {
+    let params = Value::from_str(alloc, text)?;
+    Ok(prints(alloc, &params_initialize(alloc, Some(params)), wanted)?)
+}
+
+/// Returns whether a result is read so.
+fn announces(alloc: Global, text: &str, wanted: &str) -> Result<bool, Fail> {
+    let given = Value::from_str(alloc, text)?;
+    Ok(prints(alloc, &result_initialize(alloc, given), wanted)?)
+}
 
 const NEITHER: &str = "Ok(Offers { utf8: false, utf32: false })";
 
 const ONLY_UTF8: &str = "Ok(Offers { utf8: true, utf32: false })";
-
-const ONLY_UTF32: &str = "Ok(Offers { utf8: false, utf32: true })";
 
 const BOTH: &str = "Ok(Offers { utf8: true, utf32: true })";
 
@@ -34,7 +59,9 @@ static OFFERED: [Row; 6] = [
 
 #[test]
 fn offers_of_initialize(rt: HostRuntime) -> Result<(), Fail> {
-    assert_eq!(rt; wrong_row(rt.alloc(), Call::Initialize, &OFFERED)?, None);
+    for (text, wanted) in &OFFERED {
+        assert!(rt; offers(rt.alloc(), text, wanted)?, "{text}");
+    }
     Ok(())
 }
 
@@ -47,10 +74,9 @@ static NO_OFFERS: [&str; 4] = [
 
 #[test]
 fn params_of_no_initialize(rt: HostRuntime) -> Result<(), Fail> {
-    assert_eq!(rt;
-        wrong_text(rt.alloc(), Call::Initialize, &NO_OFFERS, INVALID)?,
-        None
-    );
+    for text in &NO_OFFERS {
+        assert!(rt; offers(rt.alloc(), text, INVALID)?, "{text}");
+    }
     Ok(())
 }
 
@@ -87,7 +113,9 @@ static ANNOUNCED: [Row; 7] = [
 
 #[test]
 fn result_of_initialize(rt: HostRuntime) -> Result<(), Fail> {
-    assert_eq!(rt; wrong_row(rt.alloc(), Call::Announced, &ANNOUNCED)?, None);
+    for (text, wanted) in &ANNOUNCED {
+        assert!(rt; announces(rt.alloc(), text, wanted)?, "{text}");
+    }
     Ok(())
 }
 
@@ -104,9 +132,8 @@ static NOT_ANNOUNCED: [&str; 8] = [
 
 #[test]
 fn results_that_announce_nothing(rt: HostRuntime) -> Result<(), Fail> {
-    assert_eq!(rt;
-        wrong_text(rt.alloc(), Call::Announced, &NOT_ANNOUNCED, INVALID)?,
-        None
-    );
+    for text in &NOT_ANNOUNCED {
+        assert!(rt; announces(rt.alloc(), text, INVALID)?, "{text}");
+    }
     Ok(())
 }
