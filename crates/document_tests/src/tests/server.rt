@@ -6,7 +6,6 @@ mod front_page;
 mod halves;
 mod made_again;
 mod phases;
-mod refused;
 
 use lsp_edit::EditFault;
 use lsp_frame::{BadLimits, Limits, frame};

@@ -5,7 +5,6 @@ mod canonical;
 mod faults;
 mod made_again;
 mod plans;
-mod refused;
 mod squash;
 mod text_edits;
 

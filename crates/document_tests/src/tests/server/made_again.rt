@@ -3,7 +3,8 @@
 
 use super::{Open, holds, is_answer, new_server};
 use lsp_samples::bodies::{
-    ACCEPTED, CHANGE, CLOSE, EXIT, INITIALIZE, INITIALIZED, OPEN, SHUT_DOWN, SHUTDOWN,
+    ACCEPTED, CHANGE, CLOSE, EXIT, HOVER, INITIALIZE, INITIALIZED, NOT_INITIALIZED, OPEN,
+    PARSE_ERROR, SHUT_DOWN, SHUTDOWN,
 };
 use lsp_server::{Answer, Server, ServerFault};
 use std::alloc::{AllocError, Global};
@@ -14,7 +15,9 @@ use std::test::Fail;
 /// document after it.
 type Message = (&'static str, &'static str, Open);
 
-static MESSAGES: [Message; 7] = [
+static MESSAGES: [Message; 9] = [
+    (HOVER, NOT_INITIALIZED, None),
+    ("[", PARSE_ERROR, None),
     (INITIALIZE, ACCEPTED, None),
     (INITIALIZED, "ignored", None),
     (OPEN, "changed", Some((1, "abc"))),
@@ -39,8 +42,8 @@ fn is_wanted(
     }
 }
 
-/// Returns whether the message has its answer. Where memory runs out the document is unchanged, and
-/// the same body is passed again.
+/// Returns whether the message has its answer. Where memory runs out the server is unchanged, and the
+/// same body is passed again.
 fn is_answered(
     alloc: Global,
     server: &mut Server,
@@ -48,10 +51,11 @@ fn is_answered(
     before: Open,
     refused: &mut usize,
 ) -> Result<bool, AllocError> {
+    let state = (server.phase(), server.encoding());
     let mut given = server.handle(message.0.as_bytes());
     if matches!(given, Err(ServerFault::NoMemory)) {
         *refused = refused.saturating_add(1);
-        if !holds(server, before) {
+        if !holds(server, before) || (server.phase(), server.encoding()) != state {
             return Ok(false);
         }
         given = server.handle(message.0.as_bytes());

@@ -92,6 +92,26 @@ const LONG_TEXTS: &[Row] = &[
     ),
 ];
 
+/// Changes of a range and of a batch that move lines.
+const LINES: &[Row] = &[
+    (Step::Open(URI, 1, "a\nb"), Ok(0), Some((1, "a\nb"))),
+    (
+        Step::Change(URI, 2, Encoding::Utf16, &[(0, 1, 1, 1, "X\r\n\n")]),
+        Ok(0),
+        Some((2, "aX\r\n\n")),
+    ),
+    (
+        Step::Change(
+            URI,
+            3,
+            Encoding::Utf16,
+            &[(0, 1, 0, 2, "\n"), (1, 0, 1, 0, "c")],
+        ),
+        Ok(0),
+        Some((3, "a\nc\r\n\n")),
+    ),
+];
+
 const LAST: i32 = 2_147_483_647;
 
 /// One document and one change.
@@ -137,7 +157,8 @@ const WHOLE_TEXTS: &[Row] = &[
 ];
 
 /// The greatest number of documents and of changes, and calls on one store.
-static RUNS: [(usize, usize, &[Row]); 4] = [
+static RUNS: [(usize, usize, &[Row]); 5] = [
+    (1, 2, LINES),
     (4, 4, AFTER_A_FAULT),
     (4, 4, LONG_TEXTS),
     (1, 1, REFUSALS),

@@ -1,82 +1,17 @@
-//! A batch that is planned once; its message, its text and its application are read from the plan.
+//! A batch that is planned once: its message, its body and its text are read from the plan, and other
+//! batches are joined to it.
 
 ghost use Rattle.std.specs.Prelude.{IfOk};
 ghost use Rattle.lsp_store.specs.Plan.{IsPlanOn};
 ghost use Rattle.lsp_store.specs.Squash.{HasReached};
 
-use super::{URI, is_current, store_again};
+use super::{URI, store_again};
 use lsp_edit::Change;
 use lsp_samples::edits::{Edit, batch_again};
 use lsp_store::{Batches, Plan, Store, StoreFault};
 use lsp_text::Encoding;
 use std::alloc::{AllocError, Global};
 use std::test::Fail;
-
-/// Plans a batch, writes its message and its text, and applies it. Returns the message, and whether
-/// the text is that of the document afterwards.
-fn perform(store: &mut Store, changes: &[Change]) -> Result<(Vec<u8>, bool), StoreFault> {
-    let plan = store.plan(URI, 2, Encoding::Utf16, changes)?;
-    let frame = store.planned_message(&plan)?;
-    let text = store.planned_text(&plan)?;
-    store.apply(plan)?;
-    Ok((frame, is_current(store, Some((2, &text)))))
-}
-
-/// Performs a batch. Where memory runs out the document is unchanged, and all is repeated.
-fn performs_again(
-    store: &mut Store,
-    before: &str,
-    changes: &[Change],
-    refused: &mut usize,
-) -> Result<bool, StoreFault> {
-    let first = perform(store, changes);
-    if !matches!(first, Err(StoreFault::NoMemory)) {
-        return Ok(first?.1);
-    }
-    *refused = refused.saturating_add(1);
-    if !is_current(store, Some((1, before))) {
-        return Ok(false);
-    }
-    Ok(perform(store, changes)?.1)
-}
-
-fn leaves(
-    alloc: Global,
-    edits: &[Edit],
-    after: &str,
-    refused: &mut usize,
-) -> Result<bool, StoreFault> {
-    let mut store = store_again(alloc, "a\nb", refused)?;
-    let changes = batch_again(alloc, edits, refused)?;
-    Ok(
-        performs_again(&mut store, "a\nb", &changes, refused)?
-            && is_current(&store, Some((2, after))),
-    )
-}
-
-#[test]
-fn refused_plan_of_a_range(rt: HostRuntime) -> Result<(), Fail> {
-    let mut refused = 0;
-    assert!(rt;
-        leaves(
-            rt.alloc(),
-            &[(0, 1, 1, 1, "X\r\n\n")],
-            "aX\r\n\n",
-            &mut refused
-        )?
-    );
-    println!(rt; "refused {refused}")?;
-    Ok(())
-}
-
-#[test]
-fn refused_plan_of_two_changes(rt: HostRuntime) -> Result<(), Fail> {
-    let mut refused = 0;
-    let edits = [(0, 0, 0, 1, "c"), (1, 0, 1, 0, "d")];
-    assert!(rt; leaves(rt.alloc(), &edits, "c\ndb", &mut refused)?);
-    println!(rt; "refused {refused}")?;
-    Ok(())
-}
 
 /// The canonical body of the two batches below, and its header.
 const HEADER: &str = "Content-Length: 221\r\n\r\n";

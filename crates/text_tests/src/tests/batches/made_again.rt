@@ -46,16 +46,6 @@ fn meaning_of(plain: &Plain) -> Result<(String, Vec<Change>), AllocError> {
     Ok((text, canonical))
 }
 
-/// Returns, by the plain program, the text that a batch leaves and its canonical batch, or its
-/// fault.
-fn left(alloc: Global, before: &str, changes: &[Change]) -> Outcome {
-    if before.len() > MAX_OLD_TEXT || !fits(changes) {
-        return Err(EditFault::NoMemory);
-    }
-    let plain = plain::compose(alloc, before, Encoding::Utf16, changes)?;
-    Ok(meaning_of(&plain)?)
-}
-
 /// Composes two batches, one after the other: returns the text, and the canonical batch of both.
 fn left_by_both_plainly(
     alloc: Global,
@@ -74,42 +64,6 @@ fn left_by_both_plainly(
     let two = plain::compose(alloc, &middle, Encoding::Utf16, second)?;
     let both = one.then(&two)?;
     Ok(meaning_of(&both)?)
-}
-
-/// Whether a batch leaves `AFTER` by the plain program, and `wanted` is its canonical batch.
-fn is_left_plainly(
-    alloc: Global,
-    changes: &[Change],
-    wanted: &[Change],
-) -> Result<bool, EditFault> {
-    let (text, canonical) = left(alloc, BEFORE, changes)?;
-    Ok(text.as_str() == AFTER && canonical.as_slice() == wanted)
-}
-
-/// The same, and again where memory ran out.
-fn is_left_plainly_again(
-    alloc: Global,
-    changes: &[Change],
-    wanted: &[Change],
-    refused: &mut usize,
-) -> Result<bool, EditFault> {
-    match is_left_plainly(alloc, changes, wanted) {
-        Err(EditFault::NoMemory) => {
-            *refused = refused.saturating_add(1);
-            is_left_plainly(alloc, changes, wanted)
-        }
-        other => other,
-    }
-}
-
-#[test]
-fn refused_plain_compose(rt: HostRuntime) -> Result<(), Fail> {
-    let mut refused: usize = 0;
-    let given = batch_again(rt.alloc(), &EDITS, &mut refused)?;
-    let wanted = batch_again(rt.alloc(), &CANONICAL, &mut refused)?;
-    assert!(rt; is_left_plainly_again(rt.alloc(), &given, &wanted, &mut refused)?);
-    println!(rt; "refused {refused}")?;
-    Ok(())
 }
 
 /// Composes both changes by the plain program, each as a batch of its own, and returns whether
@@ -150,11 +104,27 @@ fn refused_plain_then(rt: HostRuntime) -> Result<(), Fail> {
     Ok(())
 }
 
+/// A kept text, changes of it, and the text that they leave. The lines of all come and go.
+static KEPT: [(&str, &[Edit], &str); 4] = [
+    (BEFORE, &[(1, 0, 1, 1, "")], "a\r\nb"),
+    ("a\r\nb", &[(1, 0, 1, 0, "Q")], AFTER),
+    (BEFORE, &[(1, 0, 1, 1, ""), (1, 0, 1, 0, "Q")], AFTER),
+    (
+        "a\nb\nc\n",
+        &[
+            (1, 0, 1, 1, "B\nBB\nBBB"),
+            (0, 0, 0, 1, "A"),
+            (4, 0, 4, 0, "x"),
+        ],
+        "A\nB\nBB\nBBB\nxc\n",
+    ),
+];
+
 /// Changes an indexed text from the first to the second, and again if it is out of memory.
 fn is_changed(
     kept: &mut IndexedText,
     changes: &[Change],
-    texts: &(&str, &str),
+    texts: (&str, &str),
     refused: &mut usize,
 ) -> Result<bool, BatchFault> {
     if let Err(fault) = applied(kept, changes, 100) {
@@ -167,55 +137,23 @@ fn is_changed(
     Ok(kept.text().is_text(texts.1))
 }
 
-fn is_changed_by(
+fn is_changed_again(
     alloc: Global,
-    kept: &mut IndexedText,
-    edits: &[Edit],
-    texts: &(&str, &str),
+    row: &(&str, &[Edit], &str),
     refused: &mut usize,
 ) -> Result<bool, BatchFault> {
+    let (before, edits, after) = *row;
     let changes = batch_again(alloc, edits, refused)?;
-    is_changed(kept, &changes, texts, refused)
-}
-
-/// Changes a kept text by each of the changes.
-fn is_changed_by_each(
-    alloc: Global,
-    kept: &mut IndexedText,
-    refused: &mut usize,
-) -> Result<bool, BatchFault> {
-    for (edit, texts) in EDITS.iter().zip(TEXTS.iter()) {
-        if !is_changed_by(alloc, kept, &[*edit], texts, refused)? {
-            return Ok(false);
-        }
-    }
-    Ok(true)
-}
-
-/// Returns whether the lines of the first text come and go with the changes.
-fn has_its_lines(alloc: Global, refused: &mut usize) -> Result<bool, BatchFault> {
-    let mut kept = kept_again(alloc, BEFORE, refused)?;
-    Ok(is_changed_by_each(alloc, &mut kept, refused)? && kept.text().line_count() == 2)
+    let mut kept = kept_again(alloc, before, refused)?;
+    is_changed(&mut kept, &changes, (before, after), refused)
 }
 
 #[test]
 fn refused_change_of_a_kept_text(rt: HostRuntime) -> Result<(), Fail> {
     let mut refused: usize = 0;
-    assert!(rt; has_its_lines(rt.alloc(), &mut refused)?);
-    println!(rt; "refused {refused}")?;
-    Ok(())
-}
-
-/// Returns whether the first text is changed by both changes at once.
-fn is_changed_at_once(alloc: Global, refused: &mut usize) -> Result<bool, BatchFault> {
-    let mut kept = kept_again(alloc, BEFORE, refused)?;
-    is_changed_by(alloc, &mut kept, &EDITS, &(BEFORE, AFTER), refused)
-}
-
-#[test]
-fn refused_change_of_a_kept_text_by_a_batch(rt: HostRuntime) -> Result<(), Fail> {
-    let mut refused: usize = 0;
-    assert!(rt; is_changed_at_once(rt.alloc(), &mut refused)?);
+    for (index, row) in KEPT.iter().enumerate() {
+        assert!(rt; is_changed_again(rt.alloc(), row, &mut refused)?, "{index}");
+    }
     println!(rt; "refused {refused}")?;
     Ok(())
 }
@@ -238,44 +176,6 @@ fn refused_canonical_of_a_kept_text(rt: HostRuntime) -> Result<(), Fail> {
     let given = batch_again(rt.alloc(), &EDITS, &mut refused)?;
     let wanted = batch_again(rt.alloc(), &CANONICAL, &mut refused)?;
     assert!(rt; is_canonical(rt.alloc(), &given, &wanted, &mut refused)?);
-    println!(rt; "refused {refused}")?;
-    Ok(())
-}
-
-const THREE_LINES: &str = "a\nb\nc\n";
-
-static SEVERAL: [Edit; 3] = [
-    (1, 0, 1, 1, "B\nBB\nBBB"),
-    (0, 0, 0, 1, "A"),
-    (4, 0, 4, 0, "x"),
-];
-
-/// Whether the batch is applied to the three lines. Where memory runs out they stay, and it is
-/// applied again.
-fn is_applied(text: &mut IndexedText, changes: &[Change], refused: &mut usize) -> bool {
-    let answer = applied(text, changes, 24);
-    if answer != Err(BatchFault::NoMemory) {
-        return answer == Ok(());
-    }
-    *refused = refused.saturating_add(1);
-    text.text().is_text(THREE_LINES) && applied(text, changes, 24) == Ok(())
-}
-
-/// Whether the batch leaves these lines of the three.
-fn leaves_lines(alloc: Global, refused: &mut usize) -> Result<bool, AllocError> {
-    let changes = batch_again(alloc, &SEVERAL, refused)?;
-    let mut text = kept_again(alloc, THREE_LINES, refused)?;
-    Ok(
-        is_applied(&mut text, &changes, refused)
-            && text.text().is_text("A\nB\nBB\nBBB\nxc\n")
-            && text.text().line_count() == 6,
-    )
-}
-
-#[test]
-fn refused_long_batch(rt: HostRuntime) -> Result<(), Fail> {
-    let mut refused: usize = 0;
-    assert!(rt; leaves_lines(rt.alloc(), &mut refused)?);
     println!(rt; "refused {refused}")?;
     Ok(())
 }
