@@ -1,30 +1,22 @@
 //! Batches on one document as one batch: the message of each series, byte for byte.
 
-use super::canonical::frame_of;
 use super::{URI, limits_of, narrow, store_of};
 use lsp_edit::Change;
-use lsp_frame::Limits;
+use lsp_frame::{Limits, frame};
 use lsp_samples::edits::{ALL, Edit, batch, batch_again};
 use lsp_store::{Squash, Store, StoreFault};
 use lsp_text::Encoding;
 use std::alloc::Global;
 use std::test::Fail;
 
-/// A text, batches under the versions from 2 on, the length of the body of their one message, and
-/// its changes.
-type Row = (
-    &'static str,
-    &'static [&'static [Edit]],
-    usize,
-    &'static [Edit],
-);
+/// A text, batches under the versions from 2 on, and the body of their one message.
+type Row = (&'static str, &'static [&'static [Edit]], &'static str);
 
 static SERIES: [Row; 4] = [
     (
         "a\n",
         &[&[(7, 3, 7, 3, "b")], &[(1, 1, 1, 1, "c")]],
-        216,
-        &[(1, 0, 1, 0, "bc")],
+        r#"{"jsonrpc":"2.0","method":"textDocument/didChange","params":{"contentChanges":[{"range":{"end":{"character":0,"line":1},"start":{"character":0,"line":1}},"text":"bc"}],"textDocument":{"uri":"file:///a","version":3}}}"#,
     ),
     // The second batch deletes a letter of the old text and one of the first batch.
     (
@@ -34,8 +26,7 @@ static SERIES: [Row; 4] = [
             &[(0, 1, 0, 3, "")],
             &[(0, 3, 0, 3, "Z")],
         ],
-        302,
-        &[(0, 3, 0, 3, "Z"), (0, 1, 0, 2, "Y")],
+        r#"{"jsonrpc":"2.0","method":"textDocument/didChange","params":{"contentChanges":[{"range":{"end":{"character":3,"line":0},"start":{"character":3,"line":0}},"text":"Z"},{"range":{"end":{"character":2,"line":0},"start":{"character":1,"line":0}},"text":"Y"}],"textDocument":{"uri":"file:///a","version":4}}}"#,
     ),
     // Nine batches at two offsets in turn: deltas of many ranks are joined.
     (
@@ -51,8 +42,7 @@ static SERIES: [Row; 4] = [
             &[(0, 9, 0, 9, "8")],
             &[(0, 0, 0, 0, "9")],
         ],
-        310,
-        &[(0, 2, 0, 2, "2468"), (0, 0, 0, 0, "97531")],
+        r#"{"jsonrpc":"2.0","method":"textDocument/didChange","params":{"contentChanges":[{"range":{"end":{"character":2,"line":0},"start":{"character":2,"line":0}},"text":"2468"},{"range":{"end":{"character":0,"line":0},"start":{"character":0,"line":0}},"text":"97531"}],"textDocument":{"uri":"file:///a","version":10}}}"#,
     ),
     // A change of the whole text removes what came before it.
     (
@@ -63,8 +53,7 @@ static SERIES: [Row; 4] = [
             &[(ALL, 0, 0, 0, "new")],
             &[(0, 0, 0, 1, "N")],
         ],
-        217,
-        &[(0, 0, 0, 2, "New")],
+        r#"{"jsonrpc":"2.0","method":"textDocument/didChange","params":{"contentChanges":[{"range":{"end":{"character":2,"line":0},"start":{"character":0,"line":0}},"text":"New"}],"textDocument":{"uri":"file:///a","version":5}}}"#,
     ),
 ];
 
@@ -85,36 +74,21 @@ fn add(squash: &mut Squash, alloc: Global, version: i32, edits: &[Edit]) -> Resu
     squash.add(version, &batch(alloc, edits)?)
 }
 
-/// Returns whether the message of a squash has this length, these changes and this version.
-fn is_written_so(
-    squash: &Squash,
-    alloc: Global,
-    length: usize,
-    edits: &[Edit],
-    version: i32,
-) -> Result<bool, StoreFault> {
-    let frame = frame_of(alloc, length, edits, version)?;
-    if frame.len() != length.saturating_add(23) {
-        return Ok(false);
-    }
-    Ok(squash.message()?.as_slice() == frame.as_bytes())
-}
-
-/// Adds batches under the versions from 2 on, and returns the last version.
-fn add_all(squash: &mut Squash, alloc: Global, batches: &[&[Edit]]) -> Result<i32, StoreFault> {
+/// Adds batches under the versions from 2 on.
+fn add_all(squash: &mut Squash, alloc: Global, batches: &[&[Edit]]) -> Result<(), StoreFault> {
     let mut version: i32 = 1;
     for edits in batches {
         version = version.saturating_add(1);
         add(squash, alloc, version, edits)?;
     }
-    Ok(version)
+    Ok(())
 }
 
 fn is_one_message(alloc: Global, row: &Row) -> Result<bool, StoreFault> {
-    let (text, batches, length, changes) = *row;
+    let (text, batches, body) = *row;
     let mut squash = squash_of(alloc, limits_of(4_096, 16, 1, 8)?, text)?;
-    let version = add_all(&mut squash, alloc, batches)?;
-    is_written_so(&squash, alloc, length, changes, version)
+    add_all(&mut squash, alloc, batches)?;
+    Ok(squash.message()? == frame(alloc, body.as_bytes())?)
 }
 
 #[test]

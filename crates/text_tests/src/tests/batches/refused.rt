@@ -5,7 +5,7 @@ ghost use Rattle.std.specs.Prelude.{◌≡◌};
 ghost use Rattle.lsp_edit.specs.Edited.{edited_bytes};
 
 use super::{are_applied, start_again};
-use lsp_edit::{Change, EditFault, Pieces, compose, fits};
+use lsp_edit::{Change, EditFault, MAX_OLD_TEXT, Pieces, compose, fits};
 use lsp_samples::edits::{Edit, batch_again};
 use lsp_text::Encoding;
 use std::alloc::{AllocError, Global};
