@@ -41,18 +41,6 @@ fn answers(
     Ok(ran(alloc, words, input)?.is(status, output, ""))
 }
 
-/// Returns whether a run with these words is a fault that is reported in this line, after this
-/// output.
-fn fails(
-    alloc: Global,
-    words: &[&str],
-    input: &[u8],
-    output: &[u8],
-    line: &str,
-) -> Result<bool, AllocError> {
-    Ok(ran(alloc, words, input)?.is(5, output, line))
-}
-
 /// Runs the program over streams that never fail.
 fn ran(alloc: Global, words: &[&str], input: &[u8]) -> Result<Answer, AllocError> {
     stopped(alloc, words, input, &[], &[])
