@@ -182,8 +182,8 @@ fn logs_of_version_2(rt: HostRuntime) -> Result<(), Fail> {
 /// a character in UTF-8 and after it in UTF-32.
 static ANNOUNCED: [(&str, &str); 2] = [("utf-32", "changed"), ("utf-8", "refused E1")];
 
-/// Returns what `check` writes of a log whose server announces an encoding.
-fn checked_in(alloc: Global, name: &str) -> Result<Vec<u8>, Fail> {
+/// Returns a log whose server announces an encoding.
+fn announced_log(alloc: Global, name: &str) -> Result<Vec<u8>, AllocError> {
     let result = format!(in alloc;
         r#"{{"id":1,"jsonrpc":"2.0","result":{{"capabilities":{{"positionEncoding":"{name}"}}}}}}"#
     )?;
@@ -193,18 +193,20 @@ fn checked_in(alloc: Global, name: &str) -> Result<Vec<u8>, Fail> {
         (">", OPEN_EMOJI),
         (">", AFTER_ONE_UNIT),
     ];
-    let input = marked(alloc, &records)?;
-    Ok(run_with(alloc, Command::Check, &input, settings()?, SMOOTH)?.output)
+    marked(alloc, &records)
+}
+
+fn counts_so(alloc: Global, name: &str, word: &str) -> Result<bool, Fail> {
+    let input = announced_log(alloc, name)?;
+    let run = run_with(alloc, Command::Check, &input, settings()?, SMOOTH)?;
+    let lines = format!(in alloc; "1 reply\n2 server\n3 changed\n4 {word}\n")?;
+    Ok(run.output.as_slice() == lines.as_bytes())
 }
 
 #[test]
 fn the_result_of_initialize_has_the_encoding(rt: HostRuntime) -> Result<(), Fail> {
     for (name, word) in &ANNOUNCED {
-        let lines = format!(in rt.alloc(); "1 reply\n2 server\n3 changed\n4 {word}\n")?;
-        assert!(rt;
-            checked_in(rt.alloc(), name)?.as_slice() == lines.as_bytes(),
-            "{name}"
-        );
+        assert!(rt; counts_so(rt.alloc(), name, word)?, "{name}");
     }
     Ok(())
 }
