@@ -4,6 +4,10 @@ use lsp_edit::Change;
 use lsp_message::{
     ChangeParams, CloseParams, ErrorCode, Id, Offers, OpenParams, Outgoing, SyncKind, write,
 };
+use lsp_samples::bodies::{
+    ACCEPTED, CHANGE, CLOSE, EXIT, INITIALIZE, INITIALIZED, NO_ID, NOT_INITIALIZED, OPEN,
+    PARSE_ERROR, SHUT_DOWN, SHUTDOWN, WHOLE,
+};
 use lsp_text::{Encoding, Position, Range};
 use std::alloc::{AllocError, Global};
 use std::test::Fail;
@@ -130,13 +134,7 @@ fn written(alloc: Global, sent: Sent) -> Result<Vec<u8>, AllocError> {
 }
 
 static TEXTS: [Row; 19] = [
-    (
-        Sent::Initialize(false, false),
-        concat!(
-            r#"{"id":1,"jsonrpc":"2.0","method":"initialize","params":{"capabilities":{"general":"#,
-            r#"{"positionEncodings":["utf-16"]}},"processId":null,"rootUri":null}}"#,
-        ),
-    ),
+    (Sent::Initialize(false, false), INITIALIZE),
     (
         Sent::Initialize(true, true),
         concat!(
@@ -144,41 +142,13 @@ static TEXTS: [Row; 19] = [
             r#"{"positionEncodings":["utf-8","utf-16","utf-32"]}},"processId":null,"rootUri":null}}"#,
         ),
     ),
-    (
-        Sent::Initialized,
-        r#"{"jsonrpc":"2.0","method":"initialized","params":{}}"#,
-    ),
-    (
-        Sent::Shutdown,
-        r#"{"id":2,"jsonrpc":"2.0","method":"shutdown"}"#,
-    ),
-    (Sent::Exit, r#"{"jsonrpc":"2.0","method":"exit"}"#),
-    (
-        Sent::Open,
-        concat!(
-            r#"{"jsonrpc":"2.0","method":"textDocument/didOpen","params":{"textDocument":"#,
-            r#"{"languageId":"plaintext","text":"abc","uri":"file:///a","version":1}}}"#,
-        ),
-    ),
-    (
-        Sent::Close,
-        r#"{"jsonrpc":"2.0","method":"textDocument/didClose","params":{"textDocument":{"uri":"file:///a"}}}"#,
-    ),
-    (
-        Sent::Change(Some((1, 2)), "X"),
-        concat!(
-            r#"{"jsonrpc":"2.0","method":"textDocument/didChange","params":{"contentChanges":[{"range":{"end":"#,
-            r#"{"character":2,"line":0},"start":{"character":1,"line":0}},"text":"X"}],"#,
-            r#""textDocument":{"uri":"file:///a","version":2}}}"#,
-        ),
-    ),
-    (
-        Sent::Change(None, "aXc"),
-        concat!(
-            r#"{"jsonrpc":"2.0","method":"textDocument/didChange","params":{"contentChanges":[{"text":"aXc"}],"#,
-            r#""textDocument":{"uri":"file:///a","version":2}}}"#,
-        ),
-    ),
+    (Sent::Initialized, INITIALIZED),
+    (Sent::Shutdown, SHUTDOWN),
+    (Sent::Exit, EXIT),
+    (Sent::Open, OPEN),
+    (Sent::Close, CLOSE),
+    (Sent::Change(Some((1, 2)), "X"), CHANGE),
+    (Sent::Change(None, "aXc"), WHOLE),
     (
         Sent::NoChange,
         concat!(
@@ -188,10 +158,7 @@ static TEXTS: [Row; 19] = [
     ),
     (
         Sent::InitializeResult(Encoding::Utf16, SyncKind::Incremental),
-        concat!(
-            r#"{"id":1,"jsonrpc":"2.0","result":{"capabilities":{"positionEncoding":"utf-16","#,
-            r#""textDocumentSync":{"change":2,"openClose":true}}}}"#,
-        ),
+        ACCEPTED,
     ),
     (
         Sent::InitializeResult(Encoding::Utf8, SyncKind::Full),
@@ -200,18 +167,9 @@ static TEXTS: [Row; 19] = [
             r#""textDocumentSync":{"change":1,"openClose":true}}}}"#,
         ),
     ),
-    (
-        Sent::ShutdownResult,
-        r#"{"id":2,"jsonrpc":"2.0","result":null}"#,
-    ),
-    (
-        Sent::Error(ErrorCode::ParseError, None),
-        r#"{"error":{"code":-32700,"message":"parse error"},"id":null,"jsonrpc":"2.0"}"#,
-    ),
-    (
-        Sent::Error(ErrorCode::InvalidRequest, None),
-        r#"{"error":{"code":-32600,"message":"invalid request"},"id":null,"jsonrpc":"2.0"}"#,
-    ),
+    (Sent::ShutdownResult, SHUT_DOWN),
+    (Sent::Error(ErrorCode::ParseError, None), PARSE_ERROR),
+    (Sent::Error(ErrorCode::InvalidRequest, None), NO_ID),
     (
         Sent::Error(ErrorCode::MethodNotFound, Some(7)),
         r#"{"error":{"code":-32601,"message":"method not found"},"id":7,"jsonrpc":"2.0"}"#,
@@ -226,7 +184,7 @@ static TEXTS: [Row; 19] = [
     ),
     (
         Sent::ErrorOf(ErrorCode::ServerNotInitialized, "q"),
-        r#"{"error":{"code":-32002,"message":"server not initialized"},"id":"q","jsonrpc":"2.0"}"#,
+        NOT_INITIALIZED,
     ),
 ];
 
