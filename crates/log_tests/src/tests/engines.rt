@@ -14,8 +14,8 @@ use lsp_replay::{
     trace,
 };
 use lsp_samples::bodies::{
-    ACCEPTED as REPLY, AFTER_ONE_UNIT, CANONICAL, CHANGE as EDITED, CLOSE, EXIT, INITIALIZE,
-    INITIALIZED, OPEN, OPEN_EMOJI, SHUT_DOWN, SHUTDOWN, WHOLE,
+    ACCEPTED as REPLY, CANONICAL, CHANGE as EDITED, CLOSE, EXIT, INITIALIZE, INITIALIZED, OPEN,
+    SHUT_DOWN, SHUTDOWN, WHOLE,
 };
 use lsp_samples::logs::{LINE, log};
 use lsp_server::{ChangeForm, Config, EncodingChoice};

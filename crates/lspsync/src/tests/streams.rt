@@ -1,7 +1,7 @@
 //! Readers and writers that fail, are interrupted or take few bytes.
 
 use super::*;
-use lsp_replay::CallEnd::{Fail as Fails, Interrupt, Take};
+use lsp_replay::CallEnd::{Fail as Fails, Take};
 use lsp_samples::bodies::{INITIALIZE, OPEN, WHOLE};
 use lsp_samples::logs::log;
 use std::test::Fail;

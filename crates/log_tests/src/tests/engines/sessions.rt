@@ -1,7 +1,7 @@
 //! Worked sessions: the output and the result of each engine.
 
 use super::*;
-use lsp_samples::bodies::NO_ID;
+use lsp_samples::bodies::{AFTER_ONE_UNIT, NO_ID, OPEN_EMOJI};
 
 /// The report of two documents. The first is closed, and opened again after the second.
 static REPORTS: [Row; 2] = [
