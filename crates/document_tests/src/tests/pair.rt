@@ -1,14 +1,12 @@
-//! Sessions of both ends: tables of events, each with what happens and with the documents of both
-//! ends after it.
+//! Sessions of both ends that run out of memory.
 
 mod faults;
 mod refused;
-mod sessions;
 
 use lsp_edit::Change;
-use lsp_frame::{BadLimits, Limits};
+use lsp_frame::Limits;
 use lsp_message::Offers;
-use lsp_pair::{Event, Happened, Pair};
+use lsp_pair::{Event, Pair};
 use lsp_server::{ChangeForm, Config, EncodingChoice};
 use lsp_store::Store;
 use lsp_text::{Encoding, Position, Range};
@@ -33,9 +31,6 @@ enum Script {
 
 /// The version and the text of the one document of an end.
 type Open = Option<(i32, &'static str)>;
-
-/// An event, what happens, and the documents of the client and of the server after it.
-type Row = (Script, Happened, Open, Open);
 
 fn event(alloc: Global, script: Script) -> Result<Event, AllocError> {
     match script {
@@ -95,46 +90,13 @@ fn ends_have(pair: &Pair, client: Open, server: Open) -> bool {
     has(pair.client().store(), client) && has(pair.server().store(), server)
 }
 
-/// Makes the step of a row. Returns whether what is wanted happened.
-fn is_row(pair: &mut Pair, alloc: Global, row: &Row) -> Result<bool, AllocError> {
-    let given = event(alloc, row.0)?;
-    let happened = pair.step(&given)?;
-    Ok(happened == row.1 && ends_have(pair, row.2, row.3))
-}
-
-/// Makes the steps of rows in order. The first of which something else happened, or none.
-fn wrong_row(pair: &mut Pair, alloc: Global, rows: &[Row]) -> Result<Option<usize>, AllocError> {
-    for (index, row) in rows.iter().enumerate() {
-        if !is_row(pair, alloc, row)? {
-            return Ok(Some(index));
-        }
-    }
-    Ok(None)
-}
-
-fn wide() -> Result<Limits, BadLimits> {
-    Limits::new(16_777_216, 16_777_216, 1_024, 65_536)
-}
-
-/// Returns a pair with wide limits.
-fn new_pair(
-    alloc: Global,
-    offers: Offers,
-    choice: EncodingChoice,
-    sync: ChangeForm,
-) -> Result<Pair, Fail> {
-    let limits = wide()?;
+/// Returns a pair that counts in UTF-16, with wide limits.
+fn new_pair(alloc: Global, sync: ChangeForm) -> Result<Pair, Fail> {
+    let limits = Limits::new(16_777_216, 16_777_216, 1_024, 65_536)?;
     let config = Config {
         limits,
-        choice,
+        choice: EncodingChoice::Fixed(Encoding::Utf16),
         sync,
     };
-    Ok(Pair::new(alloc, limits, offers, config)?)
+    Ok(Pair::new(alloc, limits, Offers::new(false, false), config)?)
 }
-
-const UTF16: EncodingChoice = EncodingChoice::Fixed(Encoding::Utf16);
-
-const NO_OFFERS: Offers = Offers {
-    utf8: false,
-    utf32: false,
-};

@@ -2,8 +2,8 @@
 
 use super::*;
 use lsp_frame::frame;
-use lsp_samples::bodies::{ACCEPTED, CLOSE, INITIALIZE, OPEN, WHOLE};
-use lsp_samples::logs::{LINE, log};
+use lsp_samples::bodies::{ACCEPTED, INITIALIZE};
+use lsp_samples::logs::LINE;
 use std::test::Fail;
 
 /// A server's request, with an id that is a string.
@@ -37,54 +37,5 @@ const BODY_LINES: &[u8] =
 fn bodies_are_written_on_one_line(rt: HostRuntime) -> Result<(), Fail> {
     let words = ["lspsync", "trace", "--bodies"];
     assert!(rt; answers(rt.alloc(), &words, BODIES, 1, BODY_LINES)?);
-    Ok(())
-}
-
-/// A change of the document that [`OPEN`] opens, under its own version.
-const STALE: &str =
-    r#"{"jsonrpc":"2.0","method":"textDocument/didChange","params":{"contentChanges":[],"textDocument":{"uri":"file:///a","version":1}}}"#;
-
-/// The end of the line of each record of a log, which says what the last record on its document
-/// was.
-static LASTS: [(&str, &str); 8] = [
-    (INITIALIZE, "\"word\":\"reply\"}"),
-    (STALE, "\"reason\":\"the document is not open\"}"),
-    (OPEN, "\"word\":\"changed\",\"version\":1}"),
-    (STALE, "the current one is 1\",\"last\":3,\"version\":1}"),
-    (
-        OPEN,
-        "the document is open already\",\"last\":4,\"version\":1}",
-    ),
-    (WHOLE, "\"version\":2}}}}"),
-    (CLOSE, "\"word\":\"changed\"}"),
-    (STALE, "\"reason\":\"the document is not open\",\"last\":7}"),
-];
-
-/// Returns whether the lines of an output end so, one after another.
-fn ends_so(output: &[u8]) -> bool {
-    let Ok(text) = str::from_utf8(output) else {
-        return false;
-    };
-    let mut lines = text.lines();
-    for (_, end) in &LASTS {
-        let Some(line) = lines.next() else {
-            return false;
-        };
-        if !line.ends_with(*end) {
-            return false;
-        }
-    }
-    lines.next().is_none()
-}
-
-#[test]
-fn the_last_record_on_a_document_is_named(rt: HostRuntime) -> Result<(), Fail> {
-    let mut bodies = Vec::new(rt.alloc());
-    for (body, _) in &LASTS {
-        bodies.push(*body)?;
-    }
-    let input = log(rt.alloc(), &bodies)?;
-    let answer = ran(rt.alloc(), &["lspsync", "trace"], &input)?;
-    assert!(rt; answer.status == 1 && ends_so(&answer.output));
     Ok(())
 }

@@ -1,6 +1,6 @@
 //! A run that runs out of memory once, and is continued.
 
-use super::{NO_OFFERS, Open, Script, UTF16, ends_have, event, new_pair};
+use super::{Open, Script, ends_have, event, new_pair};
 use lsp_pair::{Event, Pair, run_pair};
 use lsp_server::{ChangeForm, Phase};
 use std::alloc::{AllocError, Global};
@@ -77,7 +77,7 @@ const EDITED: Open = Some((2, "aXc"));
 /// Returns how often memory ran out in the session of a new pair, if both ends have the edited
 /// document after it, and nothing waits.
 fn run_session(alloc: Global, sync: ChangeForm) -> Result<Option<u32>, Fail> {
-    let mut pair = new_pair(alloc, NO_OFFERS, UTF16, sync)?;
+    let mut pair = new_pair(alloc, sync)?;
     let refused = run(&mut pair, alloc, SESSION)?;
     let is_edited = ends_have(&pair, EDITED, EDITED) && pair.waiting() == (0, 0);
     Ok(if is_edited { Some(refused) } else { None })
@@ -109,7 +109,7 @@ fn run_both(pair: &mut Pair, alloc: Global) -> Result<u32, AllocError> {
 
 /// The same up to the end of the session.
 fn run_to_end(alloc: Global) -> Result<Option<u32>, Fail> {
-    let mut pair = new_pair(alloc, NO_OFFERS, UTF16, ChangeForm::Incremental)?;
+    let mut pair = new_pair(alloc, ChangeForm::Incremental)?;
     let refused = run_both(&mut pair, alloc)?;
     Ok(if is_ended(&pair) { Some(refused) } else { None })
 }
