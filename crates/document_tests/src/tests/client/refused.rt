@@ -60,7 +60,7 @@ fn is_done(
 /// The response of a server that asks for whole texts.
 const FULL: &str = r#"{"id":1,"jsonrpc":"2.0","result":{"capabilities":{"textDocumentSync":1}}}"#;
 
-const LIFECYCLE: &[Ask] = &[
+static LIFECYCLE: [Ask; 5] = [
     Ask::Start,
     Ask::Deliver(ACCEPTED),
     Ask::Shutdown,
@@ -68,7 +68,7 @@ const LIFECYCLE: &[Ask] = &[
     Ask::Exit,
 ];
 
-const DOCUMENTS: &[Ask] = &[
+static DOCUMENTS: [Ask; 5] = [
     Ask::Start,
     Ask::Deliver(ACCEPTED),
     Ask::Open("abc"),
@@ -76,26 +76,22 @@ const DOCUMENTS: &[Ask] = &[
     Ask::Close,
 ];
 
-const WHOLE: &[Ask] = &[
+static WHOLE: [Ask; 4] = [
     Ask::Start,
     Ask::Deliver(FULL),
     Ask::Open("abc"),
     Ask::Edit(2, 1, 2, "X"),
 ];
 
-/// The calls of a session, and its last phase.
-static SESSIONS: [(&[Ask], Phase); 3] = [
-    (LIFECYCLE, Phase::Done),
-    (DOCUMENTS, Phase::Ready),
-    (WHOLE, Phase::Ready),
-];
-
 #[test]
 fn refused_calls(rt: HostRuntime) -> Result<(), Fail> {
     let mut refused = 0;
-    for (calls, phase) in &SESSIONS {
-        assert_eq!(rt; is_done(&rt, rt.alloc(), calls, &mut refused)?, *phase);
-    }
+    let phase = is_done(&rt, rt.alloc(), &LIFECYCLE, &mut refused)?;
+    assert_eq!(rt; phase, Phase::Done);
+    let phase = is_done(&rt, rt.alloc(), &DOCUMENTS, &mut refused)?;
+    assert_eq!(rt; phase, Phase::Ready);
+    let phase = is_done(&rt, rt.alloc(), &WHOLE, &mut refused)?;
+    assert_eq!(rt; phase, Phase::Ready);
     println!(rt; "refused {refused}")?;
     Ok(())
 }

@@ -48,7 +48,7 @@ fn are_answered(alloc: Global, limits: Limits, rows: &[Row], refused: &mut usize
     true
 }
 
-const AFTER_A_FAULT: &[Row] = &[
+static AFTER_A_FAULT: [Row; 3] = [
     (Step::Open(URI, 1, "abc"), Ok(0), Some((1, "abc"))),
     (
         Step::Change(
@@ -68,7 +68,7 @@ const AFTER_A_FAULT: &[Row] = &[
 ];
 
 /// Texts of at most 8 bytes. The canonical message has a body of 303 bytes and a header of 23.
-const LONG_TEXTS: &[Row] = &[
+static LONG_TEXTS: [Row; 4] = [
     (Step::Open(URI, 1, "abcdefgh"), Ok(0), Some((1, "abcdefgh"))),
     (
         Step::Change(URI, 2, Encoding::Utf16, &[(0, 8, 0, 8, "x")]),
@@ -93,7 +93,7 @@ const LONG_TEXTS: &[Row] = &[
 ];
 
 /// Changes of a range and of a batch that move lines.
-const LINES: &[Row] = &[
+static LINES: [Row; 3] = [
     (Step::Open(URI, 1, "a\nb"), Ok(0), Some((1, "a\nb"))),
     (
         Step::Change(URI, 2, Encoding::Utf16, &[(0, 1, 1, 1, "X\r\n\n")]),
@@ -115,7 +115,7 @@ const LINES: &[Row] = &[
 const LAST: i32 = 2_147_483_647;
 
 /// One document and one change.
-const REFUSALS: &[Row] = &[
+static REFUSALS: [Row; 8] = [
     (Step::Open(URI, 5, "a"), Ok(0), Some((5, "a"))),
     (
         Step::Change(URI, 5, Encoding::Utf16, &[]),
@@ -135,7 +135,7 @@ const REFUSALS: &[Row] = &[
 ];
 
 /// Bodies of 217, 214 and 129 bytes.
-const WHOLE_TEXTS: &[Row] = &[
+static WHOLE_TEXTS: [Row; 6] = [
     (Step::Open(URI, 1, "abc"), Ok(0), Some((1, "abc"))),
     (
         Step::Canonical(URI, 2, &[(ALL, 0, 0, 0, "abc")]),
@@ -156,25 +156,14 @@ const WHOLE_TEXTS: &[Row] = &[
     ),
 ];
 
-/// The greatest number of documents and of changes, and calls on one store.
-static RUNS: [(usize, usize, &[Row]); 5] = [
-    (1, 2, LINES),
-    (4, 4, AFTER_A_FAULT),
-    (4, 4, LONG_TEXTS),
-    (1, 1, REFUSALS),
-    (4, 4, WHOLE_TEXTS),
-];
-
 #[test]
 fn refused_calls_on_one_store(rt: HostRuntime) -> Result<(), Fail> {
     let mut refused = 0;
-    for (index, (docs, changes, rows)) in RUNS.iter().enumerate() {
-        let limits = narrow(*docs, *changes)?;
-        assert!(rt;
-            are_answered(rt.alloc(), limits, rows, &mut refused),
-            "{index}"
-        );
-    }
+    assert!(rt; are_answered(rt.alloc(), narrow(1, 2)?, &LINES, &mut refused));
+    assert!(rt; are_answered(rt.alloc(), narrow(1, 2)?, &AFTER_A_FAULT, &mut refused));
+    assert!(rt; are_answered(rt.alloc(), narrow(1, 2)?, &LONG_TEXTS, &mut refused));
+    assert!(rt; are_answered(rt.alloc(), narrow(1, 1)?, &REFUSALS, &mut refused));
+    assert!(rt; are_answered(rt.alloc(), narrow(1, 2)?, &WHOLE_TEXTS, &mut refused));
     println!(rt; "refused {refused}")?;
     Ok(())
 }
