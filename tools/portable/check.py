@@ -182,15 +182,14 @@ def counted(words, env, form):
 
 def parts(target, sessions):
     """What is run on a target beside the logs: the name of each part, and a call that counts the right and the wrong ones."""
-    test, grown = (target.over_library(*it) for it in (("bindings/node/test.js", "bindings/c/test.c", "bindings/c/counting_heap.c"),
-                                                       ("tools/portable/grown.js", "tools/portable/ask.c")))
-    yield "its test", lambda: counted(test, target.env, r"(\d+) passed, (\d+) failed\s*$")
+    test = target.over_library("bindings/node/test.js", "bindings/c/test.c", "bindings/c/counting_heap.c")
+    yield "its test", lambda: counted(test, target.env, r"pass (\d+)\n\S+ fail (\d+)\n" if target.is_wasm else r"(\d+) passed, (\d+) failed\s*$")
     if target.is_wasm:
-        yield "out of memory", lambda: counted([*grown, target.env["LASPIDRU_ADDON"]], target.env, r"(\d+) calls refused")
+        yield "out of memory", lambda: counted([*target.prefix, "tools/portable/grown.js", target.env["LASPIDRU_ADDON"]], target.env, r"(\d+) calls refused")
         runner = [sys.executable, "conformance/ask.py", *target.prefix, "conformance/run.js"]
         yield "vectors", lambda: counted(runner, target.env, r"(\d+) right, \d+ other, (\d+) WRONG, 0 ERROR, 0 not asked\s*$")
     driver = " ".join(target.over_library("bindings/node/sessions.js", "bindings/c/sessions.c"))
-    yield "sessions", lambda: counted([sys.executable, "bindings/sessions", NATIVE["lsp_simulate"], str(sessions), driver], target.env, r"(\d+) sessions?\b")
+    yield "sessions", lambda: counted([sys.executable, "bindings/sessions", NATIVE["lsp_simulate"], str(sessions), driver], target.env, r"(\d+) sessions by")
     yield "programs", lambda: check_programs(target)
 
 
