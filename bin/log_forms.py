@@ -332,14 +332,18 @@ class Eglot(Form):
             yield "in the server's messages null may have been {}: Emacs prints both as nil"
 
 
+# What newer channels of VS Code put before a line
+STAMP = r"^(?:\d{4}-\d\d-\d\d \d\d:\d\d:\d\d\.\d{3} \[\w+\] )?"
+
+
 class Trace(Form):
     name = "a trace in words, of lsp-mode, gopls (-rpc.trace) or VS Code (\"verbose\")"
     remedy = "it has them with \"verbose\", not with \"messages\""
-    begins = re.compile(r"^\[Trace - [^]\n]*\] (?:Sending|Received) ", re.MULTILINE)
-    HEAD = re.compile(r"^\[Trace - [^]\n]*\] (Sending|Received) (request|notification|response) '([^'\n]*?)(?: - \((.*?)\))?'?"
-                      r"(?:\.| in )([^\n]*)\n?|^\[Error - [^]\n]*\] (?:Sent|Received) #", re.MULTILINE)
+    begins = re.compile(STAMP + r"\[Trace - [^]\n]*\] (?:Sending|Received) ", re.MULTILINE)
+    HEAD = re.compile(STAMP + r"\[Trace - [^]\n]*\] (Sending|Received) (request|notification|response) '([^'\n]*?)(?: - \((.*?)\))?'?"
+                      r"(?:\.| in )([^\n]*)\n?|" + STAMP + r"\[Error - [^]\n]*\] (?:Sent|Received) #", re.MULTILINE)
     DATA = re.compile(r"(Params|Result|Error data): (?=[^ \r\n])")
-    AT_SERVER = re.compile(r"^\[Trace - [^]\n]*\] Received request 'initialize - ", re.MULTILINE)
+    AT_SERVER = re.compile(STAMP + r"\[Trace - [^]\n]*\] Received request 'initialize - ", re.MULTILINE)
     FAILED = re.compile(r"Request failed: (.*) \((-?\d+)\)\.\s*$")
 
     def __init__(self):
@@ -393,8 +397,8 @@ class Trace(Form):
 class TraceJson(Form):
     name = "VS Code's trace in JSON, as LSP Inspector reads it"
     remedy = "it has them with \"verbosity\": \"verbose\""
-    begins = re.compile(r'^\[LSP *- [^]\n]*\] \{|^\{"(?:isLSPMessage|type)":', re.MULTILINE)
-    HEAD = re.compile(r"^\[LSP *- [^]\n]*\] (?=\{)", re.MULTILINE)
+    begins = re.compile(STAMP + r'\[LSP *- [^]\n]*\] \{|^\{"(?:isLSPMessage|type)":', re.MULTILINE)
+    HEAD = re.compile(STAMP + r"\[LSP *- [^]\n]*\] (?=\{)", re.MULTILINE)
     BARE = re.compile(r"^(?=\{)", re.MULTILINE)
 
     def messages(self, text):
