@@ -128,7 +128,7 @@ onmessage = async ({ data: { engine, words, log, isTrace } }) => {
   try {
     const blob = typeof log === "string" ? await unpacked(log).blob() : log;
     postMessage({ log: blob });
-    const status = runProgram(await compiled(engine), words, systemOf(blob, gathered, take, said));
+    const status = runProgram(await compiled(engine), ["lspsync", ...words], systemOf(blob, gathered, take, said));
     gathered.post();
     postMessage({ status: gathered.fault ? -1 : status, said: gathered.fault || await new Blob(said).text() });
   } catch (error) {

@@ -13,10 +13,10 @@ const ERRORS = {
 };
 const fault = (code) => Object.assign(new Error(code), { code });
 
-/** Runs the program with these words, and returns its status. Each run has its own instance of the module. */
+/** Runs the program with these words, the first of which is its name, and returns its status. Each run has its own instance of the module. */
 function runProgram(module_, words, system) {
   const [encoder, decoder] = [new TextEncoder(), new TextDecoder()];
-  const all = ['program', ...words].map((word) => encoder.encode(word));
+  const all = words.map((word) => encoder.encode(word));
   let exported;
   let errno = 0;
   const memory = (at, size) => new Uint8Array(exported.memory.buffer, Number(at) >>> 0, Number(size));

@@ -32,7 +32,7 @@ const system = {
 function run(name, words) {
   const file = process.env.LASPIDRU_PROGRAM || path.join(__dirname, `${name}.wasm`);
   try {
-    process.exitCode = runProgram(compiled(fs.readFileSync(file)), words, system);
+    process.exitCode = runProgram(compiled(fs.readFileSync(file)), [name, ...words], system);
   } catch (error) {
     console.error(`${name}: ${error.message}`);
     process.exitCode = 70;

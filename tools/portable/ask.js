@@ -1,5 +1,6 @@
 'use strict';
-// Runs the library's commands on logs, as ask.c does, over an addon (module.js): for Node and for a page.
+// Runs the library's commands on logs, as ask.c does, over an addon (module.js): for Node, where LASPIDRU_ADDON
+// names the module, and for a page.
 const FAULT = 2;
 
 /** The answers to the requests that these bytes have, in parts. */
@@ -19,5 +20,5 @@ function answered(addon, bytes) {
 if (typeof require === 'function' && require.main === module) {
   const fs = require('fs');
   const { addonOf, compiled } = require('../../bindings/node/module.js');
-  fs.writeFileSync(1, Buffer.concat(answered(addonOf(compiled(fs.readFileSync(process.argv[2]))), fs.readFileSync(0))));
+  fs.writeFileSync(1, Buffer.concat(answered(addonOf(compiled(fs.readFileSync(process.env.LASPIDRU_ADDON))), fs.readFileSync(0))));
 }

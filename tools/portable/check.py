@@ -185,7 +185,7 @@ def parts(target, sessions):
     test = target.over_library("bindings/node/test.js", "bindings/c/test.c", "bindings/c/counting_heap.c")
     yield "its test", lambda: counted(test, target.env, r"pass (\d+)\n\S+ fail (\d+)\n" if target.is_wasm else r"(\d+) passed, (\d+) failed\s*$")
     if target.is_wasm:
-        yield "out of memory", lambda: counted([*target.prefix, "tools/portable/grown.js", target.env["LASPIDRU_ADDON"]], target.env, r"(\d+) calls refused")
+        yield "out of memory", lambda: counted([*target.prefix, "tools/portable/grown.js"], target.env, r"(\d+) calls refused")
         runner = [sys.executable, "conformance/ask.py", *target.prefix, "conformance/run.js"]
         yield "vectors", lambda: counted(runner, target.env, r"(\d+) right, \d+ other, (\d+) WRONG, 0 ERROR, 0 not asked\s*$")
     driver = " ".join(target.over_library("bindings/node/sessions.js", "bindings/c/sessions.c"))
@@ -253,7 +253,7 @@ def check(targets, page, logs, sessions):
                 continue
             for what, call in parts(target, sessions):
                 row(name, what, *call())
-            start = target.over_library("tools/portable/ask.js", "tools/portable/ask.c") + [target.env["LASPIDRU_ADDON"]] * target.is_wasm
+            start = target.over_library("tools/portable/ask.js", "tools/portable/ask.c")
             row(name, "logs", *check_logs(lambda asked: result(start, target.env, asked)[1], requests, expected))
     for name in BROWSERS if "wasm32" in targets and os.path.isdir("build/wasm32") else ():
         if shutil.which(name):

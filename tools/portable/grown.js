@@ -1,13 +1,13 @@
 'use strict';
-// Out of memory at each growth of the module's memory in turn: grown.js MODULE. A call is refused and changes nothing, and works once there is
-// memory again. Node gives the module a greatest memory, of one page more in each round.
+// Out of memory at each growth of the module's memory in turn: LASPIDRU_ADDON=MODULE grown.js. A call is refused and changes nothing, and works
+// once there is memory again. Node gives the module a greatest memory, of one page more in each round.
 const assert = require('assert');
 const fs = require('fs');
 const v8 = require('v8');
 const { addonOf } = require('../../bindings/node/module.js');
 const { over } = require('../../bindings/node/api.js');
 
-const module_ = new WebAssembly.Module(fs.readFileSync(process.argv[2]));
+const module_ = new WebAssembly.Module(fs.readFileSync(process.env.LASPIDRU_ADDON));
 const PAGE = 65536;
 const text = 'line of a text\n'.repeat(60000);
 const range = { start: { line: 7, character: 1 }, end: { line: 7, character: 3 } };

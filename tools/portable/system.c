@@ -117,8 +117,9 @@ int main(int argc, char **argv) {
             return 4;
         WideCharToMultiByte(CP_UTF8, 0, wide[i], -1, made[i], size, NULL, NULL);
     }
-    if (!made)
+    if (!made || !argc)
         return 4;
+    made[0] = PROGRAM; /* (and no path with an .exe) */
     count = (size_t)argc, words = made;
     _setmode(0, _O_BINARY), _setmode(1, _O_BINARY), _setmode(2, _O_BINARY);
 #endif
