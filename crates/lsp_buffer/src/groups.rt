@@ -1,7 +1,7 @@
 //! What groups of blocks count, so that a search passes many blocks at a step.
 ghost use Rattle.std.specs.Prelude.{◌≡◌, ◌≤◌, ℕ, List, length, set};
 ghost use Rattle.std.specs.List.{concat};
-ghost use Rattle.lsp_buffer.specs.Blocks.{AreBlocks, AreGroups, counts_of};
+ghost use Rattle.lsp_buffer.specs.Blocks.{AreBlocks, AreGroups, IsTextBuffer, counts_of};
 ghost use Rattle.lsp_buffer.specs.inside.Cuts.{AreFull};
 
 use crate::block::Block;
@@ -26,10 +26,8 @@ fn total(blocks: &[Block]) -> Counts
 /// Appends the groups that are missing, of blocks that come before the last. Where memory runs out
 /// they stay missing: then a search takes longer, and finds the same.
 pub fn fill(groups: &mut Vec<Counts>, blocks: &[Block])
-    requires are { AreBlocks blocks.now }
-    requires size { length (concat blocks.now) ≤ 2147483648 }
-    requires groups { AreGroups blocks.now groups.old.items }
-    ensures { AreGroups blocks.now groups.new.items }
+    requires { IsTextBuffer blocks.now groups.old.items }
+    ensures { IsTextBuffer blocks.now groups.new.items }
 {
     for group in groups.len()..(blocks.len() - 1) / GROUP {
         let first = GROUP * group;

@@ -18,10 +18,10 @@ mod reading;
 use crate::block::{Block, shared_blocks};
 use crate::counts::Counts;
 use crate::cut::blocks_of;
-use crate::find::{Target, find, find_later};
+use crate::find::{Target, find};
 use crate::groups::fill;
 use crate::seams::{position_after, position_from};
-use crate::text_buffer::change::{BlockRange, replace};
+use crate::text_buffer::change::{range_of, replace};
 use lsp_text::{Encoding, InsideCharacter, Position};
 use std::alloc::{AllocError, Global};
 use std::fmt;
@@ -240,14 +240,7 @@ impl TextBuffer {
         ensures changed { OnOk result (self.new ≡ replace_range self.old start end new.now) }
         ensures unchanged { OnErr result (self.new ≡ self.old) }
     {
-        let from = find(&self.blocks, &self.groups, Target::Offset(start));
-        let to = find_later(&self.blocks, &self.groups, from, end);
-        let range = BlockRange {
-            first: from.index,
-            start: start - from.before.len as usize,
-            last: to.index,
-            end: end - to.before.len as usize,
-        };
+        let range = range_of(&self.blocks, &self.groups, start, end);
         let len = self.len - (end - start) + new.len();
         replace(&mut self.blocks, &mut self.groups, range, new)?;
         self.len = len;

@@ -12,7 +12,7 @@ use Rattle.lsp_buffer.specs.declared.find.Found.{Found}
 use Rattle.lsp_buffer.specs.declared.find.Target.TheVariants.{Offset}
 use Rattle.lsp_buffer.specs.declared.text_buffer.change.BlockRange.{BlockRange}
 use Rattle.lsp_buffer.specs.Blocks.{AreBlocks, AreGroups, EndsClear, IsFull, IsTextBuffer, counts_of}
-use Rattle.lsp_buffer.specs.inside.Changes.{IsChange, IsTaken, JoinsNext, StaysInside, text_after, text_left}
+use Rattle.lsp_buffer.specs.inside.Changes.{IsChange, IsRangeOf, IsTaken, JoinsNext, StaysInside, text_after, text_left}
 use Rattle.lsp_buffer.specs.inside.Cuts.{AreFull}
 use Rattle.lsp_buffer.specs.inside.Parts.{IsFound}
 use Rattle.lsp_buffer.proofs.Blocks.BlockLemmas.{IsSplit, blocks_some, concat_split, ends_join, ends_tail, joined_blocks, split}
@@ -75,7 +75,7 @@ first_texts blocks i j order = omega (
 )
 
 -- The blocks that the ends of a range are found in.
-pub record IsRangeFound (blocks : List (List ℕ)) (from to : Found) (start stop : ℕ) (new : List ℕ) : Type 0 where
+pub record IsRangeFound (blocks : List (List ℕ)) (from to : Found) (start stop : ℕ) : Type 0 where
   pub are : AreBlocks blocks
   pub size : length (concat blocks) ≤ 2147483648
   pub from_is : IsFound blocks (Offset start) from
@@ -83,10 +83,17 @@ pub record IsRangeFound (blocks : List (List ℕ)) (from to : Found) (start stop
   pub order : start ≤ stop
   pub at_start : IsCharBoundary (concat blocks) start
   pub at_end : IsCharBoundary (concat blocks) stop
-  pub room : length (replace_range (concat blocks) start stop new) ≤ 2147483648
 
-module _ (blocks : List (List ℕ)) (from to : Found) (start stop : ℕ) (new : List ℕ)
-    (is : IsRangeFound blocks from to start stop new) where
+abbrev pub found_range : Found → Found → ℕ → ℕ → BlockRange
+found_range from to start stop = record {
+  first = from.index;
+  start = start - from.before.len;
+  last = to.index;
+  end = stop - to.before.len;
+}
+
+module _ (blocks : List (List ℕ)) (from to : Found) (start stop : ℕ) (is : IsRangeFound blocks from to start stop)
+    where
   one : IsPlaceFound (concat blocks) (concat (take from.index blocks)) (get_or blocks from.index [])
       (concat (drop (from.index + 1) blocks)) start from.before.len
   one = found_place (concat blocks) (concat (take from.index blocks)) (get_or blocks from.index [])
@@ -101,16 +108,9 @@ module _ (blocks : List (List ℕ)) (from to : Found) (start stop : ℕ) (new : 
       (part_here blocks (Offset stop) to (get_or blocks to.index []) is.are is.size is.to_is
       (get_or_default blocks to.index [] (get_or blocks to.index []) is.to_is.begins.within))
 
-  abbrev pub found_range : BlockRange
-  found_range = record {
-    first = from.index;
-    start = start - from.before.len;
-    last = to.index;
-    end = stop - to.before.len;
-  }
-
-  pub range_text : text_after blocks found_range new ≡ replace_range (concat blocks) start stop new
-  range_text = replaced_parts (concat blocks) (concat (take from.index blocks)) (get_or blocks from.index [])
+  range_text : (new : List ℕ) → text_after blocks (found_range from to start stop) new
+      ≡ replace_range (concat blocks) start stop new
+  range_text new = replaced_parts (concat blocks) (concat (take from.index blocks)) (get_or blocks from.index [])
       (concat (drop (from.index + 1) blocks)) (concat (take to.index blocks)) (get_or blocks to.index [])
       (concat (drop (to.index + 1) blocks)) new start stop from.before.len to.before.len one two is.at_start is.at_end
 
@@ -143,8 +143,9 @@ module _ (blocks : List (List ℕ)) (from to : Found) (start stop : ℕ) (new : 
       ))))
       (cases_lt (stop - to.before.len) (length (get_or blocks to.index [])))
 
-  pub range_change : IsChange blocks found_range new
-  range_change = record {
+  range_change : (new : List ℕ) → length (replace_range (concat blocks) start stop new) ≤ 2147483648
+      → IsChange blocks (found_range from to start stop) new
+  range_change new room = record {
     are = is.are;
     order = range_order;
     within = is.to_is.begins.within;
@@ -161,8 +162,11 @@ module _ (blocks : List (List ℕ)) (from to : Found) (start stop : ℕ) (new : 
       ap (λ i. length (concat (take i blocks))) same,
     );
     size = is.size;
-    room = omega (arith, is.room, ap length range_text);
+    room = omega (arith, room, ap length (range_text new));
   }
+
+  pub range_is : IsRangeOf blocks start stop (found_range from to start stop)
+  range_is = record { change = range_change; text = range_text }
 
 -- ---- what a change leaves
 
@@ -182,6 +186,28 @@ module _ (blocks : List (List ℕ)) (range : BlockRange) (new : List ℕ) (chang
   last_split : IsSplit blocks range.last
   last_split = split blocks range.last change.are change.within
 
+  -- The blocks that the ends of the range are in.
+  pub first_here : (block : List ℕ) → block ≡ get_or blocks range.first block → get_or blocks range.first [] ≡ block
+  first_here block is = get_or_default blocks range.first [] block first_within ∙ sym is
+
+  pub last_here : (block : List ℕ) → block ≡ get_or blocks range.last block → get_or blocks range.last [] ≡ block
+  last_here block is = get_or_default blocks range.last [] block change.within ∙ sym is
+
+  pub first_at : (block : List ℕ) → block ≡ get_or blocks range.first block → IsCharBoundary block range.start
+  first_at block is = subst (λ (b : List ℕ). IsCharBoundary b range.start) (first_here block is) change.at_start
+
+  pub last_at : (block : List ℕ) → block ≡ get_or blocks range.last block → IsCharBoundary block range.end
+  last_at block is = subst (λ (b : List ℕ). IsCharBoundary b range.end) (last_here block is) change.at_end
+
+  pub left_text : (front back text : List ℕ) → front ≡ get_or blocks range.first front
+      → back ≡ get_or blocks range.last back → text ≡ take range.start front ++ (new ++ drop range.end back)
+      → text ≡ text_left blocks range new
+  left_text front back text front_is back_is text_is =
+      text_is ∙
+      (ap (λ b. take range.start b ++ (new ++ drop range.end back)) (sym (first_here front front_is))
+      ∙ ap (λ b. take range.start (get_or blocks range.first []) ++ (new ++ drop range.end b))
+      (sym (last_here back back_is)))
+
   block_low : (index : ℕ) → index < length blocks → length (get_or blocks index []) ≤ 2147483648
   block_low index within = omega (
     arith,
@@ -199,7 +225,7 @@ module _ (blocks : List (List ℕ)) (range : BlockRange) (new : List ℕ) (chang
   pub last_small : length (get_or blocks range.last []) ≤ 2147483648
   last_small = block_low range.last change.within
 
-  pub left_length : length (text_left blocks range new) ≡ range.start + length new
+  left_length : length (text_left blocks range new) ≡ range.start + length new
       + (length (get_or blocks range.last []) - range.end)
   left_length = omega (
     arith,
@@ -209,7 +235,12 @@ module _ (blocks : List (List ℕ)) (range : BlockRange) (new : List ℕ) (chang
     length-drop range.end (get_or blocks range.last []),
   )
 
-  left_small : length (text_left blocks range new) ≤ 2147483648
+  pub left_here : (block : List ℕ) → block ≡ get_or blocks range.last block → length (text_left blocks range new)
+      ≡ range.start + length new + (length block - range.end)
+  left_here block is =
+      left_length ∙ ap (λ (b : List ℕ). range.start + length new + (length b - range.end)) (last_here block is)
+
+  pub left_small : length (text_left blocks range new) ≤ 2147483648
   left_small = omega (
     arith,
     change.room,
@@ -315,18 +346,18 @@ module _ (blocks : List (List ℕ)) (range : BlockRange) (new : List ℕ) (chang
           (ap (λ b. b ++ concat (drop (suc past) blocks)) (sym next_is)
           ∙ ap (λ n. next ++ concat (drop n blocks)) (let e : suc past ≡ past + 1 = omega arith in e))
 
+  pub taken_small : (text : List ℕ) (past : ℕ) → IsTaken blocks range new text past → length text ≤ 2147483648
+  taken_small text past taken = omega (
+    arith,
+    change.room,
+    ap length taken.whole,
+    length-append (concat (take range.first blocks)) (text ++ concat (drop past blocks)),
+    length-append text (concat (drop past blocks)),
+  )
+
   -- The blocks that the text is cut into.
   module _ (text : List ℕ) (past : ℕ) (fresh : List (List ℕ)) (taken : IsTaken blocks range new text past)
       (fresh_text : concat fresh ≡ text) (fresh_are : AreBlocks fresh) (fresh_full : IsFull text → AreFull fresh) where
-    pub text_small : length text ≤ 2147483648
-    text_small = omega (
-      arith,
-      change.room,
-      ap length taken.whole,
-      length-append (concat (take range.first blocks)) (text ++ concat (drop past blocks)),
-      length-append text (concat (drop past blocks)),
-    )
-
     pub cut_text : concat (take range.first blocks ++ (fresh ++ drop past blocks)) ≡ text_after blocks range new
     cut_text =
         concat-append (take range.first blocks) (fresh ++ drop past blocks) ∙
@@ -340,16 +371,7 @@ module _ (blocks : List (List ℕ)) (range : BlockRange) (new : List ℕ) (chang
         (λ (none : length blocks ≤ past). inl (drop_all past blocks none))
         (cases_lt past (length blocks))
 
-    pub cut_is : (next : List (List ℕ)) (groups : List Counts) → next ≡ take range.first blocks
-        ++ (fresh ++ drop past blocks) → AreGroups next groups → IsTextBuffer next groups
-    cut_is next groups next_is groups_are = record {
-      are = subst AreBlocks (sym next_is)
-          (joined_blocks (take range.first blocks) fresh (drop past blocks) first_split.full fresh_are after);
-      size = omega (arith, change.room, ap length (ap concat next_is ∙ cut_text));
-      groups_are = groups_are;
-    }
-
-    pub cut_groups : (next : List (List ℕ)) (groups now : List Counts) → next ≡ take range.first blocks
+    cut_groups : (next : List (List ℕ)) (groups now : List Counts) → next ≡ take range.first blocks
         ++ (fresh ++ drop past blocks) → AreGroups blocks groups → now ≡ take (range.first / 32) groups
         → AreGroups next now
     cut_groups next groups now next_is groups_are now_is =
@@ -357,12 +379,22 @@ module _ (blocks : List (List ℕ)) (range : BlockRange) (new : List ℕ) (chang
         (groups_front blocks (fresh ++ drop past blocks) groups now range.first groups_are (omega (arith, first_within))
         (omega (arith, blocks_some fresh fresh_are, length-append fresh (drop past blocks))) now_is)
 
+    pub cut_is : (next : List (List ℕ)) (groups now : List Counts) → next ≡ take range.first blocks
+        ++ (fresh ++ drop past blocks) → AreGroups blocks groups → now ≡ take (range.first / 32) groups
+        → IsTextBuffer next now
+    cut_is next groups now next_is groups_are now_is = record {
+      are = subst AreBlocks (sym next_is)
+          (joined_blocks (take range.first blocks) fresh (drop past blocks) first_split.full fresh_are after);
+      size = omega (arith, change.room, ap length (ap concat next_is ∙ cut_text));
+      groups_are = cut_groups next groups now next_is groups_are now_is;
+    }
+
   -- ---- a change inside a block
 
   module _ (inside : StaysInside blocks range new) (block : List ℕ) (block_is : block ≡ get_or blocks range.first block)
       where
     front_is : get_or blocks range.first [] ≡ block
-    front_is = get_or_default blocks range.first [] block first_within ∙ sym block_is
+    front_is = first_here block block_is
 
     back_is : get_or blocks range.last [] ≡ block
     back_is = ap (λ i. get_or blocks i []) (sym inside.0) ∙ front_is
@@ -384,6 +416,10 @@ module _ (blocks : List (List ℕ)) (range : BlockRange) (new : List ℕ) (chang
 
     pub put_small : length (replace_range block range.start range.end new) ≤ 2147483648
     put_small = omega (arith, left_small, ap length put_left)
+
+    -- The blocks as they were.
+    pub put_none : (fresh : List ℕ) → fresh ≡ block → set blocks range.first fresh ≡ blocks
+    put_none fresh is = ap (set blocks range.first) (is ∙ sym front_is) ∙ set-get_or blocks range.first []
 
     module _ (fresh : List ℕ) (next : List (List ℕ)) (fresh_is : fresh ≡ replace_range block range.start range.end new)
         (next_is : next ≡ set blocks range.first fresh) where
@@ -417,9 +453,5 @@ module _ (blocks : List (List ℕ)) (range : BlockRange) (new : List ℕ) (chang
       pub put_size : length (concat next) ≤ 2147483648
       put_size = omega (arith, change.room, ap length put_text)
 
-      -- The blocks as they were.
       pub put_back : set next range.first block ≡ blocks
-      put_back =
-          ap (λ bs. set bs range.first block) next_is ∙
-          (set-set blocks range.first fresh block ∙ (ap (set blocks range.first) (sym front_is)
-          ∙ set-get_or blocks range.first []))
+      put_back = ap (λ bs. set bs range.first block) next_is ∙ (set-set blocks range.first fresh block ∙ put_none block refl)

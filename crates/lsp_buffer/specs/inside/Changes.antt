@@ -1,6 +1,6 @@
 -- A change of a text in blocks.
 use Rattle.std.specs.Prelude.{ℕ, ◌≡◌, ◌+◌, ◌*◌, ◌<◌, ◌≤◌, List, [], ◌++◌, length, take, drop, get_or}
-use Rattle.std.specs.List.{concat}
+use Rattle.std.specs.List.{concat, replace_range}
 use Rattle.std.specs.Str.{IsCharBoundary}
 use Rattle.lsp_buffer.specs.declared.text_buffer.change.BlockRange.{BlockRange}
 use Rattle.lsp_buffer.specs.Blocks.{AreBlocks, IsFull}
@@ -27,6 +27,14 @@ pub record IsChange (blocks : List (List ℕ)) (range : BlockRange) (new : List 
   pub forward : range.first ≡ range.last → range.start ≤ range.end
   pub size : length (concat blocks) ≤ 2147483648
   pub room : length (text_after blocks range new) ≤ 2147483648
+
+-- The part of a text in blocks from one byte offset to another: what takes its place takes that of
+-- these bytes.
+pub record IsRangeOf (blocks : List (List ℕ)) (start stop : ℕ) (range : BlockRange) : Type 0 where
+  pub change : (new : List ℕ) → length (replace_range (concat blocks) start stop new) ≤ 2147483648
+      → IsChange blocks range new
+  pub text : (new : List ℕ)
+      → text_after blocks range new ≡ replace_range (concat blocks) start stop new
 
 -- A text of so many bytes has a next block, with which it is joined.
 abbrev pub JoinsNext : List (List ℕ) → ℕ → ℕ → Type 0

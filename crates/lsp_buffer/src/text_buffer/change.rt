@@ -4,11 +4,12 @@ ghost use Rattle.std.specs.Prelude.{OnErr, length, take, drop, get_or, vec_len, 
 ghost use Rattle.std.specs.List.{concat};
 ghost use Rattle.std.specs.Str.{IsCharBoundary};
 ghost use Rattle.lsp_buffer.specs.Blocks.{AreGroups, IsTextBuffer};
-ghost use Rattle.lsp_buffer.specs.inside.Changes.{IsChange, IsTaken, JoinsNext, StaysInside, text_after, text_left};
+ghost use Rattle.lsp_buffer.specs.inside.Changes.{IsChange, IsRangeOf, IsTaken, JoinsNext, StaysInside, text_after, text_left};
 
 use crate::block::Block;
 use crate::counts::Counts;
 use crate::cut::{CUT, SMALL, blocks_of};
+use crate::find::{Target, find, find_later};
 use crate::groups::{GROUP, fill, recount};
 use std::alloc::{AllocError, Global};
 
@@ -20,6 +21,24 @@ pub struct BlockRange {
     pub start: usize,
     pub last: usize,
     pub end: usize,
+}
+
+/// Returns the part of a text from one byte offset to another. Costs a search for each.
+pub fn range_of(blocks: &[Block], groups: &[Counts], start: usize, end: usize) -> BlockRange
+    requires are { IsTextBuffer blocks.now groups.now }
+    requires order { start ≤ end }
+    requires at_start { IsCharBoundary (concat blocks.now) start }
+    requires at_end { IsCharBoundary (concat blocks.now) end }
+    ensures { IsRangeOf blocks.now start end result }
+{
+    let from = find(blocks, groups, Target::Offset(start));
+    let to = find_later(blocks, groups, from, end);
+    BlockRange {
+        first: from.index,
+        start: start - from.before.len as usize,
+        last: to.index,
+        end: end - to.before.len as usize,
+    }
 }
 
 /// Returns whether a block is short enough to take a new text in.
@@ -43,7 +62,8 @@ fn left(blocks: &[Block], range: BlockRange, new: &str) -> usize
     requires { IsChange blocks.now range new.now }
     ensures { result ≡ length (text_left blocks.now range new.now) }
 {
-    range.start + new.len() + (blocks[range.last].len() - range.end)
+    let back = blocks[range.last].len() - range.end;
+    range.start + new.len() + back
 }
 
 /// Returns whether a change stays inside a block.
