@@ -71,9 +71,14 @@ fn stays_inside(blocks: &[Block], range: BlockRange, new: &str) -> bool
     requires { IsChange blocks.now range new.now }
     ensures { IsTrue result ↔ StaysInside blocks.now range new.now }
 {
-    range.first == range.last
-        && fits(&blocks[range.first], new)
-        && !joins(blocks, range.last + 1, left(blocks, range, new))
+    if range.first != range.last {
+        return false;
+    }
+    let len = left(blocks, range, new);
+    if joins(blocks, range.last + 1, len) {
+        return false;
+    }
+    fits(&blocks[range.first], new)
 }
 
 /// Replaces bytes inside one block. Out of memory changes nothing.
