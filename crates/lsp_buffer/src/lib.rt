@@ -20,7 +20,7 @@
 //! - `in_place`: one change of a text and its lines, without a copy of the rest.
 //! - `cut`: a text is cut into blocks, after line feeds or inside a long line.
 //! - `counts`: `Counts`, what a text counts. What comes before a block is the sum of earlier counts.
-//! - `groups`: what 64 blocks count together, so that a search passes them at one step.
+//! - `groups`: what 32 blocks count together, so that a search passes them at one step.
 //! - `find`: the search for the block that a byte offset or a position is in.
 //! - `seams`: positions as they are counted from a block on.
 #![tactic(auto)]
