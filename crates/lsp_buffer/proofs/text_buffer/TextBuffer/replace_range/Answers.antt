@@ -13,8 +13,8 @@ pub range_of-range-requires-clause-at_end : goal.range_of-range-requires-clause-
 range_of-range-requires-clause-at_end c = subst (λ (bs : List ℕ). IsCharBoundary bs c.args.end)
     (sym (ap concat c.deref.ensures.value ∙ c.self.view_is)) c.requires.at_end
 
-pub overflow_sub-len : goal.overflow_sub-len
-overflow_sub-len c = omega (arith, c.self.invariant.1, c.requires.at_end.0, ap length c.self.view_is)
+pub overflow_sub-len-2 : goal.overflow_sub-len-2
+overflow_sub-len-2 c = omega (arith, c.self.invariant.1, c.requires.at_end.0, ap length c.self.view_is)
 
 pub replace-requires-clause-change : goal.replace-requires-clause-change
 replace-requires-clause-change c =
@@ -35,8 +35,8 @@ returns-clause-changed c =
     c.in_ok-replace.ensures.changed ∙ (range.text c.args.new.now
     ∙ ap (λ (bs : List ℕ). replace_range bs c.args.start c.args.end c.args.new.now) c.self.view_is)
 
-pub invariant_of-self : goal.invariant_of-self
-invariant_of-self c =
+pub invariant_of-self-2 : goal.invariant_of-self-2
+invariant_of-self-2 c =
     let range : IsRangeOf c.self.inside.blocks.items c.args.start c.args.end c.range_of-range.result =
     subst (λ (bs : List (List ℕ)). IsRangeOf bs c.args.start c.args.end c.range_of-range.result) c.deref.ensures.value
     c.range_of-range.ensures in (

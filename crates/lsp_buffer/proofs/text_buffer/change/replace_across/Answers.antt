@@ -11,8 +11,8 @@ pub text_taken-requires : goal.text_taken-requires
 text_taken-requires c = subst (λ (bs : List (List ℕ)). IsChange bs c.args.range c.args.new.now)
     (sym c.deref.ensures.value) c.requires.change
 
-pub blocks_of-fresh-requires : goal.blocks_of-fresh-requires
-blocks_of-fresh-requires c = omega (
+pub blocks_of-requires : goal.blocks_of-requires
+blocks_of-requires c = omega (
   arith,
   ap length c.deref-2.ensures,
   taken_small c.args.blocks.now.items c.args.range c.args.new.now c.requires.change (string_bytes c.in_ok-text.text)

@@ -8,12 +8,12 @@ pub fits-requires : goal.fits-requires
 fits-requires c = omega (
   arith,
   first_small c.args.blocks.now c.args.range c.args.new.now c.requires,
-  ap length (first_here c.args.blocks.now c.args.range c.args.new.now c.requires c.index-blocks-first.result
-      c.index-blocks-first.is),
+  ap length (first_here c.args.blocks.now c.args.range c.args.new.now c.requires c.index-blocks-range.result
+      c.index-blocks-range.is),
 )
 
-pub returns-then-first-last : goal.returns-then-first-last
-returns-then-first-last c = (λ h. absurd (false≢true h), λ inside. absurd (c.if-first-last.true inside.0))
+pub returns-then-range : goal.returns-then-range
+returns-then-range c = (λ h. absurd (false≢true h), λ inside. absurd (c.if-range.true inside.0))
 
 pub returns-then-joins : goal.returns-then-joins
 returns-then-joins c = (
@@ -27,10 +27,10 @@ returns-then-joins c = (
 pub returns : goal.returns
 returns c =
     let here = ap length
-    (first_here c.args.blocks.now c.args.range c.args.new.now c.requires c.index-blocks-first.result
-    c.index-blocks-first.is) in (
+    (first_here c.args.blocks.now c.args.range c.args.new.now c.requires c.index-blocks-range.result
+    c.index-blocks-range.is) in (
       λ h. (
-        c.if-first-last.false,
+        c.if-range.false,
         omega (arith, c.fits.ensures.0 h, here),
         λ next. false≢true (sym c.if-joins.false ∙ c.joins.ensures.1 (subst
             (JoinsNext c.args.blocks.now (c.args.range.last + 1)) (sym c.left-len.ensures) next)),
