@@ -53,11 +53,13 @@ impl SharedText {
     fn head(&self, encoding: Encoding) -> u32
         ensures { result ≡ head_of (units_in encoding) self.now }
     {
-        let end = self.text.len();
-        if end > 0 && self.text.as_bytes()[end - 1] == b'\n' {
+        let text = self.text();
+        let bytes = text.as_bytes();
+        let end = bytes.len();
+        if end > 0 && bytes[end - 1] == b'\n' {
             return 0;
         }
-        self.lines.position(&self.text, encoding, end).character
+        self.lines().position(text, encoding, end).character
     }
 
     /// Returns what the shared text counts. Costs its last line.
