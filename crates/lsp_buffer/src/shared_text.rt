@@ -67,7 +67,7 @@ impl SharedText {
         ensures { result ≡ counts_of self.now }
     {
         Counts {
-            len: self.text.len() as u32,
+            len: self.text().len() as u32,
             ends: (self.lines.count() - 1) as u32,
             utf8: self.head(Encoding::Utf8),
             utf16: self.head(Encoding::Utf16),

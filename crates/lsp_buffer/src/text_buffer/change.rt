@@ -186,9 +186,9 @@ fn replace_across(
     ensures unchanged { OnErr result (concat blocks.new.items ≡ concat blocks.old.items) }
 {
     let alloc = *blocks.allocator();
-    let Taken { text, past } = text_taken(alloc, blocks, range, new)?;
-    let fresh = blocks_of(alloc, &text)?;
-    replace_blocks(blocks, range.first, past, fresh)?;
+    let taken = text_taken(alloc, blocks, range, new)?;
+    let fresh = blocks_of(alloc, &taken.text)?;
+    replace_blocks(blocks, range.first, taken.past, fresh)?;
     groups.truncate(range.first / GROUP);
     fill(groups, blocks);
     Ok(())

@@ -15,32 +15,32 @@ pub blocks_of-requires : goal.blocks_of-requires
 blocks_of-requires c = omega (
   arith,
   ap length c.deref-2.ensures,
-  taken_small c.args.blocks.now.items c.args.range c.args.new.now c.requires.change (string_bytes c.in_ok-text.text)
-      c.in_ok-text.past (subst (λ (bs : List (List ℕ)). IsTaken bs c.args.range c.args.new.now
-      (string_bytes c.in_ok-text.text) c.in_ok-text.past) c.deref.ensures.value c.in_ok-text.ensures),
+  taken_small c.args.blocks.now.items c.args.range c.args.new.now c.requires.change (string_bytes c.in_ok-taken.taken.text)
+      c.in_ok-taken.taken.past (subst (λ (bs : List (List ℕ)). IsTaken bs c.args.range c.args.new.now
+      (string_bytes c.in_ok-taken.taken.text) c.in_ok-taken.taken.past) c.deref.ensures.value c.in_ok-taken.ensures),
 )
 
 pub replace_blocks-requires-clause-order : goal.replace_blocks-requires-clause-order
-replace_blocks-requires-clause-order c = omega (arith, c.in_ok-text.ensures.order)
+replace_blocks-requires-clause-order c = omega (arith, c.in_ok-taken.ensures.order)
 
 pub replace_blocks-requires-clause-within : goal.replace_blocks-requires-clause-within
 replace_blocks-requires-clause-within c = omega (
   arith,
-  c.in_ok-text.ensures.within,
+  c.in_ok-taken.ensures.within,
   ap (length {A = List ℕ}) c.deref.ensures.value,
   c.args.blocks.now.ok.0,
 )
 
 pub fill-requires : goal.fill-requires
 fill-requires c =
-    let taken : IsTaken c.args.blocks.now.items c.args.range c.args.new.now (string_bytes c.in_ok-text.text)
-    c.in_ok-text.past =
-    subst (λ (bs : List (List ℕ)). IsTaken bs c.args.range c.args.new.now (string_bytes c.in_ok-text.text)
-    c.in_ok-text.past) c.deref.ensures.value c.in_ok-text.ensures in
-    let full : IsFull (string_bytes c.in_ok-text.text) → AreFull c.in_ok-fresh.fresh.items =
+    let taken : IsTaken c.args.blocks.now.items c.args.range c.args.new.now (string_bytes c.in_ok-taken.taken.text)
+    c.in_ok-taken.taken.past =
+    subst (λ (bs : List (List ℕ)). IsTaken bs c.args.range c.args.new.now (string_bytes c.in_ok-taken.taken.text)
+    c.in_ok-taken.taken.past) c.deref.ensures.value c.in_ok-taken.ensures in
+    let full : IsFull (string_bytes c.in_ok-taken.taken.text) → AreFull c.in_ok-fresh.fresh.items =
     subst (λ (t : List ℕ). IsFull t → AreFull c.in_ok-fresh.fresh.items) c.deref-2.ensures c.in_ok-fresh.ensures.full in
-    cut_is c.args.blocks.now.items c.args.range c.args.new.now c.requires.change (string_bytes c.in_ok-text.text)
-    c.in_ok-text.past c.in_ok-fresh.fresh.items taken (c.in_ok-fresh.ensures.text ∙ c.deref-2.ensures)
+    cut_is c.args.blocks.now.items c.args.range c.args.new.now c.requires.change (string_bytes c.in_ok-taken.taken.text)
+    c.in_ok-taken.taken.past c.in_ok-fresh.fresh.items taken (c.in_ok-fresh.ensures.text ∙ c.deref-2.ensures)
     c.in_ok-fresh.ensures.blocks full c.deref-3.result.now c.args.groups.now.items c.truncate.new.self.items
     (c.deref-3.ensures.value ∙ c.in_ok-replace_blocks.ensures.ok) c.requires.groups c.truncate.ensures.items
 
@@ -50,12 +50,12 @@ returns-clause-are c = subst (λ (bs : List (List ℕ)). IsTextBuffer bs c.fill.
 
 pub returns-clause-changed : goal.returns-clause-changed
 returns-clause-changed c =
-    let taken : IsTaken c.args.blocks.now.items c.args.range c.args.new.now (string_bytes c.in_ok-text.text)
-    c.in_ok-text.past =
-    subst (λ (bs : List (List ℕ)). IsTaken bs c.args.range c.args.new.now (string_bytes c.in_ok-text.text)
-    c.in_ok-text.past) c.deref.ensures.value c.in_ok-text.ensures in
-    let full : IsFull (string_bytes c.in_ok-text.text) → AreFull c.in_ok-fresh.fresh.items =
+    let taken : IsTaken c.args.blocks.now.items c.args.range c.args.new.now (string_bytes c.in_ok-taken.taken.text)
+    c.in_ok-taken.taken.past =
+    subst (λ (bs : List (List ℕ)). IsTaken bs c.args.range c.args.new.now (string_bytes c.in_ok-taken.taken.text)
+    c.in_ok-taken.taken.past) c.deref.ensures.value c.in_ok-taken.ensures in
+    let full : IsFull (string_bytes c.in_ok-taken.taken.text) → AreFull c.in_ok-fresh.fresh.items =
     subst (λ (t : List ℕ). IsFull t → AreFull c.in_ok-fresh.fresh.items) c.deref-2.ensures c.in_ok-fresh.ensures.full in
     ap concat c.in_ok-replace_blocks.ensures.ok ∙ cut_text c.args.blocks.now.items c.args.range c.args.new.now
-    c.requires.change (string_bytes c.in_ok-text.text) c.in_ok-text.past c.in_ok-fresh.fresh.items taken
+    c.requires.change (string_bytes c.in_ok-taken.taken.text) c.in_ok-taken.taken.past c.in_ok-fresh.fresh.items taken
     (c.in_ok-fresh.ensures.text ∙ c.deref-2.ensures) c.in_ok-fresh.ensures.blocks full

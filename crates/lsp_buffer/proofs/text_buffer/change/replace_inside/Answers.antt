@@ -2,6 +2,7 @@ use Rattle.std.proofs.Common.{◌∙◌, ℕ, List, set, length, refl, arith, sy
 use Rattle.std.specs.List.{concat}
 use Rattle.std.specs.Vec.{with_items}
 use Rattle.std.proofs.lemmas.List.{with_items_is}
+use Rattle.std.proofs.lemmas.Result.{err_from_is_err_and}
 use Rattle.lsp_buffer.specs.declared.counts.Counts.{Counts}
 use Rattle.lsp_buffer.specs.Blocks.{AreGroups, IsTextBuffer}
 use Rattle.lsp_buffer.proofs.Changes.ChangeLemmas.{put_are, put_back, put_end, put_none, put_order, put_size, put_small, put_start, put_text}
@@ -80,7 +81,8 @@ returns-in_err-replace_range-clause-are c = subst (λ (bs : List (List ℕ)). Is
     (record { are = c.requires.change.are; size = c.requires.change.size; groups_are = c.requires.groups })
 
 pub returns-in_err-replace_range-clause-unchanged : goal.returns-in_err-replace_range-clause-unchanged
-returns-in_err-replace_range-clause-unchanged c = ap concat
-    (put_none c.args.blocks.now.items c.args.range c.args.new.now c.requires.change c.requires.inside
+returns-in_err-replace_range-clause-unchanged c =
+    let p = err_from_is_err_and c.from_residual.result c.from_residual.ensures.1 in
+    rw p.1 (ap concat (put_none c.args.blocks.now.items c.args.range c.args.new.now c.requires.change c.requires.inside
     c.index_mut.result.now c.index_mut.ensures.value c.replace_range.new.self
-    c.in_err-replace_range.ensures.unchanged)
+    c.in_err-replace_range.ensures.unchanged))
