@@ -66,9 +66,11 @@ impl SharedText {
     pub fn counts(&self) -> Counts
         ensures { result ≡ counts_of self.now }
     {
+        let text = self.text();
+        let lines = self.lines();
         Counts {
-            len: self.text().len() as u32,
-            ends: (self.lines.count() - 1) as u32,
+            len: text.len() as u32,
+            ends: (lines.count() - 1) as u32,
             utf8: self.head(Encoding::Utf8),
             utf16: self.head(Encoding::Utf16),
             utf32: self.head(Encoding::Utf32),
