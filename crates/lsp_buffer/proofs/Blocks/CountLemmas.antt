@@ -1,11 +1,11 @@
 -- What texts count, one after the other.
-use Rattle.std.proofs.Common.{ℕ, zero, suc, ◌≡◌, ◌+◌, ◌*◌, ◌<◌, ◌≤◌, ◌^◌, List, [], ◌∷◌, ◌++◌, length, take, drop, get_or, ⊎_elim, refl, sym, ap, ◌∙◌, arith, subst}
+use Rattle.std.proofs.Common.{ℕ, zero, suc, ◌≡◌, ◌+◌, ◌<◌, ◌≤◌, List, [], ◌∷◌, ◌++◌, length, take, drop, get_or, ⊎_elim, sym, ap, ◌∙◌, arith, subst}
 use Rattle.std.specs.List.{concat}
 use Rattle.std.specs.Str.{chars, IsUtf8}
 use Rattle.std.proofs.Math.Seq.{take-add}
-use Rattle.std.proofs.lemmas.List.{length-append, length-drop, length-take-le, get_or_default}
+use Rattle.std.proofs.lemmas.List.{length-append}
 use Rattle.std.proofs.lemmas.List.Folds.{concat-append}
-use Rattle.std.proofs.lemmas.Str.{IsUtf8-from_is_utf8, chars-append, chars-nil, encodes-chars, length-le-encodes}
+use Rattle.std.proofs.lemmas.Str.{chars-append, chars-nil, encodes-chars, length-le-encodes}
 use Rattle.lsp_text.specs.declared.encoding.Encoding.{Encoding}
 use Rattle.lsp_text.specs.declared.encoding.Encoding.TheVariants.{Utf8, Utf16, Utf32}
 use Rattle.lsp_text.specs.TextLines.{line_at, line_ends, line_start}
@@ -13,11 +13,11 @@ use Rattle.lsp_text.specs.Units.{units_in}
 use Rattle.lsp_text.proofs.TextLines.LineLemmas.{line_step}
 use Rattle.lsp_text.proofs.PlainLemmas.{units_total}
 use Rattle.lsp_buffer.specs.declared.counts.Counts.{Counts}
-use Rattle.lsp_buffer.specs.Blocks.{AreBlocks, EndsClear, IsFull, block_ends, carried, counts_of, head_of}
+use Rattle.lsp_buffer.specs.Blocks.{AreBlocks, EndsClear, block_ends, carried, counts_of, head_of}
 use Rattle.lsp_buffer.specs.inside.Counts.{HaveRoom, counts_sum}
 use Rattle.lsp_buffer.specs.inside.Cuts.{AreFull}
 use Rattle.lsp_buffer.specs.inside.Parts.{Closes}
-use Rattle.lsp_buffer.proofs.Blocks.BlockLemmas.{chars_close, concat_split, full_closes, full_drop, full_take, full_utf8, split}
+use Rattle.lsp_buffer.proofs.Blocks.BlockLemmas.{chars_close, concat_split, full_closes, full_utf8, split}
 use Rattle.lsp_buffer.proofs.Blocks.CutLemmas.{concat_more}
 use Rattle.lsp_buffer.proofs.Blocks.PartLemmas.{head_of_both}
 use Rattle.lsp_buffer.proofs.Blocks.SeamLemmas.{head, seam_count}

@@ -2,7 +2,7 @@
 -- changes of the text by those of the block.
 use Rattle.std.proofs.Common.{ℕ, zero, suc, ◌≡◌, ◌+◌, ◌-◌, ◌<◌, ◌≤◌, ◌⊎◌, false, List, [], ◌++◌, length, take, drop, get_or, slice_index, Option, Some, None, option_map, ⊎_elim, inl, inr, refl, sym, ap, ◌∙◌, arith, subst}
 use Rattle.std.specs.Prelude.{encode_utf8_all}
-use Rattle.std.specs.Str.{chars, IsUtf8, IsCharBoundary}
+use Rattle.std.specs.Str.{chars, IsCharBoundary}
 use Rattle.std.proofs.Math.Seq.{drop-append-add, take-append-add, drop-append_seam}
 use Rattle.std.proofs.lemmas.List.{length-append, get_or-append_right, get_or_append_left, take-append-le, drop-append-le, append-nil, take_at}
 use Rattle.std.proofs.lemmas.Str.{chars-append, chars-nil, encodes-chars}

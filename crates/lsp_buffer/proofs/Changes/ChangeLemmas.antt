@@ -1,7 +1,7 @@
 -- A change of a text in blocks: in its block, or with the blocks cut again.
-use Rattle.std.proofs.Common.{ℕ, zero, suc, ◌≡◌, ◌+◌, ◌-◌, ◌/◌, ◌<◌, ◌≤◌, ◌⊎◌, true, List, [], ◌∷◌, ◌++◌, length, take, drop, set, get_or, ⊎_elim, inl, inr, refl, sym, ap, ◌∙◌, arith, subst}
+use Rattle.std.proofs.Common.{ℕ, zero, suc, ◌≡◌, ◌+◌, ◌-◌, ◌/◌, ◌<◌, ◌≤◌, ◌⊎◌, List, [], ◌∷◌, ◌++◌, length, take, drop, set, get_or, ⊎_elim, inl, inr, refl, sym, ap, ◌∙◌, arith, subst}
 use Rattle.std.specs.List.{concat, replace_range}
-use Rattle.std.specs.Str.{is_utf8, IsUtf8, IsCharBoundary}
+use Rattle.std.specs.Str.{IsUtf8, IsCharBoundary}
 use Rattle.std.proofs.Math.Seq.{drop-cons}
 use Rattle.std.proofs.lemmas.Bool.{cases_lt}
 use Rattle.std.proofs.lemmas.List.{append_assoc, drop_all, get_or_default, length-append, length-drop, length-take-le, set-get_or, set-set, set_split, take-append-drop, take-take}
@@ -11,7 +11,7 @@ use Rattle.lsp_buffer.specs.declared.counts.Counts.{Counts}
 use Rattle.lsp_buffer.specs.declared.find.Found.{Found}
 use Rattle.lsp_buffer.specs.declared.find.Target.TheVariants.{Offset}
 use Rattle.lsp_buffer.specs.declared.text_buffer.change.BlockRange.{BlockRange}
-use Rattle.lsp_buffer.specs.Blocks.{AreBlocks, AreGroups, EndsClear, IsFull, IsTextBuffer, counts_of}
+use Rattle.lsp_buffer.specs.Blocks.{AreBlocks, AreGroups, EndsClear, IsFull, IsTextBuffer}
 use Rattle.lsp_buffer.specs.inside.Changes.{IsChange, IsRangeOf, IsTaken, JoinsNext, StaysInside, text_after, text_left}
 use Rattle.lsp_buffer.specs.inside.Cuts.{AreFull}
 use Rattle.lsp_buffer.specs.inside.Parts.{IsFound}
@@ -92,8 +92,8 @@ found_range from to start stop = record {
   end = stop - to.before.len;
 }
 
-module _ (blocks : List (List ℕ)) (from to : Found) (start stop : ℕ) (is : IsRangeFound blocks from to start stop)
-    where
+module _ (blocks : List (List ℕ)) (from to : Found) (start stop : ℕ)
+    (is : IsRangeFound blocks from to start stop) where
   one : IsPlaceFound (concat blocks) (concat (take from.index blocks)) (get_or blocks from.index [])
       (concat (drop (from.index + 1) blocks)) start from.before.len
   one = found_place (concat blocks) (concat (take from.index blocks)) (get_or blocks from.index [])
@@ -392,66 +392,66 @@ module _ (blocks : List (List ℕ)) (range : BlockRange) (new : List ℕ) (chang
   -- ---- a change inside a block
 
   module _ (inside : StaysInside blocks range new) (block : List ℕ) (block_is : block ≡ get_or blocks range.first block)
-      where
-    front_is : get_or blocks range.first [] ≡ block
-    front_is = first_here block block_is
+    where
+      front_is : get_or blocks range.first [] ≡ block
+      front_is = first_here block block_is
 
-    back_is : get_or blocks range.last [] ≡ block
-    back_is = ap (λ i. get_or blocks i []) (sym inside.0) ∙ front_is
+      back_is : get_or blocks range.last [] ≡ block
+      back_is = ap (λ i. get_or blocks i []) (sym inside.0) ∙ front_is
 
-    pub put_order : range.start ≤ range.end
-    put_order = change.forward inside.0
+      pub put_order : range.start ≤ range.end
+      put_order = change.forward inside.0
 
-    pub put_start : IsCharBoundary block range.start
-    put_start = subst (λ (b : List ℕ). IsCharBoundary b range.start) front_is change.at_start
+      pub put_start : IsCharBoundary block range.start
+      put_start = subst (λ (b : List ℕ). IsCharBoundary b range.start) front_is change.at_start
 
-    pub put_end : IsCharBoundary block range.end
-    put_end = subst (λ (b : List ℕ). IsCharBoundary b range.end) back_is change.at_end
+      pub put_end : IsCharBoundary block range.end
+      put_end = subst (λ (b : List ℕ). IsCharBoundary b range.end) back_is change.at_end
 
-    put_left : replace_range block range.start range.end new ≡ text_left blocks range new
-    put_left =
-        append_assoc (take range.start block) new (drop range.end block) ∙
-        (ap (λ b. take range.start b ++ (new ++ drop range.end block)) (sym front_is)
-        ∙ ap (λ b. take range.start (get_or blocks range.first []) ++ (new ++ drop range.end b)) (sym back_is))
+      put_left : replace_range block range.start range.end new ≡ text_left blocks range new
+      put_left =
+          append_assoc (take range.start block) new (drop range.end block) ∙
+          (ap (λ b. take range.start b ++ (new ++ drop range.end block)) (sym front_is)
+          ∙ ap (λ b. take range.start (get_or blocks range.first []) ++ (new ++ drop range.end b)) (sym back_is))
 
-    pub put_small : length (replace_range block range.start range.end new) ≤ 2147483648
-    put_small = omega (arith, left_small, ap length put_left)
+      pub put_small : length (replace_range block range.start range.end new) ≤ 2147483648
+      put_small = omega (arith, left_small, ap length put_left)
 
-    -- The blocks as they were.
-    pub put_none : (fresh : List ℕ) → fresh ≡ block → set blocks range.first fresh ≡ blocks
-    put_none fresh is = ap (set blocks range.first) (is ∙ sym front_is) ∙ set-get_or blocks range.first []
+      -- The blocks as they were.
+      pub put_none : (fresh : List ℕ) → fresh ≡ block → set blocks range.first fresh ≡ blocks
+      put_none fresh is = ap (set blocks range.first) (is ∙ sym front_is) ∙ set-get_or blocks range.first []
 
-    module _ (fresh : List ℕ) (next : List (List ℕ)) (fresh_is : fresh ≡ replace_range block range.start range.end new)
-        (next_is : next ≡ set blocks range.first fresh) where
-      next_parts : next ≡ take range.first blocks ++ (text_left blocks range new ∷ [] ++ drop (range.last + 1) blocks)
-      next_parts =
-          next_is ∙ (set_split blocks range.first fresh first_within ∙
-          (ap (λ b. take range.first blocks ++ b ∷ drop (suc range.first) blocks) (fresh_is ∙ put_left) ∙
-          ap (λ n. take range.first blocks ++ text_left blocks range new ∷ drop n blocks)
-          (let e : suc range.first ≡ range.last + 1 = omega (arith, inside.0) in e)))
+      module _ (fresh : List ℕ) (next : List (List ℕ)) (fresh_is : fresh ≡ replace_range block range.start range.end new)
+          (next_is : next ≡ set blocks range.first fresh) where
+        next_parts : next ≡ take range.first blocks ++ (text_left blocks range new ∷ [] ++ drop (range.last + 1) blocks)
+        next_parts =
+            next_is ∙ (set_split blocks range.first fresh first_within ∙
+            (ap (λ b. take range.first blocks ++ b ∷ drop (suc range.first) blocks) (fresh_is ∙ put_left) ∙
+            ap (λ n. take range.first blocks ++ text_left blocks range new ∷ drop n blocks)
+            (let e : suc range.first ≡ range.last + 1 = omega (arith, inside.0) in e)))
 
-      pub put_text : concat next ≡ text_after blocks range new
-      put_text = ap concat next_parts ∙ concat-append (take range.first blocks) (text_left blocks range new
-          ∷ drop (range.last + 1) blocks)
+        pub put_text : concat next ≡ text_after blocks range new
+        put_text = ap concat next_parts ∙ concat-append (take range.first blocks) (text_left blocks range new
+            ∷ drop (range.last + 1) blocks)
 
-      put_after : IsUtf8 new → (drop (range.last + 1) blocks ≡ [])
-          ⊎ (AreFull (text_left blocks range new ∷ []) × AreBlocks (drop (range.last + 1) blocks))
-      put_after utf8 =
-          ⊎_elim
-          (λ (more : range.last + 1 < length blocks). inr (
-            (left_full utf8 inside.2 more, tt),
-            drop_are (range.last + 1) blocks more change.are,
-          ))
-          (λ (none : length blocks ≤ range.last + 1). inl (drop_all (range.last + 1) blocks none))
-          (cases_lt (range.last + 1) (length blocks))
+        put_after : IsUtf8 new → (drop (range.last + 1) blocks ≡ [])
+            ⊎ (AreFull (text_left blocks range new ∷ []) × AreBlocks (drop (range.last + 1) blocks))
+        put_after utf8 =
+            ⊎_elim
+            (λ (more : range.last + 1 < length blocks). inr (
+              (left_full utf8 inside.2 more, tt),
+              drop_are (range.last + 1) blocks more change.are,
+            ))
+            (λ (none : length blocks ≤ range.last + 1). inl (drop_all (range.last + 1) blocks none))
+            (cases_lt (range.last + 1) (length blocks))
 
-      pub put_are : IsUtf8 new → AreBlocks next
-      put_are utf8 = subst AreBlocks (sym next_parts)
-          (joined_blocks (take range.first blocks) (text_left blocks range new ∷ []) (drop (range.last + 1) blocks)
-          first_split.full (is_utf8-from_IsUtf8 (text_left blocks range new) (left_utf8 utf8)) (put_after utf8))
+        pub put_are : IsUtf8 new → AreBlocks next
+        put_are utf8 = subst AreBlocks (sym next_parts)
+            (joined_blocks (take range.first blocks) (text_left blocks range new ∷ []) (drop (range.last + 1) blocks)
+            first_split.full (is_utf8-from_IsUtf8 (text_left blocks range new) (left_utf8 utf8)) (put_after utf8))
 
-      pub put_size : length (concat next) ≤ 2147483648
-      put_size = omega (arith, change.room, ap length put_text)
+        pub put_size : length (concat next) ≤ 2147483648
+        put_size = omega (arith, change.room, ap length put_text)
 
-      pub put_back : set next range.first block ≡ blocks
-      put_back = ap (λ bs. set bs range.first block) next_is ∙ (set-set blocks range.first fresh block ∙ put_none block refl)
+        pub put_back : set next range.first block ≡ blocks
+        put_back = ap (λ bs. set bs range.first block) next_is ∙ (set-set blocks range.first fresh block ∙ put_none block refl)

@@ -1,5 +1,5 @@
 -- A change of a text in blocks.
-use Rattle.std.specs.Prelude.{ℕ, ◌≡◌, ◌+◌, ◌*◌, ◌<◌, ◌≤◌, List, [], ◌++◌, length, take, drop, get_or}
+use Rattle.std.specs.Prelude.{ℕ, ◌≡◌, ◌+◌, ◌<◌, ◌≤◌, List, [], ◌++◌, length, take, drop, get_or}
 use Rattle.std.specs.List.{concat, replace_range}
 use Rattle.std.specs.Str.{IsCharBoundary}
 use Rattle.lsp_buffer.specs.declared.text_buffer.change.BlockRange.{BlockRange}

@@ -46,17 +46,17 @@ pub record IsFound (blocks : List (List ℕ)) (target : Target) (found : Found) 
 
 -- A block of a text in three parts, which the target is in.
 pub record IsPartAt (bytes front block rest : List ℕ) (target : Target) (before : Counts) : Type 0
-    where
-  pub parts : AreThree bytes front block rest
-  pub before_is : before ≡ counts_of front
-  pub low : Reaches target before
-  pub last : (rest ≡ []) ⊎ (Reaches target (counts_of (front ++ block)) → ⊥)
-  pub utf8 : IsUtf8 bytes
-  pub size : length bytes ≤ 2147483648
+  where
+    pub parts : AreThree bytes front block rest
+    pub before_is : before ≡ counts_of front
+    pub low : Reaches target before
+    pub last : (rest ≡ []) ⊎ (Reaches target (counts_of (front ++ block)) → ⊥)
+    pub utf8 : IsUtf8 bytes
+    pub size : length bytes ≤ 2147483648
 
 -- A block of a text, which the target is in, and what comes before the block.
 pub record IsPart (bytes : List ℕ) (target : Target) (block : List ℕ) (before : Counts) : Type 0
-    where
-  pub front : List ℕ
-  pub rest : List ℕ
-  pub at : IsPartAt bytes front block rest target before
+  where
+    pub front : List ℕ
+    pub rest : List ℕ
+    pub at : IsPartAt bytes front block rest target before

@@ -1,6 +1,6 @@
 use Rattle.std.proofs.Common.{◌∙◌, sym, arith}
 use Rattle.std.proofs.lemmas.Bool.{false≢true}
-use Rattle.lsp_buffer.proofs.Queries.FoundLemmas.{block_found, block_next, block_room, last_found}
+use Rattle.lsp_buffer.proofs.Queries.FoundLemmas.{block_found, block_next, block_room}
 use Rattle.lsp_buffer.proofs.find.find_from.Goals as goal
 
 pub plus-next-requires : goal.plus-next-requires

@@ -1,4 +1,3 @@
-use Rattle.std.proofs.Common.{get_or, sym, arith}
 use Rattle.std.proofs.lemmas.List.{get_or_default}
 use Rattle.lsp_buffer.proofs.Queries.FoundLemmas.{begins_first, group_next, group_room}
 use Rattle.lsp_buffer.proofs.find.find_group.Goals as goal

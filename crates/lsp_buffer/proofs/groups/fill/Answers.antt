@@ -1,7 +1,6 @@
-use Rattle.std.proofs.Common.{rules, ◌≡◌, ◌+◌, ◌*◌, ◌<◌, ◌++◌, ◌∷◌, ◌∙◌, [], ℕ, List, take, drop, length, arith, sym, ap, subst}
+use Rattle.std.proofs.Common.{rules, ◌≡◌, ◌+◌, ◌*◌, ◌++◌, ◌∷◌, ◌∙◌, [], ℕ, take, drop, length, arith, sym, ap}
 use Rattle.std.specs.List.{concat}
 use Rattle.std.proofs.lemmas.List.{length-append}
-use Rattle.lsp_buffer.specs.declared.counts.Counts.{Counts}
 use Rattle.lsp_buffer.specs.Blocks.{counts_of}
 use Rattle.lsp_buffer.proofs.Blocks.GroupLemmas.{groups_more, slice_counts, slice_full, slice_small}
 use Rattle.lsp_buffer.proofs.groups.fill.Goals as goal

@@ -10,7 +10,7 @@ split_at-requires c =
     omega (
       arith,
       found_within c.args.self.now c.part_at.ensures.front c.part_at.result.block.now c.part_at.ensures.rest c.args.offset
-    c.part_at.result.before.len found c.requires,
+          c.part_at.result.before.len found c.requires,
       found.from_is,
       ap length (c.as_bytes-bytes.ensures.value ∙ c.text.ensures),
     )

@@ -1,4 +1,4 @@
-use Rattle.std.proofs.Common.{◌≡◌, ◌∙◌, ℕ, List, length, arith, sym, ap, subst}
+use Rattle.std.proofs.Common.{◌∙◌, ℕ, List, length, arith, sym, ap, subst}
 use Rattle.std.specs.List.{concat, replace_range}
 use Rattle.std.specs.Str.{IsCharBoundary}
 use Rattle.lsp_buffer.specs.inside.Changes.{IsRangeOf}

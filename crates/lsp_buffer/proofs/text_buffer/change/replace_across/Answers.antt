@@ -1,4 +1,4 @@
-use Rattle.std.proofs.Common.{◌≡◌, ◌∙◌, ◌++◌, ℕ, List, take, drop, length, arith, sym, ap, subst}
+use Rattle.std.proofs.Common.{◌∙◌, ℕ, List, length, arith, sym, ap, subst}
 use Rattle.std.specs.List.{concat}
 use Rattle.std.specs.Prelude.{string_bytes}
 use Rattle.lsp_buffer.specs.Blocks.{IsFull, IsTextBuffer}

@@ -1,6 +1,5 @@
-use Rattle.std.proofs.Common.{◌∙◌, ℕ, List, set, length, refl, arith, sym, ap, subst}
+use Rattle.std.proofs.Common.{ℕ, List, set, length, refl, arith, sym, ap, subst}
 use Rattle.std.specs.List.{concat}
-use Rattle.std.specs.Vec.{with_items}
 use Rattle.std.proofs.lemmas.List.{with_items_is}
 use Rattle.std.proofs.lemmas.Result.{err_from_is_err_and}
 use Rattle.lsp_buffer.specs.declared.counts.Counts.{Counts}

@@ -1,4 +1,4 @@
-use Rattle.std.proofs.Common.{ℕ, ◌+◌, ◌∙◌, length, arith, sym, ap, subst}
+use Rattle.std.proofs.Common.{◌+◌, ◌∙◌, length, arith, sym, ap, subst}
 use Rattle.std.proofs.lemmas.Bool.{false≢true}
 use Rattle.lsp_buffer.specs.inside.Changes.{JoinsNext}
 use Rattle.lsp_buffer.proofs.Changes.ChangeLemmas.{first_here, first_small}

@@ -1,8 +1,7 @@
-use Rattle.std.proofs.Common.{◌≡◌, ◌+◌, ◌∙◌, ◌++◌, refl, sym, ap, arith}
+use Rattle.std.proofs.Common.{◌+◌, ◌∙◌, ◌++◌, refl, sym, ap, arith}
 use Rattle.std.specs.Prelude.{string_bytes}
 use Rattle.std.proofs.lemmas.Bool.{false≢true}
-use Rattle.lsp_buffer.specs.inside.Changes.{text_left}
-use Rattle.lsp_buffer.proofs.Changes.ChangeLemmas.{first_at, first_within, last_at, left_text, taken_alone, taken_next}
+use Rattle.lsp_buffer.proofs.Changes.ChangeLemmas.{first_at, last_at, left_text, taken_alone, taken_next}
 use Rattle.lsp_buffer.proofs.text_buffer.change.text_taken.Goals as goal
 
 pub joined-requires-clause-to : goal.joined-requires-clause-to
