@@ -1,7 +1,6 @@
 //! Batches on small texts: the texts that they leave, their canonical batches and their faults.
 //! Ranges are counted in UTF-16.
 
-mod buffer;
 mod faults;
 mod in_blocks;
 mod joined_batches;
@@ -389,7 +388,6 @@ pub(super) fn are_applied<'a>(
 /// Which program composes a batch.
 #[derive(Clone, Copy)]
 pub(super) enum Program {
-    Buffer,
     Pieces,
     Plain,
 }
@@ -397,7 +395,6 @@ pub(super) enum Program {
 /// Returns the text that a batch leaves and its canonical batch, or its fault.
 fn left(alloc: Global, program: Program, before: &str, changes: &[Change]) -> Outcome {
     match program {
-        Program::Buffer => buffer::left(alloc, before, changes),
         Program::Pieces => pieces::left(alloc, before, changes),
         Program::Plain => plain::left(alloc, before, changes),
     }

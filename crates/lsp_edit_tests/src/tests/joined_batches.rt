@@ -35,16 +35,6 @@ static ROWS: [Row; 4] = [
     ),
 ];
 
-/// No batch yet, on a copy of a text.
-fn no_batch(alloc: Global, before: &str) -> Result<Joined, BatchFault>
-    ensures { IfOk result (λ joined. IsReached joined before.now) }
-{
-    if before.len() > MAX_OLD_TEXT {
-        return Err(BatchFault::TooLong);
-    }
-    Ok(Joined::new(alloc, String::from_str(alloc, before)?)?)
-}
-
 /// Joins a batch on the text that was reached, and changes that text.
 fn change(
     joined: &mut Joined,
@@ -57,17 +47,9 @@ fn change(
     if reached.len() > MAX_OLD_TEXT || !fits(changes) {
         return Err(BatchFault::TooLong);
     }
-    joined.change(Encoding::Utf16, reached, changes, 9)
-}
-
-/// Joins a batch on the text that was reached.
-fn add(joined: &mut Joined, reached: &IndexedText, changes: &[Change]) -> Result<(), BatchFault>
-    requires { IsReached joined.old reached.now }
-{
-    if reached.len() > MAX_OLD_TEXT || !fits(changes) {
-        return Err(BatchFault::TooLong);
-    }
-    joined.add(Encoding::Utf16, reached, changes, 9)
+    let delta = reached.delta(Encoding::Utf16, changes, 9)?;
+    joined.change(reached, delta)?;
+    Ok(())
 }
 
 /// Joins two batches: the first changes a copy of the text, and the second is on that copy.
@@ -82,23 +64,11 @@ fn add_both(
 {
     let mut reached = kept(alloc, before)?;
     change(joined, &mut reached, first)?;
-    add(joined, &reached, second)
+    add_delta(joined, &reached, second)
 }
 
 /// Returns the canonical batch of two batches.
 fn joined(
-    alloc: Global,
-    before: &str,
-    first: &[Change],
-    second: &[Change],
-) -> Result<Vec<Change>, BatchFault> {
-    let mut joined = no_batch(alloc, before)?;
-    add_both(&mut joined, alloc, before, first, second)?;
-    Ok(joined.canonical(Encoding::Utf16)?)
-}
-
-/// The same over a copy of a kept text and its lines.
-fn joined_over(
     alloc: Global,
     before: &str,
     first: &[Change],
@@ -114,10 +84,7 @@ fn is_joined_so(alloc: Global, row: &Row) -> Result<bool, Fail> {
     let (before, first, second, canonical) = *row;
     let (first, second) = (batch(alloc, first)?, batch(alloc, second)?);
     let canonical = batch(alloc, canonical)?;
-    Ok(
-        joined(alloc, before, &first, &second)? == canonical
-            && joined_over(alloc, before, &first, &second)? == canonical,
-    )
+    Ok(joined(alloc, before, &first, &second)? == canonical)
 }
 
 #[test]

@@ -2,15 +2,10 @@
 //! edit. Each test prints how many requests for memory were refused.
 
 use super::{applied, are_applied, canonical_again, kept_again, plain, start_again};
-use lsp_edit::{
-    BatchFault, Change, EditFault, IndexedText, MAX_OLD_TEXT, Pieces, compose_buffer, fits,
-};
+use lsp_edit::{BatchFault, Change, EditFault, IndexedText};
 use lsp_samples::edits::{Edit, batch_again};
-use lsp_text::Encoding;
 use std::alloc::{AllocError, Global};
 use std::test::Fail;
-
-const UTF16: Encoding = Encoding::Utf16;
 
 /// Three lines. Without its `X` a CRLF arises, so there are two.
 const BEFORE: &str = "a\rX\nb";
@@ -39,54 +34,7 @@ fn refused_apply_where_lines_come_and_go(rt: HostRuntime) -> Result<(), Fail> {
     Ok(())
 }
 
-/// Returns whether the text and the canonical batch of pieces are `AFTER` and `wanted`.
-fn are_left(pieces: &Pieces<'_>, wanted: &[Change]) -> Result<bool, AllocError> {
-    let canonical = pieces.canonical(UTF16)?;
-    Ok(canonical.as_slice() == wanted && pieces.text()?.as_str() == AFTER)
-}
-
-/// Whether a batch leaves `AFTER` of a kept text by its lines, and `wanted` is its canonical batch.
-fn is_left_over_lines(
-    alloc: Global,
-    kept: &IndexedText,
-    changes: &[Change],
-    wanted: &[Change],
-) -> Result<bool, EditFault> {
-    if kept.len() > MAX_OLD_TEXT || !fits(changes) {
-        return Ok(false);
-    }
-    let pieces = compose_buffer(alloc, kept.text(), UTF16, changes)?;
-    Ok(are_left(&pieces, wanted)?)
-}
-
-/// The same of the first text, and again where memory ran out.
-fn is_left_again(
-    alloc: Global,
-    changes: &[Change],
-    wanted: &[Change],
-    refused: &mut usize,
-) -> Result<bool, EditFault> {
-    let kept = kept_again(alloc, BEFORE, refused)?;
-    match is_left_over_lines(alloc, &kept, changes, wanted) {
-        Err(EditFault::NoMemory) => {
-            *refused = refused.saturating_add(1);
-            is_left_over_lines(alloc, &kept, changes, wanted)
-        }
-        other => other,
-    }
-}
-
-#[test]
-fn refused_compose_buffer(rt: HostRuntime) -> Result<(), Fail> {
-    let mut refused: usize = 0;
-    let given = batch_again(rt.alloc(), &EDITS, &mut refused)?;
-    let wanted = batch_again(rt.alloc(), &CANONICAL, &mut refused)?;
-    assert!(rt; is_left_again(rt.alloc(), &given, &wanted, &mut refused)?);
-    println!(rt; "refused {refused}")?;
-    Ok(())
-}
-
-/// Does the same by the plain program.
+/// Whether a batch leaves `AFTER` by the plain program, and `wanted` is its canonical batch.
 fn is_left_plainly(
     alloc: Global,
     changes: &[Change],

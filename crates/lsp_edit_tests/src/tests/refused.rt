@@ -1,14 +1,11 @@
 //! Each call that can run out of memory, with one request for memory refused: nothing changes, and
 //! the same call succeeds the second time. Each test prints how many requests were refused.
 
-ghost use Rattle.std.specs.Prelude.{IfOk};
-ghost use Rattle.lsp_text.specs.LineStarts.{AreLinesOf};
-
 use super::pieces::left_by_both;
 use super::{are_applied, start_again};
 use lsp_edit::{Change, EditFault, Pieces, compose, fits};
 use lsp_samples::edits::{Edit, batch_again};
-use lsp_text::{Encoding, Lines};
+use lsp_text::Encoding;
 use std::alloc::{AllocError, Global};
 use std::test::Fail;
 
@@ -29,18 +26,6 @@ fn refused_start(rt: HostRuntime) -> Result<(), Fail> {
     Ok(())
 }
 
-fn lines(alloc: Global, refused: &mut usize) -> Result<Lines, AllocError>
-    ensures { IfOk result (λ lines. AreLinesOf lines TEXT.now) }
-{
-    match Lines::new(alloc, TEXT) {
-        Ok(lines) => Ok(lines),
-        Err(AllocError) => {
-            *refused = refused.saturating_add(1);
-            Lines::new(alloc, TEXT)
-        }
-    }
-}
-
 /// The text before and after each of the three changes.
 static TEXTS: [(&str, &str); 3] = [
     (TEXT, "aXYcdef\n"),
@@ -48,38 +33,17 @@ static TEXTS: [(&str, &str); 3] = [
     ("aXYcf\n", "ZaXYcf\n"),
 ];
 
-/// Returns whether `into_text` returns this text, with so many lines.
-fn is_handed_over(pieces: Pieces<'_>, wanted: &str, lines: usize) -> Result<bool, AllocError> {
-    let (text, index) = pieces.into_text()?;
-    Ok(text.as_str() == wanted && index.count() == lines)
-}
-
-/// Applies the changes to pieces of the text, which is handed over in the end.
-fn lead_to_a_text(
-    alloc: Global,
-    lines: &Lines,
-    changes: &[Change],
-    refused: &mut usize,
-) -> Result<bool, EditFault>
-    requires { AreLinesOf lines.now TEXT.now }
-{
-    let mut pieces = Pieces::over(alloc, TEXT, lines);
-    if !are_applied(&mut pieces, changes, &TEXTS, refused)? {
-        return Ok(false);
-    }
-    Ok(is_handed_over(pieces, "ZaXYcf\n", 2)?)
-}
-
-fn are_applied_over_lines(alloc: Global, refused: &mut usize) -> Result<bool, EditFault> {
-    let lines = lines(alloc, refused)?;
+/// Applies the changes one after another to pieces of the text.
+fn lead_to_a_text(alloc: Global, refused: &mut usize) -> Result<bool, EditFault> {
     let changes = batch_again(alloc, &CHANGES, refused)?;
-    lead_to_a_text(alloc, &lines, &changes, refused)
+    let mut pieces = start_again(alloc, TEXT, refused)?;
+    are_applied(&mut pieces, &changes, &TEXTS, refused)
 }
 
 #[test]
 fn refused_apply(rt: HostRuntime) -> Result<(), Fail> {
     let mut refused: usize = 0;
-    assert!(rt; are_applied_over_lines(rt.alloc(), &mut refused)?);
+    assert!(rt; lead_to_a_text(rt.alloc(), &mut refused)?);
     println!(rt; "refused {refused}")?;
     Ok(())
 }

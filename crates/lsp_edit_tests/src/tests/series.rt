@@ -2,7 +2,7 @@
 //! same fault.
 
 use super::{canonical_again, canonical_of, kept, kept_again};
-use lsp_edit::{BatchFault, Change, EditFault, IndexedText, MAX_OLD_TEXT, compose_buffer, fits};
+use lsp_edit::{BatchFault, Change, EditFault, IndexedText, MAX_OLD_TEXT, compose, fits};
 use lsp_text::{Encoding, Position, Range};
 use std::alloc::{AllocError, Global};
 use std::test::Fail;
@@ -40,10 +40,11 @@ fn at_once(
     text: &IndexedText,
     changes: &[Change],
 ) -> Result<Vec<Change>, BatchFault> {
+    let text = text.text().to_string(alloc)?;
     if text.len() > MAX_OLD_TEXT || !fits(changes) {
         return Err(BatchFault::TooLong);
     }
-    let pieces = compose_buffer(alloc, text.text(), Encoding::Utf16, changes)?;
+    let pieces = compose(alloc, &text, Encoding::Utf16, changes)?;
     Ok(pieces.canonical(Encoding::Utf16)?)
 }
 
