@@ -207,6 +207,21 @@ module _ (uri : List ℕ) (limits : LimitsData) (encoding : Encoding) (joined : 
       joins_after uri limits encoding joined next before version next_version kept more view
       (sym stored_refusal ∙ accepted) is version_is
 
+-- ---- batches that are kept with the document that they lead to
+
+pub add_refused : (inside kept : SquashData) → inside ≡ kept → (version : ℤ) (batch : List ContentChange)
+    (fault : StoreFault) → IsRefusal (add_refusal inside version batch) fault
+    → IsRefusal (add_refusal kept version batch) fault
+add_refused inside kept view version batch fault why =
+    subst (λ (k : SquashData). IsRefusal (add_refusal k version batch) fault) view why
+
+-- What stays leads to what stays.
+pub reached_still : (old new : SquashData) (was is : Stored) → new ≡ old → is ≡ was
+    → ((uri : List ℕ) → HasReached old (entry_under uri was)) → (uri : List ℕ) → HasReached new (entry_under uri is)
+reached_still old new was is same same_stored at uri =
+    subst (λ (s : Stored). HasReached new (entry_under uri s)) (sym same_stored)
+    (subst (λ (k : SquashData). HasReached k (entry_under uri was)) (sym same) (at uri))
+
 -- ---- a batch that was planned
 
 module _ (uri : List ℕ) (limits : LimitsData) (encoding : Encoding) (joined next : JoinedData) (before next_version : ℤ)

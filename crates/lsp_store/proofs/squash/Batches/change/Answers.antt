@@ -1,9 +1,7 @@
-use Rattle.std.proofs.Common.{◌≡◌, ◌∙◌, Err, ap, sym, map, refl, string_bytes, rules, w32, to_z, of_z}
+use Rattle.std.proofs.Common.{◌≡◌, Err, ap, map, string_bytes, rules, w32, to_z, of_z}
 use Rattle.std.proofs.lemmas.Int.{to_z-of_z}
-use Rattle.std.specs.Str.{chars}
 use Rattle.lsp_text.specs.Units.{units_in}
 use Rattle.lsp_edit.specs.Edited.{content_change}
-use Rattle.lsp_edit.specs.Indexed.{text_within}
 use Rattle.lsp_store.specs.declared.fault.StoreFault.{StoreFault}
 use Rattle.lsp_store.specs.declared.fault.StoreFault.TheVariants.{NoMemory}
 use Rattle.lsp_store.specs.Opened.{entry_under}
@@ -17,8 +15,8 @@ change-requires-clause-reached c =
     c.self.inside.version c.args.self.now c.self.view_is c.args.reached.now c.len.ensures.utf8 c.requires.reached
     c.args.version (map content_change c.args.changes.now)
 
-pub returns-in_err-change-clause-memory : goal.returns-in_err-change-clause-memory
-returns-in_err-change-clause-memory c = λ e.
+pub returns-in_err-change-in-Ok-clause-memory : goal.returns-in_err-change-in-Ok-clause-memory
+returns-in_err-change-in-Ok-clause-memory c = λ e.
     let version : to_z w32 (of_z w32 c.args.version) ≡ c.args.version = to_z-of_z w32 c.args.version (search rules) in
     let uri = string_bytes c.self.inside.uri in
     change_left uri c.self.inside.limits c.self.inside.encoding c.self.inside.joined
@@ -27,8 +25,8 @@ returns-in_err-change-clause-memory c = λ e.
     (accepted_left c.self.inside.limits (units_in c.self.inside.encoding) (entry_under uri c.args.reached.now)
     c.args.version (map content_change c.args.changes.now) (rw version at (c.in-Ok.ensures.accepted uri)))
 
-pub returns-in-Ok-clause-ok : goal.returns-in-Ok-clause-ok
-returns-in-Ok-clause-ok c =
+pub returns-in_ok-change-in-Ok-clause-ok : goal.returns-in_ok-change-in-Ok-clause-ok
+returns-in_ok-change-in-Ok-clause-ok c =
     let version : to_z w32 (of_z w32 c.args.version) ≡ c.args.version = to_z-of_z w32 c.args.version (search rules) in
     let uri = string_bytes c.self.inside.uri in
     change_adds uri c.self.inside.limits c.self.inside.encoding c.self.inside.joined
@@ -36,17 +34,6 @@ returns-in-Ok-clause-ok c =
     c.args.version (map content_change c.args.changes.now) (rw version at (c.in-Ok.ensures.accepted uri))
     c.change.new.self _ (c.in_ok-change.ensures.ok (units_in c.self.inside.encoding)
     (map content_change c.args.changes.now) c.in-Ok.ensures.delta.means) version
-
-pub returns-in-Ok-clause-reached : goal.returns-in-Ok-clause-reached
-returns-in-Ok-clause-reached c = λ uri.
-    let planned = c.in-Ok.ensures.delta in
-    record {
-      text = ap chars c.in_ok-change.ensures.changed
-          ∙ (c.in_ok-change.ensures.reached c.self.inside.limits.max_text _
-          (ap (text_within c.self.inside.limits.max_text c.args.reached.now.text) (sym planned.means)
-          ∙ planned.is)).text_is;
-      version = refl;
-    }
 
 pub returns-in-Err-clause-error : goal.returns-in-Err-clause-error
 returns-in-Err-clause-error c =

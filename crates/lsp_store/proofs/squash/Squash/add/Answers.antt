@@ -3,18 +3,22 @@ use Rattle.std.proofs.lemmas.Int.{to_z-of_z}
 use Rattle.std.proofs.lemmas.Result.{err_from_is_err_and}
 use Rattle.lsp_edit.specs.Edited.{content_change}
 use Rattle.lsp_store.specs.declared.fault.StoreFault.TheVariants.{NoMemory}
-use Rattle.lsp_store.specs.Faults.{IsRefusal}
-use Rattle.lsp_store.specs.Squash.{IsSquashAfter, SquashData, add_refusal, reached_entry}
+use Rattle.lsp_store.specs.Squash.{IsSquashAfter, SquashData, reached_entry}
 use Rattle.lsp_store.specs.Table.{IsLeftToMeaning}
+use Rattle.lsp_store.proofs.SquashLemmas.{add_refused, reached_still}
 use Rattle.lsp_store.proofs.squash.Squash.add.Goals as goal
+
+pub invariant_of-self : goal.invariant_of-self
+invariant_of-self c =
+    reached_still _ _ _ _ c.in_err-change.ensures.unchanged c.in_err-change.ensures.reached_unchanged c.self.invariant
 
 pub returns-in_err-change-clause-error : goal.returns-in_err-change-clause-error
 returns-in_err-change-clause-error c =
     let version : to_z w32 (of_z w32 c.args.version) ≡ c.args.version = to_z-of_z w32 c.args.version (search rules) in
     let p = err_from_is_err_and c.from_residual.result c.from_residual.ensures.1 in
     rw (p.1, p.2)
-    (subst (λ (kept : SquashData). IsRefusal (add_refusal kept c.args.version (map content_change c.args.changes.now))
-    _) c.self.view_is (rw version at c.in_err-change.ensures.error))
+    (add_refused _ _ c.self.view_is c.args.version (map content_change c.args.changes.now) _
+    (rw version at c.in_err-change.ensures.error))
 
 pub returns-clause-ok : goal.returns-clause-ok
 returns-clause-ok c =
