@@ -32,7 +32,7 @@ returns-in_ok-change-in-Ok-clause-ok c =
     change_adds uri c.self.inside.limits c.self.inside.encoding c.self.inside.joined
     c.self.inside.version c.args.self.now c.self.view_is c.args.reached.now c.len.ensures.utf8 c.requires.reached
     c.args.version (map content_change c.args.changes.now) (rw version at (c.in-Ok.ensures.accepted uri))
-    c.change.new.self _ (c.in_ok-change.ensures.ok (units_in c.self.inside.encoding)
+    c.change.new.self _ (c.in_ok-change-in-Ok.ensures.ok (units_in c.self.inside.encoding)
     (map content_change c.args.changes.now) c.in-Ok.ensures.delta.means) version
 
 pub returns-in-Err-clause-error : goal.returns-in-Err-clause-error
