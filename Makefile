@@ -25,7 +25,7 @@ HEADER = crates/laspidru/include/laspidru.h
 # The programs over logs, with what they import, and the pages that say what a log, a code and a note are
 TOOLS = record log-from lines-from-log log-from-lines
 TOOL_FILES = bin/session_log.py bin/log_forms.py
-PAGES = docs/PROTOCOL.md docs/LSPSYNC.md docs/LOGS.md docs/CLIENTS.md crates/laspidru/include/CODES.md
+PAGES = docs/PROTOCOL.md docs/LSPSYNC.md docs/LOGS.md docs/CLIENTS.md docs/LIBRARY.md crates/laspidru/include/CODES.md
 MAN_PAGES = lspsync lsp_simulate $(TOOLS:%=lspsync-%)
 ARCHIVE = crates/laspidru/out/liblaspidru.a
 BUILD = build
