@@ -4,7 +4,7 @@ use Rattle.lsp_edit.specs.Edited.{content_change}
 use Rattle.lsp_store.specs.Faults.{IsRefusal}
 use Rattle.lsp_store.specs.Table.{Refusal}
 use Rattle.lsp_store.proofs.SquashLemmas.{written_refusal}
-use Rattle.lsp_store.proofs.squash.batches.Batches.message.Goals as goal
+use Rattle.lsp_store.proofs.squash.Batches.message.Goals as goal
 
 pub returns-clause-error : goal.returns-clause-error
 returns-clause-error c =

@@ -3,7 +3,7 @@ use Rattle.std.proofs.lemmas.Int.{to_z-of_z}
 use Rattle.lsp_edit.specs.Delta.{IsOn}
 use Rattle.lsp_message.specs.Params.{DocumentItem}
 use Rattle.lsp_store.proofs.SquashLemmas.{plan_after, plan_at, plan_reached}
-use Rattle.lsp_store.proofs.squash.batches.Batches.add_plan.Goals as goal
+use Rattle.lsp_store.proofs.squash.Batches.add_plan.Goals as goal
 
 pub add_delta-requires-clause-reached : goal.add_delta-requires-clause-reached
 add_delta-requires-clause-reached c =
