@@ -1,0 +1,14 @@
+use Rattle.lsp_replay.proofs.Reports.MemberLemmas.{last_is, on_ok}
+use Rattle.lsp_replay.proofs.printer.tracing.Trace.push_last.Goals as goal
+
+pub returns : goal.returns
+returns c =
+    let document = rw c.as_deref.ensures.value at c.document_after-document.ensures in
+    on_ok c.push_words.result
+    (last_is _ _ _ _ _ _ _ _ c.args.buffer.now.items _ _ _ _ _ _ _ _ _
+    c.in_ok-push_word.ensures c.in_ok-push_why.ensures c.in_ok-push_mention.ensures
+    (rw c.deref.ensures.value at c.in_ok-push_noted.ensures) (rw document at c.in_ok-push_version.ensures)
+    (rw c.deref-2.ensures.value at c.in_ok-push_canonical.ensures)
+    (rw (document, c.has_text-has_text.ensures) at c.in_ok-push_text.ensures)
+    (rw c.has_body-has_body.ensures at c.in_ok-push_body.ensures))
+    c.push_words.ensures
