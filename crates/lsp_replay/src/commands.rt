@@ -179,7 +179,15 @@ pub fn check<R: Source, W: Sink>(
 {
     let rules = settings.rules(false);
     let session = settings.session(alloc);
-    run(alloc, reader, writer, Check { session }, None, rules, max_turns)
+    run(
+        alloc,
+        reader,
+        writer,
+        Check { session },
+        None,
+        rules,
+        max_turns,
+    )
 }
 
 /// Writes the documents that are open at the end of a log: a line of JSON for each, in order of
@@ -227,5 +235,13 @@ pub fn convert<R: Source, W: Sink>(
 {
     let rules = settings.rules(true);
     let session = settings.session(alloc);
-    run(alloc, reader, writer, Convert { session }, None, rules, max_turns)
+    run(
+        alloc,
+        reader,
+        writer,
+        Convert { session },
+        None,
+        rules,
+        max_turns,
+    )
 }

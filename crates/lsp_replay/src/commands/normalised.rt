@@ -111,11 +111,15 @@ fn normalise_selected<R: Source, W: Sink>(
     let session = settings.session(alloc);
     if settings.joins_series() {
         let squashing = Squashing::new(alloc, session);
-        return run(alloc, reader, writer, squashing, selection, rules, max_turns);
+        return run(
+            alloc, reader, writer, squashing, selection, rules, max_turns,
+        );
     }
     let normalise = Normalise {
         session,
         canonical: Canonical::new(alloc),
     };
-    run(alloc, reader, writer, normalise, selection, rules, max_turns)
+    run(
+        alloc, reader, writer, normalise, selection, rules, max_turns,
+    )
 }

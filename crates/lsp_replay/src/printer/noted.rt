@@ -5,9 +5,9 @@ ghost use Rattle.std.specs.Fmt.{signed_decimal};
 ghost use Rattle.lsp_replay.specs.Notes.{change_words, note_words, notes_words, past_words, side_words};
 ghost use Rattle.lsp_replay.specs.Reasons.{position_words};
 
-use crate::printer::reasons::{push_change, push_position};
 use crate::members::{push_number, push_signed, push_words};
 use crate::notes::Note;
+use crate::printer::reasons::{push_change, push_position};
 use lsp_edit::Side;
 use lsp_text::Position;
 use std::alloc::AllocError;

@@ -8,8 +8,8 @@ ghost use Rattle.lsp_replay.specs.Trace.{version_json};
 ghost use Rattle.lsp_replay.specs.inside.Tracing.{canonical_json};
 ghost use Rattle.lsp_replay.specs.inside.Verdicts.{verdict_view};
 
-use crate::printer::checking::push_verdict;
 use crate::members::{push_json_string, push_signed};
+use crate::printer::checking::push_verdict;
 use crate::session::Verdict;
 use crate::session::writing::Appended;
 use lsp_store::Document;
