@@ -45,9 +45,9 @@ module _ (s : Session) (version : Version) (p : ChangeData) where
   quiet_in Down is (Some id) some never = rw (is, some) tt
   quiet_in Ended is expected waits never = rw is tt
 
-if_none : (b : Bool) → (if b then None {ChangeData} else None) ≡ None
-if_none true = refl
-if_none false = refl
+if_none : (change : Option ChangeData) (b : Bool) → change ≡ None → (if b then change else None) ≡ None
+if_none change true e = e
+if_none change false e = refl
 
 module _ (s : Session) (body : List ℕ) where
   abbrev m : IncomingData
@@ -81,8 +81,7 @@ module _ (s : Session) (body : List ℕ) where
 
       by : (change : Option ChangeData) → change_in m ≡ change → Received version Client
       by None is =
-          inl (ap (λ (change : Option ChangeData). if is_running s.server.phase && is_none s.expected then change
-          else None) is ∙ if_none (is_running s.server.phase && is_none s.expected) ∙ sym is)
+          inl (if_none (change_in m) (is_running s.server.phase && is_none s.expected) is ∙ sym is)
       by (Some p) is = state p (asks_change m p is) s.server.phase refl s.expected refl
 
 -- What goes by the change only where a verdict has a reason goes by the change that was received.

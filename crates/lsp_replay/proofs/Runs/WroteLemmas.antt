@@ -8,7 +8,6 @@ use Rattle.lsp_replay.specs.declared.commands.Settings.{Settings}
 use Rattle.lsp_replay.specs.declared.outcome.Outcome.{Outcome}
 use Rattle.lsp_stream.specs.declared.fault.EngineFault.{EngineFault}
 use Rattle.lsp_stream.specs.declared.fault.EngineFault.TheVariants.{BodyTooLong}
-use Rattle.lsp_stream.specs.Ports.{Ports}
 use Rattle.lsp_log.specs.Log.{Record}
 use Rattle.lsp_replay.specs.RunOutput.{RunOutput}
 use Rattle.lsp_replay.specs.Session.{Session, Verdict, answered, recorded, bad, judge, opened}
@@ -17,9 +16,7 @@ use Rattle.lsp_replay.specs.inside.Engine.{Ran, AtEnd, Stopped}
 use Rattle.lsp_replay.specs.Commands.{RecordOutput, writes, ends, followed_by, unless_bad, normalising, written, canonical_of_record, front_of, canonical_output, converting, line_before, reply_record, as_log, as_converted, log_config, canonical_log, converted}
 use Rattle.lsp_replay.specs.inside.Commands.{run_output_in}
 use Rattle.lsp_replay.specs.laws.Written.{IsCanonicalLog, IsConverted, IsSquashed, Wrote}
-use Rattle.lsp_replay.specs.Squashed.{squashed}
-use Rattle.lsp_replay.specs.Run.{IsEngineRun}
-use Rattle.lsp_replay.specs.inside.Run.{squash_engine}
+use Rattle.lsp_replay.specs.Squashed.{normalised, normalised_if, squashed}
 use Rattle.lsp_replay.specs.inside.Squashed.{squashed_steps}
 use Rattle.lsp_replay.proofs.Squash.SeriesLemmas.{squashed_is}
 use Rattle.lsp_replay.proofs.Squash.SquashedLemmas.{stops_alike}
@@ -45,8 +42,8 @@ unless_not_ok r (answered answer) g not_ok = not_ok
 unless_not_ok r recorded g not_ok = not_ok
 unless_not_ok r bad g not_ok = tt
 
-written_not_ok : (max_body : ℕ) (r : Record) (front : List ℕ) (normalised : Option (List ℕ))
-    → IsNotOk (written max_body r front normalised).end
+written_not_ok : (max_body : ℕ) (r : Record) (front : List ℕ) (canonical : Option (List ℕ))
+    → IsNotOk (written max_body r front canonical).end
 written_not_ok max_body r front None = tt
 written_not_ok max_body r front (Some body) = by (nat_lt max_body (length body))
   where
@@ -190,26 +187,16 @@ module _ (settings : Settings) (ranges : AreInRange settings.limits)
       outcome). squashed_at_end ran.input outcome end.1 ran.read)
       ran.came
 
-  -- the same from what the code makes
-  pub wrote_steps : (state : PortState) (result : Result Outcome EngineFault)
-      → Ran (as_log settings) (squashed_steps settings) state left_old left_new received_old received_new result
-      → IfOk result (Wrote settings (IsSquashed settings) left_old left_new received_old received_new)
-  wrote_steps state result ran =
-      wrote_squashed state result
-      (subst (λ (f : Settings → List Record → RunOutput). Ran (as_log settings) (f settings) state left_old left_new
-      received_old received_new result) squashed_is ran)
+-- ---- `normalise` with its settings, by what the code makes
 
-pub squash_run : (settings : Settings) (max_turns : ℕ) (before after : Ports) (result : Result Outcome EngineFault)
-    → IsEngineRun (record {
-      log_rules = as_log settings;
-      run_output = squashed_steps settings;
-      flushes = false;
-      in_parts = false;
-    }) max_turns before after result → IsEngineRun (squash_engine settings) max_turns before after result
-squash_run settings max_turns before after result run =
-    subst (λ (f : Settings → List Record → RunOutput). IsEngineRun (record {
-      log_rules = as_log settings;
-      run_output = f settings;
-      flushes = false;
-      in_parts = false;
-    }) max_turns before after result) squashed_is run
+module _ (settings : Settings) (P : (List Record → RunOutput) → Type 0) where
+  pub as_each : settings.squash ≡ false → P (canonical_log settings) → P (normalised settings)
+  as_each each p = subst (λ (b : Bool). P (normalised_if b settings)) (sym each) p
+
+  pub as_steps : settings.squash ≡ true → P (squashed_steps settings) → P (normalised settings)
+  as_steps squash p =
+      subst (λ (b : Bool). P (normalised_if b settings)) (sym squash)
+      (subst (λ (f : Settings → List Record → RunOutput). P (f settings)) squashed_is p)
+
+  pub by_setting : (b : Bool) → settings.squash ≡ b → P (normalised settings) → P (normalised_if b settings)
+  by_setting b is p = subst (λ (c : Bool). P (normalised_if c settings)) is p
