@@ -1,6 +1,6 @@
 use Rattle.lsp_server.specs.Seen.{incoming_view}
 use Rattle.lsp_replay.proofs.Reports.MemberLemmas.{first_is, on_ok}
-use Rattle.lsp_replay.proofs.session.tracing.push_first.Goals as goal
+use Rattle.lsp_replay.proofs.printer.tracing.first.push_first.Goals as goal
 
 pub returns : goal.returns
 returns c =
