@@ -178,16 +178,10 @@ pub fn check<R: Source, W: Sink>(
         (ports (R.seen reader.new) (W.seen writer.new)) result }
 {
     let rules = settings.rules(false);
-    let session = settings.session(alloc);
-    run(
-        alloc,
-        reader,
-        writer,
-        Check { session },
-        None,
-        rules,
-        max_turns,
-    )
+    let check = Check {
+        session: settings.session(alloc),
+    };
+    run(alloc, reader, writer, check, None, rules, max_turns)
 }
 
 /// Writes the documents that are open at the end of a log: a line of JSON for each, in order of
@@ -207,8 +201,10 @@ pub fn replay<R: Source, W: Sink>(
         (ports (R.seen reader.new) (W.seen writer.new)) result }
 {
     let rules = settings.rules(false);
-    let session = settings.session(alloc);
-    let replay = Replay { session, next: 0 };
+    let replay = Replay {
+        session: settings.session(alloc),
+        next: 0,
+    };
     run(alloc, reader, writer, replay, None, rules, max_turns)
 }
 
@@ -234,14 +230,8 @@ pub fn convert<R: Source, W: Sink>(
         (ports (R.seen reader.new) (W.seen writer.new)) result }
 {
     let rules = settings.rules(true);
-    let session = settings.session(alloc);
-    run(
-        alloc,
-        reader,
-        writer,
-        Convert { session },
-        None,
-        rules,
-        max_turns,
-    )
+    let convert = Convert {
+        session: settings.session(alloc),
+    };
+    run(alloc, reader, writer, convert, None, rules, max_turns)
 }

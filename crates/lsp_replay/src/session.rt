@@ -16,7 +16,7 @@ ghost use Rattle.lsp_message.specs.Seen.{change_view, id_view};
 ghost use Rattle.lsp_server.specs.Incoming.{incoming_of};
 ghost use Rattle.lsp_server.specs.Seen.{incoming_view};
 ghost use Rattle.lsp_replay.specs.Session.{bad, counted, opened, judge_client, is_early, expected_after, session_outcome};
-ghost use Rattle.lsp_replay.specs.inside.Bodies.{IsReceived, body_view, canonical_read, judge_read};
+ghost use Rattle.lsp_replay.specs.inside.Bodies.{IsReceived, body_view, judge_read};
 ghost use Rattle.lsp_replay.specs.inside.Reads.{IsReadOf};
 ghost use Rattle.lsp_replay.specs.inside.Session.{judge_at};
 ghost use Rattle.lsp_replay.specs.inside.Taken.{IsHeard, IsTakenAs, IsWitnessed};
@@ -192,7 +192,7 @@ impl Session {
                     ranged: None,
                 })
             }
-            Err(read) => self.take_other(read),
+            Err(read) => Ok(self.take_other(read)?),
         }
     }
 

@@ -235,25 +235,25 @@ module _ (s : Session) (read : BodyData) (never : (p : ChangeData) → IsReceive
 
 -- the canonical body of a change that is accepted
 module _ (s new : Session) (head : Head) (body : List ℕ) (before after : Canonical) (nothing : before.appended ≡ None)
-    where
-  abbrev HasBody : ServerData → ChangeData → Type 0
-  HasBody server p = IsAppended server.config.limits.max_body (Some (canonical_change_body server p)) after.appended
-      before.bytes.items after.bytes.items
+  where
+    abbrev HasBody : ServerData → ChangeData → Type 0
+    HasBody server p = IsAppended server.config.limits.max_body (Some (canonical_change_body server p)) after.appended
+        before.bytes.items after.bytes.items
 
-  body_seen : (a : Option ChangeData) → IsShown (after ≡ before) HasBody s new a
-      → IsAppended s.server.config.limits.max_body (body_of s.server a) after.appended before.bytes.items
-      after.bytes.items
-  body_seen None same = ap (λ (c : Canonical). c.appended) same ∙ nothing
-  body_seen (Some p) seen = seen.0
+    body_seen : (a : Option ChangeData) → IsShown (after ≡ before) HasBody s new a
+        → IsAppended s.server.config.limits.max_body (body_of s.server a) after.appended before.bytes.items
+        after.bytes.items
+    body_seen None same = ap (λ (c : Canonical). c.appended) same ∙ nothing
+    body_seen (Some p) seen = seen.0
 
-  pub seen_written : IsShown (after ≡ before) HasBody s new (accepted_of s head body)
-      → IsAppended s.server.config.limits.max_body (canonical_of_record s body (judge_at s head body).verdict)
-      after.appended before.bytes.items after.bytes.items
-  seen_written shown =
-      subst (λ (c : Option (List ℕ)). IsAppended s.server.config.limits.max_body c after.appended before.bytes.items
-      after.bytes.items)
-      (sym (canonical_is s.server (change_in (incoming_of (reading body))) (judge_at s head body).verdict))
-      (body_seen (accepted_of s head body) shown)
+    pub seen_written : IsShown (after ≡ before) HasBody s new (accepted_of s head body)
+        → IsAppended s.server.config.limits.max_body (canonical_of_record s body (judge_at s head body).verdict)
+        after.appended before.bytes.items after.bytes.items
+    seen_written shown =
+        subst (λ (c : Option (List ℕ)). IsAppended s.server.config.limits.max_body c after.appended before.bytes.items
+        after.bytes.items)
+        (sym (canonical_is s.server (change_in (incoming_of (reading body))) (judge_at s head body).verdict))
+        (body_seen (accepted_of s head body) shown)
 
 -- the room before it stays
 pub room_kept : (max_body : ℕ) (canonical : Option (List ℕ)) (appended : Option Appended) (old new : List ℕ) (room : ℕ)

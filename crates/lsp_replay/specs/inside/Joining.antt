@@ -45,14 +45,6 @@ server_after server p
           (map content_change_from_data p.changes);
     }
 
--- The canonical body of a change, unless the server refuses the change.
-abbrev pub body_unless : Option Refusal → List ℕ → Option (List ℕ)
-body_unless None body = Some body
-body_unless (Some refusal) body = None
-
-abbrev pub change_body_if : ServerData → ChangeData → Option (List ℕ)
-change_body_if server p = body_unless (refusal_of server p) (canonical_change_body server p)
-
 -- ---- a record
 
 -- The canonical body of a change is within the limit, and this is its frame.

@@ -57,7 +57,7 @@ impl Session {
         match self.server.plan(params)? {
             PlannedChange::Accepted(plan) => {
                 witness.see(self, params, &plan)?;
-                self.commit(plan)
+                Ok(self.commit(plan)?)
             }
             PlannedChange::Answered(answer) => Ok(self.refuse(answer)),
         }

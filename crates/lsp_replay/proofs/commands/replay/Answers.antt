@@ -6,7 +6,7 @@ use Rattle.lsp_replay.proofs.commands.replay.Goals as goal
 
 pub returns : goal.returns
 returns g c =
-    let run = rw (c.rules-rules.ensures, c.session-session.ensures.value) at c.run.ensures.run in
+    let run = rw (c.rules-rules.ensures, c.session.ensures.value) at c.run.ensures.run in
     record {
       run = run_of c.run.ensures.first c.run.ensures.version replaying tt
           (opened (log_config c.args.settings)) true run (λ never. absurd (let wrong : true ≡ false = never in cc));

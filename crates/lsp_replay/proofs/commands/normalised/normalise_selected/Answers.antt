@@ -25,19 +25,19 @@ returns-then-joins_series g c =
     let s = opened (log_config c.args.settings) in
     record {
       run = as_steps c.args.settings (λ (f : List Record → RunOutput). IsEngineRun (record {
-            log_rules = as_log c.args.settings;
-            run_output = piped c.args.selection f s;
-            flushes = false;
-            in_parts = false;
-          }) c.args.max_turns before after c.run.result) squash
+        log_rules = as_log c.args.settings;
+        run_output = piped c.args.selection f s;
+        flushes = false;
+        in_parts = false;
+      }) c.args.max_turns before after c.run.result) squash
           (run_of_piped c.run.ensures.first c.run.ensures.version squash_view None s c.args.selection false run
           (λ _. whole (λ _. refl)));
       ran = as_steps c.args.settings (λ (f : List Record → RunOutput). IsRanOf (record {
-            log_rules = as_log c.args.settings;
-            run_output = piped c.args.selection f s;
-            flushes = false;
-            in_parts = false;
-          }) before after c.run.result) squash run.ran;
+        log_rules = as_log c.args.settings;
+        run_output = piped c.args.selection f s;
+        flushes = false;
+        in_parts = false;
+      }) before after c.run.result) squash run.ran;
       in_range = c.session-session.ensures.in_range;
     }
 
@@ -51,18 +51,18 @@ returns g c =
     let s = opened (log_config c.args.settings) in
     record {
       run = as_each c.args.settings (λ (f : List Record → RunOutput). IsEngineRun (record {
-            log_rules = as_log c.args.settings;
-            run_output = piped c.args.selection f s;
-            flushes = false;
-            in_parts = false;
-          }) c.args.max_turns before after c.run-2.result) each
+        log_rules = as_log c.args.settings;
+        run_output = piped c.args.selection f s;
+        flushes = false;
+        in_parts = false;
+      }) c.args.max_turns before after c.run-2.result) each
           (run_of_piped c.run-2.ensures.first c.run-2.ensures.version normalising tt s c.args.selection false run
           (λ _. whole (λ _. refl)));
       ran = as_each c.args.settings (λ (f : List Record → RunOutput). IsRanOf (record {
-            log_rules = as_log c.args.settings;
-            run_output = piped c.args.selection f s;
-            flushes = false;
-            in_parts = false;
-          }) before after c.run-2.result) each run.ran;
+        log_rules = as_log c.args.settings;
+        run_output = piped c.args.selection f s;
+        flushes = false;
+        in_parts = false;
+      }) before after c.run-2.result) each run.ran;
       in_range = c.session-session.ensures.in_range;
     }
