@@ -12,7 +12,7 @@ use Rattle.lsp_replay.specs.declared.outcome.Outcome.{Outcome}
 use Rattle.lsp_replay.specs.Documents.{Kept, KeepsDocuments, WroteDocuments, documents, kept_records, nothing_selected}
 use Rattle.lsp_replay.specs.laws.Documents.{DocumentsLaw, DocumentsStopAlike}
 use Rattle.lsp_replay.specs.Engine.{PortState, all_of}
-use Rattle.lsp_replay.specs.inside.Engine.{AtEnd, Ran, Stopped}
+use Rattle.lsp_replay.specs.inside.Engine.{AtEnd, Ran}
 use Rattle.lsp_replay.specs.Commands.{as_log, canonical_log, log_config, report}
 use Rattle.lsp_replay.specs.laws.Written.{IsCanonicalLog, IsSquashed, LeavesAlike}
 use Rattle.lsp_replay.specs.RunOutput.{RunOutput}
@@ -25,7 +25,7 @@ use Rattle.lsp_replay.proofs.Records.NumberedLemmas.{alike_self}
 use Rattle.lsp_replay.proofs.Squash.SquashedLemmas.{stops_alike}
 use Rattle.lsp_replay.proofs.Squash.SeriesLemmas.{squashed_is}
 use Rattle.lsp_replay.proofs.Squash.SquashedLogLemmas.{squashed_law}
-use Rattle.lsp_replay.proofs.Runs.WroteLemmas.{IsNotOk, normal_not_ok, stops_not_ok}
+use Rattle.lsp_replay.proofs.Runs.WroteLemmas.{IsNotOk, at_the_end, normal_not_ok}
 
 -- ---- where the run ends
 
@@ -198,12 +198,7 @@ module _ (settings : Settings) (ranges : AreInRange settings.limits)
   pub wrote_documents : (state : PortState) (result : Result Outcome EngineFault)
       → Ran (as_log settings) (documents settings) state left_old left_new received_old received_new result
       → IfOk result (WroteDocuments settings left_old left_new received_old received_new)
-  wrote_documents state (Err fault) ran = tt
-  wrote_documents state (Ok outcome) ran =
-      ⊎_elim
-      (λ (stopped : Stopped (as_log settings) (documents settings) ran.input received_old received_new (Ok outcome)).
-      absurd (stops_not_ok (documents settings stopped.log.records).stop outcome
-      (documents_not_ok settings stopped.log.records) stopped.stops))
-      (λ (end : (state.ended ≡ true) × AtEnd (as_log settings) (documents settings) ran.input received_old received_new
-      outcome). documents_at_end ran.input outcome end.1 ran.read)
-      ran.came
+  wrote_documents =
+      at_the_end (as_log settings) (documents settings) (documents_not_ok settings)
+      (WroteDocuments settings left_old left_new received_old received_new) left_old left_new received_old received_new
+      documents_at_end

@@ -1,13 +1,13 @@
 -- What only proofs and private contracts use of `Run`.
-use Rattle.std.specs.Prelude.{false, not, ◌&&◌, Option, Result}
+use Rattle.std.specs.Prelude.{not, ◌&&◌, Option, Result}
 use Rattle.lsp_stream.specs.declared.fault.EngineFault.{EngineFault}
 use Rattle.lsp_stream.specs.Ports.{Ports}
 use Rattle.lsp_replay.specs.declared.commands.Settings.{Settings}
 use Rattle.lsp_replay.specs.declared.outcome.Outcome.{Outcome}
-use Rattle.lsp_replay.specs.Commands.{as_log, log_config}
+use Rattle.lsp_replay.specs.Commands.{log_config}
 use Rattle.lsp_replay.specs.Documents.{Selection}
 use Rattle.lsp_replay.specs.Engine.{state_of}
-use Rattle.lsp_replay.specs.Run.{Engine}
+use Rattle.lsp_replay.specs.Run.{Engine, log_engine}
 use Rattle.lsp_replay.specs.Session.{opened}
 use Rattle.lsp_replay.specs.Squashed.{normalised}
 use Rattle.lsp_replay.specs.inside.Engine.{Ran}
@@ -15,13 +15,8 @@ use Rattle.lsp_replay.specs.inside.Piped.{piped}
 
 -- `normalise` of all records, or of those that stay.
 abbrev pub selected_engine : Option Selection → Settings → Engine
-selected_engine selection settings
-    = record {
-      log_rules = as_log settings;
-      run_output = piped selection (normalised settings) (opened (log_config settings));
-      flushes = false;
-      in_parts = false;
-    }
+selected_engine selection settings =
+    log_engine settings (piped selection (normalised settings) (opened (log_config settings)))
 
 -- Its output and its result are those of the bytes that it read.
 abbrev pub IsRanOf : Engine → Ports → Ports → Result Outcome EngineFault → Type 0

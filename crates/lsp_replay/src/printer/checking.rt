@@ -3,7 +3,7 @@
 ghost use Rattle.std.specs.Prelude.{◌≡◌, ◌++◌, refl, OnOk, decimal, false};
 ghost use Rattle.lsp_server.specs.Seen.{answer_view};
 ghost use Rattle.lsp_replay.specs.RunOutput.{RunOutput};
-ghost use Rattle.lsp_replay.specs.Commands.{checking, check_line, code_word, label, verdict_word, word_of};
+ghost use Rattle.lsp_replay.specs.Commands.{checking, check_line, code_word, verdict_word, word_of};
 ghost use Rattle.lsp_replay.specs.inside.Commands.{run_output_in};
 ghost use Rattle.lsp_replay.specs.inside.Verdicts.{verdict_view};
 
@@ -14,7 +14,7 @@ use crate::session::{RecordBody, Session, Verdict};
 use itoa::Buffer;
 use lsp_log::Head;
 use lsp_message::ErrorCode;
-use lsp_server::{Answer, Refusal};
+use lsp_server::Answer;
 use lsp_stream::EngineFault;
 use std::alloc::AllocError;
 
@@ -101,7 +101,7 @@ fn push_answer(buffer: &mut Vec<u8>, answer: &Answer) -> Result<(), AllocError>
         Answer::Ignored => buffer.extend_from_slice(b"ignored")?,
         Answer::Refused(refusal) => {
             buffer.extend_from_slice(b"refused ")?;
-            buffer.extend_from_slice(label(*refusal).as_bytes())?;
+            buffer.extend_from_slice(refusal.code().as_bytes())?;
         }
         Answer::Exit(status) => {
             buffer.extend_from_slice(b"exit ")?;
@@ -122,15 +122,5 @@ fn code_word(code: Option<ErrorCode>) -> &'static str
         Some(ErrorCode::MethodNotFound) => "error -32601",
         Some(ErrorCode::InvalidParams) => "error -32602",
         Some(ErrorCode::ServerNotInitialized) => "error -32002",
-    }
-}
-
-/// Returns the code of a refusal, as docs/PROTOCOL.md lists them.
-fn label(refusal: Refusal) -> &'static str
-    ensures { result.now ≡ label refusal }
-{
-    match refusal {
-        Refusal::InvalidParams => "M4",
-        Refusal::Store(fault) => fault.code(),
     }
 }

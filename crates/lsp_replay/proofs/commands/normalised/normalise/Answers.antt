@@ -2,7 +2,7 @@ use Rattle.std.proofs.Common.{true, false}
 use Rattle.std.specs.Prelude.{List}
 use Rattle.lsp_log.specs.Log.{Record}
 use Rattle.lsp_stream.specs.Ports.{ports}
-use Rattle.lsp_replay.specs.Commands.{as_log}
+use Rattle.lsp_replay.specs.Run.{log_engine}
 use Rattle.lsp_replay.specs.RunOutput.{RunOutput}
 use Rattle.lsp_replay.specs.inside.Run.{IsRanOf}
 use Rattle.lsp_replay.proofs.Runs.WroteLemmas.{by_setting, wrote_normal, wrote_squashed}
@@ -14,12 +14,7 @@ returns g c =
     let after = ports (g.R.Source.seen c.normalise_selected.new.reader) (g.W.Sink.seen c.normalise_selected.new.writer)
     in
     let settings = c.args.settings in
-    let ran = by_setting settings (λ (f : List Record → RunOutput). IsRanOf (record {
-      log_rules = as_log settings;
-      run_output = f;
-      flushes = false;
-      in_parts = false;
-    }) before after c.normalise_selected.result) in
+    let ran = by_setting settings (λ (f : List Record → RunOutput). IsRanOf (log_engine settings f) before after c.normalise_selected.result) in
     let ranges = c.normalise_selected.ensures.in_range in
     record {
       run = c.normalise_selected.ensures.run;

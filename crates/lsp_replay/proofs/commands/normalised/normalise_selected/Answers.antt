@@ -2,11 +2,10 @@ use Rattle.std.proofs.Common.{◌∙◌, sym, false, refl}
 use Rattle.std.specs.Prelude.{None, List}
 use Rattle.lsp_log.specs.Log.{Record}
 use Rattle.lsp_stream.specs.Ports.{ports}
-use Rattle.lsp_replay.specs.Commands.{as_log, log_config, normalising}
-use Rattle.lsp_replay.specs.Run.{IsEngineRun}
+use Rattle.lsp_replay.specs.Commands.{log_config, normalising}
+use Rattle.lsp_replay.specs.Run.{IsEngineRun, log_engine}
 use Rattle.lsp_replay.specs.RunOutput.{RunOutput}
 use Rattle.lsp_replay.specs.Session.{opened}
-use Rattle.lsp_replay.specs.inside.Engine.{Ran}
 use Rattle.lsp_replay.specs.inside.Piped.{piped}
 use Rattle.lsp_replay.specs.inside.Run.{IsRanOf}
 use Rattle.lsp_replay.specs.inside.Squashed.{squash_view}
@@ -24,20 +23,10 @@ returns-then-joins_series g c =
     let whole = rw (c.rules-rules.ensures, printer) at c.run.ensures.whole in
     let s = opened (log_config c.args.settings) in
     record {
-      run = as_steps c.args.settings (λ (f : List Record → RunOutput). IsEngineRun (record {
-        log_rules = as_log c.args.settings;
-        run_output = piped c.args.selection f s;
-        flushes = false;
-        in_parts = false;
-      }) c.args.max_turns before after c.run.result) squash
+      run = as_steps c.args.settings (λ (f : List Record → RunOutput). IsEngineRun (log_engine c.args.settings (piped c.args.selection f s)) c.args.max_turns before after c.run.result) squash
           (run_of_piped c.run.ensures.first c.run.ensures.version squash_view None s c.args.selection false run
           (λ _. whole (λ _. refl)));
-      ran = as_steps c.args.settings (λ (f : List Record → RunOutput). IsRanOf (record {
-        log_rules = as_log c.args.settings;
-        run_output = piped c.args.selection f s;
-        flushes = false;
-        in_parts = false;
-      }) before after c.run.result) squash run.ran;
+      ran = as_steps c.args.settings (λ (f : List Record → RunOutput). IsRanOf (log_engine c.args.settings (piped c.args.selection f s)) before after c.run.result) squash run.ran;
       in_range = c.session-session.ensures.in_range;
     }
 
@@ -50,19 +39,9 @@ returns g c =
     let whole = rw (c.rules-rules.ensures, c.session-session.ensures.value) at c.run-2.ensures.whole in
     let s = opened (log_config c.args.settings) in
     record {
-      run = as_each c.args.settings (λ (f : List Record → RunOutput). IsEngineRun (record {
-        log_rules = as_log c.args.settings;
-        run_output = piped c.args.selection f s;
-        flushes = false;
-        in_parts = false;
-      }) c.args.max_turns before after c.run-2.result) each
+      run = as_each c.args.settings (λ (f : List Record → RunOutput). IsEngineRun (log_engine c.args.settings (piped c.args.selection f s)) c.args.max_turns before after c.run-2.result) each
           (run_of_piped c.run-2.ensures.first c.run-2.ensures.version normalising tt s c.args.selection false run
           (λ _. whole (λ _. refl)));
-      ran = as_each c.args.settings (λ (f : List Record → RunOutput). IsRanOf (record {
-        log_rules = as_log c.args.settings;
-        run_output = piped c.args.selection f s;
-        flushes = false;
-        in_parts = false;
-      }) before after c.run-2.result) each run.ran;
+      ran = as_each c.args.settings (λ (f : List Record → RunOutput). IsRanOf (log_engine c.args.settings (piped c.args.selection f s)) before after c.run-2.result) each run.ran;
       in_range = c.session-session.ensures.in_range;
     }
