@@ -4,7 +4,6 @@
 //! `noting` has what is suspicious of a message, `asked` what a body asks.
 
 ghost use Rattle.std.specs.Prelude.{◌≡◌, ◌≢◌, ◌⊎◌, IfErr, IfOk, OnOk, option_map};
-ghost use Rattle.lsp_message.specs.Message.{reading};
 ghost use Rattle.lsp_replay.specs.Lines.{has_notes, is_strict_refusal, known_after, nothing_known};
 ghost use Rattle.lsp_replay.specs.Mentions.{is_mention, last_for};
 ghost use Rattle.lsp_replay.specs.Session.{bad};
