@@ -132,7 +132,8 @@ module _ (s : Session) (read : BodyData) (never : (p : ChangeData) → IsReceive
 -- what a change that is accepted is, and its canonical body
 pub accepted_is : (change : Option ChangeData) (verdict : Verdict) (p : ChangeData)
     → accepted_if change verdict ≡ Some p → (change ≡ Some p) × (verdict ≡ answered changed)
-accepted_is (Some q) (answered changed) p e = let same : q ≡ p = cc in (ap Some same, refl)
+accepted_is (Some q) (answered changed) p e =
+    let some : Some q ≡ Some p = e in let same : q ≡ p = cc in (ap Some same, refl)
 accepted_is None verdict p e = absurd (let wrong : None ≡ Some p = e in cc)
 accepted_is (Some q) recorded p e = absurd (let wrong : None ≡ Some p = e in cc)
 accepted_is (Some q) bad p e = absurd (let wrong : None ≡ Some p = e in cc)

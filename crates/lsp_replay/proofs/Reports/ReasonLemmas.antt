@@ -34,6 +34,18 @@ heard_quiet : (verdict : Verdict) → (verdict ≡ recorded) ⊎ (verdict ≡ ba
 heard_quiet verdict (inl e) = rw e tt
 heard_quiet verdict (inr e) = rw e tt
 
+some_waits : (id : IdData) → Running ≡ Running → Some id ≡ None → ⊥
+some_waits id same e = cc
+
+idle_new : (expected : Option IdData) → New ≡ Running → expected ≡ None → ⊥
+idle_new expected e none = cc
+
+idle_down : (expected : Option IdData) → Down ≡ Running → expected ≡ None → ⊥
+idle_down expected e none = cc
+
+idle_ended : (expected : Option IdData) → Ended ≡ Running → expected ≡ None → ⊥
+idle_ended expected e none = cc
+
 module _ (s : Session) (version : Version) (p : ChangeData) where
   quiet_in : (phase : Phase) → s.server.phase ≡ phase → (expected : Option IdData) → s.expected ≡ expected
       → (phase ≡ Running → expected ≡ None → ⊥) → IsQuiet (judge_client s version (did_change (Some p))).verdict
@@ -68,16 +80,16 @@ module _ (s : Session) (body : List ℕ) where
       state p asks Running is None none = inl (rw (is, none) refl)
       state p asks Running is (Some id) some =
           inr (subst (λ (x : IncomingData). IsQuiet (judge_client s version x).verdict) (sym asks)
-          (quiet_in s version p Running is (Some id) some (λ _ (e : Some id ≡ None). cc)))
+          (quiet_in s version p Running is (Some id) some (some_waits id)))
       state p asks New is expected waits =
           inr (subst (λ (x : IncomingData). IsQuiet (judge_client s version x).verdict) (sym asks)
-          (quiet_in s version p New is expected waits (λ (e : New ≡ Running) _. cc)))
+          (quiet_in s version p New is expected waits (idle_new expected)))
       state p asks Down is expected waits =
           inr (subst (λ (x : IncomingData). IsQuiet (judge_client s version x).verdict) (sym asks)
-          (quiet_in s version p Down is expected waits (λ (e : Down ≡ Running) _. cc)))
+          (quiet_in s version p Down is expected waits (idle_down expected)))
       state p asks Ended is expected waits =
           inr (subst (λ (x : IncomingData). IsQuiet (judge_client s version x).verdict) (sym asks)
-          (quiet_in s version p Ended is expected waits (λ (e : Ended ≡ Running) _. cc)))
+          (quiet_in s version p Ended is expected waits (idle_ended expected)))
 
       by : (change : Option ChangeData) → change_in m ≡ change → Received version Client
       by None is =

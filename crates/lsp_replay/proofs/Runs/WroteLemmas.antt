@@ -81,7 +81,7 @@ stops_not_ok (Some (Err fault)) outcome not_ok e = absurd (cc)
 
 module _ (log_rules : LogRules) (g : List Record → RunOutput) (never : (rs : List Record) → IsNotOk (g rs).stop)
     (Q : Outcome → Type 0) (left_old left_new received_old received_new : Option (List ℕ))
-    (then : (input : List ℕ) (outcome : Outcome) → AtEnd log_rules g input received_old received_new outcome
+    (finish : (input : List ℕ) (outcome : Outcome) → AtEnd log_rules g input received_old received_new outcome
     → Consumes left_old left_new input → Q outcome) where
   pub at_the_end : (state : PortState) (result : Result Outcome EngineFault)
       → Ran log_rules g state left_old left_new received_old received_new result → IfOk result Q
@@ -91,7 +91,7 @@ module _ (log_rules : LogRules) (g : List Record → RunOutput) (never : (rs : L
       (λ (stopped : Stopped log_rules g ran.input received_old received_new (Ok outcome)).
       absurd (stops_not_ok (g stopped.log.records).stop outcome (never stopped.log.records) stopped.stops))
       (λ (end : (state.ended ≡ true) × AtEnd log_rules g ran.input received_old received_new outcome).
-      then ran.input outcome end.1 ran.read)
+      finish ran.input outcome end.1 ran.read)
       ran.came
 
 -- ---- what the engines write

@@ -135,6 +135,9 @@ module _ (s : Session) (c d : Selection) (head : Head) (raw body : List ℕ) (wr
 
 -- ---- the same, with a selection or without
 
+same_head : (a b : Head) → Some a ≡ Some b → a ≡ b
+same_head a b e = cc
+
 module _ (s : Session) (head : Head) (raw body : List ℕ) where
   abbrev given : Record
   given = record { head = head; raw = raw; body = body }
@@ -153,7 +156,7 @@ module _ (s : Session) (head : Head) (raw body : List ℕ) where
       → (read : BodyData) → read ≡ body_read head.version head.side body
       → read ≡ body_read written.version written.side body
   read_again None d written admitted read is =
-      is ∙ ap (λ (h : Head). body_read h.version h.side body) (let same : written ≡ head = cc in sym same)
+      is ∙ ap (λ (h : Head). body_read h.version h.side body) (sym (same_head written head admitted.1))
   read_again (Some c) None written admitted read is = absurd admitted
   read_again (Some c) (Some d) written admitted read is = is ∙ sym (version_same s c d head raw body written admitted)
 
@@ -165,11 +168,8 @@ module _ (s : Session) (head : Head) (raw body : List ℕ) where
       → piped c output s (given ∷ more) ≡ after bytes end (piped d next t more)
   printed None d written admitted t session output next bytes end step more =
       ap (λ (h : Head). output (record { head = h; raw = raw; body = body } ∷ more))
-      (let same : written ≡ head = head_of admitted.1 in sym same)
+      (sym (same_head written head admitted.1))
       ∙ step more ∙ ap (λ (x : Option Selection). after bytes end (piped x next t more)) (sym admitted.0)
-    where
-      head_of : Some written ≡ Some head → written ≡ head
-      head_of e = cc
   printed (Some c) None written admitted t session output next bytes end step more = absurd admitted
   printed (Some c) (Some d) written admitted t session output next bytes end step more =
       goes_on s c d head raw body written admitted t session output next bytes end step more
@@ -185,7 +185,7 @@ module _ (s : Session) (head : Head) (raw body : List ℕ) where
       inr (
         ended.0,
         λ more. ap (λ (h : Head). output (record { head = h; raw = raw; body = body } ∷ more))
-            (let same : written ≡ head = cc in sym same) ∙ ended.1 more,
+            (sym (same_head written head admitted.1)) ∙ ended.1 more,
       )
   failed (Some c) None written admitted output fault (inr ended) = absurd admitted
   failed (Some c) (Some d) written admitted output fault (inr ended) =

@@ -147,20 +147,20 @@ impl Squashing {
         let mut joiner = Joiner::new(self.batches.take());
         let taken = self.session.take(read, &mut joiner)?;
         in_log(&taken.verdict, head.place)?;
-        match joiner.writing {
-            None => {
-                self.texts.push_end(buffer, &joiner.batches)?;
-                push_front(buffer, head)?;
-                buffer.extend_from_slice(raw)?;
-                Ok(())
-            }
-            Some(Writing::TooLong) => Err(EngineFault::BodyTooLong { place: head.place }),
-            Some(Writing::Continues(frame, batches)) => {
+        let Some(writing) = joiner.writing else {
+            self.texts.push_end(buffer, &joiner.batches)?;
+            push_front(buffer, head)?;
+            buffer.extend_from_slice(raw)?;
+            return Ok(());
+        };
+        match writing {
+            Writing::TooLong => Err(EngineFault::BodyTooLong { place: head.place }),
+            Writing::Continues(frame, batches) => {
                 self.texts.continue_with(head, &frame)?;
                 self.batches = Some(batches);
                 Ok(())
             }
-            Some(Writing::Begins(frame, ended, batches)) => {
+            Writing::Begins(frame, ended, batches) => {
                 self.texts.push_end(buffer, &ended)?;
                 self.texts.begin(head, &frame)?;
                 self.batches = Some(batches);
