@@ -15,7 +15,6 @@ use Rattle.lsp_server.specs.Step.{ServerData}
 use Rattle.lsp_replay.specs.Commands.{canonical_change_body, canonical_if, change_in}
 use Rattle.lsp_replay.specs.Session.{Session, Verdict, answered, recorded, bad, encoding_for, is_running, judge_client, judge_from, judge_server}
 use Rattle.lsp_replay.specs.inside.Bodies.{BodyData, IsReceived, from_client, from_server, body_read, change_of, judge_read}
-use Rattle.lsp_replay.specs.inside.Session.{judge_at}
 use Rattle.lsp_replay.specs.inside.Taken.{accepted_if, accepted_of, received_of}
 use Rattle.lsp_replay.proofs.Canonical.CanonicalLogLemmas.{heard_as}
 use Rattle.lsp_replay.proofs.Records.JudgeLemmas.{asks_change}

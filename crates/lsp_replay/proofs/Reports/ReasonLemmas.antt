@@ -16,7 +16,7 @@ use Rattle.lsp_replay.specs.Commands.{change_in}
 use Rattle.lsp_replay.specs.Explained.{explanation}
 use Rattle.lsp_replay.specs.Session.{Session, Verdict, answered, recorded, bad, encoding_for, is_running, judge_client, judge_from, judge_server}
 use Rattle.lsp_replay.specs.Trace.{reason_json}
-use Rattle.lsp_replay.specs.inside.Bodies.{body_read, from_client}
+use Rattle.lsp_replay.specs.inside.Bodies.{body_read}
 use Rattle.lsp_replay.specs.inside.Facts.{reason_of}
 use Rattle.lsp_replay.specs.inside.Session.{judge_at}
 use Rattle.lsp_replay.specs.inside.Taken.{received_of}

@@ -4,11 +4,10 @@ use Rattle.std.proofs.lemmas.Bool.{cases_Bool}
 use Rattle.std.proofs.lemmas.Slice.Eq.{bytes_eq-Decides}
 use Rattle.lsp_text.specs.Units.{units_in}
 use Rattle.lsp_text.specs.declared.encoding.Encoding.{Encoding}
-use Rattle.lsp_edit.specs.Batch.{ContentChange}
 use Rattle.lsp_message.specs.Message.{IdData}
 use Rattle.lsp_message.specs.Params.{DocumentItem, ChangeData}
 use Rattle.lsp_store.specs.Squash.{SquashData, HasReached, IsSquashAfter, squash_of}
-use Rattle.lsp_store.specs.Table.{Refusal, changed as changed_entry, entry_at}
+use Rattle.lsp_store.specs.Table.{changed as changed_entry, entry_at}
 use Rattle.lsp_store.proofs.LawLemmas.{found_changed}
 use Rattle.lsp_store.proofs.SquashLemmas.{after_is}
 use Rattle.lsp_server.specs.Answer.{changed}

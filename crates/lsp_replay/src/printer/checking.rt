@@ -2,7 +2,6 @@
 
 ghost use Rattle.std.specs.Prelude.{◌≡◌, ◌++◌, refl, OnOk, decimal, false};
 ghost use Rattle.lsp_server.specs.Seen.{answer_view};
-ghost use Rattle.lsp_replay.specs.RunOutput.{RunOutput};
 ghost use Rattle.lsp_replay.specs.Commands.{checking, check_line, code_word, verdict_word, word_of};
 ghost use Rattle.lsp_replay.specs.inside.Commands.{run_output_in};
 ghost use Rattle.lsp_replay.specs.inside.Verdicts.{verdict_view};

@@ -1,7 +1,7 @@
 //! `normalise` with squash: writes accepted changes of one document, one after another, as one
 //! message.
 
-ghost use Rattle.std.specs.Prelude.{◌≡◌, ◌++◌, ◌⊎◌, ℕ, List, [], refl, IfErr, OnOk, None, Some, false};
+ghost use Rattle.std.specs.Prelude.{◌≡◌, ◌++◌, ◌⊎◌, [], refl, IfErr, OnOk, None, Some, false};
 ghost use Rattle.lsp_replay.specs.Commands.{front_of};
 ghost use Rattle.lsp_replay.specs.inside.Reads.{IsReadOf};
 ghost use Rattle.lsp_replay.specs.inside.RunOutput.{IsRecordFault};
@@ -132,16 +132,18 @@ impl Squashing {
         &mut self,
         head: Head,
         raw: &[u8],
+        _body: &[u8],
         read: RecordBody<'_>,
         buffer: &mut Vec<u8>,
     ) -> Result<(), EngineFault>
-        requires { buffer.old.items ≡ [] }
-        ensures ok { (body : List ℕ) → IsReadOf head body read.entry → OnOk result
-            (IsSquashStep self.old (record { head = head; raw = raw.now; body = body })
+        requires is_read { IsReadOf head _body.now read }
+        requires empty { buffer.old.items ≡ [] }
+        ensures ok { OnOk result
+            (IsSquashStep self.old (record { head = head; raw = raw.now; body = _body.now })
             buffer.new.items self.new) }
-        ensures error { (body : List ℕ) → IsReadOf head body read.entry → IfErr result
+        ensures error { IfErr result
             (λ fault. (fault ≡ EngineFault.NoMemory) ⊎ (IsRecordFault fault
-            × (step_at self.old (record { head = head; raw = raw.now; body = body })
+            × (step_at self.old (record { head = head; raw = raw.now; body = _body.now })
             ≡ faulty fault))) }
     {
         let mut joiner = Joiner::new(self.batches.take());
@@ -194,11 +196,11 @@ impl Printer for Squashing {
         &mut self,
         head: Head,
         raw: &[u8],
-        _body: &[u8],
+        body: &[u8],
         read: RecordBody<'_>,
         buffer: &mut Vec<u8>,
     ) -> Result<Given, EngineFault> {
-        self.write_read(head, raw, read, buffer)?;
+        self.write_read(head, raw, body, read, buffer)?;
         Ok(Given::more(Output::Bytes))
     }
 

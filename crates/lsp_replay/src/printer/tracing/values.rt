@@ -5,13 +5,13 @@ ghost use Rattle.std.specs.Fmt.{signed_decimal};
 ghost use Rattle.lsp_replay.specs.Commands.{verdict_word};
 ghost use Rattle.lsp_replay.specs.Trace.{body_json, member, one_line, text_json};
 ghost use Rattle.lsp_replay.specs.Trace.{version_json};
-ghost use Rattle.lsp_replay.specs.inside.Tracing.{canonical_json};
+ghost use Rattle.lsp_replay.specs.inside.Facts.{canonical_json};
 ghost use Rattle.lsp_replay.specs.inside.Verdicts.{verdict_view};
 
 use crate::members::{push_json_string, push_signed};
 use crate::printer::checking::push_verdict;
 use crate::session::Verdict;
-use crate::session::writing::Appended;
+use crate::session::canonical::Appended;
 use lsp_store::Document;
 use std::alloc::{AllocError, Global};
 
