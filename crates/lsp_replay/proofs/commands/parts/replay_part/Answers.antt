@@ -6,7 +6,6 @@ use Rattle.lsp_replay.proofs.Reports.PartLemmas.{nothing_kept}
 use Rattle.lsp_replay.proofs.Runs.RunReportLemmas.{run_of}
 use Rattle.lsp_replay.proofs.commands.parts.replay_part.Goals as goal
 
--- TODO: before the first record the last text is that of no document (`nothing_kept`).
 pub returns : goal.returns
 returns g c =
     let session = c.session.ensures.value in

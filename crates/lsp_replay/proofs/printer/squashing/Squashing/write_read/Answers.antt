@@ -14,17 +14,17 @@ returns-in_default-clause-ok c =
     let shown = c.in_ok-taken.ensures.witnessed c.args.head c.args._body.now c.requires.is_read in
     let s = c.self.inside.session in
     let begins = c.new-joiner.ensures in
-    let writing = seen_joined s c.take-taken.new.self c.take.result c.args.head c.args._body.now c.new-joiner.result
-    c.take-taken.new.witness begins shown in
-    let ended = unjoined s c.take-taken.new.self c.take.result c.args.head c.args._body.now c.new-joiner.result
-    c.take-taken.new.witness begins shown c.in_default.is in
+    let writing = seen_joined s c.take-2.new.self c.take.result c.args.head c.args._body.now c.new-joiner.result
+    c.take-2.new.witness begins shown in
+    let ended = unjoined s c.take-2.new.self c.take.result c.args.head c.args._body.now c.new-joiner.result
+    c.take-2.new.witness begins shown c.in_default.is in
     record {
       session = taken.session;
       step = told_as_it_is s c.self.inside.texts.front.items c.self.inside.texts.singles.items c.self.inside.batches
           (record { head = c.args.head; raw = c.args.raw.now; body = c.args._body.now })
           (verdict_view c.in_ok-taken.taken.verdict) taken.judged
           c.take.result c.take.ensures.value c.args.buffer.now.items c.requires.empty
-          c.take-taken.new.witness.batches ended not_bad (rw (c.in_default.is, ← taken.judged) at writing)
+          c.take-2.new.witness.batches ended not_bad (rw (c.in_default.is, ← taken.judged) at writing)
           c.push_end.new.output.items c.push_front.new.output.items c.extend_from_slice.new.self.items
           c.in_ok-push_end-in_default.ensures c.in_ok-push_front-in_default.ensures
           c.in_ok-extend_from_slice-in_default.ensures.items
@@ -37,8 +37,8 @@ returns-in-TooLong-clause-error c =
     (let taken = c.in_ok-taken.ensures.taken c.args.head c.args._body.now c.requires.is_read in
     let shown = c.in_ok-taken.ensures.witnessed c.args.head c.args._body.now c.requires.is_read in
     let s = c.self.inside.session in
-    let writing = rw (c.in-Some.is, c.in-TooLong.is, ← taken.judged) at (seen_joined s c.take-taken.new.self
-    c.take.result c.args.head c.args._body.now c.new-joiner.result c.take-taken.new.witness c.new-joiner.ensures shown) in
+    let writing = rw (c.in-Some.is, c.in-TooLong.is, ← taken.judged) at (seen_joined s c.take-2.new.self
+    c.take.result c.args.head c.args._body.now c.new-joiner.result c.take-2.new.witness c.new-joiner.ensures shown) in
     inr (
       tt,
       told_too_long s c.self.inside.texts.front.items c.self.inside.texts.singles.items c.self.inside.batches
@@ -52,8 +52,8 @@ returns-in-Continues-clause-ok c =
     (let taken = c.in_ok-taken.ensures.taken c.args.head c.args._body.now c.requires.is_read in
     let shown = c.in_ok-taken.ensures.witnessed c.args.head c.args._body.now c.requires.is_read in
     let s = c.self.inside.session in
-    let writing = rw (c.in-Some.is, c.in-Continues.is, ← taken.judged) at (seen_joined s c.take-taken.new.self
-    c.take.result c.args.head c.args._body.now c.new-joiner.result c.take-taken.new.witness c.new-joiner.ensures shown) in
+    let writing = rw (c.in-Some.is, c.in-Continues.is, ← taken.judged) at (seen_joined s c.take-2.new.self
+    c.take.result c.args.head c.args._body.now c.new-joiner.result c.take-2.new.witness c.new-joiner.ensures shown) in
     record {
       session = taken.session;
       step = told_more s c.self.inside.texts.front.items c.self.inside.texts.singles.items c.self.inside.batches
@@ -72,8 +72,8 @@ returns-clause-ok c =
     (let taken = c.in_ok-taken.ensures.taken c.args.head c.args._body.now c.requires.is_read in
     let shown = c.in_ok-taken.ensures.witnessed c.args.head c.args._body.now c.requires.is_read in
     let s = c.self.inside.session in
-    let writing = rw (c.in-Some.is, c.in-Begins.is, ← taken.judged) at (seen_joined s c.take-taken.new.self
-    c.take.result c.args.head c.args._body.now c.new-joiner.result c.take-taken.new.witness c.new-joiner.ensures shown) in
+    let writing = rw (c.in-Some.is, c.in-Begins.is, ← taken.judged) at (seen_joined s c.take-2.new.self
+    c.take.result c.args.head c.args._body.now c.new-joiner.result c.take-2.new.witness c.new-joiner.ensures shown) in
     record {
       session = taken.session;
       step = told_next s c.self.inside.texts.front.items c.self.inside.texts.singles.items c.self.inside.batches
@@ -91,13 +91,13 @@ returns-clause-ok c =
 pub invariant_of-self-in-Continues : goal.invariant_of-self-in-Continues
 invariant_of-self-in-Continues c =
     let shown = c.in_ok-taken.ensures.witnessed c.args.head c.args._body.now c.requires.is_read in
-    rw c.in-Continues.is at (seen_open c.self.inside.session c.take-taken.new.self c.take.result c.args.head
-    c.args._body.now c.new-joiner.result c.take-taken.new.witness c.new-joiner.ensures shown c.in-Some.writing
+    rw c.in-Continues.is at (seen_open c.self.inside.session c.take-2.new.self c.take.result c.args.head
+    c.args._body.now c.new-joiner.result c.take-2.new.witness c.new-joiner.ensures shown c.in-Some.writing
     c.in-Some.is)
 
 pub invariant_of-self : goal.invariant_of-self
 invariant_of-self c =
     let shown = c.in_ok-taken.ensures.witnessed c.args.head c.args._body.now c.requires.is_read in
-    rw c.in-Begins.is at (seen_open c.self.inside.session c.take-taken.new.self c.take.result c.args.head
-    c.args._body.now c.new-joiner.result c.take-taken.new.witness c.new-joiner.ensures shown c.in-Some.writing
+    rw c.in-Begins.is at (seen_open c.self.inside.session c.take-2.new.self c.take.result c.args.head
+    c.args._body.now c.new-joiner.result c.take-2.new.witness c.new-joiner.ensures shown c.in-Some.writing
     c.in-Some.is)
