@@ -1,6 +1,6 @@
 -- What a command writes of the records that stay, a record at a time, and over all records.
 use Rattle.std.proofs.Common.{◌≡◌, ◌⊎◌, inl, inr, ℕ, Bool, true, false, List, [], ◌∷◌, ◌++◌, Option, Some, None, refl, sym, ap, ◌∙◌, subst}
-use Rattle.std.specs.Prelude.{if◌then◌else◌, Result, Err}
+use Rattle.std.specs.Prelude.{if◌then◌else◌, Result, Ok, Err, IfErr, IfOk, OnOk}
 use Rattle.lsp_replay.specs.declared.outcome.Outcome.{Outcome}
 use Rattle.lsp_stream.specs.declared.fault.EngineFault.{EngineFault}
 use Rattle.lsp_stream.specs.declared.fault.EngineFault.TheVariants.{NoMemory}
@@ -190,6 +190,16 @@ module _ (s : Session) (head : Head) (raw body : List ℕ) where
   failed (Some c) None written admitted output fault (inr ended) = absurd admitted
   failed (Some c) (Some d) written admitted output fault (inr ended) =
       inr (ended.0, goes_wrong s c d head raw body written admitted output fault ended.1)
+
+-- What a call's clauses say where it succeeds, and where it fails.
+pub when_ok : {A E Q : Type 0} {P R : A → Type 0} (r : Result A E) → (Q → (a : A) → P a → R a) → OnOk r Q → IfOk r P
+    → IfOk r R
+when_ok (Ok a) follows q p = follows q a p
+when_ok (Err e) follows q p = tt
+
+pub when_err : {A E : Type 0} {P Q : E → Type 0} (r : Result A E) → ((e : E) → P e → Q e) → IfErr r P → IfErr r Q
+when_err (Ok a) follows p = tt
+when_err (Err e) follows p = follows e p
 
 -- ---- the end
 
