@@ -1,6 +1,6 @@
 -- What a command writes of the records that stay, a record at a time, and over all records.
 use Rattle.std.proofs.Common.{◌≡◌, ◌⊎◌, inl, inr, ℕ, Bool, true, false, List, [], ◌∷◌, ◌++◌, Option, Some, None, refl, sym, ap, ◌∙◌, subst}
-use Rattle.std.specs.Prelude.{if◌then◌else◌, Result, Ok, Err, IfErr, IfOk, OnOk}
+use Rattle.std.specs.Prelude.{if◌then◌else◌, Result, Ok, Err, IfErr, IfOk, MatchOption, OnOk}
 use Rattle.lsp_replay.specs.declared.outcome.Outcome.{Outcome}
 use Rattle.lsp_stream.specs.declared.fault.EngineFault.{EngineFault}
 use Rattle.lsp_stream.specs.declared.fault.EngineFault.TheVariants.{NoMemory}
@@ -217,6 +217,26 @@ pub same_outcome : (c : Option Selection) (output : List Record → RunOutput) (
     → (piped c output s []).outcome ≡ (output []).outcome
 same_outcome None output s = refl
 same_outcome (Some c) output s = refl
+
+pub finished : (c : Option Selection) (output next : List Record → RunOutput) (s t : Session) (line_due due : Bool)
+    → due ≡ written_due c line_due → (bytes : List ℕ) (Falls : Type 0) (end : Option Outcome)
+    → MatchOption end
+    (((output []).last due ≡ bytes ++ (next []).last false) × ((next []).outcome ≡ (output []).outcome) × Falls)
+    (λ outcome. ((output []).last due ≡ bytes) × (outcome ≡ (output []).outcome))
+    → MatchOption end
+    (((piped c output s []).last line_due ≡ bytes ++ (piped (once_written c) next t []).last false)
+    × ((piped (once_written c) next t []).outcome ≡ (piped c output s []).outcome) × Falls)
+    (λ outcome. ((piped c output s []).last line_due ≡ bytes) × (outcome ≡ (piped c output s []).outcome))
+finished c output next s t line_due due is bytes Falls None ended = (
+  last_due c output s line_due ∙ ap (λ b. (output []).last b) (sym is) ∙ ended.0
+      ∙ ap (λ (bs : List ℕ). bytes ++ bs) (sym (last_once c next t)),
+  same_outcome (once_written c) next t ∙ ended.1 ∙ sym (same_outcome c output s),
+  ended.2,
+)
+finished c output next s t line_due due is bytes Falls (Some outcome) ended = (
+  last_due c output s line_due ∙ ap (λ b. (output []).last b) (sym is) ∙ ended.0,
+  ended.1 ∙ sym (same_outcome c output s),
+)
 
 -- ---- all records
 
