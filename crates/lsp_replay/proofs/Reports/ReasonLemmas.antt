@@ -6,7 +6,7 @@ use Rattle.lsp_message.specs.Message.{IdData, reading}
 use Rattle.lsp_message.specs.Params.{ChangeData}
 use Rattle.lsp_server.specs.declared.phase.Phase.{Phase}
 use Rattle.lsp_server.specs.declared.phase.Phase.TheVariants.{New, Running, Down, Ended}
-use Rattle.lsp_server.specs.Answer.{dropped}
+use Rattle.lsp_server.specs.Answer.{already_ended, changed, dropped, exits, ignored, refused, reply}
 use Rattle.lsp_server.specs.Incoming.{IncomingData, did_change, incoming_of}
 use Rattle.lsp_log.specs.declared.record.Head.{Head}
 use Rattle.lsp_log.specs.declared.record.Sender.{Sender}
@@ -117,7 +117,12 @@ quiet_explained : (limits : LimitsData) (uri : Option (List ℕ)) (last : Option
 quiet_explained limits uri last change recorded q = refl
 quiet_explained limits uri last change bad q = refl
 quiet_explained limits uri last change (answered dropped) q = refl
-quiet_explained limits uri last change (answered answer) q = absurd q
+quiet_explained limits uri last change (answered (reply m)) q = absurd q
+quiet_explained limits uri last change (answered changed) q = absurd q
+quiet_explained limits uri last change (answered ignored) q = absurd q
+quiet_explained limits uri last change (answered already_ended) q = absurd q
+quiet_explained limits uri last change (answered (refused why)) q = absurd q
+quiet_explained limits uri last change (answered (exits status)) q = absurd q
 
 pub explained_at : (limits : LimitsData) (uri : Option (List ℕ)) (last : Option ℕ) (s : Session) (head : Head)
     (body : List ℕ)
@@ -132,7 +137,12 @@ quiet_reason : (limits : LimitsData) (change : Option ChangeData) (verdict : Ver
 quiet_reason limits change recorded q = refl
 quiet_reason limits change bad q = refl
 quiet_reason limits change (answered dropped) q = refl
-quiet_reason limits change (answered answer) q = absurd q
+quiet_reason limits change (answered (reply m)) q = absurd q
+quiet_reason limits change (answered changed) q = absurd q
+quiet_reason limits change (answered ignored) q = absurd q
+quiet_reason limits change (answered already_ended) q = absurd q
+quiet_reason limits change (answered (refused why)) q = absurd q
+quiet_reason limits change (answered (exits status)) q = absurd q
 
 reason_same : (limits : LimitsData) (m : IncomingData) (verdict : Verdict)
     → reason_of limits (change_in m) verdict ≡ reason_json limits m verdict

@@ -50,9 +50,9 @@ pub record IsAbout (s : ServerData) (ranged : Bool) (body : Reading) (read : Bod
 -- ---- after it
 
 -- By what the record is about, and what became of it.
-pub record IsLearned (known : Known) (number : ℕ) (about : About) (taken : Taken) (facts : Facts) :
+pub record IsLearned (known : Known) (n : ℕ) (about : About) (taken : Taken) (facts : Facts) :
     Type 0 where
-  pub number : facts.number ≡ number
+  pub number : facts.number ≡ n
   pub verdict : facts.verdict ≡ taken.verdict
   pub uri : facts.uri ≡ about.uri
   pub change : facts.change ≡ taken.change
