@@ -1,5 +1,5 @@
-//! `normalise`, of all records or of those that are about the session and the documents' texts; with
-//! squash and without.
+//! `normalise`, with squash and without: of all records, or of those that are about the session and
+//! the documents' texts.
 
 ghost use Rattle.std.specs.Prelude.{◌≡◌, true, false};
 ghost use Rattle.lsp_frame.specs.Limits.{AreInRange};
@@ -59,9 +59,9 @@ pub fn normalise<R: Source, W: Sink>(
     normalise_selected(alloc, reader, writer, settings, None, max_turns)
 }
 
-/// Writes a log as [`normalise`] does, and leaves out each record that is neither
-/// about the session nor about a document's text. So with `squash` all that was done to a document
-/// between two saves becomes one message.
+/// Writes a log as [`normalise`] does, and leaves out each record that is neither about the session
+/// nor about a document's text. So with `squash` all that was done to a document between two saves
+/// becomes one message.
 ///
 /// Of the client's messages these stay: `initialize`, `initialized`, `shutdown`, `exit`, `didOpen`,
 /// `didChange`, `didClose`, `didSave`, and each that is refused (LSP 3.17, Lifecycle Messages, Text

@@ -14,7 +14,8 @@ returns g c =
     let after = ports (g.R.Source.seen c.normalise_selected.new.reader) (g.W.Sink.seen c.normalise_selected.new.writer)
     in
     let settings = c.args.settings in
-    let ran = by_setting settings (λ (f : List Record → RunOutput). IsRanOf (log_engine settings f) before after c.normalise_selected.result) in
+    let ran = by_setting settings
+    (λ (f : List Record → RunOutput). IsRanOf (log_engine settings f) before after c.normalise_selected.result) in
     let ranges = c.normalise_selected.ensures.in_range in
     record {
       run = c.normalise_selected.ensures.run;

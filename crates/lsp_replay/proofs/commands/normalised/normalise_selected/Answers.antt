@@ -3,7 +3,7 @@ use Rattle.std.specs.Prelude.{None, List}
 use Rattle.lsp_log.specs.Log.{Record}
 use Rattle.lsp_stream.specs.Ports.{ports}
 use Rattle.lsp_replay.specs.Commands.{log_config, normalising}
-use Rattle.lsp_replay.specs.Run.{IsEngineRun, log_engine}
+use Rattle.lsp_replay.specs.Run.{Engine, IsEngineRun, log_engine}
 use Rattle.lsp_replay.specs.RunOutput.{RunOutput}
 use Rattle.lsp_replay.specs.Session.{opened}
 use Rattle.lsp_replay.specs.inside.Piped.{piped}
@@ -22,11 +22,12 @@ returns-then-joins_series g c =
     let run = rw (c.rules-rules.ensures, printer) at c.run.ensures.run in
     let whole = rw (c.rules-rules.ensures, printer) at c.run.ensures.whole in
     let s = opened (log_config c.args.settings) in
+    let engine : (List Record → RunOutput) → Engine = λ f. log_engine c.args.settings (piped c.args.selection f s) in
     record {
-      run = as_steps c.args.settings (λ (f : List Record → RunOutput). IsEngineRun (log_engine c.args.settings (piped c.args.selection f s)) c.args.max_turns before after c.run.result) squash
+      run = as_steps c.args.settings (λ (f : List Record → RunOutput). IsEngineRun (engine f) c.args.max_turns before after c.run.result) squash
           (run_of_piped c.run.ensures.first c.run.ensures.version squash_view None s c.args.selection false run
           (λ _. whole (λ _. refl)));
-      ran = as_steps c.args.settings (λ (f : List Record → RunOutput). IsRanOf (log_engine c.args.settings (piped c.args.selection f s)) before after c.run.result) squash run.ran;
+      ran = as_steps c.args.settings (λ (f : List Record → RunOutput). IsRanOf (engine f) before after c.run.result) squash run.ran;
       in_range = c.session-session.ensures.in_range;
     }
 
@@ -38,10 +39,11 @@ returns g c =
     let run = rw (c.rules-rules.ensures, c.session-session.ensures.value) at c.run-2.ensures.run in
     let whole = rw (c.rules-rules.ensures, c.session-session.ensures.value) at c.run-2.ensures.whole in
     let s = opened (log_config c.args.settings) in
+    let engine : (List Record → RunOutput) → Engine = λ f. log_engine c.args.settings (piped c.args.selection f s) in
     record {
-      run = as_each c.args.settings (λ (f : List Record → RunOutput). IsEngineRun (log_engine c.args.settings (piped c.args.selection f s)) c.args.max_turns before after c.run-2.result) each
+      run = as_each c.args.settings (λ (f : List Record → RunOutput). IsEngineRun (engine f) c.args.max_turns before after c.run-2.result) each
           (run_of_piped c.run-2.ensures.first c.run-2.ensures.version normalising tt s c.args.selection false run
           (λ _. whole (λ _. refl)));
-      ran = as_each c.args.settings (λ (f : List Record → RunOutput). IsRanOf (log_engine c.args.settings (piped c.args.selection f s)) before after c.run-2.result) each run.ran;
+      ran = as_each c.args.settings (λ (f : List Record → RunOutput). IsRanOf (engine f) before after c.run-2.result) each run.ran;
       in_range = c.session-session.ensures.in_range;
     }
