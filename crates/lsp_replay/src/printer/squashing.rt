@@ -126,8 +126,8 @@ impl Squashing {
         self.texts.push_end(output, &self.batches)
     }
 
-    /// Takes the record that was read. Writes it as it is, or joins it to the open series if it is an
-    /// accepted change. A bad record, and a canonical body over the limit, end the run.
+    /// Takes the record that was read. Writes it as it is, or joins it to the open series if it is
+    /// an accepted change. A bad record, and a canonical body over the limit, end the run.
     fn write_read(
         &mut self,
         head: Head,
