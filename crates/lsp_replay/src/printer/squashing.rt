@@ -149,8 +149,9 @@ impl Squashing {
         let mut joiner = Joiner::new(self.batches.take());
         let taken = self.session.take(read, &mut joiner)?;
         in_log(&taken.verdict, head.place)?;
-        let Some(writing) = joiner.writing else {
-            self.texts.push_end(buffer, &joiner.batches)?;
+        let Joiner { batches, writing } = joiner;
+        let Some(writing) = writing else {
+            self.texts.push_end(buffer, &batches)?;
             push_front(buffer, head)?;
             buffer.extend_from_slice(raw)?;
             return Ok(());
