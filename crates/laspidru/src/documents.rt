@@ -1,61 +1,33 @@
-//! What is asked of a server's documents.
+//! The functions on the open documents of an end.
 
-ghost use Rattle.std.specs.Prelude.{◌≡◌, ◌≢◌, length};
+ghost use Rattle.std.specs.Prelude.{◌≡◌, ◌≢◌};
 ghost use Rattle.laspidru.specs.Codes.{IsAnswer, and_then};
+ghost use Rattle.laspidru.specs.Ends.{IsOpened, as_end, entry_asked, entry_in, entry_text};
+ghost use Rattle.laspidru.specs.Ends.{stored_end};
 ghost use Rattle.laspidru.specs.Objects.{IsCopy, rest_asked};
-ghost use Rattle.laspidru.specs.Servers.{IsOpened, as_server, entry_asked, entry_in, entry_text};
-ghost use Rattle.laspidru.specs.Servers.{stored_server};
+
+mod edits;
+mod message;
+mod positions;
 
 use crate::answers::Opened;
 use crate::bytes::{copy_text, utf8_text};
 use crate::codes::{EMPTY, NOT_OPEN, NOT_UTF8, OK, OTHER_KIND};
+use crate::ends::store_of;
 use crate::handle::Handle;
 use crate::object::Object;
 use std::alloc::Global;
 
-/// Returns how many documents are open in an object's server.
-fn object_documents(object: &Object, out: &mut usize) -> u32
-    ensures answer { IsAnswer (as_server object.now) result
-        (λ session. out.new ≡ length session.server.table) }
-    ensures unchanged { result ≢ OK → out.new ≡ out.old }
-{
-    let Object::Server(session) = object else {
-        return OTHER_KIND;
-    };
-    *out = session.server.store().len();
-    OK
-}
-
-/// Returns how many documents are open, in constant time. Codes: EMPTY, OTHER_KIND.
-#[unsafe(no_mangle)]
-pub extern "C" fn laspidru_server_documents(
-    alloc: Global,
-    handle: &mut Handle,
-    out: &mut usize,
-) -> u32
-    ensures answer { IsAnswer (stored_server handle.old.value) result
-        (λ session. out.new ≡ length session.server.table) }
-    ensures handle { handle.new.value ≡ handle.old.value }
-    ensures unchanged { result ≢ OK → out.new ≡ out.old }
-{
-    let Some(object) = handle.take(alloc) else {
-        return EMPTY;
-    };
-    let code = object_documents(&object, out);
-    handle.put(object);
-    code
-}
-
-/// Returns the version and the length of a document of an object's server.
+/// Returns the version and the length of a document of an object's end.
 fn object_opened(object: &Object, uri: &str, out: &mut Opened) -> u32
-    ensures answer { IsAnswer (and_then (as_server object.now) (entry_in uri.now)) result
+    ensures answer { IsAnswer (and_then (as_end object.now) (entry_in uri.now)) result
         (IsOpened out.new) }
     ensures unchanged { result ≢ OK → out.new ≡ out.old }
 {
-    let Object::Server(session) = object else {
+    let Object::End(held) = object else {
         return OTHER_KIND;
     };
-    let Some(document) = session.server.store().get(uri) else {
+    let Some(document) = store_of(&held.party).get(uri) else {
         return NOT_OPEN;
     };
     *out = Opened {
@@ -69,13 +41,13 @@ fn object_opened(object: &Object, uri: &str, out: &mut Opened) -> u32
 /// for byte. Codes, in this order: NOT_UTF8 of the URI, EMPTY, OTHER_KIND, NOT_OPEN. Costs a hash
 /// look-up.
 #[unsafe(no_mangle)]
-pub extern "C" fn laspidru_server_document(
+pub extern "C" fn laspidru_open_state(
     alloc: Global,
     handle: &mut Handle,
     uri: &[u8],
     out: &mut Opened,
 ) -> u32
-    ensures answer { IsAnswer (entry_asked uri.now (stored_server handle.old.value)) result
+    ensures answer { IsAnswer (entry_asked uri.now (stored_end handle.old.value)) result
         (IsOpened out.new) }
     ensures handle { handle.new.value ≡ handle.old.value }
     ensures unchanged { result ≢ OK → out.new ≡ out.old }
@@ -91,17 +63,17 @@ pub extern "C" fn laspidru_server_document(
     code
 }
 
-/// Copies the text of a document of an object's server.
+/// Copies the text of a document of an object's end.
 fn object_text(object: &Object, uri: &str, start: usize, out: &mut [u8], copied: &mut usize) -> u32
-    ensures answer { let document = and_then (as_server object.now) (entry_in uri.now) in
+    ensures answer { let document = and_then (as_end object.now) (entry_in uri.now) in
         IsAnswer (rest_asked start (entry_text document)) result
         (IsCopy out.old out.new copied.new) }
     ensures unchanged { result ≢ OK → (out.new ≡ out.old) × (copied.new ≡ copied.old) }
 {
-    let Object::Server(session) = object else {
+    let Object::End(held) = object else {
         return OTHER_KIND;
     };
-    let Some(document) = session.server.store().get(uri) else {
+    let Some(document) = store_of(&held.party).get(uri) else {
         return NOT_OPEN;
     };
     copy_text(document.text(), start, out, copied)
@@ -111,7 +83,7 @@ fn object_text(object: &Object, uri: &str, start: usize, out: &mut [u8], copied:
 /// returns how many. Codes, in this order: NOT_UTF8 of the URI, EMPTY, OTHER_KIND, NOT_OPEN,
 /// OUT_OF_RANGE. Costs a hash look-up and the copy.
 #[unsafe(no_mangle)]
-pub extern "C" fn laspidru_server_text(
+pub extern "C" fn laspidru_open_text(
     alloc: Global,
     handle: &mut Handle,
     uri: &[u8],
@@ -119,7 +91,7 @@ pub extern "C" fn laspidru_server_text(
     out: &mut [u8],
     copied: &mut usize,
 ) -> u32
-    ensures answer { let document = entry_asked uri.now (stored_server handle.old.value) in
+    ensures answer { let document = entry_asked uri.now (stored_end handle.old.value) in
         IsAnswer (rest_asked start (entry_text document)) result
         (IsCopy out.old out.new copied.new) }
     ensures handle { handle.new.value ≡ handle.old.value }

@@ -1,13 +1,13 @@
-//! The functions on what edits mean on a server's documents.
+//! The functions on what edits mean on an end's open documents.
 
 ghost use Rattle.std.specs.Prelude.{◌≡◌, ◌≢◌, ◌⊎◌, IfErr, IfOk, None};
 ghost use Rattle.laspidru.specs.Batches.{refused_edit};
 ghost use Rattle.laspidru.specs.Codes.{IsAnswerOrNoMemory, and_then, unless};
 ghost use Rattle.laspidru.specs.Edits.{AreBatched, AreFaulty, IsBatchOfAsked, IsUnlessFaulty};
 ghost use Rattle.laspidru.specs.Edits.{edits_on, fitting_edits};
+ghost use Rattle.laspidru.specs.Ends.{as_end, entry_in, entry_text, stored_end};
 ghost use Rattle.laspidru.specs.Messages.{edits_named};
 ghost use Rattle.laspidru.specs.Objects.{in_use};
-ghost use Rattle.laspidru.specs.Servers.{as_server, entry_in, entry_text, stored_server};
 
 use crate::bytes::utf8_text;
 use crate::changes::{encoding_of, fits, refusal_of};
@@ -15,6 +15,7 @@ use crate::codes::{
     BAD_ENCODING, EMPTY, IN_USE, NOT_OPEN, NOT_UTF8, OK, OTHER_KIND, OUT_OF_MEMORY, TOO_LONG,
 };
 use crate::edits::{report_edits, text_edits_of};
+use crate::ends::store_of;
 use crate::handle::Handle;
 use crate::object::Object;
 use crate::structs::{Edit, EditsFault};
@@ -49,8 +50,8 @@ fn batch_on(
     }
 }
 
-/// Puts the batch of text edits on a document of an object's server into an empty handle.
-fn object_served_edits(
+/// Puts the batch of text edits on a document of an object's end into an empty handle.
+fn object_open_edits(
     alloc: Global,
     object: &Object,
     uri: &str,
@@ -62,16 +63,16 @@ fn object_served_edits(
 ) -> u32
     requires checked { refused_edit edits.now texts.now ≡ None }
     requires empty { batch.old.value ≡ None }
-    ensures answer { let text = entry_text (and_then (as_server object.now) (entry_in uri.now)) in
+    ensures answer { let text = entry_text (and_then (as_end object.now) (entry_in uri.now)) in
         IsAnswerOrNoMemory (fitting_edits encoding edits.now texts.now text) result
         (λ asked. AreBatched asked result batch.new.value fault.new) }
     ensures unchanged { result ≢ OK → batch.new.value ≡ None }
     ensures fault { IsUnlessFaulty result (fault.new ≡ fault.old) }
 {
-    let Object::Server(session) = object else {
+    let Object::End(held) = object else {
         return OTHER_KIND;
     };
-    let Some(document) = session.server.store().get(uri) else {
+    let Some(document) = store_of(&held.party).get(uri) else {
         return NOT_OPEN;
     };
     if !fits(edits) || document.text().len() > MAX_OLD_TEXT {
@@ -90,13 +91,13 @@ fn object_served_edits(
 
 /// Puts the canonical batch of what text edits mean on an open document into an empty handle (LSP
 /// 3.17, TextEdit[]). All their ranges count in its text as it is. The document stays as it is: it
-/// changes when the client reports them.
+/// changes when they are reported.
 ///
 /// Codes, in this order: NOT_UTF8 of the URI; BAD_ENCODING; BAD_LENGTH or NOT_UTF8 of the first
 /// such edit; IN_USE of `batch`; EMPTY, OTHER_KIND, NOT_OPEN, TOO_LONG; OUT_OF_MEMORY, or the
 /// fault, as of `laspidru_document_batch_of_edits`. Costs the same, and a hash look-up.
 #[unsafe(no_mangle)]
-pub extern "C" fn laspidru_server_batch_of_edits(
+pub extern "C" fn laspidru_open_batch_of_edits(
     alloc: Global,
     handle: &mut Handle,
     uri: &[u8],
@@ -106,9 +107,9 @@ pub extern "C" fn laspidru_server_batch_of_edits(
     batch: &mut Handle,
     fault: &mut EditsFault,
 ) -> u32
-    ensures answer { let server =
-        unless (in_use batch.old.value) (stored_server handle.old.value) in
-        IsAnswerOrNoMemory (edits_named uri.now encoding edits.now texts.now server) result
+    ensures answer { let held =
+        unless (in_use batch.old.value) (stored_end handle.old.value) in
+        IsAnswerOrNoMemory (edits_named uri.now encoding edits.now texts.now held) result
         (λ asked. AreBatched asked result batch.new.value fault.new) }
     ensures handle { handle.new.value ≡ handle.old.value }
     ensures unchanged { result ≢ OK → batch.new.value ≡ batch.old.value }
@@ -129,7 +130,7 @@ pub extern "C" fn laspidru_server_batch_of_edits(
     let Some(object) = handle.take(alloc) else {
         return EMPTY;
     };
-    let code = object_served_edits(alloc, &object, uri, encoding, edits, texts, batch, fault);
+    let code = object_open_edits(alloc, &object, uri, encoding, edits, texts, batch, fault);
     handle.put(object);
     code
 }

@@ -1,11 +1,11 @@
-//! The function on canonical messages of a server's documents.
+//! The function on canonical messages of an end's open documents.
 
 ghost use Rattle.std.specs.Prelude.{◌≡◌, ◌≢◌, None};
 ghost use Rattle.laspidru.specs.Batches.{edits_of, refused_edit};
 ghost use Rattle.laspidru.specs.Codes.{IsAnswerOrNoMemory, unless};
+ghost use Rattle.laspidru.specs.Ends.{as_end, store_in, stored_end};
 ghost use Rattle.laspidru.specs.Messages.{IsMessageLeft, canonical_message_of, message_asked};
 ghost use Rattle.laspidru.specs.Objects.{in_use};
-ghost use Rattle.laspidru.specs.Servers.{as_server, stored_server};
 
 use crate::bytes::utf8_text;
 use crate::changes::{changes_of, encoding_of, refusal_of};
@@ -13,6 +13,7 @@ use crate::codes::{
     BAD_ENCODING, EMPTY, IN_USE, INSIDE_CHARACTER, NOT_UTF8, OK, OTHER_KIND, OUT_OF_MEMORY,
     REVERSED_RANGE,
 };
+use crate::ends::store_of;
 use crate::handle::Handle;
 use crate::object::Object;
 use crate::reports::report_store;
@@ -20,7 +21,7 @@ use crate::structs::{Edit, FaultAt};
 use lsp_text::Encoding;
 use std::alloc::Global;
 
-/// Puts the canonical message of a batch on a document of an object's server into an empty handle.
+/// Puts the canonical message of a batch on a document of an object's end into an empty handle.
 #[tactic(auto, using(crate::proofs::Written::message_refused))]
 fn object_message(
     alloc: Global,
@@ -36,9 +37,9 @@ fn object_message(
 ) -> u32
     requires checked { refused_edit edits.now texts.now ≡ None }
     requires empty { output.old.value ≡ None }
-    ensures answer { IsAnswerOrNoMemory (as_server object.now) result (λ session.
+    ensures answer { IsAnswerOrNoMemory (as_end object.now) result (λ held.
         IsMessageLeft (canonical_message_of (record {
-          session = session;
+          store = store_in held.party;
           uri = uri.now;
           version = version;
           encoding = encoding;
@@ -47,13 +48,13 @@ fn object_message(
     ensures unchanged { result ≢ OK → (output.new.value ≡ None) × (len.new ≡ len.old) }
     ensures fault { result ≢ INSIDE_CHARACTER → result ≢ REVERSED_RANGE → fault.new ≡ fault.old }
 {
-    let Object::Server(session) = object else {
+    let Object::End(held) = object else {
         return OTHER_KIND;
     };
     let Ok(changes) = changes_of(alloc, edits, texts) else {
         return OUT_OF_MEMORY;
     };
-    let store = session.server.store();
+    let store = store_of(&held.party);
     let frame = match store.canonical_message(uri, version, encoding, &changes) {
         Ok(frame) => frame,
         Err(error) => return report_store(error, fault),
@@ -77,7 +78,7 @@ fn object_message(
 /// that is too long. With the two codes of a faulty change `fault` says which change it is. Costs a
 /// pass over the texts, their copy, and `Store::canonical_message`.
 #[unsafe(no_mangle)]
-pub extern "C" fn laspidru_server_canonical_message(
+pub extern "C" fn laspidru_open_canonical_message(
     alloc: Global,
     handle: &mut Handle,
     uri: &[u8],
@@ -89,9 +90,9 @@ pub extern "C" fn laspidru_server_canonical_message(
     fault: &mut FaultAt,
     len: &mut usize,
 ) -> u32
-    ensures answer { let server =
-        unless (in_use output.old.value) (stored_server handle.old.value) in
-        IsAnswerOrNoMemory (message_asked uri.now version encoding edits.now texts.now server)
+    ensures answer { let held =
+        unless (in_use output.old.value) (stored_end handle.old.value) in
+        IsAnswerOrNoMemory (message_asked uri.now version encoding edits.now texts.now held)
         result
         (λ asked. IsMessageLeft (canonical_message_of asked) result
         output.new.value len.new fault.new) }
