@@ -81,11 +81,11 @@ static struct answer on_log(struct request r, const unsigned char *log) {
     laspidru_handle output = {0};
     laspidru_ending ending = {0};
     settings.encoding = r.encoding;
-    laspidru_u32 code = (r.what == LOG ? laspidru_log_check : r.what == LOG + 1 ? laspidru_log_replay : r.what == LOG + 2 ? laspidru_log_normalise
-                         : laspidru_log_convert)(&output, &settings, log, r.text_len, &ending);
+    static const laspidru_u32 commands[] = {LASPIDRU_CHECK, LASPIDRU_REPLAY, LASPIDRU_NORMALISE, LASPIDRU_CONVERT};
+    laspidru_u32 code = laspidru_log_run(&output, commands[r.what - LOG], &settings, log, 0, log, r.text_len, &ending);
     put_copied(laspidru_output_copy, &output, ending.output_len);
     laspidru_close(&output);
-    return (struct answer){code, code == LASPIDRU_OK ? ending.status : ending.frame, (uint32_t)ending.place, 0};
+    return (struct answer){code, code == LASPIDRU_OK ? ending.status : ending.frame, (uint32_t)ending.offset, 0};
 }
 
 static struct answer on_frames(const unsigned char *stream, size_t len) {
@@ -97,11 +97,11 @@ static struct answer on_frames(const unsigned char *stream, size_t len) {
         if (code != LASPIDRU_OK || !taken.is_whole)
             break;
         put((uint32_t)taken.body_len);
-        put_copied(laspidru_framer_body, &framer, taken.body_len);
+        put_copied(laspidru_body, &framer, taken.body_len);
         laspidru_framer_next(&framer);
     }
     laspidru_close(&framer);
-    return (struct answer){code, code == LASPIDRU_OK ? 0 : taken.frame, code == LASPIDRU_OK ? 0 : (uint32_t)taken.place, 0};
+    return (struct answer){code, code == LASPIDRU_OK ? 0 : taken.frame, code == LASPIDRU_OK ? 0 : (uint32_t)taken.offset, 0};
 }
 
 int main(void) {

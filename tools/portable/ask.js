@@ -33,7 +33,7 @@ function answered(addon, words, bytes) {
 
   function onLog(command, encoding, log) {
     const it = addon.log(command, log, Uint32Array.of(1 << 24, 1 << 24, 1024, 65536, encoding, 0, 0));
-    return [words.indexOf(it.code), it.code === 'OK' ? it.status : it.frame, it.place, it.output];
+    return [words.indexOf(it.code), it.code === 'OK' ? it.status : it.frame, it.offset, it.output];
   }
 
   function onFrames(stream) {

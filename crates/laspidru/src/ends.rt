@@ -203,13 +203,7 @@ pub extern "C" fn laspidru_deliver(
 
 /// Takes bytes of a piece, and handles the message that is whole then.
 #[tactic(auto, using(crate::proofs::Ends::untaken, crate::proofs::Ends::none_taken, crate::proofs::Ends::waits, crate::proofs::Ends::one_taken))]
-fn take(
-    alloc: Global,
-    held: &mut End,
-    piece: &[u8],
-    taken: &mut Taken,
-    out: &mut Answer,
-) -> u32
+fn take(alloc: Global, held: &mut End, piece: &[u8], taken: &mut Taken, out: &mut Answer) -> u32
     requires { closed held.old.party ≡ None }
     ensures { IsTaken held.old piece.now result held.new taken.new out.old out.new }
 {
@@ -384,11 +378,7 @@ fn object_state(object: &Object, out: &mut State) -> u32
 /// Returns the phase of the session, the encoding that was agreed on (LSP 3.17,
 /// PositionEncodingKind), and how many documents are open. Codes, in this order: EMPTY, OTHER_KIND.
 #[unsafe(no_mangle)]
-pub extern "C" fn laspidru_session_state(
-    alloc: Global,
-    handle: &mut Handle,
-    out: &mut State,
-) -> u32
+pub extern "C" fn laspidru_session_state(alloc: Global, handle: &mut Handle, out: &mut State) -> u32
     ensures answer { IsAnswer (stored_end handle.old.value) result
         (λ held. IsState out.new held.party) }
     ensures handle { handle.new.value ≡ handle.old.value }

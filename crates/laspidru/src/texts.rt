@@ -75,12 +75,7 @@ fn text_of(code: u32) -> Option<&'static str>
 /// for, and returns how many. OUT_OF_RANGE says that there is no such code, or no such byte. Costs
 /// the copy.
 #[unsafe(no_mangle)]
-pub extern "C" fn laspidru_text(
-    code: u32,
-    start: usize,
-    out: &mut [u8],
-    copied: &mut usize,
-) -> u32
+pub extern "C" fn laspidru_text(code: u32, start: usize, out: &mut [u8], copied: &mut usize) -> u32
     ensures answer { IsAnswer (rest_asked start (text_asked_of code)) result
         (IsCopy out.old out.new copied.new) }
     ensures unchanged { result ≢ OK → (out.new ≡ out.old) × (copied.new ≡ copied.old) }
