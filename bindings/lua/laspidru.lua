@@ -3,51 +3,85 @@
 local has_ffi, ffi = pcall(require, "ffi")
 if not has_ffi then error("laspidru needs LuaJIT, as Neovim has it, and this is " .. _VERSION, 0) end
 
-ffi.cdef([[
+ffi.cdef([[ // declared: by tools/declared
 typedef struct { void *pointer; bool is_full; } laspidru_handle;
 typedef struct { uint32_t line, character; } laspidru_position;
-typedef struct { laspidru_position start, end_; size_t len; bool is_whole; } laspidru_edit;
+typedef struct { laspidru_position start, end; size_t len; bool is_whole; } laspidru_edit;
 typedef struct { size_t change; bool at_end; } laspidru_fault;
 typedef struct { size_t edit, other; bool at_end; } laspidru_edits_fault;
-typedef struct { size_t start, end_; } laspidru_line;
+typedef struct { size_t start, end; } laspidru_line;
 typedef struct { size_t bytes, lines; } laspidru_length;
-typedef struct { size_t bytes, body_len; uint64_t place; uint32_t frame; bool is_whole; } laspidru_taken;
+typedef struct { size_t max_body, max_text, max_docs, max_changes; uint32_t encoding; bool is_fixed, is_full, lenient;
+    } laspidru_settings;
+typedef struct { uint32_t kind, reason, status; int32_t error; size_t reply_len; } laspidru_answer;
+typedef struct { size_t bytes, body_len; uint64_t offset; uint32_t frame; bool is_whole; } laspidru_taken;
 typedef struct { size_t max_body, max_text, max_docs, max_changes; bool utf8, utf32, lenient; } laspidru_client_settings;
 typedef struct { uint32_t phase, reason, encoding; size_t documents; } laspidru_state;
-typedef struct { uint32_t kind, reason, status; int32_t error; size_t reply_len; } laspidru_answer;
 typedef struct { int32_t version; size_t bytes; } laspidru_opened;
-uint32_t laspidru_document_open(laspidru_handle *, const char *, size_t);
-void laspidru_close(laspidru_handle *);
-uint32_t laspidru_document_change(laspidru_handle *, uint32_t, const laspidru_edit *, size_t, const char *, size_t, laspidru_fault *);
-uint32_t laspidru_document_apply_edits(laspidru_handle *, uint32_t, const laspidru_edit *, size_t, const char *, size_t,
-    laspidru_edits_fault *);
-uint32_t laspidru_document_canonical(laspidru_handle *, uint32_t, const laspidru_edit *, size_t, const char *, size_t,
-    laspidru_handle *, laspidru_fault *);
-uint32_t laspidru_document_size(laspidru_handle *, laspidru_length *);
-uint32_t laspidru_document_line(laspidru_handle *, uint32_t, laspidru_line *);
-uint32_t laspidru_document_copy(laspidru_handle *, size_t, char *, size_t, size_t *);
-uint32_t laspidru_document_offset(laspidru_handle *, uint32_t, laspidru_position, size_t *);
-uint32_t laspidru_document_position(laspidru_handle *, uint32_t, size_t, laspidru_position *);
-uint32_t laspidru_batch_len(laspidru_handle *, size_t *);
-uint32_t laspidru_batch_edit(laspidru_handle *, size_t, laspidru_edit *, char *, size_t, size_t *);
-uint32_t laspidru_client_new(laspidru_handle *, const laspidru_client_settings *);
-uint32_t laspidru_client_start(laspidru_handle *, size_t *);
-uint32_t laspidru_client_open(laspidru_handle *, const char *, size_t, const char *, size_t, int32_t, const char *, size_t, size_t *);
-uint32_t laspidru_client_edit(laspidru_handle *, const char *, size_t, int32_t, const laspidru_edit *, size_t, const char *, size_t,
-    laspidru_fault *, size_t *);
-uint32_t laspidru_client_close(laspidru_handle *, const char *, size_t, size_t *);
-uint32_t laspidru_client_shutdown(laspidru_handle *, size_t *);
-uint32_t laspidru_client_exit(laspidru_handle *, size_t *);
-uint32_t laspidru_client_take(laspidru_handle *, const char *, size_t, laspidru_taken *, laspidru_answer *);
-uint32_t laspidru_client_body(laspidru_handle *, size_t, char *, size_t, size_t *);
-uint32_t laspidru_client_deliver(laspidru_handle *, const char *, size_t, laspidru_answer *);
-uint32_t laspidru_client_frame(laspidru_handle *, size_t, char *, size_t, size_t *);
-uint32_t laspidru_client_state(laspidru_handle *, laspidru_state *);
-uint32_t laspidru_client_document(laspidru_handle *, const char *, size_t, laspidru_opened *);
-uint32_t laspidru_client_text(laspidru_handle *, const char *, size_t, size_t, char *, size_t, size_t *);
-uint32_t laspidru_client_offset(laspidru_handle *, const char *, size_t, uint32_t, laspidru_position, size_t *);
-uint32_t laspidru_client_position(laspidru_handle *, const char *, size_t, uint32_t, size_t, laspidru_position *);
-uint32_t laspidru_client_line(laspidru_handle *, const char *, size_t, uint32_t, laspidru_line *);
+typedef struct { size_t max_body, max_text, max_docs, max_changes; uint64_t at; uint32_t encoding; bool lenient, squash,
+    documents, texts, bodies, has_uri; } laspidru_log_settings;
+typedef struct { uint32_t status, frame, missing; uint64_t messages, refused, offset; size_t output_len; } laspidru_ending;
+uint32_t laspidru_version(void);
+uint32_t laspidru_text(uint32_t code, size_t start, unsigned char *out, size_t out_len, size_t *copied);
+uint32_t laspidru_document_open(laspidru_handle *document, const unsigned char *text, size_t text_len);
+void laspidru_close(laspidru_handle *handle);
+uint32_t laspidru_document_change(laspidru_handle *document, uint32_t encoding, const laspidru_edit *edits, size_t edits_len,
+    const unsigned char *texts, size_t texts_len, laspidru_fault *fault);
+uint32_t laspidru_document_size(laspidru_handle *document, laspidru_length *length);
+uint32_t laspidru_document_line(laspidru_handle *document, uint32_t line, laspidru_line *range);
+uint32_t laspidru_document_copy(laspidru_handle *document, size_t start, unsigned char *out, size_t out_len, size_t *copied);
+uint32_t laspidru_document_offset(laspidru_handle *document, uint32_t encoding, laspidru_position position, size_t *offset);
+uint32_t laspidru_document_position(laspidru_handle *document, uint32_t encoding, size_t offset, laspidru_position *position);
+uint32_t laspidru_document_canonical(laspidru_handle *document, uint32_t encoding, const laspidru_edit *edits, size_t edits_len,
+    const unsigned char *texts, size_t texts_len, laspidru_handle *batch, laspidru_fault *fault);
+uint32_t laspidru_document_apply_edits(laspidru_handle *document, uint32_t encoding, const laspidru_edit *edits, size_t edits_len,
+    const unsigned char *texts, size_t texts_len, laspidru_edits_fault *fault);
+uint32_t laspidru_document_batch_of_edits(laspidru_handle *document, uint32_t encoding, const laspidru_edit *edits,
+    size_t edits_len, const unsigned char *texts, size_t texts_len, laspidru_handle *batch, laspidru_edits_fault *fault);
+uint32_t laspidru_batch_len(laspidru_handle *batch, size_t *len);
+uint32_t laspidru_batch_edit(laspidru_handle *batch, size_t index, laspidru_edit *edit, unsigned char *out, size_t out_len,
+    size_t *copied);
+uint32_t laspidru_framer_new(laspidru_handle *framer, size_t max_body);
+uint32_t laspidru_framer_feed(laspidru_handle *framer, const unsigned char *piece, size_t piece_len, laspidru_taken *taken);
+uint32_t laspidru_framer_next(laspidru_handle *framer);
+uint32_t laspidru_framer_at_rest(laspidru_handle *framer, bool *at_rest);
+uint32_t laspidru_server_new(laspidru_handle *server, const laspidru_settings *settings);
+uint32_t laspidru_client_new(laspidru_handle *client, const laspidru_client_settings *settings);
+uint32_t laspidru_client_start(laspidru_handle *client, size_t *frame_len);
+uint32_t laspidru_client_open(laspidru_handle *client, const unsigned char *uri, size_t uri_len, const unsigned char *language,
+    size_t language_len, int32_t version, const unsigned char *text, size_t text_len, size_t *frame_len);
+uint32_t laspidru_client_edit(laspidru_handle *client, const unsigned char *uri, size_t uri_len, int32_t version,
+    const laspidru_edit *edits, size_t edits_len, const unsigned char *texts, size_t texts_len, laspidru_fault *fault,
+    size_t *frame_len);
+uint32_t laspidru_client_close(laspidru_handle *client, const unsigned char *uri, size_t uri_len, size_t *frame_len);
+uint32_t laspidru_client_shutdown(laspidru_handle *client, size_t *frame_len);
+uint32_t laspidru_client_exit(laspidru_handle *client, size_t *frame_len);
+uint32_t laspidru_take(laspidru_handle *end, const unsigned char *piece, size_t piece_len, laspidru_taken *taken,
+    laspidru_answer *answer);
+uint32_t laspidru_body(laspidru_handle *end_or_framer, size_t start, unsigned char *out, size_t out_len, size_t *copied);
+uint32_t laspidru_deliver(laspidru_handle *end, const unsigned char *body, size_t body_len, laspidru_answer *answer);
+uint32_t laspidru_frame(laspidru_handle *end, size_t start, unsigned char *out, size_t out_len, size_t *copied);
+uint32_t laspidru_session_state(laspidru_handle *end, laspidru_state *state);
+uint32_t laspidru_message_uri(const unsigned char *body, size_t body_len, size_t start, unsigned char *out, size_t out_len,
+    size_t *copied);
+uint32_t laspidru_open_state(laspidru_handle *end, const unsigned char *uri, size_t uri_len, laspidru_opened *document);
+uint32_t laspidru_open_text(laspidru_handle *end, const unsigned char *uri, size_t uri_len, size_t start, unsigned char *out,
+    size_t out_len, size_t *copied);
+uint32_t laspidru_open_offset(laspidru_handle *end, const unsigned char *uri, size_t uri_len, uint32_t encoding,
+    laspidru_position position, size_t *offset);
+uint32_t laspidru_open_position(laspidru_handle *end, const unsigned char *uri, size_t uri_len, uint32_t encoding, size_t offset,
+    laspidru_position *position);
+uint32_t laspidru_open_line(laspidru_handle *end, const unsigned char *uri, size_t uri_len, uint32_t line, laspidru_line *range);
+uint32_t laspidru_open_batch_of_edits(laspidru_handle *end, const unsigned char *uri, size_t uri_len, uint32_t encoding,
+    const laspidru_edit *edits, size_t edits_len, const unsigned char *texts, size_t texts_len, laspidru_handle *batch,
+    laspidru_edits_fault *fault);
+uint32_t laspidru_open_canonical_message(laspidru_handle *end, const unsigned char *uri, size_t uri_len, int32_t version,
+    uint32_t encoding, const laspidru_edit *edits, size_t edits_len, const unsigned char *texts, size_t texts_len,
+    laspidru_handle *output, laspidru_fault *fault, size_t *frame_len);
+uint32_t laspidru_log_run(laspidru_handle *output, uint32_t command, const laspidru_log_settings *settings,
+    const unsigned char *uri, size_t uri_len, const unsigned char *log, size_t log_len, laspidru_ending *ending);
+uint32_t laspidru_output_copy(laspidru_handle *output, size_t start, unsigned char *out, size_t out_len, size_t *copied);
+// end of declared
 ]])
 
 -- How systems name the library: for the loader, and beside this file for several processors

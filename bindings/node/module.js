@@ -4,6 +4,26 @@
 // long as a pointer.
 const { Buffer, WORDS } = require('./api.js');
 
+// declared: by tools/declared
+const AT = {
+  handle: { pointer: 0, is_full: 8, size: 16 },
+  position: { line: 0, character: 4, size: 8 },
+  edit: { start: 0, end: 8, len: 16, is_whole: 24, size: 32 },
+  fault: { change: 0, at_end: 8, size: 16 },
+  edits_fault: { edit: 0, other: 8, at_end: 16, size: 24 },
+  line: { start: 0, end: 8, size: 16 },
+  length: { bytes: 0, lines: 8, size: 16 },
+  settings: { max_body: 0, max_text: 8, max_docs: 16, max_changes: 24, encoding: 32, is_fixed: 36, is_full: 37, lenient: 38, size: 40 },
+  answer: { kind: 0, reason: 4, status: 8, error: 12, reply_len: 16, size: 24 },
+  taken: { bytes: 0, body_len: 8, offset: 16, frame: 24, is_whole: 28, size: 32 },
+  client_settings: { max_body: 0, max_text: 8, max_docs: 16, max_changes: 24, utf8: 32, utf32: 33, lenient: 34, size: 40 },
+  state: { phase: 0, reason: 4, encoding: 8, documents: 16, size: 24 },
+  opened: { version: 0, bytes: 8, size: 16 },
+  log_settings: { max_body: 0, max_text: 8, max_docs: 16, max_changes: 24, at: 32, encoding: 40, lenient: 44, squash: 45, documents: 46, texts: 47, bodies: 48, has_uri: 49, size: 56 },
+  ending: { status: 0, frame: 4, missing: 8, messages: 16, refused: 24, offset: 32, output_len: 40, size: 48 },
+};
+// end of declared
+
 const OK = 0;
 const OUT_OF_MEMORY = 2;
 const BAD_FRAME = 21;
