@@ -61,7 +61,7 @@ def frames(pieces):
             bodies += framer.receive(piece.encode("latin-1"))
         except laspidru.FrameFault as found:
             bodies += found.events
-            fault = {"offset": found.place, "why": FAULTS[found.frame - 1]}
+            fault = {"offset": found.offset, "why": FAULTS[found.frame - 1]}
             break
     return {"bodies": [body.decode("latin-1") for body in bodies], "fault": fault}
 
