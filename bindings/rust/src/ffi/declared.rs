@@ -4,140 +4,29 @@ use crate::Position;
 use std::ffi::c_void;
 
 // declared:
-#[repr(C)]
-pub struct Handle {
-    pub pointer: *mut c_void,
-    pub is_full: bool,
-}
-
-#[derive(Clone, Copy, Debug, Default)]
-#[repr(C)]
-pub struct Edit {
-    pub start: Position,
-    pub end: Position,
-    pub len: usize,
-    pub is_whole: bool,
-}
-
-#[derive(Clone, Copy, Debug, Default)]
-#[repr(C)]
-pub struct Fault {
-    pub change: usize,
-    pub at_end: bool,
-}
-
-#[derive(Clone, Copy, Debug, Default)]
-#[repr(C)]
-pub struct EditsFault {
-    pub edit: usize,
-    pub other: usize,
-    pub at_end: bool,
-}
-
-#[derive(Clone, Copy, Debug, Default)]
-#[repr(C)]
-pub struct Line {
-    pub start: usize,
-    pub end: usize,
-}
-
-#[derive(Clone, Copy, Debug, Default)]
-#[repr(C)]
-pub struct Length {
-    pub bytes: usize,
-    pub lines: usize,
-}
-
-#[derive(Clone, Copy, Debug, Default)]
-#[repr(C)]
-pub struct Settings {
-    pub max_body: usize,
-    pub max_text: usize,
-    pub max_docs: usize,
-    pub max_changes: usize,
-    pub encoding: u32,
-    pub is_fixed: bool,
-    pub is_full: bool,
-    pub lenient: bool,
-}
-
-#[derive(Clone, Copy, Debug, Default)]
-#[repr(C)]
-pub struct Answer {
-    pub kind: u32,
-    pub reason: u32,
-    pub status: u32,
-    pub error: i32,
-    pub reply_len: usize,
-}
-
-#[derive(Clone, Copy, Debug, Default)]
-#[repr(C)]
-pub struct Taken {
-    pub bytes: usize,
-    pub body_len: usize,
-    pub offset: u64,
-    pub frame: u32,
-    pub is_whole: bool,
-}
-
-#[derive(Clone, Copy, Debug, Default)]
-#[repr(C)]
-pub struct ClientSettings {
-    pub max_body: usize,
-    pub max_text: usize,
-    pub max_docs: usize,
-    pub max_changes: usize,
-    pub utf8: bool,
-    pub utf32: bool,
-    pub lenient: bool,
-}
-
-#[derive(Clone, Copy, Debug, Default)]
-#[repr(C)]
-pub struct State {
-    pub phase: u32,
-    pub reason: u32,
-    pub encoding: u32,
-    pub documents: usize,
-}
-
-#[derive(Clone, Copy, Debug, Default)]
-#[repr(C)]
-pub struct Opened {
-    pub version: i32,
-    pub bytes: usize,
-}
-
-#[derive(Clone, Copy, Debug, Default)]
-#[repr(C)]
-pub struct LogSettings {
-    pub max_body: usize,
-    pub max_text: usize,
-    pub max_docs: usize,
-    pub max_changes: usize,
-    pub at: u64,
-    pub encoding: u32,
-    pub lenient: bool,
-    pub squash: bool,
-    pub documents: bool,
-    pub texts: bool,
-    pub bodies: bool,
-    pub has_uri: bool,
-}
-
-#[derive(Clone, Copy, Debug, Default)]
-#[repr(C)]
-pub struct Ending {
-    pub status: u32,
-    pub frame: u32,
-    pub missing: u32,
-    pub messages: u64,
-    pub refused: u64,
-    pub offset: u64,
-    pub output_len: usize,
-}
-
+#[repr(C)] pub struct Raw { pub pointer: *mut c_void, pub is_full: bool }
+#[repr(C)] #[derive(Clone, Copy, Debug, Default)] pub struct Edit { pub start: Position, pub end: Position, pub len: usize,
+    pub is_whole: bool }
+#[repr(C)] #[derive(Clone, Copy, Debug, Default)] pub struct Fault { pub change: usize, pub at_end: bool }
+#[repr(C)] #[derive(Clone, Copy, Debug, Default)] pub struct EditsFault { pub edit: usize, pub other: usize, pub at_end: bool }
+#[repr(C)] #[derive(Clone, Copy, Debug, Default)] pub struct Line { pub start: usize, pub end: usize }
+#[repr(C)] #[derive(Clone, Copy, Debug, Default)] pub struct Length { pub bytes: usize, pub lines: usize }
+#[repr(C)] #[derive(Clone, Copy, Debug, Default)] pub struct Settings { pub max_body: usize, pub max_text: usize,
+    pub max_docs: usize, pub max_changes: usize, pub encoding: u32, pub is_fixed: bool, pub is_full: bool, pub lenient: bool }
+#[repr(C)] #[derive(Clone, Copy, Debug, Default)] pub struct Answer { pub kind: u32, pub reason: u32, pub status: u32,
+    pub error: i32, pub reply_len: usize }
+#[repr(C)] #[derive(Clone, Copy, Debug, Default)] pub struct Taken { pub bytes: usize, pub body_len: usize, pub offset: u64,
+    pub frame: u32, pub is_whole: bool }
+#[repr(C)] #[derive(Clone, Copy, Debug, Default)] pub struct ClientSettings { pub max_body: usize, pub max_text: usize,
+    pub max_docs: usize, pub max_changes: usize, pub utf8: bool, pub utf32: bool, pub lenient: bool }
+#[repr(C)] #[derive(Clone, Copy, Debug, Default)] pub struct State { pub phase: u32, pub reason: u32, pub encoding: u32,
+    pub documents: usize }
+#[repr(C)] #[derive(Clone, Copy, Debug, Default)] pub struct Opened { pub version: i32, pub bytes: usize }
+#[repr(C)] #[derive(Clone, Copy, Debug, Default)] pub struct LogSettings { pub max_body: usize, pub max_text: usize,
+    pub max_docs: usize, pub max_changes: usize, pub at: u64, pub encoding: u32, pub lenient: bool, pub squash: bool,
+    pub documents: bool, pub texts: bool, pub bodies: bool, pub has_uri: bool }
+#[repr(C)] #[derive(Clone, Copy, Debug, Default)] pub struct Ending { pub status: u32, pub frame: u32, pub missing: u32,
+    pub messages: u64, pub refused: u64, pub offset: u64, pub output_len: usize }
 pub const OK: u32 = 0;
 pub const NOT_UTF8: u32 = 1;
 pub const OUT_OF_MEMORY: u32 = 2;
@@ -195,173 +84,63 @@ pub const TRACE: u32 = 2;
 pub const REPLAY: u32 = 3;
 pub const NORMALISE: u32 = 4;
 pub const CONVERT: u32 = 5;
-
 extern "C" {
     pub fn laspidru_version() -> u32;
     pub fn laspidru_text(code: u32, start: usize, out: *mut u8, out_len: usize, copied: *mut usize) -> u32;
-    pub fn laspidru_document_open(document: *mut Handle, text: *const u8, text_len: usize) -> u32;
-    pub fn laspidru_close(handle: *mut Handle);
-    pub fn laspidru_document_change(
-        document: *mut Handle,
-        encoding: u32,
-        edits: *const Edit,
-        edits_len: usize,
-        texts: *const u8,
-        texts_len: usize,
-        fault: *mut Fault,
-    ) -> u32;
-    pub fn laspidru_document_size(document: *mut Handle, length: *mut Length) -> u32;
-    pub fn laspidru_document_line(document: *mut Handle, line: u32, range: *mut Line) -> u32;
-    pub fn laspidru_document_copy(document: *mut Handle, start: usize, out: *mut u8, out_len: usize, copied: *mut usize) -> u32;
-    pub fn laspidru_document_offset(document: *mut Handle, encoding: u32, position: Position, offset: *mut usize) -> u32;
-    pub fn laspidru_document_position(document: *mut Handle, encoding: u32, offset: usize, position: *mut Position) -> u32;
-    pub fn laspidru_document_canonical(
-        document: *mut Handle,
-        encoding: u32,
-        edits: *const Edit,
-        edits_len: usize,
-        texts: *const u8,
-        texts_len: usize,
-        batch: *mut Handle,
-        fault: *mut Fault,
-    ) -> u32;
-    pub fn laspidru_document_apply_edits(
-        document: *mut Handle,
-        encoding: u32,
-        edits: *const Edit,
-        edits_len: usize,
-        texts: *const u8,
-        texts_len: usize,
-        fault: *mut EditsFault,
-    ) -> u32;
-    pub fn laspidru_document_batch_of_edits(
-        document: *mut Handle,
-        encoding: u32,
-        edits: *const Edit,
-        edits_len: usize,
-        texts: *const u8,
-        texts_len: usize,
-        batch: *mut Handle,
-        fault: *mut EditsFault,
-    ) -> u32;
-    pub fn laspidru_batch_len(batch: *mut Handle, len: *mut usize) -> u32;
-    pub fn laspidru_batch_edit(
-        batch: *mut Handle,
-        index: usize,
-        edit: *mut Edit,
-        out: *mut u8,
-        out_len: usize,
-        copied: *mut usize,
-    ) -> u32;
-    pub fn laspidru_framer_new(framer: *mut Handle, max_body: usize) -> u32;
-    pub fn laspidru_framer_feed(framer: *mut Handle, piece: *const u8, piece_len: usize, taken: *mut Taken) -> u32;
-    pub fn laspidru_framer_next(framer: *mut Handle) -> u32;
-    pub fn laspidru_framer_at_rest(framer: *mut Handle, at_rest: *mut bool) -> u32;
-    pub fn laspidru_server_new(server: *mut Handle, settings: *const Settings) -> u32;
-    pub fn laspidru_client_new(client: *mut Handle, settings: *const ClientSettings) -> u32;
-    pub fn laspidru_client_start(client: *mut Handle, frame_len: *mut usize) -> u32;
-    pub fn laspidru_client_open(
-        client: *mut Handle,
-        uri: *const u8,
-        uri_len: usize,
-        language: *const u8,
-        language_len: usize,
-        version: i32,
-        text: *const u8,
-        text_len: usize,
-        frame_len: *mut usize,
-    ) -> u32;
-    pub fn laspidru_client_edit(
-        client: *mut Handle,
-        uri: *const u8,
-        uri_len: usize,
-        version: i32,
-        edits: *const Edit,
-        edits_len: usize,
-        texts: *const u8,
-        texts_len: usize,
-        fault: *mut Fault,
-        frame_len: *mut usize,
-    ) -> u32;
-    pub fn laspidru_client_close(client: *mut Handle, uri: *const u8, uri_len: usize, frame_len: *mut usize) -> u32;
-    pub fn laspidru_client_shutdown(client: *mut Handle, frame_len: *mut usize) -> u32;
-    pub fn laspidru_client_exit(client: *mut Handle, frame_len: *mut usize) -> u32;
-    pub fn laspidru_take(end: *mut Handle, piece: *const u8, piece_len: usize, taken: *mut Taken, answer: *mut Answer) -> u32;
-    pub fn laspidru_body(end_or_framer: *mut Handle, start: usize, out: *mut u8, out_len: usize, copied: *mut usize) -> u32;
-    pub fn laspidru_deliver(end: *mut Handle, body: *const u8, body_len: usize, answer: *mut Answer) -> u32;
-    pub fn laspidru_frame(end: *mut Handle, start: usize, out: *mut u8, out_len: usize, copied: *mut usize) -> u32;
-    pub fn laspidru_session_state(end: *mut Handle, state: *mut State) -> u32;
-    pub fn laspidru_message_uri(
-        body: *const u8,
-        body_len: usize,
-        start: usize,
-        out: *mut u8,
-        out_len: usize,
-        copied: *mut usize,
-    ) -> u32;
-    pub fn laspidru_open_state(end: *mut Handle, uri: *const u8, uri_len: usize, document: *mut Opened) -> u32;
-    pub fn laspidru_open_text(
-        end: *mut Handle,
-        uri: *const u8,
-        uri_len: usize,
-        start: usize,
-        out: *mut u8,
-        out_len: usize,
-        copied: *mut usize,
-    ) -> u32;
-    pub fn laspidru_open_offset(
-        end: *mut Handle,
-        uri: *const u8,
-        uri_len: usize,
-        encoding: u32,
-        position: Position,
-        offset: *mut usize,
-    ) -> u32;
-    pub fn laspidru_open_position(
-        end: *mut Handle,
-        uri: *const u8,
-        uri_len: usize,
-        encoding: u32,
-        offset: usize,
-        position: *mut Position,
-    ) -> u32;
-    pub fn laspidru_open_line(end: *mut Handle, uri: *const u8, uri_len: usize, line: u32, range: *mut Line) -> u32;
-    pub fn laspidru_open_batch_of_edits(
-        end: *mut Handle,
-        uri: *const u8,
-        uri_len: usize,
-        encoding: u32,
-        edits: *const Edit,
-        edits_len: usize,
-        texts: *const u8,
-        texts_len: usize,
-        batch: *mut Handle,
-        fault: *mut EditsFault,
-    ) -> u32;
-    pub fn laspidru_open_canonical_message(
-        end: *mut Handle,
-        uri: *const u8,
-        uri_len: usize,
-        version: i32,
-        encoding: u32,
-        edits: *const Edit,
-        edits_len: usize,
-        texts: *const u8,
-        texts_len: usize,
-        output: *mut Handle,
-        fault: *mut Fault,
-        frame_len: *mut usize,
-    ) -> u32;
-    pub fn laspidru_log_run(
-        output: *mut Handle,
-        command: u32,
-        settings: *const LogSettings,
-        uri: *const u8,
-        uri_len: usize,
-        log: *const u8,
-        log_len: usize,
-        ending: *mut Ending,
-    ) -> u32;
-    pub fn laspidru_output_copy(output: *mut Handle, start: usize, out: *mut u8, out_len: usize, copied: *mut usize) -> u32;
+    pub fn laspidru_document_open(document: *mut Raw, text: *const u8, text_len: usize) -> u32;
+    pub fn laspidru_close(handle: *mut Raw);
+    pub fn laspidru_document_change(document: *mut Raw, encoding: u32, edits: *const Edit, edits_len: usize, texts: *const u8,
+        texts_len: usize, fault: *mut Fault) -> u32;
+    pub fn laspidru_document_size(document: *mut Raw, length: *mut Length) -> u32;
+    pub fn laspidru_document_line(document: *mut Raw, line: u32, range: *mut Line) -> u32;
+    pub fn laspidru_document_copy(document: *mut Raw, start: usize, out: *mut u8, out_len: usize, copied: *mut usize) -> u32;
+    pub fn laspidru_document_offset(document: *mut Raw, encoding: u32, position: Position, offset: *mut usize) -> u32;
+    pub fn laspidru_document_position(document: *mut Raw, encoding: u32, offset: usize, position: *mut Position) -> u32;
+    pub fn laspidru_document_canonical(document: *mut Raw, encoding: u32, edits: *const Edit, edits_len: usize, texts: *const u8,
+        texts_len: usize, batch: *mut Raw, fault: *mut Fault) -> u32;
+    pub fn laspidru_document_apply_edits(document: *mut Raw, encoding: u32, edits: *const Edit, edits_len: usize,
+        texts: *const u8, texts_len: usize, fault: *mut EditsFault) -> u32;
+    pub fn laspidru_document_batch_of_edits(document: *mut Raw, encoding: u32, edits: *const Edit, edits_len: usize,
+        texts: *const u8, texts_len: usize, batch: *mut Raw, fault: *mut EditsFault) -> u32;
+    pub fn laspidru_batch_len(batch: *mut Raw, len: *mut usize) -> u32;
+    pub fn laspidru_batch_edit(batch: *mut Raw, index: usize, edit: *mut Edit, out: *mut u8, out_len: usize,
+        copied: *mut usize) -> u32;
+    pub fn laspidru_framer_new(framer: *mut Raw, max_body: usize) -> u32;
+    pub fn laspidru_framer_feed(framer: *mut Raw, piece: *const u8, piece_len: usize, taken: *mut Taken) -> u32;
+    pub fn laspidru_framer_next(framer: *mut Raw) -> u32;
+    pub fn laspidru_framer_at_rest(framer: *mut Raw, at_rest: *mut bool) -> u32;
+    pub fn laspidru_server_new(server: *mut Raw, settings: *const Settings) -> u32;
+    pub fn laspidru_client_new(client: *mut Raw, settings: *const ClientSettings) -> u32;
+    pub fn laspidru_client_start(client: *mut Raw, frame_len: *mut usize) -> u32;
+    pub fn laspidru_client_open(client: *mut Raw, uri: *const u8, uri_len: usize, language: *const u8, language_len: usize,
+        version: i32, text: *const u8, text_len: usize, frame_len: *mut usize) -> u32;
+    pub fn laspidru_client_edit(client: *mut Raw, uri: *const u8, uri_len: usize, version: i32, edits: *const Edit,
+        edits_len: usize, texts: *const u8, texts_len: usize, fault: *mut Fault, frame_len: *mut usize) -> u32;
+    pub fn laspidru_client_close(client: *mut Raw, uri: *const u8, uri_len: usize, frame_len: *mut usize) -> u32;
+    pub fn laspidru_client_shutdown(client: *mut Raw, frame_len: *mut usize) -> u32;
+    pub fn laspidru_client_exit(client: *mut Raw, frame_len: *mut usize) -> u32;
+    pub fn laspidru_take(end: *mut Raw, piece: *const u8, piece_len: usize, taken: *mut Taken, answer: *mut Answer) -> u32;
+    pub fn laspidru_body(end_or_framer: *mut Raw, start: usize, out: *mut u8, out_len: usize, copied: *mut usize) -> u32;
+    pub fn laspidru_deliver(end: *mut Raw, body: *const u8, body_len: usize, answer: *mut Answer) -> u32;
+    pub fn laspidru_frame(end: *mut Raw, start: usize, out: *mut u8, out_len: usize, copied: *mut usize) -> u32;
+    pub fn laspidru_session_state(end: *mut Raw, state: *mut State) -> u32;
+    pub fn laspidru_message_uri(body: *const u8, body_len: usize, start: usize, out: *mut u8, out_len: usize,
+        copied: *mut usize) -> u32;
+    pub fn laspidru_open_state(end: *mut Raw, uri: *const u8, uri_len: usize, document: *mut Opened) -> u32;
+    pub fn laspidru_open_text(end: *mut Raw, uri: *const u8, uri_len: usize, start: usize, out: *mut u8, out_len: usize,
+        copied: *mut usize) -> u32;
+    pub fn laspidru_open_offset(end: *mut Raw, uri: *const u8, uri_len: usize, encoding: u32, position: Position,
+        offset: *mut usize) -> u32;
+    pub fn laspidru_open_position(end: *mut Raw, uri: *const u8, uri_len: usize, encoding: u32, offset: usize,
+        position: *mut Position) -> u32;
+    pub fn laspidru_open_line(end: *mut Raw, uri: *const u8, uri_len: usize, line: u32, range: *mut Line) -> u32;
+    pub fn laspidru_open_batch_of_edits(end: *mut Raw, uri: *const u8, uri_len: usize, encoding: u32, edits: *const Edit,
+        edits_len: usize, texts: *const u8, texts_len: usize, batch: *mut Raw, fault: *mut EditsFault) -> u32;
+    pub fn laspidru_open_canonical_message(end: *mut Raw, uri: *const u8, uri_len: usize, version: i32, encoding: u32,
+        edits: *const Edit, edits_len: usize, texts: *const u8, texts_len: usize, output: *mut Raw, fault: *mut Fault,
+        frame_len: *mut usize) -> u32;
+    pub fn laspidru_log_run(output: *mut Raw, command: u32, settings: *const LogSettings, uri: *const u8, uri_len: usize,
+        log: *const u8, log_len: usize, ending: *mut Ending) -> u32;
+    pub fn laspidru_output_copy(output: *mut Raw, start: usize, out: *mut u8, out_len: usize, copied: *mut usize) -> u32;
 }
 // end of declared
