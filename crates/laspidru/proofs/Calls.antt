@@ -16,7 +16,8 @@ use Rattle.laspidru.specs.Clients.{IsCalled, IsRefusedCall, IsWritten}
 -- A call that sends a frame is accepted.
 pub accepted : (stream : StreamData) (r : Result Sending ClientFault) (bytes : List ℕ) (new : ClientData) (code len : ℕ)
     (stored : Option Object)
-    → IsSent r bytes new → code ≡ OK → stored ≡ Some (End (record { party = Client new; frame = bytes; stream = stream }))
+    → IsSent r bytes new → code ≡ OK
+    → stored ≡ Some (End (record { party = Client new; frame = bytes; stream = stream }))
     → len ≡ length bytes
     → IsCalled stream r code stored len
 accepted stream (Ok sending) bytes new code len stored sent done held counted =

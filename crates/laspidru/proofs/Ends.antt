@@ -16,7 +16,8 @@ use Rattle.laspidru.specs.declared.party.Party.TheVariants.{Client}
 use Rattle.laspidru.specs.declared.taken.Taken.{Taken}
 use Rattle.laspidru.specs.Clients.{delivered_out, sent_frame}
 use Rattle.laspidru.specs.Codes.{IsAnswerOrNoMemory, IsRefusedOr, OnRefused, unless}
-use Rattle.laspidru.specs.Ends.{Handling, IsHandled, IsHandledBy, as_end, closed, handling_by, handling_of, heard, listening}
+use Rattle.laspidru.specs.Ends.{Handling, IsHandled, IsHandledBy, as_end, closed, handling_by, handling_of}
+use Rattle.laspidru.specs.Ends.{heard_out, listening}
 use Rattle.laspidru.specs.Framers.{HasNoBody, IsBodyOf, IsFedTo}
 use Rattle.laspidru.specs.HeldEnds.{EndData}
 use Rattle.laspidru.specs.inside.Clients.{call_code}
@@ -27,7 +28,7 @@ use Rattle.laspidru.specs.Taking.{IsTaken, as_handled}
 
 -- What a client does with a body, by whether it listens.
 abbrev heard_if : Bool → Delivery → Result Handling ℕ
-heard_if b it = unless (if b then None else Some WRONG_PHASE) (Ok (heard it))
+heard_if b it = unless (if b then None else Some WRONG_PHASE) (Ok (heard_out it))
 
 abbrev result_if : Bool → ClientData → Delivery → Result Delivery ClientFault
 result_if b s it = if b then Ok it else Err (client.WrongPhase s.phase)
@@ -65,7 +66,8 @@ pub delivery_refused : (s : ClientData) (body : List ℕ) (fault : ClientFault) 
     → IsFaultOf (delivery_result s (reading body)) fault → code ≡ call_code fault
     → IsAnswerOrNoMemory (handling_of (Client s) body) code (IsHandledBy (Client new) frame code out)
 delivery_refused s body fault new frame code out =
-    refused_if (is_listening s.phase) s (delivery_of s (reading body)) fault code (IsHandledBy (Client new) frame code out)
+    refused_if (is_listening s.phase) s (delivery_of s (reading body)) fault code
+    (IsHandledBy (Client new) frame code out)
 
 -- ---- an end in an object
 
@@ -148,7 +150,8 @@ pub one_taken : (old new : EndData) (stream : StreamData) (piece body frame : Li
     → IsTaken old piece OK new taken before after
 one_taken old new stream piece body frame party code did taken before after fed is whole listens done handled left =
     let it : Handling = handling_by old.party body in
-    let by : IsHandledBy party frame OK after it = done_by (closed old.party) it (IsHandledBy party frame OK after) listens
+    let by : IsHandledBy party frame OK after it =
+    done_by (closed old.party) it (IsHandledBy party frame OK after) listens
     (subst (λ c. IsAnswerOrNoMemory (handling_of old.party body) c (IsHandledBy party frame c after)) done handled) in
     inr (record {
       stream = stream;

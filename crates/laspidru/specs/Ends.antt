@@ -48,16 +48,16 @@ pub record Handling : Type 0 where
   pub answer : Answer
 
 -- The step of a server, as C gets it.
-abbrev pub served : Step → Handling
-served it = record {
+abbrev pub served_out : Step → Handling
+served_out it = record {
   party = Server it.state;
   frame = reply_out (as_sent it.answer);
   answer = answer_out (as_sent it.answer);
 }
 
 -- The delivery of a client, as C gets it.
-abbrev pub heard : Delivery → Handling
-heard it = record {
+abbrev pub heard_out : Delivery → Handling
+heard_out it = record {
   party = Client it.state;
   frame = sent_frame (as_frame it.delivered);
   answer = delivered_out (as_frame it.delivered);
@@ -65,8 +65,8 @@ heard it = record {
 
 -- By the table of a server's steps, or of a client's deliveries.
 abbrev pub handling_by : Party → List ℕ → Handling
-handling_by (Server server) body = served (step server (reading body))
-handling_by (Client client) body = heard (delivery_of client (reading body))
+handling_by (Server server) body = served_out (step server (reading body))
+handling_by (Client client) body = heard_out (delivery_of client (reading body))
 
 -- A server handles no message after the end of its session.
 abbrev pub ended : Phase → Option ℕ
@@ -129,9 +129,9 @@ store_in (Server server) = record { limits = server.config.limits; table = serve
 store_in (Client client) = record { limits = client.limits; table = client.table }
 
 -- The encoding that was agreed on.
-abbrev pub encoding_in : Party → Option Encoding
-encoding_in (Server server) = server.encoding
-encoding_in (Client client) = option_map (λ agreed. agreed.encoding) client.agreed
+abbrev pub agreed_encoding : Party → Option Encoding
+agreed_encoding (Server server) = server.encoding
+agreed_encoding (Client client) = option_map (λ agreed. agreed.encoding) client.agreed
 
 -- The number of an encoding; 0 of none.
 abbrev pub encoding_number : Option Encoding → ℕ
@@ -161,7 +161,7 @@ party_reason (Client client) = phase_reason client.phase
 pub record IsState (out : State) (party : Party) : Type 0 where
   pub phase : out.phase ≡ party_phase party
   pub reason : out.reason ≡ party_reason party
-  pub encoding : out.encoding ≡ encoding_number (encoding_in party)
+  pub encoding : out.encoding ≡ encoding_number (agreed_encoding party)
   pub documents : out.documents ≡ length (store_in party).table
 
 -- ---- its open documents

@@ -79,8 +79,8 @@ run_asked number settings uri =
     Ok (record { name = name; uri = named; settings = taken }))))
 
 -- The number of the last record that is read; none for all.
-abbrev pub record_at : ℕ → Option ℕ
-record_at at = if nat_eq at 0 then None else Some at
+abbrev pub asked_record : ℕ → Option ℕ
+asked_record at = if nat_eq at 0 then None else Some at
 
 -- The URI of the one document that is written, if there is one.
 abbrev pub uri_if : Bool → List ℕ → Option (List ℕ)
@@ -88,15 +88,15 @@ uri_if true uri = Some uri
 uri_if false uri = None
 
 -- The part of a log that is replayed.
-pub record IsPart (settings : LogSettings) (uri : List ℕ) (part : Part) : Type 0 where
-  pub at : part.at ≡ record_at settings.at
+pub record IsAskedPart (settings : LogSettings) (uri : List ℕ) (part : Part) : Type 0 where
+  pub at : part.at ≡ asked_record settings.at
   pub uri_of : option_map string_bytes part.uri ≡ uri_if settings.has_uri uri
 
 -- `replay` is of the whole log, or of a part of it.
 abbrev pub IsReplay : LogSettings → List ℕ → Command → Type 0
 IsReplay settings uri command.Replay = (settings.at ≡ 0) × (settings.has_uri ≡ false)
 IsReplay settings uri (command.ReplayPart part) =
-    ((not (nat_eq settings.at 0) || settings.has_uri) ≡ true) × IsPart settings uri part
+    ((not (nat_eq settings.at 0) || settings.has_uri) ≡ true) × IsAskedPart settings uri part
 IsReplay settings uri other = ⊥
 
 -- `normalise` is of all records, or of those about the session and the documents' texts.
@@ -117,15 +117,15 @@ IsCommand Convert settings uri it = it ≡ command.Convert
 -- ---- what a command does
 
 -- The engine of a command.
-abbrev pub engine_of : Command → Settings → Engine
-engine_of command.Check settings = check_engine settings
-engine_of command.Explain settings = explain_engine settings
-engine_of (command.Trace details) settings = trace_engine settings details
-engine_of command.Replay settings = replay_engine settings
-engine_of (command.ReplayPart part) settings = part_engine settings part
-engine_of command.Normalise settings = normalise_engine settings
-engine_of command.NormaliseDocuments settings = documents_engine settings
-engine_of command.Convert settings = convert_engine settings
+abbrev pub command_engine : Command → Settings → Engine
+command_engine command.Check settings = check_engine settings
+command_engine command.Explain settings = explain_engine settings
+command_engine (command.Trace details) settings = trace_engine settings details
+command_engine command.Replay settings = replay_engine settings
+command_engine (command.ReplayPart part) settings = part_engine settings part
+command_engine command.Normalise settings = normalise_engine settings
+command_engine command.NormaliseDocuments settings = documents_engine settings
+command_engine command.Convert settings = convert_engine settings
 
 -- What `normalise` and `convert` write of a log is a log again, of which `replay` reports the same.
 abbrev pub IsLawful : Command → Settings → Ports → Ports → Result Outcome EngineFault → Type 0
@@ -160,7 +160,7 @@ pub record RanOn (it : Command) (settings : Settings) (log output : List ℕ)
   pub failed : Bool
   pub writes : ℕ
   pub flushed : Bool
-  pub ran : IsEngineRun (engine_of it settings) command_turns
+  pub ran : IsEngineRun (command_engine it settings) command_turns
       (log_ports log 0 false [] false 0 true)
       (log_ports left reads ended output failed writes flushed) answer
   pub lawful : IsLawful it settings (log_ports log 0 false [] false 0 true)

@@ -2,9 +2,9 @@
 
 ghost use Rattle.std.specs.Prelude.{◌≡◌, IfOk};
 ghost use Rattle.lsp_replay.specs.Run.{IsEngineRun};
-ghost use Rattle.laspidru.specs.Logs.{IsCommand, IsLawful, IsPart, IsReplay, RanOn};
-ghost use Rattle.laspidru.specs.Logs.{command_turns, engine_of, log_ports, name_numbered};
-ghost use Rattle.laspidru.specs.Logs.{record_at};
+ghost use Rattle.laspidru.specs.Logs.{IsCommand, IsLawful, IsAskedPart, IsReplay, RanOn};
+ghost use Rattle.laspidru.specs.Logs.{command_turns, command_engine, log_ports, name_numbered};
+ghost use Rattle.laspidru.specs.Logs.{asked_record};
 
 use crate::endings::LogSettings;
 use crate::log_reader::LogReader;
@@ -63,14 +63,14 @@ pub(crate) fn command_named(number: u32) -> Option<CommandName>
 
 /// Returns the number of the last record that is to be read; none for all.
 fn last_record(at: u64) -> Option<u64>
-    ensures { result ≡ record_at at }
+    ensures { result ≡ asked_record at }
 {
     if at == 0 { None } else { Some(at) }
 }
 
 /// Returns the part of a log that is asked for.
 fn part_of(alloc: Global, settings: &LogSettings, uri: &str) -> Result<Part, AllocError>
-    ensures { IfOk result (IsPart settings.now uri.now) }
+    ensures { IfOk result (IsAskedPart settings.now uri.now) }
 {
     let uri = if settings.has_uri {
         Some(uri.to_string(alloc)?)
@@ -129,7 +129,7 @@ fn run_between(
     reader: &mut LogReader,
     writer: &mut Told<Vec<u8>>,
 ) -> Result<Outcome, EngineFault>
-    ensures ran { IsEngineRun (engine_of command settings) command_turns
+    ensures ran { IsEngineRun (command_engine command settings) command_turns
         (log_ports reader.old.rest.now reader.old.calls reader.old.ended writer.old.inner.items
         writer.old.failed writer.old.calls writer.old.flushed)
         (log_ports reader.new.rest.now reader.new.calls reader.new.ended writer.new.inner.items

@@ -5,7 +5,7 @@ ghost use Rattle.laspidru.specs.declared.party.Party.TheVariants.{Client as Clie
 ghost use Rattle.laspidru.specs.declared.party.Party.TheVariants.{Server as ServerOf};
 ghost use Rattle.laspidru.specs.Codes.{IsAnswer, IsAnswerOrNoMemory, IsRefusedOr, OnRefused};
 ghost use Rattle.laspidru.specs.Ends.{IsHandled, IsHandledBy, IsState, as_end, as_framing};
-ghost use Rattle.laspidru.specs.Ends.{closed, deaf, encoding_in, ended, frame_asked, handling_of};
+ghost use Rattle.laspidru.specs.Ends.{closed, deaf, agreed_encoding, ended, frame_asked, handling_of};
 ghost use Rattle.laspidru.specs.Ends.{listening};
 ghost use Rattle.laspidru.specs.Ends.{party_phase, party_reason, store_in, stored_end};
 ghost use Rattle.laspidru.specs.Ends.{stored_framing};
@@ -43,7 +43,7 @@ pub(crate) fn store_of(party: &Party) -> &Store
 
 /// Returns the encoding of positions that was agreed on.
 fn encoding_of_session(party: &Party) -> Option<Encoding>
-    ensures { result ≡ encoding_in party.now }
+    ensures { result ≡ agreed_encoding party.now }
 {
     match party {
         Party::Server(server) => server.encoding(),
