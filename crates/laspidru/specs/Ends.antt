@@ -69,9 +69,9 @@ handling_by (Server server) body = served_out (step server (reading body))
 handling_by (Client client) body = heard_out (delivery_of client (reading body))
 
 -- A server handles no message after the end of its session.
-abbrev pub ended : Phase → Option ℕ
-ended Ended = Some ENDED
-ended other = None
+abbrev pub session_over : Phase → Option ℕ
+session_over Ended = Some ENDED
+session_over other = None
 
 -- A client handles none before `initialize` and after `exit`, nor once its session failed.
 abbrev pub deaf : client_phase.Phase → Option ℕ
@@ -79,7 +79,7 @@ deaf phase = if is_listening phase then None else Some WRONG_PHASE
 
 -- The code of an end that handles no message in its phase.
 abbrev pub closed : Party → Option ℕ
-closed (Server server) = ended server.phase
+closed (Server server) = session_over server.phase
 closed (Client client) = deaf client.phase
 
 -- What an end does with a body, or the code of its refusal.

@@ -5,8 +5,8 @@ use Rattle.lsp_reader.specs.Incoming.{IncomingData, did_open, did_change, did_cl
 use Rattle.laspidru.specs.declared.codes.TheConstants.{NO_DOCUMENT, OUT_OF_RANGE}
 
 -- The name of each code and what it means, by its number.
-abbrev pub texts : List (List ℕ)
-texts =
+abbrev pub code_texts : List (List ℕ)
+code_texts =
     codes "OK: the call is done" ∷
     codes "NOT_UTF8: the text is not UTF-8" ∷
     codes "OUT_OF_MEMORY: out of memory" ∷
@@ -47,7 +47,7 @@ texts =
 
 -- The text of a code, or the code of its refusal.
 abbrev pub text_asked_of : ℕ → Result (List ℕ) ℕ
-text_asked_of code = ok_or (slice_get texts code) OUT_OF_RANGE
+text_asked_of code = ok_or (slice_get code_texts code) OUT_OF_RANGE
 
 -- The URI of the document that a message opens, changes or closes: the one in valid params.
 abbrev pub document_of : IncomingData → Option (List ℕ)

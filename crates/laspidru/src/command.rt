@@ -2,9 +2,9 @@
 
 ghost use Rattle.std.specs.Prelude.{◌≡◌, IfOk};
 ghost use Rattle.lsp_replay.specs.Run.{IsEngineRun};
-ghost use Rattle.laspidru.specs.Logs.{IsCommand, IsLawful, IsAskedPart, IsReplay, RanOn};
-ghost use Rattle.laspidru.specs.Logs.{command_turns, command_engine, log_ports, name_numbered};
-ghost use Rattle.laspidru.specs.Logs.{asked_record};
+ghost use Rattle.laspidru.specs.Logs.{IsAskedPart, IsCommand, IsLawful, IsReplay, RanOn};
+ghost use Rattle.laspidru.specs.Logs.{asked_record, command_engine, command_turns, log_ports};
+ghost use Rattle.laspidru.specs.Logs.{name_numbered};
 
 use crate::endings::LogSettings;
 use crate::log_reader::LogReader;

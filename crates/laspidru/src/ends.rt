@@ -4,11 +4,10 @@ ghost use Rattle.std.specs.Prelude.{◌≡◌, ◌≢◌, IsOkAnd, None, Some};
 ghost use Rattle.laspidru.specs.declared.party.Party.TheVariants.{Client as ClientOf};
 ghost use Rattle.laspidru.specs.declared.party.Party.TheVariants.{Server as ServerOf};
 ghost use Rattle.laspidru.specs.Codes.{IsAnswer, IsAnswerOrNoMemory, IsRefusedOr, OnRefused};
-ghost use Rattle.laspidru.specs.Ends.{IsHandled, IsHandledBy, IsState, as_end, as_framing};
-ghost use Rattle.laspidru.specs.Ends.{closed, deaf, agreed_encoding, ended, frame_asked, handling_of};
-ghost use Rattle.laspidru.specs.Ends.{listening};
-ghost use Rattle.laspidru.specs.Ends.{party_phase, party_reason, store_in, stored_end};
-ghost use Rattle.laspidru.specs.Ends.{stored_framing};
+ghost use Rattle.laspidru.specs.Ends.{IsHandled, IsHandledBy, IsState, agreed_encoding, as_end};
+ghost use Rattle.laspidru.specs.Ends.{as_framing, closed, deaf, frame_asked, handling_of};
+ghost use Rattle.laspidru.specs.Ends.{listening, party_phase, party_reason, session_over, store_in};
+ghost use Rattle.laspidru.specs.Ends.{stored_end, stored_framing};
 ghost use Rattle.laspidru.specs.Framers.{IsBodyAnswer};
 ghost use Rattle.laspidru.specs.Objects.{IsCopy, rest_asked};
 ghost use Rattle.laspidru.specs.Taking.{IsTaken};
@@ -64,7 +63,7 @@ fn phase_of_party(party: &Party) -> (u32, u32)
 
 /// Returns the code of a server that handles no message in this phase.
 fn ended_code(phase: Phase) -> Option<u32>
-    ensures { result ≡ ended phase }
+    ensures { result ≡ session_over phase }
 {
     match phase {
         Phase::New | Phase::Running | Phase::Down => None,

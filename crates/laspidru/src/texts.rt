@@ -6,7 +6,7 @@ ghost use Rattle.lsp_reader.specs.Incoming.{incoming_of};
 ghost use Rattle.lsp_reader.specs.Seen.{incoming_view};
 ghost use Rattle.laspidru.specs.Codes.{IsAnswer};
 ghost use Rattle.laspidru.specs.Objects.{IsCopy, rest_asked};
-ghost use Rattle.laspidru.specs.Texts.{document_of, named_document, text_asked_of, texts};
+ghost use Rattle.laspidru.specs.Texts.{code_texts, document_of, named_document, text_asked_of};
 
 use crate::bytes::copy_from;
 use crate::codes::{NO_DOCUMENT, OK, OUT_OF_MEMORY, OUT_OF_RANGE};
@@ -66,7 +66,7 @@ pub extern "C" fn laspidru_version() -> u32
 
 /// Returns the name of a code and what it means.
 fn text_of(code: u32) -> Option<&'static str>
-    ensures { option_map (λ text. text.now) result ≡ slice_get texts code }
+    ensures { option_map (λ text. text.now) result ≡ slice_get code_texts code }
 {
     TEXTS.get(code as usize).copied()
 }
