@@ -275,6 +275,14 @@ pub extern "C" fn laspidru_take(
     code
 }
 
+/// Copies the body that an end has buffered.
+fn end_body(held: &End, start: usize, out: &mut [u8], copied: &mut usize) -> u32
+    ensures answer { IsBodyAnswer held.now.stream.framing start result out.old out.new copied.new }
+    ensures unchanged { result ≢ OK → (out.new ≡ out.old) × (copied.new ≡ copied.old) }
+{
+    held.stream.copy_body(start, out, copied)
+}
+
 /// Copies the body that an object's framer or end has buffered.
 fn object_body(object: &Object, start: usize, out: &mut [u8], copied: &mut usize) -> u32
     ensures answer { IsRefusedOr (as_framing object.now) result
@@ -283,7 +291,7 @@ fn object_body(object: &Object, start: usize, out: &mut [u8], copied: &mut usize
 {
     match object {
         Object::Framer(framer) => copy_body(framer, start, out, copied),
-        Object::End(held) => held.stream.copy_body(start, out, copied),
+        Object::End(held) => end_body(held, start, out, copied),
         _ => OTHER_KIND,
     }
 }
