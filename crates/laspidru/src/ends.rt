@@ -117,7 +117,7 @@ fn serve(
 }
 
 /// Handles a body by a client.
-#[tactic(auto, using(crate::proofs::Ends::delivered, crate::proofs::Ends::delivery_refused))]
+#[tactic(auto, using(crate::proofs::Bodies::delivered, crate::proofs::Bodies::delivery_refused))]
 fn hear(
     alloc: Global,
     client: &mut Client,
@@ -159,7 +159,7 @@ fn handled(
 }
 
 /// Passes a body to an object's end.
-#[tactic(auto, using(crate::proofs::Ends::handled_in))]
+#[tactic(auto, using(crate::proofs::Bodies::handled_in))]
 fn object_deliver(alloc: Global, object: &mut Object, body: &[u8], out: &mut Answer) -> u32
     ensures answer { IsRefusedOr (as_end object.old) result (λ held.
         IsAnswerOrNoMemory (handling_of held.party body.now) result
@@ -201,7 +201,7 @@ pub extern "C" fn laspidru_deliver(
 }
 
 /// Takes bytes of a piece, and handles the message that is whole then.
-#[tactic(auto, using(crate::proofs::Ends::untaken, crate::proofs::Ends::none_taken, crate::proofs::Ends::waits, crate::proofs::Ends::one_taken))]
+#[tactic(auto, using(crate::proofs::Bodies::untaken, crate::proofs::Bodies::none_taken, crate::proofs::Bodies::waits, crate::proofs::Bodies::one_taken))]
 fn take(alloc: Global, held: &mut End, piece: &[u8], taken: &mut Taken, out: &mut Answer) -> u32
     requires { closed held.old.party ≡ None }
     ensures { IsTaken held.old piece.now result held.new taken.new out.old out.new }
@@ -221,7 +221,7 @@ fn take(alloc: Global, held: &mut End, piece: &[u8], taken: &mut Taken, out: &mu
 }
 
 /// Takes bytes of a piece by an object's end.
-#[tactic(auto, using(crate::proofs::Ends::taken_in, crate::proofs::Ends::unrefused))]
+#[tactic(auto, using(crate::proofs::Bodies::taken_in, crate::proofs::Bodies::unrefused))]
 fn object_take(
     alloc: Global,
     object: &mut Object,
