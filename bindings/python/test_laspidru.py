@@ -186,7 +186,7 @@ class Tests(unittest.TestCase):
                                        (document.apply_edits, edit), (document.batch_of_edits, edit)):
                     for start, end in ((place, at(0, 0)), (at(0, 0), place)):
                         fault = self.refuses("OUT_OF_RANGE", refusing, [make(at(0, 0), at(0, 0), ""), make(start, end, "")])
-                        self.assertEqual((fault.change, str(fault)), (1, "change at index 1: out of range"))
+                        self.assertEqual((fault.change, str(fault)), (1, "change at index 1: a number is out of its range"))
         for number in (-1, 2 ** 64, 2 ** 64 + 5):
             self.refuses("OUT_OF_RANGE", document.position, number)
             self.refuses("BAD_MAX_BODY", check, b"", max_body=number)
@@ -202,7 +202,7 @@ class Tests(unittest.TestCase):
         fault = self.refuses("NOT_UTF8", document.change, [{"text": ""}, change(at(0, 0), at(0, 0), "\ude00")])
         self.assertEqual((fault.change, str(fault)), (1, "change at index 1: the text is not UTF-8"))
         self.refuses("NOT_UTF8", document.apply_edits, [edit(at(0, 0), at(0, 0), "\ude00")])
-        for refused in (lambda: Document(b"a"), lambda: document.change([{"text": None}]), lambda: check("text"),
+        for refused in (lambda: Document(b"a"), lambda: document.change([{"text": None}]), lambda: check(1),
                         lambda: document.apply_edits([{"newText": "all"}]), lambda: document.batch_of_edits([{"newText": ""}])):
             self.assertRaises(TypeError, refused)
         self.refuses("BAD_ENCODING", Document, "a", "utf-7")

@@ -18,7 +18,7 @@ code_texts =
     codes "BAD_ENCODING: unknown encoding" ∷
     codes "BAD_LENGTH: the lengths of the edits exceed their texts" ∷
     codes "OTHER_KIND: the handle holds an object of another kind" ∷
-    codes "OUT_OF_RANGE: there is nothing of this number" ∷
+    codes "OUT_OF_RANGE: a number is out of its range" ∷
     codes "BAD_MAX_BODY: max_body is out of its range, 4,096 to 1,073,741,824 bytes" ∷
     codes "ENDED: the session has ended" ∷
     codes "NOT_OPEN: no document of this URI is open" ∷

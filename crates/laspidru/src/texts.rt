@@ -29,7 +29,7 @@ const TEXTS: [&str; 36] = [
     "BAD_ENCODING: unknown encoding",
     "BAD_LENGTH: the lengths of the edits exceed their texts",
     "OTHER_KIND: the handle holds an object of another kind",
-    "OUT_OF_RANGE: there is nothing of this number",
+    "OUT_OF_RANGE: a number is out of its range",
     "BAD_MAX_BODY: max_body is out of its range, 4,096 to 1,073,741,824 bytes",
     "ENDED: the session has ended",
     "NOT_OPEN: no document of this URI is open",
