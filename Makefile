@@ -15,17 +15,19 @@ INSTALL = install
 ifneq ($(wildcard launch),)
 SYNC_PROGRAM = crates/lspsync/out/lspsync
 SIMULATE_PROGRAM = crates/lsp_simulate/out/lsp_simulate
+PAGE = $(BUILD)/wasm32/laspidru.html
 RELEASE = $(RELEASES)/laspidru-$(VERSION).tar.gz
 else
 SYNC_PROGRAM = lspsync
 SIMULATE_PROGRAM = lsp_simulate
+PAGE = laspidru.html
 RELEASE = .
 endif
 HEADER = crates/laspidru/include/laspidru.h
 # The programs over logs, with what they import, and the pages that say what a log, a code and a note are
 TOOLS = record log-from lines-from-log log-from-lines
 TOOL_FILES = bin/session_log.py bin/log_forms.py
-PAGES = docs/PROTOCOL.md docs/LSPSYNC.md docs/LOGS.md docs/CLIENTS.md crates/laspidru/include/CODES.md
+PAGES = docs/PROTOCOL.md docs/LSPSYNC.md docs/LOGS.md docs/CLIENTS.md docs/LIBRARY.md crates/laspidru/include/CODES.md
 MAN_PAGES = lspsync lsp_simulate $(TOOLS:%=lspsync-%)
 ARCHIVE = crates/laspidru/out/liblaspidru.a
 BUILD = build
@@ -123,7 +125,7 @@ install: needed
 	$(INSTALL) -m 755 $(TOOLS:%=bin/%) "$(DESTDIR)$(DATADIR)/laspidru"
 	$(INSTALL) -m 644 $(TOOL_FILES) "$(DESTDIR)$(DATADIR)/laspidru"
 	for name in $(TOOLS); do ln -sfr "$(DESTDIR)$(DATADIR)/laspidru/$$name" "$(DESTDIR)$(BINDIR)/lspsync-$$name" || exit 1; done
-	$(INSTALL) -m 644 $(PAGES) "$(DESTDIR)$(DATADIR)/doc/laspidru"
+	$(INSTALL) -m 644 $(PAGES) $(wildcard $(PAGE)) "$(DESTDIR)$(DATADIR)/doc/laspidru"
 	$(INSTALL) -m 644 install/lspsync.bash "$(DESTDIR)$(DATADIR)/bash-completion/completions/lspsync"
 	$(INSTALL) -m 644 install/_lspsync "$(DESTDIR)$(DATADIR)/zsh/site-functions/_lspsync"
 	$(INSTALL) -m 644 install/lspsync.fish "$(DESTDIR)$(DATADIR)/fish/vendor_completions.d/lspsync.fish"
@@ -135,7 +137,7 @@ uninstall:
 	    "$(DESTDIR)$(LIBDIR)/liblaspidru.so" "$(DESTDIR)$(LIBDIR)/pkgconfig/laspidru.pc" \
 	    $(MAN_PAGES:%="$(DESTDIR)$(DATADIR)/man/man1/%.1") $(TOOLS:%="$(DESTDIR)$(BINDIR)/lspsync-%") \
 	    $(addprefix "$(DESTDIR)$(DATADIR)/laspidru/",$(TOOLS) $(notdir $(TOOL_FILES))) \
-	    $(addprefix "$(DESTDIR)$(DATADIR)/doc/laspidru/",$(notdir $(PAGES))) \
+	    $(addprefix "$(DESTDIR)$(DATADIR)/doc/laspidru/",$(notdir $(PAGES) $(PAGE))) \
 	    "$(DESTDIR)$(DATADIR)/bash-completion/completions/lspsync" "$(DESTDIR)$(DATADIR)/zsh/site-functions/_lspsync" \
 	    "$(DESTDIR)$(DATADIR)/fish/vendor_completions.d/lspsync.fish"
 	@rmdir "$(DESTDIR)$(DATADIR)/laspidru" "$(DESTDIR)$(DATADIR)/doc/laspidru" 2>/dev/null || true

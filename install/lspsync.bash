@@ -1,4 +1,4 @@
-# Completion of lspsync for bash.
+# Completion of lspsync for bash. Made by install/made.
 _lspsync() {
     local word=${COMP_WORDS[COMP_CWORD]} before=${COMP_WORDS[COMP_CWORD - 1]} command=${COMP_WORDS[1]}
     local commands="serve check trace replay normalise convert help" words
@@ -10,21 +10,21 @@ _lspsync() {
     fi
     case $before in
         --encoding) words="utf-8 utf-16 utf-32" ;;
+        --max-body | --max-text) words="16777216" ;;
+        --max-docs) words="1024" ;;
+        --max-changes) words="65536" ;;
         --sync) words="full incremental" ;;
-        --max-body | --max-text) words=16777216 ;;
-        --max-docs) words=1024 ;;
-        --max-changes) words=65536 ;;
-        --at | --uri) words= ;;
+        --at | --uri) words="" ;;
         *)
             words="--encoding --max-body --max-text --max-docs --max-changes --lenient --help"
             case $command in
                 serve) words="$words --sync" ;;
                 check) words="$words --explain" ;;
-                normalise) words="$words --documents --squash" ;;
                 trace) words="$words --texts --bodies" ;;
                 replay) words="$words --at --uri" ;;
-                convert) ;;
+                normalise) words="$words --documents --squash" ;;
                 help) words=$commands ;;
+                convert) ;;
                 *) words="$commands --help" ;;
             esac
             [ "$COMP_CWORD" -gt 1 ] || words="$commands --help"

@@ -12,7 +12,7 @@ const MODULE = path.join(__dirname, 'laspidru.wasm');
 function why({ code, message: problem }) {
   const { platform, arch } = process;
   if (platform !== 'linux' || arch !== 'x64') return `laspidru's addon is for Linux on x64, and this Node is for ${platform} on ${arch}`;
-  if (code === 'MODULE_NOT_FOUND') return "laspidru's addon isn't built: docs/node.md says how, and LASPIDRU_ADDON names it if it is elsewhere";
+  if (code === 'MODULE_NOT_FOUND') return "laspidru's addon isn't built: docs/INSTALL.md says how, and LASPIDRU_ADDON names it if it is elsewhere";
   const needed = /GLIBC_([0-9.]+)' not found/.exec(problem);
   const { glibcVersionRuntime: version } = process.report.getReport().header;
   if (needed) return `laspidru's addon needs glibc ${needed[1]} or newer, and this is glibc ${version}`;

@@ -1,10 +1,11 @@
 #!/usr/bin/env python3
-"""Asks the peers that are installed the vectors, and prints their table: table.py [--named] [--why] [PEER ..]
+"""Asks the peers that are installed the vectors, and prints what they answer: table.py [--named] [--why] [PEER ..]
+
+    /usr/bin/python3 peers/table.py --named > RESULTS.txt
 
 Each module of this folder is a peer, with TITLE, the FILES that it is asked, and `answers`. Where LSP 3.17 decides, an answer is right or
 wrong (or refused); where it leaves a case open, none is wrong, but a peer that hangs or ends. `--named` asks no random vectors, and
 `--why` prints what came instead of what is right."""
-import collections
 import datetime
 import importlib
 import json
@@ -52,19 +53,32 @@ def ask(peer):
     return found
 
 
-def row(*cells):
-    print("| " + " | ".join(cells) + " |")
+def print_table(rows):
+    """Prints rows with their columns under each other."""
+    widths = [max(map(len, column)) for column in zip(*rows)]
+    for row in rows:
+        print("  ".join(cell.ljust(width) for cell, width in zip(row, widths)).rstrip())
 
 
 def group_of(vector):
     return vector["name"].split("/")[0]
 
 
-def share(rows):
-    rows = [word for word in rows if word != "-"]
-    right = sum(word.startswith("right") for word in rows)
-    rest = collections.Counter(word for word in rows if not word.startswith("right"))
-    return f"{right} of {len(rows)}" + "".join(f", {count} {word}" for word, count in sorted(rest.items())) if rows else "-"
+def share(words):
+    """Returns how many of the cases that were asked are right."""
+    words = [word for word in words if word != "-"]
+    return f"{sum(word.startswith('right') for word in words)}/{len(words)}" if words else "-"
+
+
+HEAD = """\
+What peers answer, written by peers/table.py --named > RESULTS.txt on {day}. README.md says how each is asked. The named cases are nasty
+on purpose: no share here is a rate of daily life.
+
+Cases that LSP 3.17 decides, and how many of each group are right:
+"""
+OPEN = """
+Named cases that it leaves open. same is as this project chose, other another meaning, refuses an error and no text, - not asked:
+"""
 
 
 def main():
@@ -81,19 +95,15 @@ def main():
     if not peers:
         sys.exit("table.py: none of the peers is installed")
     asked = {peer.TITLE: ask(peer) for peer in peers}
-    print(f"Asked on {datetime.date.today()}.\n")
     everything = {name: vector for found in asked.values() for name, (vector, _, _) in found.items()}
-    print("Cases that LSP 3.17 decides:\n")
-    row("group", *asked)
-    row("---", *("---" for _ in asked))
-    for group in dict.fromkeys(group_of(v) for v in everything.values() if v["standard"] == "says"):
-        row(group, *(share([word for v, word, _ in found.values() if group_of(v) == group and v["standard"] == "says"]) for found in asked.values()))
-    print("\nNamed cases that it leaves open (`same`: as this project chose):\n")
-    row("case", "here", *asked)
-    row("---", "---", *("---" for _ in asked))
-    for name, vector in everything.items():
-        if vector["standard"] == "open":
-            row(name, "refused" if "refused" in vector["expect"] else "text", *(found.get(name, (0, "-"))[1] for found in asked.values()))
+    print(HEAD.format(day=datetime.date.today()))
+    decided = lambda found, group: [word for v, word, _ in found.values() if group_of(v) == group and v["standard"] == "says"]
+    groups = dict.fromkeys(group_of(v) for v in everything.values() if v["standard"] == "says")
+    print_table([("group", *asked), *((it, *(share(decided(found, it)) for found in asked.values())) for it in groups)])
+    print(OPEN)
+    chosen = {name: "refused" if "refused" in v["expect"] else "text" for name, v in everything.items() if v["standard"] == "open"}
+    said = lambda name: (found.get(name, (0, "-"))[1] for found in asked.values())
+    print_table([("case", "here", *asked), *((name, here, *said(name)) for name, here in chosen.items())])
     if "--why" in sys.argv:
         print("\nNamed cases that LSP 3.17 decides, and that a peer doesn't have right:\n")
         for title, found in asked.items():

@@ -1,41 +1,14 @@
 'use strict';
 // Out of memory at each growth of the module's memory in turn: grown.js MODULE. A call is refused and changes nothing, and works once there is
-// memory again. It gives the module a greatest memory, one page more in each round.
+// memory again. Node gives the module a greatest memory, of one page more in each round.
 const assert = require('assert');
 const fs = require('fs');
-const path = require('path');
-const node = path.join(__dirname, '..', '..', 'bindings', 'node');
-const { addonOf } = require(path.join(node, 'module.js'));
-const { over } = require(path.join(node, 'api.js'));
+const v8 = require('v8');
+const { addonOf } = require('../../bindings/node/module.js');
+const { over } = require('../../bindings/node/api.js');
 
-const bytes = fs.readFileSync(process.argv[2]);
-
-/** A number in LEB128, and what follows it. */
-function numberAt(at) {
-  for (let [value, shift] = [0, 0]; ; shift += 7) {
-    value += (bytes[at] & 127) * 2 ** shift;
-    if (bytes[at++] < 128) return [value, at];
-  }
-}
-
-function encoded(value) {
-  return value < 128 ? [value] : [(value % 128) | 128, ...encoded(Math.floor(value / 128))];
-}
-
-/** The module with a greatest memory of so many pages; and how many it begins with. */
-function limited(most) {
-  for (let at = 8; ;) {
-    const [size, start] = numberAt(at + 1);
-    if (bytes[at] === 5) {
-      // (one memory: its flags, and how many pages it begins with)
-      const [least] = numberAt(start + 2);
-      const limits = [1, bytes[start + 1] | 1, ...encoded(least), ...encoded(Math.max(most, least))];
-      return [least, Buffer.concat([bytes.subarray(0, at), Buffer.from([5, ...encoded(limits.length), ...limits]), bytes.subarray(start + size)])];
-    }
-    at = start + size;
-  }
-}
-
+const module_ = new WebAssembly.Module(fs.readFileSync(process.argv[2]));
+const PAGE = 65536;
 const text = 'line of a text\n'.repeat(60000);
 const range = { start: { line: 7, character: 1 }, end: { line: 7, character: 3 } };
 const body = Buffer.from(JSON.stringify({ jsonrpc: '2.0', id: 1, method: 'initialize', params: { capabilities: {}, more: text } }));
@@ -54,7 +27,8 @@ function runsOut(call) {
 
 /** Calls in a memory of so many pages: how many of them were refused. */
 function refusedWithin(most) {
-  const { TextDocument, Server, Client, check, normalise } = over(addonOf(new WebAssembly.Module(limited(most)[1])));
+  v8.setFlagsFromString(`--wasm-max-mem-pages=${most}`);
+  const { TextDocument, Server, Client, check, normalise } = over(addonOf(module_));
   let refused = 0;
   const tried = (call) => { refused += runsOut(call) ? 1 : 0; };
   let document;
@@ -83,7 +57,7 @@ function refusedWithin(most) {
   return refused;
 }
 
-const [least] = limited(0);
+const least = new WebAssembly.Instance(module_).exports.memory.buffer.byteLength / PAGE;
 let [rounds, all] = [0, 0];
 for (let most = least + 16; ; most += 1) {
   const refused = refusedWithin(most);
@@ -91,4 +65,4 @@ for (let most = least + 16; ; most += 1) {
   if (refused === 0) break;
 }
 assert(rounds > 10);
-console.log(`${all} calls refused for want of memory, in ${rounds} memories of different sizes`);
+console.log(`${all} calls refused, out of memory, in ${rounds} memories of different sizes`);

@@ -106,17 +106,17 @@ def intrinsic(line, target):
 
 
 def pair(line):
-    """A pair that C returns, as Windows and WebAssembly have it: into memory that the caller has. Form: `declare [2 x i64] @name(`, and
-    `%x = call [2 x i64] @name(`."""
-    place = "ptr sret([2 x i64]) align 8"
-    found = re.fullmatch(r"declare \[2 x i64\] (@\w+)\((.*)", line)
+    """A pair that C returns, as Windows and WebAssembly have it: into memory that the caller has. The declaration becomes a function over that,
+    which calls name. Form: `declare [2 x i64] @name(TYPE noundef, ..)`, and `%x = call [2 x i64] @name(`."""
+    found = re.fullmatch(r"declare \[2 x i64\] (@\w+)\(((?:\w+(?: noundef)?(?:, )?)*)\)(.*)", line)
     if found:
-        return [f"declare void {found[1]}({place}, {found[2]}"]
-    found = re.fullmatch(r"  (%\w+) = call \[2 x i64\] (@\w+)\((.*)", line)
-    if not found:
+        name, given, place = found[1], [f"{it.split()[0]} %a{at}" for at, it in enumerate(found[2].split(", "))], "ptr sret([2 x i64]) align 8"
+        return [f"declare void {name}({', '.join([place, *(it.split()[0] for it in given)])}){found[3]}", "",
+                f"define internal [2 x i64] {name}.pair({', '.join(given)}) alwaysinline nounwind {{", "  %at = alloca [2 x i64], align 8",
+                f"  call void {name}({', '.join([f'{place} %at', *given])})", "  %pair = load [2 x i64], ptr %at, align 8", "  ret [2 x i64] %pair", "}"]
+    if not re.fullmatch(r"  %\w+ = call \[2 x i64\] @\w+\(.*", line):
         raise Refused("a pair of another form")
-    to, name, rest = found.groups()
-    return [f"  {to}.at = alloca [2 x i64], align 8", f"  call void {name}({place} {to}.at, {rest}", f"  {to} = load [2 x i64], ptr {to}.at, align 8"]
+    return [re.sub(r"(@\w+)\(", r"\1.pair(", line, count=1)]
 
 
 def wide(text):

@@ -108,22 +108,22 @@ class Pages:
 
     # ---- checks
 
-    def faults(self, readme):
-        """Yields where the sources and README.md don't keep what the pages say."""
+    def faults(self, proved):
+        """Yields where the sources and docs/PROVED.md don't keep what the pages say."""
         for token in self.tokens.values():
             yield from token.faults
         for page in self.pages:
             yield from self.faults_of(page)
         yield from self.faults_of_users()
-        points, said = points_of(readme), {it.sentence: it for it in self.pages if it.sentence}
+        points, said = points_of(proved), {it.sentence: it for it in self.pages if it.sentence}
         for sentence in points:
             if sentence not in said:
-                yield f"README.md says under \"What is proved\" \"{sentence}\", and no page has it as its sentence"
+                yield f"docs/PROVED.md says under \"In short\" \"{sentence}\", and no page has it as its sentence"
         for sentence, page in said.items():
             if sentence not in points:
-                yield f"tools/pages: no point under \"What is proved\" of README.md begins with \"{sentence}\""
+                yield f"tools/pages: no point under \"In short\" of docs/PROVED.md begins with \"{sentence}\""
             elif (wanted := f"(`{page.of[0]}`: {page.most} lines, {self.size_in_all(page):,} in all)") not in points[sentence]:
-                yield f"README.md doesn't say \"{wanted}\" at \"{sentence}\""
+                yield f"docs/PROVED.md doesn't say \"{wanted}\" at \"{sentence}\""
 
     def faults_of(self, page):
         closure = self.closure_of(page)
@@ -153,8 +153,8 @@ class Pages:
                 yield f"tools/pages: the clause {clause} is listed under [inside], and reaches nothing there"
 
 
-def points_of(readme):
-    """Returns the points under "What is proved", each by its bold beginning."""
-    part = readme.partition("\n## What is proved\n")[2].partition("\n## ")[0]
+def points_of(proved):
+    """Returns the points under "In short", each by its bold beginning."""
+    part = proved.partition("\n## In short\n")[2].partition("\n## ")[0]
     points = [" ".join(it.split()) for it in re.split(r"(?m)^- ", part)[1:]]
     return {bold[1].rstrip(",.:"): it for it in points if (bold := re.match(r"\*\*(.*?)\*\*", it))}

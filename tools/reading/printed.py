@@ -1,4 +1,4 @@
-"""What `tools/definitions` prints: a page, and the tables of docs/DEFINITIONS.md."""
+"""What `tools/definitions` prints: a page, and tables."""
 import collections
 import os
 
@@ -24,7 +24,8 @@ def block(lines):
 def print_page(pages, closure, page):
     repository = closure.repository
     if page:
-        print(page.title + (f" (README.md, \"{page.sentence}\")" if page.sentence else ""))
+        print(page.title + (f" (docs/PROVED.md, \"{page.sentence}\")" if page.sentence else ""))
+    print("(tools/definitions --signs: what each sign means)")
     for call, clauses in clauses_by_call(closure).items():
         heading(f"{call.short()}, {repository.place(call.file.path, call.line)}")
         block(call.signature)
@@ -114,7 +115,7 @@ def print_kit(closure):
 # ---- tables
 
 def pages_table(pages):
-    """Returns the table of docs/DEFINITIONS.md."""
+    """Returns the table of the pages."""
     rows = ["| page | printed by `tools/definitions --of` | lines | in all | types | of Rattle's crates |", "|---|---|---|---|---|---|"]
     for page in pages.pages:
         closure = pages.closure_of(page)

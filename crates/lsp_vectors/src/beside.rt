@@ -146,7 +146,7 @@ fn found_alike(lines: &Lines, text: &str, characters: &[char], encoding: Encodin
 }
 
 /// Returns the characters of a text.
-fn characters(alloc: Global, text: &str) -> Result<Vec<char>, AllocError>
+pub fn characters(alloc: Global, text: &str) -> Result<Vec<char>, AllocError>
     ensures { IfOk result
         (λ characters. length (encode_utf8_all characters.items) ≡ length text.now) }
 {

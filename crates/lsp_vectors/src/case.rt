@@ -6,6 +6,7 @@ use crate::answer::{Left, batch_of_edits, left_by_changes};
 use crate::beside::{Alike, agree, left_by_joining, left_by_kept_text, positions_alike};
 use crate::fault::{edits_refused, invalid, refused};
 use crate::frames::frames_expected;
+use crate::offsets::offsets_of;
 use crate::session::session_expected;
 use crate::written::left_value;
 use anyhow::{Context, Result, bail};
@@ -21,7 +22,8 @@ pub fn expected(alloc: Global, case: Value, alike: &mut Alike) -> Result<Value> 
         bail!("a case is an object");
     };
     if let Some(changes) = members.remove("changes") {
-        return message_expected(alloc, &members, changes, alike);
+        let expect = message_expected(alloc, &members, changes, alike)?;
+        return with_offsets(alloc, &members, expect);
     }
     if let Some(edits) = members.remove("edits") {
         return edits_expected(alloc, &members, edits, alike);
@@ -52,6 +54,23 @@ fn message_expected(
         Err(ParamsFault::InvalidParams) => invalid(alloc),
         Err(ParamsFault::NoMemory) => bail!("out of memory"),
     }
+}
+
+/// Adds the offsets of the positions that a case names, if it names some.
+fn with_offsets(alloc: Global, members: &Map<String, Value>, expect: Value) -> Result<Value> {
+    let Some(positions) = members.get("positions") else {
+        return Ok(expect);
+    };
+    let Value::Object(mut expect) = expect else {
+        bail!("a meaning is an object");
+    };
+    let text = text_in(members, "text")?;
+    if text.len() > MAX_OLD_TEXT {
+        bail!("a case is too long");
+    }
+    let offsets = offsets_of(alloc, text, encoding_in(members)?, positions)?;
+    drop(expect.insert(String::from_str(alloc, "offsets")?, offsets)?);
+    Ok(Value::Object(expect))
 }
 
 /// Returns what changes leave of a text.

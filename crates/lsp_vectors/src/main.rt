@@ -5,8 +5,9 @@
 //!
 //! A case is a line of JSON, an object of one of four kinds. Its member `changes` is the content of
 //! one `textDocument/didChange`, `edits` a list of text edits, `messages` several messages in a
-//! row, and `bytes` a stream of frames. What it means becomes its last member, `expect`; one that
-//! is there already is dropped, and computed anew.
+//! row, and `bytes` a stream of frames. Beside `changes` a list of `positions` asks for their byte
+//! offsets in the old text. What it means becomes its last member, `expect`; one that is there
+//! already is dropped, and computed anew.
 //!
 //! Without arguments the cases of standard input are written with their meanings. Each argument
 //! names a file of vectors; of those the lines are written that are not as computed, and how many,
@@ -17,6 +18,7 @@
 //! - `beside`: the same by the programs that a server uses.
 //! - `session`: several messages in a row, and the documents after them.
 //! - `frames`: the frames of a stream.
+//! - `offsets`: the byte offsets of positions.
 //! - `fault`: why a case has no meaning.
 //! - `written`: meanings as JSON.
 #![tactic(auto)]
@@ -26,6 +28,7 @@ mod beside;
 mod case;
 mod fault;
 mod frames;
+mod offsets;
 mod session;
 mod written;
 

@@ -1,10 +1,8 @@
 //! The program on whole inputs: its output, its status, and the line that reports a fault.
 
 mod command_line;
-mod converted;
-mod explained;
 mod faults;
-mod logs;
+mod options;
 mod parts;
 mod sessions;
 mod streams;
@@ -41,18 +39,6 @@ fn answers(
     output: &[u8],
 ) -> Result<bool, AllocError> {
     Ok(ran(alloc, words, input)?.is(status, output, ""))
-}
-
-/// Returns whether a run with these words is a fault that is reported in this line, after this
-/// output.
-fn fails(
-    alloc: Global,
-    words: &[&str],
-    input: &[u8],
-    output: &[u8],
-    line: &str,
-) -> Result<bool, AllocError> {
-    Ok(ran(alloc, words, input)?.is(5, output, line))
 }
 
 /// Runs the program over streams that never fail.

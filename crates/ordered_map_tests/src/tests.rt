@@ -1,6 +1,7 @@
 //! A map beside a plain list of its entries, after the same calls.
 
-mod borders;
+mod growth;
+mod keys;
 mod random;
 mod refused;
 
@@ -21,9 +22,26 @@ fn new_pair(alloc: Global) -> Pair {
     }
 }
 
-/// Returns the key of a number.
+/// Returns the key of a number, a URI.
 fn key_of(alloc: Global, number: u32) -> Result<String, AllocError> {
     format!(in alloc; "file:///{number}")
+}
+
+/// Returns a key that is written as what takes the place of a key in a vacant slot.
+fn vacancy_of(alloc: Global, number: u32) -> Result<String, AllocError> {
+    format!(in alloc; "\0{number}")
+}
+
+/// Returns whether the values are the numbers from `first` to before `end`, in order.
+fn has_values(map: &OrderedMap<u32>, first: u32, end: u32) -> bool {
+    let mut number = first;
+    for (_, value) in map {
+        if *value != number {
+            return false;
+        }
+        number = number.saturating_add(1);
+    }
+    number == end
 }
 
 /// Returns the index of a key in a plain list.
@@ -47,17 +65,15 @@ fn plain_remove(plain: &mut Vec<(String, u32)>, key: &str) -> Option<u32> {
 }
 
 /// Inserts an entry last in both.
-fn insert(pair: &mut Pair, alloc: Global, number: u32, value: u32) -> Result<(), AllocError> {
-    let key = key_of(alloc, number)?;
+fn insert(pair: &mut Pair, key: String, value: u32) -> Result<(), AllocError> {
     plain_remove(&mut pair.plain, &key);
     pair.plain.push((key.clone()?, value))?;
     pair.map.insert_last(key, value)
 }
 
 /// Removes an entry from both. Returns whether both had the same.
-fn remove(pair: &mut Pair, alloc: Global, number: u32) -> Result<bool, AllocError> {
-    let key = key_of(alloc, number)?;
-    Ok(pair.map.remove(&key) == plain_remove(&mut pair.plain, &key))
+fn remove(pair: &mut Pair, key: &str) -> bool {
+    pair.map.remove(key) == plain_remove(&mut pair.plain, key)
 }
 
 /// Writes a value at an index of both. Returns whether both have the index, or neither.
@@ -79,13 +95,22 @@ fn plain_write(plain: &mut [(String, u32)], index: usize, value: u32) -> bool {
     false
 }
 
+/// Returns whether a key has the same value in both, or none in either.
+fn has_same(pair: &Pair, key: &str) -> bool {
+    let value = match plain_index(&pair.plain, key) {
+        Some(index) if index < pair.plain.len() => Some(pair.plain[index].1),
+        _ => None,
+    };
+    pair.map.get(key).copied() == value && pair.map.contains_key(key) == value.is_some()
+}
+
 /// Returns whether the map has this entry at an index, and finds its key there.
 fn has_entry(map: &OrderedMap<u32>, index: usize, key: &str, value: u32) -> bool {
     let at = matches!(map.get_index(index), Some((name, number))
         if name.as_str() == key && *number == value);
     let full = matches!(map.get_full(key), Some((found, name, number))
         if found == index && name.as_str() == key && *number == value);
-    at && full && map.contains_key(key) && map.get(key).copied() == Some(value)
+    at && full
 }
 
 /// Returns whether both have the same entries, by each call that reads.

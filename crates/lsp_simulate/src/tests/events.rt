@@ -68,18 +68,6 @@ waiting 2 0
 client {\"languageId\":\"plaintext\",\"text\":\"\u{1F600}\",\"uri\":\"file:///a\",\"version\":1}
 ";
 
-const FACE_IN_UTF32: &str = "1 sent
-2 server reply
-3 client send
-4 sent
-5 refused S1
-6 sent
-7 refused S5
-8 refused S4
-waiting 3 0
-client {\"languageId\":\"plaintext\",\"text\":\"\u{1F600}b\",\"uri\":\"file:///a\",\"version\":2}
-";
-
 const FACE_WHERE_LENIENT: &str = "1 sent
 2 server reply
 3 client send
@@ -90,20 +78,6 @@ const FACE_WHERE_LENIENT: &str = "1 sent
 8 refused S4
 waiting 5 0
 client {\"languageId\":\"plaintext\",\"text\":\"b\",\"uri\":\"file:///a\",\"version\":1}
-";
-
-/// A server that counts in what the client didn't offer.
-const BEGIN: &str = "{\"event\":\"start\"}
-{\"event\":\"toServer\"}
-{\"event\":\"toClient\"}
-{\"event\":\"start\"}
-";
-
-const BEGIN_OUTPUT: &str = "1 sent
-2 server reply
-3 client send
-4 refused C1 ready
-waiting 1 0
 ";
 
 /// The words, the input and the output.
@@ -117,17 +91,7 @@ static RUNS: &[(&[&str], &str, &str)] = &[
         FACE,
         FACE_IN_UTF8,
     ),
-    (
-        &["lsp_simulate", "--utf-32", "--prefer", "utf-32"],
-        FACE,
-        FACE_IN_UTF32,
-    ),
     (&["lsp_simulate", "--lenient"], FACE, FACE_WHERE_LENIENT),
-    (
-        &["lsp_simulate", "--prefer", "utf-32", "--max-docs", "1"],
-        BEGIN,
-        BEGIN_OUTPUT,
-    ),
 ];
 
 #[test]

@@ -21,20 +21,6 @@ static FAULTS: &[(&[&str], &str, u8, &str, &str)] = &[
         "lsp_simulate: bad event at line 1\n",
     ),
     (
-        &["lsp_simulate"],
-        "{\"event\":\"open\",\"textDocument\":{\"uri\":\"file:///a\"}}",
-        5,
-        "",
-        "lsp_simulate: bad event at line 1\n",
-    ),
-    (
-        &["lsp_simulate"],
-        "[\"start\"]",
-        5,
-        "",
-        "lsp_simulate: bad event at line 1\n",
-    ),
-    (
         &["lsp_simulate", "--fixed", "utf-8", "--server-max-text", "7"],
         "",
         2,

@@ -11,13 +11,11 @@ const NO_RECORD: &str = "lspsync: the log has no record of this number\n";
 
 const NEVER_OPEN: &str = "lspsync: the document was never open\n";
 
-const CUT: &str = "lspsync: truncated at 530\n";
-
 const OPENED: &str =
     "{\"languageId\":\"plaintext\",\"text\":\"abc\",\"uri\":\"file:///a\",\"version\":1}\n";
 
 /// The words of a call, and the status, the output and the line on standard error.
-static ROWS: [(&[&str], u8, &str, &str); 11] = [
+static ROWS: [(&[&str], u8, &str, &str); 5] = [
     (&["lspsync", "replay", "--uri", "file:///a"], 0, "aXc", ""),
     (
         &["lspsync", "replay", "--uri", "file:///b"],
@@ -25,34 +23,13 @@ static ROWS: [(&[&str], u8, &str, &str); 11] = [
         "",
         NEVER_OPEN,
     ),
-    (&["lspsync", "replay", "--uri="], 1, "", NEVER_OPEN),
     (&["lspsync", "replay", "--at", "3"], 0, OPENED, ""),
-    (&["lspsync", "replay", "--at", "5"], 0, "", ""),
-    (&["lspsync", "replay", "--at", "7"], 0, "", ""),
     (&["lspsync", "replay", "--at", "8"], 1, "", NO_RECORD),
-    (
-        &["lspsync", "replay", "--at=8", "--uri=file:///a"],
-        1,
-        "",
-        NO_RECORD,
-    ),
-    (
-        &["lspsync", "replay", "--at=3", "--uri=file:///a"],
-        0,
-        "abc",
-        "",
-    ),
     (
         &["lspsync", "replay", "--at=5", "--uri=file:///a"],
         0,
         "aXc",
         "",
-    ),
-    (
-        &["lspsync", "replay", "--at=2", "--uri=file:///a"],
-        1,
-        "",
-        NEVER_OPEN,
     ),
 ];
 
@@ -78,42 +55,5 @@ fn a_part_of_a_log_is_replayed(rt: HostRuntime) -> Result<(), Fail> {
             "at {words:?}"
         );
     }
-    Ok(())
-}
-
-/// Returns a log whose second `didOpen` is refused, and which is cut short after it.
-fn cut_log(alloc: Global) -> Result<Vec<u8>, AllocError> {
-    let mut input = log(alloc, &[INITIALIZE, OPEN, OPEN])?;
-    input.extend_from_slice(b"Content-Length: 2\r\n\r\n[")?;
-    Ok(input)
-}
-
-/// What is read of such a log, up to a record before the cut: the status says what was refused.
-static BEFORE: [(&[&str], u8, &str); 2] = [
-    (&["lspsync", "replay", "--at", "2"], 0, OPENED),
-    (
-        &["lspsync", "replay", "--at=3", "--uri=file:///a"],
-        1,
-        "abc",
-    ),
-];
-
-#[test]
-fn what_comes_after_the_part_is_not_read(rt: HostRuntime) -> Result<(), Fail> {
-    let input = cut_log(rt.alloc())?;
-    for (words, status, output) in &BEFORE {
-        assert!(rt;
-            answers(rt.alloc(), words, &input, *status, output.as_bytes())?,
-            "at {words:?}"
-        );
-    }
-    Ok(())
-}
-
-#[test]
-fn a_cut_log_has_no_last_text(rt: HostRuntime) -> Result<(), Fail> {
-    let alloc = rt.alloc();
-    let words = ["lspsync", "replay", "--uri", "file:///a"];
-    assert!(rt; fails(alloc, &words, &cut_log(alloc)?, b"", CUT)?);
     Ok(())
 }

@@ -1,7 +1,7 @@
 //! Readers and writers that fail, are interrupted or take few bytes.
 
 use super::*;
-use lsp_replay::CallEnd::{Fail as Fails, Interrupt, Take};
+use lsp_replay::CallEnd::{Fail as Fails, Take};
 use lsp_samples::bodies::{INITIALIZE, OPEN, WHOLE};
 use lsp_samples::logs::log;
 use std::test::Fail;
@@ -21,11 +21,9 @@ type Failing = (
     &'static str,
 );
 
-static FAILING: [Failing; 15] = [
+static FAILING: [Failing; 9] = [
     ("serve", &[Take(172), Fails], &[], 152, READ_FAULT),
     ("serve", &[], &[Take(100), Fails], 100, WRITE_FAULT),
-    ("serve", &[], &[Take(100), Take(0)], 100, WRITE_FAULT),
-    ("serve", &[], &[ALL, Fails], 152, WRITE_FAULT),
     // the reply is flushed before more is read
     (
         "serve",
@@ -43,18 +41,8 @@ static FAILING: [Failing; 15] = [
         18,
         READ_FAULT,
     ),
-    (
-        "serve",
-        &[Take(172), Fails],
-        &[ALL, ALL, Fails],
-        152,
-        READ_FAULT,
-    ),
     ("check", &[], &[ALL, ALL, Fails], 18, WRITE_FAULT),
     ("check", &[], &[ALL, ALL, ALL, Fails], 28, WRITE_FAULT),
-    ("trace", &[Take(340), Fails], &[], 205, READ_FAULT),
-    ("trace", &[], &[ALL, ALL, Fails], 205, WRITE_FAULT),
-    ("trace", &[], &[ALL, Take(100), Fails], 184, WRITE_FAULT),
     ("replay", &[Fails], &[], 0, READ_FAULT),
     ("normalise", &[], &[Take(0)], 0, WRITE_FAULT),
 ];
@@ -83,94 +71,4 @@ fn a_stream_that_fails_has_its_line_and_status_3(rt: HostRuntime) -> Result<(), 
         );
     }
     Ok(())
-}
-
-static COMMANDS: [&str; 6] = ["serve", "check", "trace", "replay", "normalise", "convert"];
-
-/// Returns whether the result is the same if reader and writer are slow.
-fn is_the_same(
-    alloc: Global,
-    command: &str,
-    input: &[u8],
-    slow: &[CallEnd],
-) -> Result<bool, AllocError> {
-    let words = ["lspsync", command];
-    let whole = ran(alloc, &words, input)?;
-    Ok(stopped(alloc, &words, input, slow, slow)?.is(whole.status, &whole.output, ""))
-}
-
-#[test]
-fn a_slow_stream_changes_nothing(rt: HostRuntime) -> Result<(), Fail> {
-    let input = log(rt.alloc(), &[INITIALIZE, OPEN, WHOLE])?;
-    let slow = [Interrupt, Take(1)].repeat(rt.alloc(), 700)?;
-    for command in &COMMANDS {
-        assert!(rt;
-            is_the_same(rt.alloc(), command, &input, &slow)?,
-            "at {command}"
-        );
-    }
-    Ok(())
-}
-
-static HELP: [&str; 3] = ["lspsync", "check", "--help"];
-
-/// Returns whether help that cannot be printed has this status and line, and this much of it is
-/// printed.
-fn has_printed(
-    alloc: Global,
-    writes: &[CallEnd],
-    len: usize,
-    status: u8,
-    line: &str,
-) -> Result<bool, AllocError> {
-    let whole = ran(alloc, &HELP, b"")?;
-    let Some(start) = whole.output.get(..len) else {
-        return Ok(false);
-    };
-    Ok(stopped(alloc, &HELP, b"", &[], writes)?.is(status, start, line))
-}
-
-/// The writes of help that cannot be printed, and the length of what was printed.
-static UNPRINTED: [(&[CallEnd], usize); 3] = [
-    (&[Fails], 0),
-    (&[Take(10), Fails], 10),
-    (&[Take(10), Take(0)], 10),
-];
-
-static SLOW: [CallEnd; 5] = [Interrupt, Take(9), Interrupt, ALL, Interrupt];
-
-#[test]
-fn help_that_cannot_be_printed(rt: HostRuntime) -> Result<(), Fail> {
-    let alloc = rt.alloc();
-    for (writes, len) in &UNPRINTED {
-        assert!(rt; has_printed(alloc, writes, *len, 3, WRITE_FAULT)?, "{len}");
-    }
-    let whole = ran(alloc, &HELP, b"")?.output.len();
-    assert!(rt; has_printed(alloc, &[ALL, Fails], whole, 3, WRITE_FAULT)?);
-    assert!(rt; has_printed(alloc, &SLOW, whole, 0, "")?);
-    Ok(())
-}
-
-/// Words, the reads, and the status.
-static SILENT: [(&[&str], &[CallEnd], u8); 4] = [
-    (&["lspsync"], &[], 2),
-    (&["lspsync", "check"], &[Fails], 3),
-    (&["lspsync", "check"], &[Take(1)], 5),
-    (&["lspsync", "check", "--max-docs", "0"], &[], 2),
-];
-
-/// Returns whether this is the status of a call that cannot print its line.
-fn has_status(alloc: Global, words: &[&str], reads: &[CallEnd], status: u8) -> bool {
-    let mut reader = Told::new(StopReader::new(b"\r\n", reads, ALL));
-    let mut writer = Told::new(Vec::new(alloc));
-    let mut errors = StopWriter::new(alloc, &[], Fails);
-    let found = run(alloc, words, &mut reader, &mut writer, &mut errors).status;
-    found == status && errors.bytes().is_empty()
-}
-
-#[test]
-fn a_line_that_cannot_be_printed_changes_no_status(rt: HostRuntime) {
-    for (words, reads, status) in &SILENT {
-        assert!(rt; has_status(rt.alloc(), words, reads, *status), "{words:?}");
-    }
 }

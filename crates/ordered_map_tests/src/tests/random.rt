@@ -1,14 +1,24 @@
 //! Random calls of a map, and the same of a plain list.
 
-use super::{Pair, insert, new_pair, remove, same, write};
+use super::{Pair, has_same, insert, key_of, new_pair, remove, same, vacancy_of, write};
 use std::alloc::{AllocError, Global};
 use std::test::Fail;
 
-/// How many keys there are, how many calls, and of a hundred calls how many insert.
-static ROWS: [(u32, u32, u32); 3] = [(3, 200, 50), (40, 400, 50), (300, 600, 75)];
+/// How keys are written.
+#[derive(Clone, Copy, Debug)]
+enum Keys {
+    Uris,
+    Vacancies,
+}
 
-/// After how many calls both are compared.
-const STEPS: u32 = 20;
+/// How the keys are written, how many there are, how many calls, of a hundred calls how many
+/// insert, and after how many calls all entries are compared.
+static ROWS: [(Keys, u32, u32, u32, u32); 4] = [
+    (Keys::Uris, 3, 50_000, 50, 500),
+    (Keys::Uris, 40, 25_000, 50, 500),
+    (Keys::Vacancies, 40, 20_000, 50, 500),
+    (Keys::Uris, 600, 5_000, 75, 1_000),
+];
 
 /// Returns the next number of a series that looks random.
 fn next(seed: u32) -> u32 {
@@ -20,33 +30,40 @@ fn below(seed: u32, count: u32) -> u32 {
     (seed >> 8).checked_rem(count).unwrap_or(0)
 }
 
-fn call(
-    pair: &mut Pair,
-    alloc: Global,
-    seed: u32,
-    row: (u32, u32, u32),
-) -> Result<bool, AllocError> {
-    let (keys, _, inserts) = row;
-    let number = below(next(seed), keys);
-    if below(seed, 100) < inserts {
-        insert(pair, alloc, number, seed)?;
-        return Ok(true);
+fn random_key(alloc: Global, keys: Keys, number: u32) -> Result<String, AllocError> {
+    match keys {
+        Keys::Uris => key_of(alloc, number),
+        Keys::Vacancies => vacancy_of(alloc, number),
     }
-    if below(seed, 7) == 0 {
-        return Ok(write(pair, number as usize, seed));
-    }
-    remove(pair, alloc, number)
 }
 
-fn stays_same(alloc: Global, row: (u32, u32, u32)) -> Result<bool, AllocError> {
+/// Makes a random call of both. Returns whether both answered the same.
+fn call(pair: &mut Pair, key: String, seed: u32, inserts: u32) -> Result<bool, AllocError> {
+    let kind = below(seed, 100);
+    if kind < inserts {
+        insert(pair, key, seed)?;
+        return Ok(true);
+    }
+    if kind % 8 == 0 {
+        return Ok(write(pair, below(next(seed), 50) as usize, seed));
+    }
+    if kind % 8 == 1 {
+        return Ok(has_same(pair, &key));
+    }
+    Ok(remove(pair, &key))
+}
+
+fn stays_same(alloc: Global, row: (Keys, u32, u32, u32, u32)) -> Result<bool, AllocError> {
+    let (keys, count, calls, inserts, compared) = row;
     let mut pair = new_pair(alloc);
     let mut seed = 1;
-    for step in 0..row.1 {
+    for step in 0..calls {
         seed = next(next(seed));
-        if !call(&mut pair, alloc, seed, row)? {
+        let key = random_key(alloc, keys, below(next(seed), count))?;
+        if !call(&mut pair, key, seed, inserts)? {
             return Ok(false);
         }
-        if step % STEPS == 0 && !same(&pair) {
+        if step.checked_rem(compared) == Some(0) && !same(&pair) {
             return Ok(false);
         }
     }

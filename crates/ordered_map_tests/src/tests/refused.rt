@@ -1,6 +1,6 @@
 //! Calls that run out of memory once, and are repeated.
 
-use super::key_of;
+use super::{has_values, key_of};
 use ordered_map::OrderedMap;
 use std::alloc::{AllocError, Global};
 use std::test::Fail;
@@ -8,104 +8,104 @@ use std::test::Fail;
 /// How many entries are inserted, so that each part of a map but its counts grows more than once.
 const COUNT: u32 = 20;
 
-/// Returns the key of a number. Out of memory is counted, and the call repeated.
-fn key_again(alloc: Global, number: u32, refused: &mut usize) -> Result<String, AllocError> {
+/// A map whose values are numbers in order, from the first to before the end.
+#[derive(Drop)]
+struct Table {
+    map: OrderedMap<u32>,
+    first: u32,
+    end: u32,
+    /// How often memory ran out.
+    refused: usize,
+}
+
+fn new_table(alloc: Global) -> Table {
+    Table {
+        map: OrderedMap::new(alloc),
+        first: 0,
+        end: 0,
+        refused: 0,
+    }
+}
+
+fn is_in_order(table: &Table) -> bool {
+    has_values(&table.map, table.first, table.end)
+}
+
+fn key_again(table: &mut Table, alloc: Global, number: u32) -> Result<String, AllocError> {
     if let Ok(key) = key_of(alloc, number) {
         return Ok(key);
     }
-    *refused = refused.saturating_add(1);
+    table.refused = table.refused.saturating_add(1);
     key_of(alloc, number)
 }
 
-/// Returns whether the values are the first numbers, in order.
-fn has_numbers(map: &OrderedMap<u32>, count: u32) -> bool {
-    let mut number = 0;
-    for (_, value) in map.iter() {
-        if *value != number {
-            return false;
+/// Inserts the next value under a key. Where memory runs out the table is as it was, and the call
+/// is repeated.
+fn insert_next(table: &mut Table, key: String, again: String) -> Result<bool, AllocError> {
+    if table.map.insert_last(key, table.end).is_err() {
+        table.refused = table.refused.saturating_add(1);
+        if !is_in_order(table) {
+            return Ok(false);
         }
-        number = number.saturating_add(1);
+        table.map.insert_last(again, table.end)?;
     }
-    number == count
-}
-
-/// Inserts a value under the key of a number. Where memory runs out the map still has so many
-/// numbers; that is counted, and the call repeated.
-fn insert_again(
-    map: &mut OrderedMap<u32>,
-    key: (String, String),
-    value: u32,
-    count: u32,
-    refused: &mut usize,
-) -> Result<bool, AllocError> {
-    let (first, again) = key;
-    if map.insert_last(first, value).is_ok() {
-        return Ok(true);
-    }
-    *refused = refused.saturating_add(1);
-    if !has_numbers(map, count) {
-        return Ok(false);
-    }
-    map.insert_last(again, value)?;
+    table.end = table.end.saturating_add(1);
     Ok(true)
 }
 
-fn keys_again(
-    alloc: Global,
-    number: u32,
-    refused: &mut usize,
-) -> Result<(String, String), AllocError> {
-    let key = key_again(alloc, number, refused)?;
-    Ok((key, key_again(alloc, number, refused)?))
+/// Inserts the next value under the key of a number.
+fn insert_again(table: &mut Table, alloc: Global, number: u32) -> Result<bool, AllocError> {
+    let key = key_again(table, alloc, number)?;
+    let again = key_again(table, alloc, number)?;
+    insert_next(table, key, again)
 }
 
-/// Inserts the first numbers, and returns whether they are there after each call.
-fn numbers_again(
-    map: &mut OrderedMap<u32>,
-    alloc: Global,
-    refused: &mut usize,
-) -> Result<bool, AllocError> {
+/// Inserts the next value in place of the first one, under its key.
+fn move_first(table: &mut Table, alloc: Global, number: u32) -> Result<bool, AllocError> {
+    let moved = insert_again(table, alloc, number)?;
+    table.first = table.first.saturating_add(1);
+    Ok(moved && is_in_order(table))
+}
+
+/// Removes the first value, and inserts the next one under its key.
+fn remove_first(table: &mut Table, alloc: Global, number: u32) -> Result<bool, AllocError> {
+    let key = key_again(table, alloc, number)?;
+    if table.map.remove(&key) != Some(table.first) {
+        return Ok(false);
+    }
+    table.first = table.first.saturating_add(1);
+    Ok(is_in_order(table) && insert_again(table, alloc, number)? && is_in_order(table))
+}
+
+fn insert_all(table: &mut Table, alloc: Global) -> Result<bool, AllocError> {
     for number in 0..COUNT {
-        let keys = keys_again(alloc, number, refused)?;
-        if !insert_again(map, keys, number, number, refused)? {
+        if !insert_again(table, alloc, number)? || !is_in_order(table) {
             return Ok(false);
         }
     }
-    Ok(has_numbers(map, COUNT))
+    Ok(true)
 }
 
-fn new_entries_again(alloc: Global, refused: &mut usize) -> Result<bool, AllocError> {
-    let mut map = OrderedMap::new(alloc);
-    numbers_again(&mut map, alloc, refused)
+/// Inserts entries, removes some and inserts them again, and moves the others to the end. Returns
+/// how often memory ran out, or nothing if the table wasn't in order.
+fn refused_calls(alloc: Global) -> Result<Option<usize>, AllocError> {
+    let mut table = new_table(alloc);
+    let mut in_order = insert_all(&mut table, alloc)?;
+    for number in 0..COUNT {
+        let moved = if number % 2 == 0 {
+            remove_first(&mut table, alloc, number)?
+        } else {
+            move_first(&mut table, alloc, number)?
+        };
+        in_order = in_order && moved;
+    }
+    Ok(in_order.then_some(table.refused))
 }
 
 #[test]
-fn refused_insert_last(rt: HostRuntime) -> Result<(), Fail> {
-    let mut refused = 0;
-    assert!(rt; new_entries_again(rt.alloc(), &mut refused)?);
-    println!(rt; "refused {refused}")?;
-    Ok(())
-}
-
-/// Inserts the first entry again under another value, which comes last.
-fn replaced_again(alloc: Global, refused: &mut usize) -> Result<bool, AllocError> {
-    let mut map = OrderedMap::new(alloc);
-    if !numbers_again(&mut map, alloc, refused)? {
-        return Ok(false);
-    }
-    let keys = keys_again(alloc, 0, refused)?;
-    if !insert_again(&mut map, keys, 100, COUNT, refused)? {
-        return Ok(false);
-    }
-    let first = matches!(map.get_index(0), Some((_, 1)));
-    let last = matches!(map.get_index(map.len().saturating_sub(1)), Some((_, 100)));
-    Ok(first && last && map.len() == COUNT as usize)
-}
-
-#[test]
-fn refused_insert_last_of_a_key_that_is_there(rt: HostRuntime) -> Result<(), Fail> {
-    let mut refused = 0;
-    assert!(rt; replaced_again(rt.alloc(), &mut refused)?);
-    println!(rt; "refused {refused}")?;
+fn refused_insert_last_leaves_the_table_in_order(rt: HostRuntime) -> Result<(), Fail> {
+    let refused = refused_calls(rt.alloc())?;
+    assert!(rt; refused.is_some());
+    println!(rt; "refused {}", refused.unwrap_or(0))?;
     Ok(())
 }

@@ -1,0 +1,135 @@
+//! Sessions of a client: calls and bodies, each with the expected result.
+
+mod faults;
+mod phases;
+mod refused;
+mod session;
+
+use lsp_client::{Client, ClientFault, Delivered, Phase, Reason};
+use lsp_edit::Change;
+use lsp_frame::{Limits, frame};
+use lsp_message::Offers;
+use lsp_text::{Position, Range};
+use std::alloc::{AllocError, Global};
+use std::test::Fail;
+
+const URI: &str = "file:///a";
+
+/// Returns a client that offers UTF-16 alone, with wide limits.
+fn new_client(alloc: Global) -> Result<Client, Fail> {
+    client_with(alloc, Offers::new(false, false))
+}
+
+fn client_with(alloc: Global, offers: Offers) -> Result<Client, Fail> {
+    let limits = Limits::new(16_777_216, 16_777_216, 1_024, 65_536)?;
+    Ok(Client::new(alloc, limits, offers))
+}
+
+/// Returns a change of characters on line 0.
+fn change(alloc: Global, start: u32, stop: u32, text: &str) -> Result<Change, AllocError> {
+    let on = |character| Position { line: 0, character };
+    Ok(Change {
+        range: Some(Range {
+            start: on(start),
+            stop: on(stop),
+        }),
+        text: String::from_str(alloc, text)?,
+    })
+}
+
+fn open_as(
+    alloc: Global,
+    client: &mut Client,
+    uri: &str,
+    text: &str,
+) -> Result<Vec<u8>, ClientFault> {
+    client.open(
+        String::from_str(alloc, uri)?,
+        String::from_str(alloc, "plaintext")?,
+        1,
+        String::from_str(alloc, text)?,
+    )
+}
+
+/// A call of a client.
+#[derive(Clone, Copy, Debug)]
+enum Ask {
+    Start,
+    /// Opens the document with this text, in version 1.
+    Open(&'static str),
+    /// Replaces characters on line 0 by a text, under a version.
+    Edit(i32, u32, u32, &'static str),
+    Close,
+    Shutdown,
+    Exit,
+    Deliver(&'static str),
+}
+
+/// Makes one call, and returns its result: a frame to send, another delivery, or a fault.
+fn answer_to(
+    alloc: Global,
+    client: &mut Client,
+    asked: Ask,
+) -> Result<Result<Delivered, ClientFault>, AllocError> {
+    let sent = match asked {
+        Ask::Start => client.start(),
+        Ask::Open(text) => open_as(alloc, client, URI, text),
+        Ask::Edit(version, start, stop, text) => {
+            client.edit(URI, version, &[change(alloc, start, stop, text)?])
+        }
+        Ask::Close => client.close(URI),
+        Ask::Shutdown => client.shutdown(),
+        Ask::Exit => client.exit(),
+        Ask::Deliver(body) => return Ok(client.deliver(body.as_bytes())),
+    };
+    Ok(sent.map(Delivered::Send))
+}
+
+/// Returns whether this is the expected result: the frame of this body, or the result of this word.
+fn is_answer(
+    alloc: Global,
+    given: &Result<Delivered, ClientFault>,
+    wanted: &str,
+) -> Result<bool, AllocError> {
+    match given {
+        Ok(Delivered::Send(given)) => Ok(*given == frame(alloc, wanted.as_bytes())?),
+        Ok(other) => Ok(word_of(other) == wanted),
+        Err(fault) => Ok(word_of_fault(*fault) == wanted),
+    }
+}
+
+fn word_of(delivered: &Delivered) -> &'static str {
+    match delivered {
+        Delivered::Send(_) => "send",
+        Delivered::Noted => "noted",
+        Delivered::Ignored => "ignored",
+        Delivered::BadServer(Reason::NotAnAnswer) => "not an answer",
+        Delivered::BadServer(Reason::ErrorAnswer) => "error answer",
+        Delivered::BadServer(Reason::NoSync) => "no sync",
+        Delivered::BadServer(Reason::BadEncoding) => "bad encoding",
+    }
+}
+
+fn word_of_fault(fault: ClientFault) -> &'static str {
+    match fault {
+        ClientFault::WrongPhase { phase } => word_of_phase(phase),
+        ClientFault::Store(fault) => fault.code(),
+        ClientFault::NoMemory => "C3",
+    }
+}
+
+/// Returns the word of a call in a wrong phase, which names the phase.
+fn word_of_phase(phase: Phase) -> &'static str {
+    match phase {
+        Phase::New => "C1 New",
+        Phase::Asked => "C1 Asked",
+        Phase::Ready => "C1 Ready",
+        Phase::Closing => "C1 Closing",
+        Phase::Closed => "C1 Closed",
+        Phase::Done => "C1 Done",
+        Phase::Failed(Reason::NotAnAnswer) => "C1 Failed(NotAnAnswer)",
+        Phase::Failed(Reason::ErrorAnswer) => "C1 Failed(ErrorAnswer)",
+        Phase::Failed(Reason::NoSync) => "C1 Failed(NoSync)",
+        Phase::Failed(Reason::BadEncoding) => "C1 Failed(BadEncoding)",
+    }
+}

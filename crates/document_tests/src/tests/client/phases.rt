@@ -1,0 +1,185 @@
+//! Every pair of phase and call, and of phase and kind of body.
+
+use super::{Ask, answer_to, is_answer, new_client};
+use lsp_client::{Client, Phase, Reason};
+use lsp_samples::bodies::{
+    ACCEPTED, CHANGE, CLOSE, EXIT, INITIALIZE, INITIALIZED, SHUT_DOWN, SHUTDOWN,
+};
+use std::alloc::Global;
+use std::test::Fail;
+
+const FAILED: Phase = Phase::Failed(Reason::NotAnAnswer);
+
+static PHASES: [Phase; 7] = [
+    Phase::New,
+    Phase::Asked,
+    Phase::Ready,
+    Phase::Closing,
+    Phase::Closed,
+    Phase::Done,
+    FAILED,
+];
+
+/// The calls that lead from New to each phase. One document is open from Ready on.
+static WAY: [&[Ask]; 7] = [
+    &[],
+    &[Ask::Start],
+    &[Ask::Start, Ask::Deliver(ACCEPTED), Ask::Open("abc")],
+    &[
+        Ask::Start,
+        Ask::Deliver(ACCEPTED),
+        Ask::Open("abc"),
+        Ask::Shutdown,
+    ],
+    &[
+        Ask::Start,
+        Ask::Deliver(ACCEPTED),
+        Ask::Open("abc"),
+        Ask::Shutdown,
+        Ask::Deliver(SHUT_DOWN),
+    ],
+    &[
+        Ask::Start,
+        Ask::Deliver(ACCEPTED),
+        Ask::Open("abc"),
+        Ask::Shutdown,
+        Ask::Deliver(SHUT_DOWN),
+        Ask::Exit,
+    ],
+    &[
+        Ask::Start,
+        Ask::Deliver(ACCEPTED),
+        Ask::Open("abc"),
+        Ask::Deliver("{"),
+    ],
+];
+
+const NEW: &str = "C1 New";
+
+const ASKED: &str = "C1 Asked";
+
+const READY: &str = "C1 Ready";
+
+const CLOSING: &str = "C1 Closing";
+
+const CLOSED: &str = "C1 Closed";
+
+const DONE: &str = "C1 Done";
+
+const FAULTY: &str = "C1 Failed(NotAnAnswer)";
+
+const BAD: &str = "not an answer";
+
+const NOT_FOUND: &str =
+    r#"{"error":{"code":-32601,"message":"method not found"},"id":5,"jsonrpc":"2.0"}"#;
+
+/// A call, and the expected results in New, Asked, Ready, Closing, Closed, Done and Failed.
+static TABLE: [(Ask, [&str; 7]); 16] = [
+    (
+        Ask::Start,
+        [INITIALIZE, ASKED, READY, CLOSING, CLOSED, DONE, FAULTY],
+    ),
+    (
+        Ask::Open("abc"),
+        [NEW, ASKED, "S1", CLOSING, CLOSED, DONE, FAULTY],
+    ),
+    (
+        Ask::Edit(2, 1, 2, "X"),
+        [NEW, ASKED, CHANGE, CLOSING, CLOSED, DONE, FAULTY],
+    ),
+    (
+        Ask::Edit(1, 1, 2, "X"),
+        [NEW, ASKED, "S5", CLOSING, CLOSED, DONE, FAULTY],
+    ),
+    (
+        Ask::Close,
+        [NEW, ASKED, CLOSE, CLOSING, CLOSED, DONE, FAULTY],
+    ),
+    (
+        Ask::Shutdown,
+        [NEW, ASKED, SHUTDOWN, CLOSING, CLOSED, DONE, FAULTY],
+    ),
+    (Ask::Exit, [NEW, ASKED, READY, CLOSING, EXIT, DONE, FAULTY]),
+    // No JSON, and no message.
+    (Ask::Deliver("{"), [NEW, BAD, BAD, BAD, BAD, DONE, FAULTY]),
+    (
+        Ask::Deliver(r#"{"id":1,"result":null}"#),
+        [NEW, BAD, BAD, BAD, BAD, DONE, FAULTY],
+    ),
+    // The server's requests and notifications.
+    (
+        Ask::Deliver(r#"{"id":5,"jsonrpc":"2.0","method":"workspace/configuration"}"#),
+        [
+            NEW, NOT_FOUND, NOT_FOUND, NOT_FOUND, NOT_FOUND, DONE, FAULTY,
+        ],
+    ),
+    (
+        Ask::Deliver(r#"{"jsonrpc":"2.0","method":"window/logMessage","params":{}}"#),
+        [
+            NEW, "ignored", "ignored", "ignored", "ignored", DONE, FAULTY,
+        ],
+    ),
+    // Responses to the client's two requests.
+    (
+        Ask::Deliver(ACCEPTED),
+        [NEW, INITIALIZED, BAD, BAD, BAD, DONE, FAULTY],
+    ),
+    (
+        Ask::Deliver(SHUT_DOWN),
+        [NEW, BAD, BAD, "noted", BAD, DONE, FAULTY],
+    ),
+    (
+        Ask::Deliver(r#"{"error":{"code":1,"message":""},"id":1,"jsonrpc":"2.0"}"#),
+        [NEW, "error answer", BAD, BAD, BAD, DONE, FAULTY],
+    ),
+    // Ids that are not those of a request.
+    (
+        Ask::Deliver(
+            r#"{"id":"1","jsonrpc":"2.0","result":{"capabilities":{"textDocumentSync":2}}}"#,
+        ),
+        [NEW, BAD, BAD, BAD, BAD, DONE, FAULTY],
+    ),
+    (
+        Ask::Deliver(r#"{"id":null,"jsonrpc":"2.0","result":null}"#),
+        [NEW, BAD, BAD, BAD, BAD, DONE, FAULTY],
+    ),
+];
+
+fn client_after(alloc: Global, way: &[Ask]) -> Result<Client, Fail> {
+    let mut client = new_client(alloc)?;
+    for step in way {
+        let _answer = answer_to(alloc, &mut client, *step)??;
+    }
+    Ok(client)
+}
+
+/// Returns whether a client after these calls has this result, and keeps its documents where it
+/// fails.
+fn is_row(alloc: Global, way: &[Ask], row: Ask, wanted: &str) -> Result<bool, Fail> {
+    let mut client = client_after(alloc, way)?;
+    let open = client.store().len();
+    let given = answer_to(alloc, &mut client, row)?;
+    let kept = wanted == CLOSE || client.store().len() == open;
+    let failed = wanted != BAD || client.phase() == FAILED;
+    Ok(is_answer(alloc, &given, wanted)? && kept && failed)
+}
+
+#[test]
+fn every_call_and_body_in_every_phase(rt: HostRuntime) -> Result<(), Fail> {
+    let alloc = rt.alloc();
+    for (row, wanted) in &TABLE {
+        for ((way, phase), wanted) in WAY.iter().zip(&PHASES).zip(wanted) {
+            assert!(rt; is_row(alloc, way, *row, wanted)?, "{phase:?}: {row:?}");
+        }
+    }
+    Ok(())
+}
+
+#[test]
+fn the_way_leads_to_each_phase(rt: HostRuntime) -> Result<(), Fail> {
+    let alloc = rt.alloc();
+    for (way, phase) in WAY.iter().zip(&PHASES) {
+        assert_eq!(rt; client_after(alloc, way)?.phase(), *phase);
+    }
+    Ok(())
+}

@@ -1,0 +1,4 @@
+//! Logs through the engines: their printed words, streams that are short or fail, and runs that are
+//! out of memory.
+
+mod engines;
