@@ -310,10 +310,9 @@ impl Handle {
     ) -> Result<Vec<u8>, u32> {
         let (output, mut frame_len, count, len) = (Handle::empty(), 0, edits.len(), texts.len());
         let (name, edits, texts) = (uri.as_ptr(), edits.as_ptr(), texts.as_ptr());
-        let (handle, frame) = (&mut *self.0.borrow_mut(), &mut *output.0.borrow_mut());
         let code = unsafe {
             laspidru_open_canonical_message(
-                handle,
+                &mut *self.0.borrow_mut(),
                 name,
                 uri.len(),
                 version,
@@ -322,7 +321,7 @@ impl Handle {
                 count,
                 texts,
                 len,
-                frame,
+                &mut *output.0.borrow_mut(),
                 fault,
                 &mut frame_len,
             )
