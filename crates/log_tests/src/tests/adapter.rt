@@ -1,59 +1,23 @@
 //! Each result is that of the inner reader or writer.
 
-use crate::{CallEnd, Sink, Source, StopReader, StopWriter, Told};
+use lsp_stream::{CallEnd, Sink, Source, StopReader, StopWriter, Told};
 use std::alloc::Global;
 use std::io::ErrorKind;
 use std::test::Fail;
 
 /// A read of at most 4 bytes: its bytes or its error, whether it failed, and whether it came to the
 /// end.
-struct Read {
-    has_result: Result<&'static [u8], ErrorKind>,
-    failed: bool,
-    ended: bool,
-}
+type Read = (Result<&'static [u8], ErrorKind>, bool, bool);
 
 static READS: [Read; 8] = [
-    Read {
-        has_result: Ok(b"ab"),
-        failed: false,
-        ended: false,
-    },
-    Read {
-        has_result: Err(ErrorKind::Interrupted),
-        failed: false,
-        ended: false,
-    },
-    Read {
-        has_result: Err(ErrorKind::Other),
-        failed: true,
-        ended: false,
-    },
-    Read {
-        has_result: Ok(b"c"),
-        failed: false,
-        ended: false,
-    },
-    Read {
-        has_result: Ok(b"defg"),
-        failed: false,
-        ended: false,
-    },
-    Read {
-        has_result: Ok(b"h"),
-        failed: false,
-        ended: false,
-    },
-    Read {
-        has_result: Ok(b""),
-        failed: false,
-        ended: true,
-    },
-    Read {
-        has_result: Ok(b""),
-        failed: false,
-        ended: true,
-    },
+    (Ok(b"ab"), false, false),
+    (Err(ErrorKind::Interrupted), false, false),
+    (Err(ErrorKind::Other), true, false),
+    (Ok(b"c"), false, false),
+    (Ok(b"defg"), false, false),
+    (Ok(b"h"), false, false),
+    (Ok(b""), false, true),
+    (Ok(b""), false, true),
 ];
 
 static READ_SCRIPT: [CallEnd; 5] = [
@@ -71,11 +35,12 @@ fn holds(buf: &[u8], bytes: &[u8]) -> bool {
 
 /// Returns whether the next read ends as this row says.
 fn reads_so(reader: &mut Told<StopReader>, read: &Read) -> bool {
+    let (wanted, failed, ended) = *read;
     let mut buf = [0u8; 4];
     let answer = Source::read(reader, &mut buf).map_err(|error| error.kind());
-    answer == read.has_result.map(|bytes| bytes.len())
-        && holds(&buf, read.has_result.unwrap_or(b""))
-        && (Source::failed(reader), reader.ended()) == (read.failed, read.ended)
+    answer == wanted.map(|bytes| bytes.len())
+        && holds(&buf, wanted.unwrap_or(b""))
+        && (Source::failed(reader), reader.ended()) == (failed, ended)
 }
 
 /// Returns whether all reads end as their rows say, and are counted.
@@ -176,27 +141,5 @@ fn flushes_answer_what_the_inner_ones_do(rt: HostRuntime) {
         let flushed = first.last().map_or(0, |flush| flush.2);
         let calls = first.len() as u64;
         assert_eq!(rt; flush_so(rt.alloc(), first), Some((calls, flushed, 0)));
-    }
-}
-
-static WRITES_AND_FLUSHES: [CallEnd; 5] = [
-    CallEnd::Take(0),
-    CallEnd::Take(2),
-    CallEnd::Interrupt,
-    CallEnd::Fail,
-    CallEnd::Take(0),
-];
-
-#[test]
-fn flushed_once_a_flush_succeeds(rt: HostRuntime) {
-    let mut writer = Told::new(StopWriter::new(rt.alloc(), &WRITES_AND_FLUSHES, CallEnd::Fail));
-    assert!(rt; writer.flushed());
-    for flushed in [true, false] {
-        let _ = Sink::write(&mut writer, b"abc");
-        assert_eq!(rt; writer.flushed(), flushed);
-    }
-    for flushed in [false, false, true] {
-        let _ = Sink::flush(&mut writer);
-        assert_eq!(rt; writer.flushed(), flushed);
     }
 }

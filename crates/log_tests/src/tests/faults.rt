@@ -1,7 +1,7 @@
 //! The code and the text of each fault.
 
-use crate::fault::EngineFault;
 use lsp_frame::FrameFault;
+use lsp_stream::EngineFault;
 use std::alloc::{AllocError, Global};
 use std::process::Abort;
 use std::test::Fail;
