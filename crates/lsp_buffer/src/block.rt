@@ -1,4 +1,7 @@
 //! A block of a text, which copies of the text share.
+//!
+//! A copy of a text shares its blocks, and a change copies a block that is shared. They are
+//! counted by `Arc`: with `Rc` no document could go to another thread.
 ghost use Rattle.std.specs.Prelude.{◌≡◌, ◌≢◌, ◌+◌, ◌-◌, ◌≤◌, ◌↔◌, ◌++◌, IsTrue, IfOk, IfNone, IfSome, OnOk, OnErr, Some, List, ℕ, length, option_map, string_bytes, string_len};
 ghost use Rattle.std.specs.List.{concat, replace_range};
 ghost use Rattle.std.specs.Result.{result_ok};

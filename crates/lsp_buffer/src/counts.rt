@@ -1,4 +1,4 @@
-//! `Counts`, what a text counts: what comes before a block is the sum of what the earlier ones count.
+//! `Counts`, what a text counts. What comes before a block is the sum of earlier counts.
 ghost use Rattle.std.specs.Prelude.{◌≡◌, ◌+◌, ◌<◌, ◌^◌, []};
 ghost use Rattle.lsp_buffer.specs.Blocks.{carried, counts_of};
 ghost use Rattle.lsp_buffer.specs.inside.Counts.{HaveRoom, counts_sum, head_in};

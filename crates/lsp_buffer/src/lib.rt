@@ -1,4 +1,5 @@
-//! `TextBuffer`, a text in blocks, in which a change costs what its block costs. Copies share blocks.
+//! `TextBuffer`, a text in blocks, in which a change costs what its block costs. Copies share
+//! blocks.
 //!
 //! ```text
 //! let mut buffer = TextBuffer::from_str(alloc, "one\ntwo\n")?;

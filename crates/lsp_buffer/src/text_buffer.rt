@@ -1,4 +1,8 @@
 //! `TextBuffer`, a text in blocks.
+//!
+//! Clauses see the bytes alone. So `as_str` promises the text where it returns one, and not
+//! when. A text that is moved in is one block until its first change, which cuts it. So a
+//! document that is opened and never changed isn't copied.
 ghost use Rattle.std.specs.Prelude.{◌≡◌, ◌+◌, ◌/◌, ◌<◌, ◌≤◌, ◌↔◌, ℕ, List, Some, IsTrue, IfOk};
 ghost use Rattle.std.specs.Prelude.{OnOk, OnErr, length, option_map, string_bytes, string_len};
 ghost use Rattle.std.specs.List.{concat, replace_range};

@@ -1,4 +1,8 @@
 //! `compose`, which applies a whole batch of changes to a text.
+//!
+//! A batch of several changes is composed beside a copy that shares blocks with the text, so
+//! later changes are resolved without a joined copy. A single change, or a batch that begins
+//! with a whole text, makes none.
 
 ghost use Rattle.std.specs.Prelude.{◌≡◌, ◌+◌, ◌≤◌, ℕ, IfOk, Ok, OnOk, MatchResult, length, map, string_len, sum_by};
 ghost use Rattle.std.specs.Str.{IsUtf8, chars};

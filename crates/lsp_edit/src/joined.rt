@@ -1,4 +1,8 @@
 //! `Joined`, batches of changes on a text, one after another, as one.
+//!
+//! Batches are joined before a new one is added, so a join that fails leaves all as it was.
+//! 2,048 changes and more are composed in groups of 1,024, so a change moves its group's spans.
+//! A refused batch is composed once more, to name the change.
 
 ghost use Rattle.std.specs.Prelude.{ℕ, ◌≡◌, ◌≤◌, List, IfOk, Ok, OnErr, OnOk, length, map, string_len, sum_by};
 ghost use Rattle.std.specs.Str.{chars};

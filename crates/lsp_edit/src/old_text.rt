@@ -1,4 +1,8 @@
 //! `OldText`, the text before any change, as one string or in blocks.
+//!
+//! The old text of a batch is one string with its lines, or a text in blocks. `OldText` is a
+//! struct over both, and not a type parameter: so all that reads the old text is proved once,
+//! and no public type has a parameter more.
 
 ghost use Rattle.std.specs.Prelude.{◌≡◌, ◌++◌, ◌≤◌, ℕ, IfOk, OnOk, Some, length, option_map, string_bytes};
 ghost use Rattle.std.specs.List.{replace_range, slice_range};

@@ -1,4 +1,8 @@
 //! `Pieces`, a text under changes, as spans of the old text and of the changes' texts.
+//!
+//! `Pieces` is seen with the parts that its spans are, so that "unchanged" speaks of what
+//! `spans` returns. `then` has a lifetime for each argument: with one for both no caller is
+//! accepted.
 
 ghost use Rattle.std.specs.Prelude.{◌≡◌, ◌↔◌, ◌+◌, ◌*◌, ◌++◌, ◌≤◌, ℕ, IfOk, OnOk, Ok, IsTrue, List, map, length, string_bytes, string_len};
 ghost use Rattle.std.specs.Str.{IsUtf8, chars};

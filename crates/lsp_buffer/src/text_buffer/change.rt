@@ -1,4 +1,7 @@
 //! A change of a text in blocks: inside a block, or across blocks, which are cut again.
+//!
+//! All memory is taken before anything changes. Across blocks, new ones are built beside the
+//! old.
 ghost use Rattle.std.specs.Prelude.{◌≡◌, ◌+◌, ◌*◌, ◌≤◌, ◌<◌, ◌↔◌, ◌++◌, [], IsTrue, IfOk, OnOk};
 ghost use Rattle.std.specs.Prelude.{OnErr, length, take, drop, get_or, vec_len, string_bytes};
 ghost use Rattle.std.specs.List.{concat};

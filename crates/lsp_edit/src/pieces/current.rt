@@ -1,4 +1,8 @@
 //! The current text of spans, and the ends of a range in it.
+//!
+//! The text that changes meet is built when the second of them is resolved. No clause says when
+//! it is made anew, nor how much room it is given: these are costs. Room for spans is reserved
+//! first. Where memory runs out, that copy is dropped, which callers don't see.
 
 ghost use Rattle.std.specs.Prelude.{◌≡◌, ◌≤◌, IfOk, MatchOption, length, string_bytes};
 ghost use Rattle.std.specs.List.{replace_range};

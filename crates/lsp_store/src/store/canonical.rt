@@ -1,4 +1,7 @@
 //! The canonical message of an accepted batch of changes.
+//!
+//! A message is written from borrowed texts, and `lsp_frame::put_header` puts its header before
+//! it.
 
 ghost use Rattle.std.specs.Prelude.{◌≡◌, ◌<◌, ◌≤◌, ◌↔◌, ◌+◌, ◌-◌, ◌++◌, if◌then◌else◌, nat_lt, List, None, Some, Err, IfErr, IfOk, OnErr, OnOk, length, map, string_bytes, take, ℕ, ℤ};
 ghost use Rattle.lsp_frame.specs.Frame.{frame};
