@@ -2,7 +2,7 @@
 
 use crate::text::{Plain, keystrokes, lines_of, made_text};
 use crate::timing::{Row, Work, done, time};
-use lsp_edit::{Change, IndexedText, MAX_OLD_TEXT, MAX_TEXT, compose_buffer, fits};
+use lsp_edit::{Change, IndexedText, MAX_OLD_TEXT, MAX_TEXT, fits};
 use lsp_text::Encoding;
 use std::alloc::Global;
 use std::io;
@@ -122,9 +122,9 @@ fn text_len(alloc: Global, text: &IndexedText, changes: &[Change]) -> Option<usi
     if text.len() > MAX_OLD_TEXT || !fits(changes) {
         return None;
     }
-    let pieces = compose_buffer(alloc, text.text(), Encoding::Utf16, changes).ok()?;
-    let (after, lines) = pieces.into_text().ok()?;
-    Some(after.len().wrapping_add(lines.count()))
+    let mut after = text.clone_in(alloc).ok()?;
+    after.change(Encoding::Utf16, changes, MAX_OLD_TEXT).ok()?;
+    Some(after.len().wrapping_add(after.text().line_count()))
 }
 
 /// Makes so many keystrokes, on even turns or on odd ones. The result is the length that the text

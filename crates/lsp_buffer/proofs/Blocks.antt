@@ -1,10 +1,9 @@
--- Texts cut into blocks, and the parts before and after one.
+-- Texts cut into blocks, what they count, and the parts before and after one.
 pub mod BlockLemmas
-pub mod BufferLemmas
-pub mod TailLemmas
-pub mod SumLemmas
-pub mod PartLemmas
-pub mod SeamLemmas
+pub mod CountLemmas
 pub mod CutLemmas
 pub mod DrainLemmas
 pub mod FeedLemmas
+pub mod GroupLemmas
+pub mod PartLemmas
+pub mod SeamLemmas

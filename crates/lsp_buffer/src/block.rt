@@ -1,4 +1,7 @@
 //! A block of a text, which copies of the text share.
+//!
+//! A copy of a text shares its blocks, and a change copies a block that is shared. They are
+//! counted by `Arc`: with `Rc` no document could go to another thread.
 ghost use Rattle.std.specs.Prelude.{◌≡◌, ◌≢◌, ◌+◌, ◌-◌, ◌≤◌, ◌↔◌, ◌++◌, IsTrue, IfOk, IfNone, IfSome, OnOk, OnErr, Some, List, ℕ, length, option_map, string_bytes, string_len};
 ghost use Rattle.std.specs.List.{concat, replace_range};
 ghost use Rattle.std.specs.Result.{result_ok};
@@ -8,8 +11,9 @@ ghost use Rattle.lsp_text.specs.TextLines.{line_ends};
 ghost use Rattle.lsp_text.specs.LineStarts.{AreLinesOf, IsPlace};
 ghost use Rattle.lsp_text.specs.Units.{units_in};
 ghost use Rattle.lsp_text.specs.Positions.{exact_position, denoted};
-ghost use Rattle.lsp_buffer.specs.Blocks.{head_of, head_after};
+ghost use Rattle.lsp_buffer.specs.Blocks.{counts_of};
 
+use crate::counts::Counts;
 use crate::shared_text::SharedText;
 use lsp_text::{Encoding, InsideCharacter, Lines, Position};
 use std::alloc::{AllocError, Global};
@@ -22,15 +26,20 @@ use std::sync::Arc;
 #[derive(Debug, Drop)]
 pub struct Block {
     shared: Arc<SharedText>,
+    // Those of the text, beside it, so that a search reads no text.
+    counts: Counts,
 }
 
 impl Model for Block {
-    ghost use Rattle.std.specs.Prelude.{ℕ, List};
+    ghost use Rattle.std.specs.Prelude.{◌≡◌, ℕ, List};
     ghost use Rattle.std.specs.Arc.{arc_value};
+    ghost use Rattle.lsp_buffer.specs.Blocks.{counts_of};
 
     ghost Value = { List ℕ };
 
     ghost view = { λ block. arc_value block.shared };
+
+    ghost invariant = { λ block. block.counts ≡ counts_of (arc_value block.shared) };
 }
 
 impl Block {
@@ -39,8 +48,10 @@ impl Block {
         requires { string_len text ≤ 2147483648 }
         ensures { IfOk result (λ block. block ≡ string_bytes text) }
     {
-        let shared = Arc::new(alloc, SharedText::new(alloc, text)?)?;
-        Ok(Block { shared })
+        let shared = SharedText::new(alloc, text)?;
+        let counts = shared.counts();
+        let shared = Arc::new(alloc, shared)?;
+        Ok(Block { shared, counts })
     }
 
     /// Copies a text and finds its lines. Fails only where memory runs out.
@@ -57,7 +68,8 @@ impl Block {
         ensures { IfOk result (λ block. block ≡ self.now) }
     {
         let shared = Arc::try_clone(&self.shared)?;
-        Ok(Block { shared })
+        let counts = self.counts;
+        Ok(Block { shared, counts })
     }
 
     /// Returns the block's text.
@@ -74,18 +86,18 @@ impl Block {
         self.shared.lines()
     }
 
+    /// Returns what the block counts.
+    pub fn counts(&self) -> Counts
+        ensures { result ≡ counts_of self.now }
+    {
+        self.counts
+    }
+
     /// Returns how many bytes the block has.
     pub fn len(&self) -> usize
         ensures { result ≡ length self.now }
     {
-        self.text().len()
-    }
-
-    /// Returns how many line ends the block has.
-    pub fn ends(&self) -> usize
-        ensures { result ≡ line_ends (chars self.now) }
-    {
-        self.lines().count() - 1
+        self.counts.len as usize
     }
 
     /// Returns the byte offset that a position denotes in the block alone.
@@ -103,31 +115,6 @@ impl Block {
             → result ≡ exact_position (units_in encoding) (chars self.now) k }
     {
         self.lines().position(self.text(), encoding, offset)
-    }
-
-    /// Returns the units from the start of the block's last line to the block's end.
-    fn head(&self, encoding: Encoding) -> u32
-        ensures head { result ≡ head_of (units_in encoding) self.now }
-        ensures few { result ≤ length self.now }
-    {
-        let bytes = self.text().as_bytes();
-        let end = bytes.len();
-        if end > 0 && bytes[end - 1] == b'\n' {
-            return 0;
-        }
-        self.position(encoding, end).character
-    }
-
-    /// Returns the units before the block's end in the line that it ends in, if `first` are before
-    /// the block in the line that it begins in. Costs the last line's text in the block, at the
-    /// most; in UTF-8 a binary search.
-    pub fn head_after(&self, encoding: Encoding, first: u32) -> u32
-        requires { first + length self.now ≤ 2147483648 }
-        ensures head { result ≡ head_after (units_in encoding) first self.now }
-        ensures few { result ≤ first + length self.now }
-    {
-        let head = self.head(encoding);
-        if self.ends() == 0 { first + head } else { head }
     }
 
     /// Returns whether a character begins at a byte offset of the block, or it ends there.
@@ -156,17 +143,11 @@ impl Block {
         ensures changed { OnOk result (self.new ≡ replace_range self.old start end new.now) }
         ensures unchanged { OnErr result (self.new ≡ self.old) }
     {
-        Arc::make_mut(&mut self.shared)?.replace_range(start, end, new)
+        let shared = Arc::make_mut(&mut self.shared)?;
+        shared.replace_range(start, end, new)?;
+        self.counts = shared.counts();
+        Ok(())
     }
-}
-
-/// The change of some blocks in which the ones from index `first` to index `past` become others.
-#[derive(Clone, Copy)]
-pub struct BlockSplice<'a> {
-    pub blocks: &'a [Block],
-    pub first: usize,
-    pub past: usize,
-    pub fresh: &'a [Block],
 }
 
 /// Returns another reference to each block: both lists then share the blocks' texts. Fails only

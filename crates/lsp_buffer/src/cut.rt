@@ -1,4 +1,8 @@
 //! A text is cut into blocks, so that no CRLF is in two of them.
+//!
+//! No seam is inside a CRLF, so a run of carriage returns is never cut. Blocks are cut at 4,096
+//! bytes. One that gets under 1,024 is joined with the next: so each but the last has that many,
+//! and `block_count` has a bound. No clause says how long a block is at the most.
 ghost use Rattle.std.specs.Prelude.{◌≡◌, ◌+◌, ◌≤◌, ◌<◌, IfOk, IfSome, IsTrue, length};
 ghost use Rattle.std.specs.List.{concat};
 ghost use Rattle.std.specs.Str.{IsCharBoundary};

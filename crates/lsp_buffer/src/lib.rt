@@ -1,4 +1,5 @@
-//! `TextBuffer`, a text in blocks, in which a change costs what its block costs. Copies share blocks.
+//! `TextBuffer`, a text in blocks, in which a change costs what its block costs. Copies share
+//! blocks.
 //!
 //! ```text
 //! let mut buffer = TextBuffer::from_str(alloc, "one\ntwo\n")?;
@@ -11,26 +12,28 @@
 //!
 //! [`TextBuffer::line`] returns the byte offsets of a line's content, here `Some(4..9)`.
 //!
-//! - `text_buffer`: `TextBuffer`, the blocks and, beside them, the first byte and the first line of
-//!   each. `reading` has its lines, chunks and copies. `change` replaces bytes: `inside` a block, or
-//!   `across` several, which are cut again.
+//! - `text_buffer`: `TextBuffer`, the blocks with what their groups count. `reading` has its lines,
+//!   chunks and copies. `change` replaces bytes: inside a block, or across blocks, which are cut
+//!   again.
 //! - `block`: `Block`, a few kilobytes of the text with their lines, which copies of the text share.
 //!   A change copies a block first that is shared.
 //! - `shared_text`: `SharedText`, what is shared: a string and its lines.
 //! - `in_place`: one change of a text and its lines, without a copy of the rest.
 //! - `cut`: a text is cut into blocks, after line feeds or inside a long line.
-//! - `sums`: the first bytes and first lines, kept as sums, and the search in them.
-//! - `heads`: the units before each block in its line, in each encoding.
-//! - `seams`: positions as they are counted from a block on, and the search for a position's block.
+//! - `counts`: `Counts`, what a text counts. What comes before a block is the sum of earlier counts.
+//! - `groups`: what 32 blocks count together, so that a search passes them at one step.
+//! - `find`: the search for the block that a byte offset or a position is in.
+//! - `seams`: positions as they are counted from a block on.
 #![tactic(auto)]
 
 mod block;
+mod counts;
 mod cut;
-mod heads;
+mod find;
+mod groups;
 mod in_place;
 mod seams;
 mod shared_text;
-mod sums;
 mod text_buffer;
 
 pub use text_buffer::TextBuffer;

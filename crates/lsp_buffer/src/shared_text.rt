@@ -3,9 +3,12 @@ ghost use Rattle.std.specs.Prelude.{◌≡◌, ◌≤◌, IfOk, OnOk, OnErr, len
 ghost use Rattle.std.specs.List.{replace_range};
 ghost use Rattle.std.specs.Str.{IsCharBoundary};
 ghost use Rattle.lsp_text.specs.LineStarts.{AreLinesOf};
+ghost use Rattle.lsp_text.specs.Units.{units_in};
+ghost use Rattle.lsp_buffer.specs.Blocks.{counts_of, head_of};
 
+use crate::counts::Counts;
 use crate::in_place::put_in_place;
-use lsp_text::Lines;
+use lsp_text::{Encoding, Lines};
 use std::alloc::{AllocError, Global};
 use std::clone::Clone;
 use std::marker::Model;
@@ -43,6 +46,35 @@ impl SharedText {
         ensures { result.now ≡ self.now }
     {
         &self.text
+    }
+
+    /// Returns the units from the start of the text's last line to its end. Costs that line, in
+    /// UTF-8 a binary search.
+    fn head(&self, encoding: Encoding) -> u32
+        ensures { result ≡ head_of (units_in encoding) self.now }
+    {
+        let text = self.text();
+        let bytes = text.as_bytes();
+        let end = bytes.len();
+        if end > 0 && bytes[end - 1] == b'\n' {
+            return 0;
+        }
+        self.lines().position(text, encoding, end).character
+    }
+
+    /// Returns what the shared text counts. Costs its last line.
+    pub fn counts(&self) -> Counts
+        ensures { result ≡ counts_of self.now }
+    {
+        let text = self.text();
+        let lines = self.lines();
+        Counts {
+            len: text.len() as u32,
+            ends: (lines.count() - 1) as u32,
+            utf8: self.head(Encoding::Utf8),
+            utf16: self.head(Encoding::Utf16),
+            utf32: self.head(Encoding::Utf32),
+        }
     }
 
     /// Returns the lines of the shared text.

@@ -1,4 +1,8 @@
 //! `TextBuffer`, a text in blocks.
+//!
+//! Clauses see the bytes alone. So `as_str` promises the text where it returns one, and not
+//! when. A text that is moved in is one block until its first change, which cuts it. So a
+//! document that is opened and never changed isn't copied.
 ghost use Rattle.std.specs.Prelude.{◌≡◌, ◌+◌, ◌/◌, ◌<◌, ◌≤◌, ◌↔◌, ℕ, List, Some, IsTrue, IfOk};
 ghost use Rattle.std.specs.Prelude.{OnOk, OnErr, length, option_map, string_bytes, string_len};
 ghost use Rattle.std.specs.List.{concat, replace_range};
@@ -10,53 +14,56 @@ ghost use Rattle.lsp_text.specs.LineStarts.{IsPlace};
 ghost use Rattle.lsp_text.specs.Units.{units_in};
 ghost use Rattle.lsp_text.specs.Positions.{exact_position, denoted};
 ghost use Rattle.lsp_buffer.specs.Blocks.{AreBlocks};
+ghost use Rattle.lsp_buffer.specs.inside.Parts.{IsPart};
 
-pub(crate) mod change;
+mod change;
 mod reading;
 
 use crate::block::{Block, shared_blocks};
+use crate::counts::Counts;
 use crate::cut::blocks_of;
-use crate::heads::Heads;
-use crate::seams::{block_at, position_after, position_from};
-use crate::sums::{block_of, push_lines, push_starts};
-use crate::text_buffer::change::across::{replace_across, replace_joined};
-use crate::text_buffer::change::inside::replace_inside;
-use crate::text_buffer::change::{BlockRange, fits, joins};
+use crate::find::{Target, find};
+use crate::groups::fill;
+use crate::seams::{position_after, position_from};
+use crate::text_buffer::change::{range_of, replace};
 use lsp_text::{Encoding, InsideCharacter, Position};
 use std::alloc::{AllocError, Global};
 use std::fmt;
 use std::marker::Model;
 
 /// A text of at most 2,147,483,648 bytes in blocks of some kilobytes each. A change costs its
-/// block, and an addition for each later block. That is so in long lines too: a line may be in
-/// many blocks, and one of many megabytes costs what many lines cost. (A run of carriage returns
-/// alone is never cut.) The first change of a text that [`TextBuffer::new`] took costs the text
-/// once: it is cut into blocks then.
+/// block, and a search for it: an addition for each 32 blocks, and at most 32 more. That is so in
+/// long lines too: a line may be in many blocks, and one of many megabytes costs what many lines
+/// cost. (A run of carriage returns alone is never cut.) The first change of a text that
+/// [`TextBuffer::new`] took costs the text once: it is cut into blocks then.
 ///
 /// Clauses see the bytes of the text.
 #[derive(Debug, Drop)]
 pub struct TextBuffer {
     blocks: Vec<Block>,
-    // The first byte of each block.
-    starts: Vec<u32>,
-    // The line that each block begins in.
-    lines: Vec<u32>,
-    // The units before each block in that line.
-    heads: Heads,
+    // What each 32 blocks count.
+    groups: Vec<Counts>,
+    len: usize,
+}
+
+/// A block of a text, and what comes before it.
+#[derive(Drop)]
+struct Part<'a> {
+    block: &'a Block,
+    before: Counts,
 }
 
 impl Model for TextBuffer {
-    ghost use Rattle.std.specs.Prelude.{ℕ, List};
+    ghost use Rattle.std.specs.Prelude.{◌≡◌, ℕ, List, length};
     ghost use Rattle.std.specs.List.{concat};
     ghost use Rattle.lsp_buffer.specs.Blocks.{IsTextBuffer};
-    ghost use Rattle.lsp_buffer.specs.inside.Seams.{row_of};
 
     ghost Value = { List ℕ };
 
     ghost view = { λ text. concat text.blocks.items };
 
-    ghost invariant = { λ text. IsTextBuffer text.blocks.items text.starts.items text.lines.items
-        (row_of text.heads) };
+    ghost invariant = { λ text. (IsTextBuffer text.blocks.items text.groups.items)
+        × (text.len ≡ length (concat text.blocks.items)) };
 }
 
 impl TextBuffer {
@@ -66,9 +73,10 @@ impl TextBuffer {
         requires { string_len text ≤ 2147483648 }
         ensures { IfOk result (λ buffer. buffer ≡ string_bytes text) }
     {
+        let len = text.len();
         let mut blocks = Vec::with_capacity(alloc, 1)?;
         blocks.push(Block::new(alloc, text)?)?;
-        TextBuffer::of_blocks(alloc, blocks)
+        Ok(TextBuffer::of_blocks(alloc, blocks, len))
     }
 
     /// Copies a text of at most 2,147,483,648 bytes. Fails only where memory runs out. Linear in
@@ -78,26 +86,23 @@ impl TextBuffer {
         ensures { IfOk result (λ buffer. buffer ≡ text.now) }
     {
         let blocks = blocks_of(alloc, text)?;
-        TextBuffer::of_blocks(alloc, blocks)
+        Ok(TextBuffer::of_blocks(alloc, blocks, text.len()))
     }
 
-    /// Sums up what comes before each of some blocks.
-    fn of_blocks(alloc: Global, blocks: Vec<Block>) -> Result<Self, AllocError>
+    /// Takes some blocks of so many bytes in all, and counts their groups.
+    fn of_blocks(alloc: Global, blocks: Vec<Block>, len: usize) -> Self
         requires are { AreBlocks blocks.items }
-        requires size { length (concat blocks.items) ≤ 2147483648 }
-        ensures { IfOk result (λ buffer. buffer ≡ concat blocks.items) }
+        requires size { len ≤ 2147483648 }
+        requires len { len ≡ length (concat blocks.items) }
+        ensures { result ≡ concat blocks.items }
     {
-        let mut starts = Vec::with_capacity(alloc, blocks.len())?;
-        let mut lines = Vec::with_capacity(alloc, blocks.len())?;
-        let _ = push_starts(&mut starts, &blocks, 0)?;
-        let _ = push_lines(&mut lines, &blocks, 0)?;
-        let heads = Heads::new(alloc, &blocks)?;
-        Ok(TextBuffer {
+        let mut groups = Vec::new(alloc);
+        fill(&mut groups, &blocks);
+        TextBuffer {
             blocks,
-            starts,
-            lines,
-            heads,
-        })
+            groups,
+            len,
+        }
     }
 
     /// Returns a copy, which shares its blocks with this text. Fails only where memory runs out.
@@ -107,14 +112,12 @@ impl TextBuffer {
         ensures utf8 { OnOk result (IsUtf8 self.now) }
     {
         let blocks = shared_blocks(alloc, &self.blocks)?;
-        let starts = Vec::from_slice(alloc, &self.starts)?;
-        let lines = Vec::from_slice(alloc, &self.lines)?;
-        let heads = self.heads.clone_in(alloc)?;
+        let groups = Vec::from_slice(alloc, &self.groups)?;
+        let len = self.len;
         Ok(TextBuffer {
             blocks,
-            starts,
-            lines,
-            heads,
+            groups,
+            len,
         })
     }
 
@@ -123,15 +126,24 @@ impl TextBuffer {
         self.blocks.allocator()
     }
 
+    /// Returns the block that a byte offset or a position is in.
+    fn part_at(&self, target: Target) -> Part<'_>
+        ensures { IsPart self.now target result.block.now result.before }
+    {
+        let found = find(&self.blocks, &self.groups, target);
+        Part {
+            block: &self.blocks[found.index],
+            before: found.before,
+        }
+    }
+
     /// Returns how many bytes the text has. In constant time.
     pub fn len(&self) -> usize
         ensures len { result ≡ length self.now }
         ensures size { length self.now ≤ 2147483648 }
         ensures utf8 { IsUtf8 self.now }
     {
-        let last = self.blocks.len() - 1;
-        let block = &self.blocks[last];
-        self.starts[last] as usize + block.len()
+        self.len
     }
 
     /// Returns whether the text has no bytes. In constant time.
@@ -141,19 +153,18 @@ impl TextBuffer {
         self.len() == 0
     }
 
-    /// Returns how many lines there are: one more than line ends, so at least one. In constant
-    /// time.
+    /// Returns how many lines there are: one more than line ends, so at least one. Costs a search
+    /// for the last block.
     pub fn line_count(&self) -> usize
         ensures count { result ≡ line_ends (chars self.now) + 1 }
         ensures few { result ≤ 2147483649 }
     {
-        let last = self.blocks.len() - 1;
-        let block = &self.blocks[last];
-        self.lines[last] as usize + block.ends() + 1
+        let last = self.part_at(Target::Offset(usize::MAX));
+        last.before.plus(last.block.counts()).ends as usize + 1
     }
 
-    /// Returns how many blocks the text is in. Each but the last has 1024 bytes or more. In constant
-    /// time.
+    /// Returns how many blocks the text is in. Each but the last has 1,024 bytes or more. In
+    /// constant time.
     pub fn block_count(&self) -> usize
         ensures some { 0 < result }
         ensures few { result ≤ length self.now / 1024 + 1 }
@@ -164,8 +175,8 @@ impl TextBuffer {
     /// Returns the byte offset that a position denotes (LSP 3.17, Position).
     ///
     /// A position past the last line denotes the end of the text, one past a line's content the end
-    /// of that content. A position inside a character is an error. Costs a binary search over the
-    /// blocks, and the line's text up to the position in its block; in UTF-8 only the search.
+    /// of that content. A position inside a character is an error. Costs a search for the block, and
+    /// the line's text up to the position in it; in UTF-8 only the search.
     pub fn resolve(&self, encoding: Encoding, position: Position) -> Result<usize, InsideCharacter>
         ensures value { result_ok result
             ≡ option_map (place_of (chars self.now))
@@ -173,19 +184,16 @@ impl TextBuffer {
         ensures place { IfOk result (IsPlace (chars self.now)) }
         ensures boundary { IfOk result (IsCharBoundary self.now) }
     {
-        let heads = self.heads.of(encoding);
-        let index = block_at(&self.lines, heads, position);
-        let block = &self.blocks[index];
-        let inner = position_after(self.lines[index], heads[index], position);
+        let Part { block, before } = self.part_at(Target::Denoted(encoding, position));
+        let inner = position_after(before.ends, before.head(encoding), position);
         let offset = block.resolve(encoding, inner)?;
-        Ok(self.starts[index] as usize + offset)
+        Ok(before.len as usize + offset)
     }
 
     /// Returns the exact position of a byte offset (LSP 3.17, Position). The offset is one that a
     /// position can denote ([`TextBuffer::is_place`]).
     ///
-    /// Costs a binary search over the blocks, one over a block's lines, and the line's text in the
-    /// block up to the offset.
+    /// Costs a search for the block, one over its lines, and the line's text in it up to the offset.
     pub fn position(&self, encoding: Encoding, offset: usize) -> Position
         requires { IsPlace (chars self.now) offset }
         ensures exact { (k : ℕ) → k ≤ length (chars self.now) → place_of (chars self.now) k ≡ offset
@@ -194,32 +202,29 @@ impl TextBuffer {
             (denoted (units_in encoding) (chars self.now) result) ≡ Some offset }
         ensures utf8 { IsUtf8 self.now }
     {
-        let index = block_of(&self.starts, offset);
-        let block = &self.blocks[index];
-        let inner = block.position(encoding, offset - self.starts[index] as usize);
-        position_from(self.lines[index], self.heads.of(encoding)[index], inner)
+        let Part { block, before } = self.part_at(Target::Offset(offset));
+        let inner = block.position(encoding, offset - before.len as usize);
+        position_from(before.ends, before.head(encoding), inner)
     }
 
     /// Returns whether a character begins at this byte offset, or the text ends there. Costs a
-    /// binary search over the blocks.
+    /// search for the block.
     pub fn is_char_boundary(&self, offset: usize) -> bool
         ensures boundary { IsTrue result ↔ IsCharBoundary self.now offset }
         ensures utf8 { IsUtf8 self.now }
     {
-        let index = block_of(&self.starts, offset);
-        let block = &self.blocks[index];
-        block.is_char_boundary(offset - self.starts[index] as usize)
+        let Part { block, before } = self.part_at(Target::Offset(offset));
+        block.is_char_boundary(offset - before.len as usize)
     }
 
     /// Returns whether a position can denote this byte offset: it is a boundary of characters that
-    /// splits no CRLF. Costs a binary search over the blocks.
+    /// splits no CRLF. Costs a search for the block.
     pub fn is_place(&self, offset: usize) -> bool
         ensures place { IsTrue result ↔ IsPlace (chars self.now) offset }
         ensures boundary { IsTrue result → IsCharBoundary self.now offset }
     {
-        let index = block_of(&self.starts, offset);
-        let block = &self.blocks[index];
-        block.is_place(offset - self.starts[index] as usize)
+        let Part { block, before } = self.part_at(Target::Offset(offset));
+        block.is_place(offset - before.len as usize)
     }
 
     /// Replaces the bytes from `start` to `end` by another text. Out of memory changes nothing.
@@ -227,9 +232,9 @@ impl TextBuffer {
     /// `start` is at most `end`, and both are character boundaries
     /// ([`TextBuffer::is_char_boundary`]). The changed text has at most 2,147,483,648 bytes.
     ///
-    /// Costs the new text, the blocks of the two ends, and an addition for each later block. Blocks
-    /// are cut again if the ends are in two of them, or if one gets too long, and one that gets
-    /// short is joined with the next: then the sums of all blocks are built anew. The one block of
+    /// Costs the new text, the blocks of the two ends, and a search for each. Blocks are cut
+    /// again if the ends are in two of them, or if one gets too long, and one that gets short is
+    /// joined with the next: then the later blocks are counted anew. The one block of
     /// [`TextBuffer::new`] is too long from 8 kilobytes on: its first change costs the text once.
     pub fn replace_range(&mut self, start: usize, end: usize, new: &str) -> Result<(), AllocError>
         requires order { start ≤ end }
@@ -239,23 +244,11 @@ impl TextBuffer {
         ensures changed { OnOk result (self.new ≡ replace_range self.old start end new.now) }
         ensures unchanged { OnErr result (self.new ≡ self.old) }
     {
-        let first = block_of(&self.starts, start);
-        let last = block_of(&self.starts, end);
-        let (blocks, starts, lines) = (&mut self.blocks, &mut self.starts, &mut self.lines);
-        let heads = &mut self.heads;
-        let range = BlockRange {
-            first,
-            last,
-            start,
-            end,
-        };
-        if joins(blocks, starts, range, new) {
-            replace_joined(blocks, starts, lines, heads, range, new)
-        } else if first == last && fits(blocks, first, new) {
-            replace_inside(blocks, starts, lines, heads, range, new)
-        } else {
-            replace_across(blocks, starts, lines, heads, range, new)
-        }
+        let range = range_of(&self.blocks, &self.groups, start, end);
+        let len = self.len - (end - start) + new.len();
+        replace(&mut self.blocks, &mut self.groups, range, new)?;
+        self.len = len;
+        Ok(())
     }
 }
 

@@ -1,4 +1,6 @@
 //! The client, and the calls of its lifecycle.
+//!
+//! The definitions count in UTF-16 where nothing is agreed on. No call reaches that.
 
 ghost use Rattle.std.specs.Prelude.{◌≡◌, IfErr, IfOk, OnErr, option_map};
 ghost use Rattle.lsp_client.specs.Step.{new_client, call_result, starts, shuts_down, exits};

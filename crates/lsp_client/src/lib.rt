@@ -36,7 +36,7 @@
 //!
 //! Where the server asked for whole texts, the edit sends one change without a range, with the text
 //! `aXc`. A client and a server of `lsp_server` talk in the tests,
-//! `lsp_client_tests/src/tests/session.rt`.
+//! `document_tests/src/tests/client/session.rt`.
 //!
 //! A refused call changes nothing. A call is refused
 //!

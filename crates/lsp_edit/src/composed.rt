@@ -1,8 +1,11 @@
 //! `compose`, which applies a whole batch of changes to a text.
+//!
+//! A batch of several changes is composed beside a copy that shares blocks with the text, so
+//! later changes are resolved without a joined copy. A single change, or a batch that begins
+//! with a whole text, makes none.
 
 ghost use Rattle.std.specs.Prelude.{◌≡◌, ◌+◌, ◌≤◌, ℕ, IfOk, Ok, OnOk, MatchResult, length, map, string_len, sum_by};
 ghost use Rattle.std.specs.Str.{IsUtf8, chars};
-ghost use Rattle.lsp_text.specs.LineStarts.{AreLinesOf};
 ghost use Rattle.lsp_text.specs.Units.{units_in};
 ghost use Rattle.lsp_edit.specs.Batch.{after_changes, meaning};
 ghost use Rattle.lsp_edit.specs.Edited.{Means, content_change, edited_bytes};
@@ -13,8 +16,7 @@ use crate::change::{Change, MAX_NEW_TEXT};
 use crate::fault::EditFault;
 use crate::old_text::OldText;
 use crate::pieces::{MAX_TEXT, Pieces};
-use lsp_buffer::TextBuffer;
-use lsp_text::{Encoding, Lines};
+use lsp_text::Encoding;
 use std::alloc::{AllocError, Global};
 
 /// How many bytes a text may have to which a batch is applied.
@@ -85,46 +87,6 @@ pub fn compose<'a>(
         (meaning (units_in encoding) (chars before.now) (map content_change changes.now)) fault) }
 {
     let before = OldText::new(alloc, before)?;
-    compose_old(alloc, before, encoding, changes)
-}
-
-/// Applies the changes of a batch to a text whose lines the caller has, as [`compose`] does.
-pub fn compose_over<'a>(
-    alloc: Global,
-    before: &'a str,
-    lines: &'a Lines,
-    encoding: Encoding,
-    changes: &'a [Change],
-) -> Result<Pieces<'a>, EditFault>
-    requires indexed { AreLinesOf lines.now before.now }
-    requires size { length before.now ≤ MAX_OLD_TEXT }
-    requires fits { sum_by (λ change. string_len change.text) changes.now ≤ MAX_NEW_TEXT }
-    ensures { MatchResult result
-        (λ pieces. Means (chars before.now) (meaning (units_in encoding) (chars before.now)
-        (map content_change changes.now)) (length changes.now) pieces.edited)
-        (λ fault. IsFaultOfChanges
-        (meaning (units_in encoding) (chars before.now) (map content_change changes.now)) fault) }
-{
-    let before = OldText::with_lines(before, lines);
-    compose_old(alloc, before, encoding, changes)
-}
-
-/// Applies the changes of a batch to a text in blocks, as [`compose`] does.
-pub fn compose_buffer<'a>(
-    alloc: Global,
-    before: &'a TextBuffer,
-    encoding: Encoding,
-    changes: &'a [Change],
-) -> Result<Pieces<'a>, EditFault>
-    requires size { length before.now ≤ MAX_OLD_TEXT }
-    requires fits { sum_by (λ change. string_len change.text) changes.now ≤ MAX_NEW_TEXT }
-    ensures { MatchResult result
-        (λ pieces. Means (chars before.now) (meaning (units_in encoding) (chars before.now)
-        (map content_change changes.now)) (length changes.now) pieces.edited)
-        (λ fault. IsFaultOfChanges
-        (meaning (units_in encoding) (chars before.now) (map content_change changes.now)) fault) }
-{
-    let before = OldText::in_blocks(before);
     compose_old(alloc, before, encoding, changes)
 }
 

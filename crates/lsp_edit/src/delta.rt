@@ -1,4 +1,8 @@
 //! `Delta`, a batch of changes that was resolved once on a text.
+//!
+//! A delta borrows the changes and nothing of the text; a condition on `apply` says which text
+//! it is of. One change of a range is two offsets. `apply` may run out of memory: to reserve
+//! first, each clause would have to show the room of two buffers.
 
 ghost use Rattle.std.specs.Prelude.{◌≡◌, ◌≤◌, IfOk, List, Ok, length, map, string_bytes};
 ghost use Rattle.std.specs.List.{replace_range};

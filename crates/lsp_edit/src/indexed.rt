@@ -1,4 +1,8 @@
 //! `IndexedText`, a text with its lines, under batches of changes.
+//!
+//! One change of a range is made in place. A longer batch is made in a copy, which shares the
+//! blocks, and moved in: so a fault in a later change undoes nothing. One that begins with a
+//! whole text copies nothing. It keeps no spans: who wants them composes by `Pieces`.
 
 ghost use Rattle.std.specs.Prelude.{◌≡◌, ◌≢◌, ◌≤◌, ◌↔◌, ℕ, List, IsTrue, IfErr, IfOk, IfSome, IsOk, OnErr, OnOk, Err, Ok, None, length, map, string_bytes, string_len, sum_by};
 ghost use Rattle.std.specs.Str.{IsUtf8, chars};
@@ -102,10 +106,10 @@ impl IndexedText {
     /// An error reports the first change that has no result, a result that is too long, or out of
     /// memory. The text is unchanged then.
     ///
-    /// One change with a range costs its two positions, its block, and an addition for each later
-    /// block. The first one of a text that came whole, by [`IndexedText::new`] or a change of all,
-    /// costs the text once: it is cut into blocks then. Any other batch costs that for each change,
-    /// and [`IndexedText::clone_in`] if its first change doesn't replace all.
+    /// One change with a range costs its two positions, its block, and an addition for each 32
+    /// blocks before it. The first one of a text that came whole, by [`IndexedText::new`] or a
+    /// change of all, costs the text once: it is cut into blocks then. Any other batch costs that
+    /// for each change, and [`IndexedText::clone_in`] if its first change doesn't replace all.
     pub fn change(
         &mut self,
         encoding: Encoding,
@@ -220,9 +224,9 @@ impl IndexedText {
     /// Applies a delta that was made of this text. Fails only where memory runs out, and then
     /// changes nothing.
     ///
-    /// A range costs its block, and an addition for each later block; the first one of a text that
-    /// came whole costs the text once, which is cut into blocks then. Any other batch costs
-    /// constant time.
+    /// A range costs its block, and an addition for each 32 blocks before it; the first one of a
+    /// text that came whole costs the text once, which is cut into blocks then. Any other batch
+    /// costs constant time.
     pub fn apply(&mut self, delta: Delta<'_>) -> Result<(), AllocError>
         requires on { IsOn self.old delta }
         ensures changed { OnOk result (self.new ≡ bytes_after self.old delta.entry) }

@@ -1,16 +1,19 @@
 //! `Joined`, batches of changes on a text, one after another, as one.
+//!
+//! Batches are joined before a new one is added, so a join that fails leaves all as it was.
+//! 2,048 changes and more are composed in groups of 1,024, so a change moves its group's spans.
+//! A refused batch is composed once more, to name the change.
 
-ghost use Rattle.std.specs.Prelude.{ℕ, ◌≡◌, ◌≤◌, List, Err, IfErr, IfOk, IsOk, Ok, OnErr, OnOk, length, map, string_bytes, string_len, sum_by};
+ghost use Rattle.std.specs.Prelude.{ℕ, ◌≡◌, ◌≤◌, List, IfOk, Ok, OnErr, OnOk, length, map, string_len, sum_by};
 ghost use Rattle.std.specs.Str.{chars};
 ghost use Rattle.lsp_text.specs.Units.{units_in};
-ghost use Rattle.lsp_edit.specs.declared.indexed.fault.BatchFault.TheVariants.{NoMemory};
 ghost use Rattle.lsp_edit.specs.Batch.{ContentChange, meaning};
 ghost use Rattle.lsp_edit.specs.Canonical.{canonical};
 ghost use Rattle.lsp_edit.specs.Edited.{content_change};
-ghost use Rattle.lsp_edit.specs.Indexed.{IsBatchFaultOf, text_within};
+ghost use Rattle.lsp_edit.specs.Indexed.{text_within};
 ghost use Rattle.lsp_edit.specs.Items.{plain};
 ghost use Rattle.lsp_edit.specs.Joined.{IsJoined, IsReached};
-ghost use Rattle.lsp_edit.specs.Delta.{IsOn, meant_by};
+ghost use Rattle.lsp_edit.specs.Delta.{IsOn, bytes_after, meant_by};
 ghost use Rattle.lsp_edit.specs.inside.Joined.{IsWhole};
 
 pub(crate) mod layer;
@@ -21,7 +24,6 @@ use crate::delta::Delta;
 use crate::indexed::IndexedText;
 use crate::indexed::fault::BatchFault;
 use crate::joined::layer::Layer;
-use crate::pieces::MAX_TEXT;
 use crate::pieces::canonical::canonical_of;
 use crate::pieces::spans::Spans;
 use crate::pieces::through::spans_through;
@@ -64,21 +66,6 @@ impl Model for Joined {
 }
 
 impl Joined {
-    /// Makes a text before any batch; the text is moved in. Fails only where memory runs out.
-    /// Costs a search through the text for its lines.
-    pub fn new(alloc: Global, text: String) -> Result<Self, AllocError>
-        requires { string_len text ≤ MAX_TEXT }
-        ensures joined { IfOk result (λ joined.
-            joined ≡ record {
-              before = string_bytes text;
-              items = plain (chars (string_bytes text));
-            }) }
-        ensures reached { IfOk result (λ joined. IsReached joined (string_bytes text)) }
-    {
-        let before = IndexedText::new(alloc, text)?;
-        Ok(Self::begin(alloc, before))
-    }
-
     /// Makes a text before any batch, as a copy of this one. Fails only where memory runs out.
     /// Costs what [`IndexedText::clone_in`] costs.
     pub fn over(alloc: Global, text: &IndexedText) -> Result<Self, AllocError>
@@ -120,7 +107,8 @@ impl Joined {
         let mut reached = before.clone_in(alloc)?;
         let mut joined = Self::over(alloc, before)?;
         for series in changes.chunks(SERIES) {
-            joined.change(encoding, &mut reached, series, MAX_OLD_TEXT)?;
+            let delta = reached.delta(encoding, series, MAX_OLD_TEXT)?;
+            joined.change(&mut reached, delta)?;
         }
         if reached.len() > max_len {
             return Err(BatchFault::TooLong);
@@ -159,35 +147,6 @@ impl Joined {
         Ok(())
     }
 
-    /// Adds a batch on `reached`, the text after the batches before it, if the result has at most
-    /// `max_len` bytes.
-    ///
-    /// Has the errors of [`IndexedText::change`], and then nothing changes. Costs what the
-    /// changes cost to apply, and now and then a walk over the spans of earlier batches. k changes,
-    /// in as many batches, cost some k log k steps on spans.
-    pub fn add(
-        &mut self,
-        encoding: Encoding,
-        reached: &IndexedText,
-        changes: &[Change],
-        max_len: usize,
-    ) -> Result<(), BatchFault>
-        requires reached { IsReached self.old reached.now }
-        requires size { length reached.now ≤ MAX_OLD_TEXT }
-        requires fits { sum_by (λ change. string_len change.text) changes.now ≤ MAX_NEW_TEXT }
-        ensures ok { OnOk result
-            (IsJoined (units_in encoding) self.old (map content_change changes.now) self.new) }
-        ensures within { OnOk result (IsOk (text_within max_len reached.now
-            (meaning (units_in encoding) (chars reached.now) (map content_change changes.now)))) }
-        ensures unchanged { OnErr result (self.new ≡ self.old) }
-        ensures error { IfErr result (IsBatchFaultOf (units_in encoding) max_len reached.now
-            (map content_change changes.now)) }
-    {
-        let delta = reached.delta(encoding, changes, max_len)?;
-        self.add_delta(reached, &delta)?;
-        Ok(())
-    }
-
     /// Adds a batch that was resolved on `reached`, the text after the batches before it.
     ///
     /// Fails only where memory runs out, and then nothing changes. A range costs three spans and a
@@ -211,31 +170,24 @@ impl Joined {
         Ok(())
     }
 
-    /// Adds a batch on `reached`, as [`Joined::add`] does, and applies it to `reached` too. After
-    /// an error both are unchanged. Costs what both calls cost.
-    pub fn change(
-        &mut self,
-        encoding: Encoding,
-        reached: &mut IndexedText,
-        changes: &[Change],
-        max_len: usize,
-    ) -> Result<(), BatchFault>
+    /// Adds a batch that was resolved on `reached`, as [`Joined::add_delta`] does, and applies it to
+    /// `reached` too ([`IndexedText::apply`]).
+    ///
+    /// Fails only where memory runs out, and then nothing changes. Costs what both calls cost.
+    pub fn change(&mut self, reached: &mut IndexedText, delta: Delta<'_>) -> Result<(), AllocError>
         requires reached { IsReached self.old reached.old }
-        requires size { length reached.old ≤ MAX_OLD_TEXT }
-        requires fits { sum_by (λ change. string_len change.text) changes.now ≤ MAX_NEW_TEXT }
-        ensures ok { OnOk result
-            (IsJoined (units_in encoding) self.old (map content_change changes.now) self.new) }
-        ensures reached { OnOk result (IsReached self.new reached.new) }
-        ensures changed { OnOk result (text_within max_len reached.old
-            (meaning (units_in encoding) (chars reached.old) (map content_change changes.now))
-            ≡ Ok reached.new) }
+        requires on { IsOn reached.old delta }
+        ensures ok { OnOk result ((units : ℕ → ℕ) (batch : List ContentChange)
+            → meaning units (chars reached.old) batch ≡ meant_by reached.old delta.entry
+            → IsJoined units self.old batch self.new) }
+        ensures reached { OnOk result ((max_len : ℕ) (left : List ℕ)
+            → text_within max_len reached.old (meant_by reached.old delta.entry) ≡ Ok left
+            → IsReached self.new left) }
+        ensures changed { OnOk result (reached.new ≡ bytes_after reached.old delta.entry) }
         ensures unchanged { OnErr result (self.new ≡ self.old) }
         ensures reached_unchanged { OnErr result (reached.new ≡ reached.old) }
-        ensures error { IfErr result (IsBatchFaultOf (units_in encoding) max_len reached.old
-            (map content_change changes.now)) }
     {
         self.join()?;
-        let delta = reached.delta(encoding, changes, max_len)?;
         let next = delta.layer(*self.layers.allocator(), reached)?;
         self.layers.reserve(1)?;
         reached.apply(delta)?;

@@ -1,4 +1,7 @@
 //! Laws that follow from the definitions alone, for proofs over batches.
+//!
+//! `CanonicalLaw` ranges over every function by which a character has at least one unit,
+//! `ThenLaw` over all functions.
 
 ghost use Rattle.lsp_edit.specs.laws.Examples.{HoldsOnExamples};
 ghost use Rattle.lsp_edit.specs.laws.Batches.{CanonicalLaw, ThenLaw, AssociativeLaw};

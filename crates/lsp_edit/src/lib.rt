@@ -37,7 +37,7 @@ pub mod plain;
 mod text_edits;
 
 pub use change::{Change, MAX_NEW_TEXT, fits};
-pub use composed::{MAX_OLD_TEXT, compose, compose_buffer, compose_over};
+pub use composed::{MAX_OLD_TEXT, compose};
 pub use delta::{Delta, Put};
 pub use fault::{EditFault, Side};
 pub use indexed::IndexedText;

@@ -1,10 +1,14 @@
 //! `OldText`, the text before any change, as one string or in blocks.
+//!
+//! The old text of a batch is one string with its lines, or a text in blocks. `OldText` is a
+//! struct over both, and not a type parameter: so all that reads the old text is proved once,
+//! and no public type has a parameter more.
 
 ghost use Rattle.std.specs.Prelude.{◌≡◌, ◌++◌, ◌≤◌, ℕ, IfOk, OnOk, Some, length, option_map, string_bytes};
 ghost use Rattle.std.specs.List.{replace_range, slice_range};
 ghost use Rattle.std.specs.Result.{result_ok};
 ghost use Rattle.std.specs.Str.{IsCharBoundary, IsUtf8, chars};
-ghost use Rattle.lsp_text.specs.LineStarts.{AreLinesOf, IsPlace};
+ghost use Rattle.lsp_text.specs.LineStarts.{IsPlace};
 ghost use Rattle.lsp_text.specs.Positions.{denoted, exact_position};
 ghost use Rattle.lsp_text.specs.Text.{place_of};
 ghost use Rattle.lsp_text.specs.Units.{units_in};
@@ -47,16 +51,6 @@ impl<'a> OldText<'a> {
         let lines = KeptLines::Own(Lines::new(alloc, text)?);
         let form = Form::Str(IndexedStr::new(text, lines));
         Ok(OldText { form })
-    }
-
-    /// Takes one string, whose lines the caller has.
-    pub fn with_lines(text: &'a str, lines: &'a Lines) -> Self
-        requires { AreLinesOf lines.now text.now }
-        ensures { result ≡ text.now }
-    {
-        let lines = KeptLines::Borrowed(lines);
-        let form = Form::Str(IndexedStr::new(text, lines));
-        OldText { form }
     }
 
     /// Takes a text in blocks.

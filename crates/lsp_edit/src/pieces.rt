@@ -1,8 +1,11 @@
 //! `Pieces`, a text under changes, as spans of the old text and of the changes' texts.
+//!
+//! `Pieces` is seen with the parts that its spans are, so that "unchanged" speaks of what
+//! `spans` returns. `then` has a lifetime for each argument: with one for both no caller is
+//! accepted.
 
 ghost use Rattle.std.specs.Prelude.{◌≡◌, ◌↔◌, ◌+◌, ◌*◌, ◌++◌, ◌≤◌, ℕ, IfOk, OnOk, Ok, IsTrue, List, map, length, string_bytes, string_len};
 ghost use Rattle.std.specs.Str.{IsUtf8, chars};
-ghost use Rattle.lsp_text.specs.LineStarts.{AreLinesOf};
 ghost use Rattle.lsp_text.specs.Units.{units_in};
 ghost use Rattle.lsp_edit.specs.Items.{Item, plain};
 ghost use Rattle.lsp_edit.specs.Parts.{AreParts, Ascend, NoneEmpty, NoneTouch, items_of, parts_of};
@@ -25,13 +28,13 @@ pub(crate) mod through;
 use crate::change::Change;
 use crate::old_text::OldText;
 use crate::pieces::canonical::canonical_of;
-use crate::pieces::current::{text_of_spans, text_with_lines};
+use crate::pieces::current::text_of_spans;
 use crate::pieces::row::Row;
 use crate::pieces::span::Span;
 use crate::pieces::spans::Spans;
 use crate::pieces::through::spans_through;
 use lsp_buffer::TextBuffer;
-use lsp_text::{Encoding, Lines};
+use lsp_text::Encoding;
 use std::alloc::{AllocError, Global};
 use std::marker::Model;
 
@@ -134,19 +137,6 @@ impl<'a> Pieces<'a> {
         Ok(Self::begin(alloc, OldText::new(alloc, before)?))
     }
 
-    /// Makes pieces of a text before any change, whose lines the caller has. Takes no memory, and
-    /// constant time.
-    pub fn over(alloc: Global, before: &'a str, lines: &'a Lines) -> Self
-        requires { AreLinesOf lines.now before.now }
-        ensures { result.edited ≡ record {
-          before = chars before.now;
-          items = plain (chars before.now);
-          changes = 0;
-        } }
-    {
-        Self::begin(alloc, OldText::with_lines(before, lines))
-    }
-
     /// Composes two series of changes; `second` is over the text that `first` leaves. The result is
     /// over the old text of `first`, and counts the changes of both.
     ///
@@ -247,21 +237,5 @@ impl<'a> Pieces<'a> {
         ensures { IfOk result (λ text. string_bytes text ≡ edited_bytes self.now.edited) }
     {
         text_of_spans(self.alloc, &self.before, self.spans.as_slice(), self.len)
-    }
-
-    /// Returns the current text and its lines. Fails only where memory runs out. Costs one copy,
-    /// and a search through it for its lines.
-    pub fn into_text(self) -> Result<(String, Lines), AllocError>
-        ensures { IfOk result (λ indexed. (string_bytes indexed.0 ≡ edited_bytes self.entry.edited)
-            × AreLinesOf indexed.1 (string_bytes indexed.0)) }
-    {
-        let Pieces {
-            alloc,
-            before,
-            spans,
-            len,
-            ..
-        } = self;
-        text_with_lines(alloc, &before, spans.as_slice(), len)
     }
 }

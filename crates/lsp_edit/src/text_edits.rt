@@ -1,4 +1,9 @@
 //! Text edits (LSP 3.17, TextEdit[]): the ranges of all edits count in one old text.
+//!
+//! Public clauses speak of indexes (`specs/TextEdits.antt`), private ones of offsets in sorted
+//! order (`specs/inside/TextEdits.antt`), and each answer by offsets is proved to be one by
+//! indexes. The way back needs no proof: `located` is a function of the list, so a list has one
+//! batch by indexes at most, and none that `NoneOverlap` refuses.
 
 ghost use Rattle.std.specs.Prelude.{◌≡◌, ◌⊎◌, ◌++◌, ◌∷◌, [], IfErr, IfOk, OnOk, length};
 ghost use Rattle.std.specs.Str.{IsUtf8, chars};

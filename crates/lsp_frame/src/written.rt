@@ -1,4 +1,7 @@
 //! Frames in the one form in which they are written; most that are read have it too.
+//!
+//! A header in the form that we write is read in one step, if one piece begins with the frame
+//! and has all of it. The result is the same, and no contract knows of it.
 
 ghost use Rattle.std.specs.Prelude.{◌≡◌, ◌<◌, ◌≤◌, ◌^◌, ◌+◌, ◌-◌, ◌++◌, ℕ, true, false, length, take, drop, slice_index, IfOk, IfErr, OnOk, IfSome, IfNone, Err};
 ghost use Rattle.std.specs.List.{list_all};

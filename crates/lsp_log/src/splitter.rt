@@ -1,4 +1,6 @@
 //! The records of a log that comes in pieces.
+//!
+//! Puts the log's version into each record's `Head`, so an engine keeps none.
 
 ghost use Rattle.std.specs.Prelude.{◌≡◌, ◌≢◌, ◌↔◌, ◌<◌, ◌≤◌, ◌++◌, ◌∷◌, [], ℕ, List, None, true, false, length, drop, Err, IfOk, IfErr, OnOk, MatchOption};
 ghost use Rattle.lsp_frame.specs.Frame.{IsFrameOf};

@@ -1,4 +1,7 @@
 //! The messages that are written, and the errors of replies.
+//!
+//! Texts are lists of bytes here, and of characters in positions and changes. So there are
+//! `ContentChange` and `ContentChangeData`.
 
 ghost use Rattle.std.specs.Prelude.{◌≡◌};
 ghost use Rattle.lsp_message.specs.Outgoing.{code_of, error_message};

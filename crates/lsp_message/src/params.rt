@@ -1,5 +1,7 @@
 //! The typed parameters of the three document messages (LSP 3.17, DidOpen, DidChange and DidClose
 //! Text Document Notification).
+//!
+//! Each change is checked before memory is taken, so each is read twice.
 
 ghost use Rattle.std.specs.Prelude.{◌≡◌, ◌<◌, ◌≤◌, [], None, Some, IfOk, IfErr, IsSome, map, option_map, is_some, codes, Err, vec_len, vec_capacity};
 ghost use Rattle.std.specs.List.{list_all};

@@ -1,4 +1,7 @@
 //! The canonical body of each message, written a token at a time.
+//!
+//! Bodies go through `json`'s token writer, so no text is copied twice; that it is the compact
+//! text of `serde_json` is proved.
 
 ghost use Rattle.std.specs.Prelude.{◌≡◌, ◌++◌, IfOk, OnErr, OnOk};
 ghost use Rattle.lsp_frame.specs.Frame.{frame};

@@ -1,4 +1,7 @@
 //! An end handles the first frame of its queue.
+//!
+//! A frame stays first in its queue until the step is done, and room for what is sent is
+//! reserved before it.
 
 ghost use Rattle.std.specs.Prelude.{◌≡◌, ◌≢◌, ◌<◌, ◌++◌, [], true, false, IfOk, OnErr};
 ghost use Rattle.std.specs.VecDeque.{deque_len, deque_capacity};

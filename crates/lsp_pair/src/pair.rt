@@ -1,4 +1,9 @@
 //! Both ends of a session, and the frames on the way to each.
+//!
+//! A pair's invariant is that it is at the world of some events, so `Happened` has no variants
+//! for a faulty frame. The world has no tables and no bytes; a queue's frames are described
+//! from the server's table on. That a history is a pair's is a token, and so is that it is at a
+//! world.
 
 ghost use Rattle.std.specs.Prelude.{◌≡◌, ◌≢◌, ◌⊎◌, ◌↔◌, ◌<◌, ◌++◌, ◌∷◌, [], List, true, false, Ok, Err, IfOk, IfErr, OnOk, OnErr, length};
 ghost use Rattle.std.specs.VecDeque.{deque_len, deque_capacity};

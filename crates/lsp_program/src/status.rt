@@ -1,5 +1,5 @@
-//! The exit statuses of faults, and the exit code of a status. 0 and 1 are those of a run that came to
-//! its end.
+//! The exit statuses of faults, and the exit code of a status. 0 and 1 are those of a run that came
+//! to its end.
 
 ghost use Rattle.std.specs.Prelude.{◌≡◌};
 ghost use Rattle.std.specs.Process.{exit_status};

@@ -1,4 +1,7 @@
 //! What a body asks of a server.
+//!
+//! Reads `json`'s tokens and builds no tree, but for `initialize`. It is proved to be `reading`
+//! of `lsp_message`, which is what `read` is: nothing is compared at run time.
 
 ghost use Rattle.std.specs.Prelude.{◌≡◌, ℕ, List, option_map, Some, None, Err, IfOk, IfSome, IsUtf8, OnErr, string_bytes};
 ghost use Rattle.serde_json.specs.Data.{Data};

@@ -1,4 +1,7 @@
 //! Numbers: which are in range, and which are whole.
+//!
+//! Up to 19 digits are added up; other numbers are tested as `serde_json` tests them, by
+//! `fast_float`.
 
 ghost use Rattle.std.specs.Prelude.{◌≡◌, ◌∷◌, ◌==◌, option_map, slice_index, MatchOption, IfSome, Some, true, false};
 ghost use Rattle.serde_json.specs.Data.{unsigned};

@@ -1,4 +1,6 @@
 //! The params of a message, as far as the document messages need them.
+//!
+//! Params are read before the method is known.
 
 ghost use Rattle.std.specs.Prelude.{◌≡◌, ◌<◌, length, option_map, Option, Some, None, Err, IfOk, OnOk, OnErr};
 ghost use Rattle.serde_json.specs.Data.{Data, object, Members, no_members, put};

@@ -1,5 +1,7 @@
 //! Values that are skipped. They too decide whether the text is JSON: by grammar, depth and
 //! numbers.
+//!
+//! `skip_value` of `json` says nothing of numbers, and isn't used.
 
 ghost use Rattle.std.specs.Prelude.{◌≡◌, ◌<◌, ◌∷◌, length, Some, None, OnOk, OnErr};
 ghost use Rattle.json.specs.Reads.{token_of};

@@ -1,6 +1,7 @@
 //! Laws over the definitions alone, which no single call has in its contract.
 //!
-//! That what is written reports the same is one of them. The clauses of the engines are drawn from it.
+//! That what is written reports the same is one of them. The clauses of the engines are drawn from
+//! it.
 
 ghost use Rattle.lsp_log.specs.laws.Logs.{UniqueLaw};
 ghost use Rattle.lsp_replay.specs.laws.Documents.{DocumentsLaw, DocumentsStopAlike};

@@ -57,7 +57,7 @@
 //! let answer = server.handle_incoming(incoming)?;
 //! ```
 //!
-//! Both programs are tested whole, in `lsp_server_tests/src/tests/front_page.rt`.
+//! Both programs are tested whole, in `document_tests/src/tests/server/front_page.rt`.
 //! `server.store().get(uri)` returns the current document. Its `resolve` and `position` convert
 //! between positions, in `server.encoding()`, and byte offsets.
 //!

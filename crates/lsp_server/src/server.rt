@@ -1,4 +1,6 @@
 //! The server's end of a session: one body in, one answer out.
+//!
+//! The definitions count in UTF-16 where nothing is agreed on. No call reaches that.
 
 ghost use Rattle.std.specs.Prelude.{◌≡◌, ◌≢◌, ◌↔◌, IfOk, OnOk, OnErr, IsOk, IsSome, IsErrOf, IsUtf8};
 ghost use Rattle.lsp_message.specs.Message.{reading};

@@ -1,41 +1,36 @@
 -- Batches of changes on one document, as one: what the fields that are kept are.
-use Rattle.std.proofs.Common.{ℕ, ℤ, ◌≡◌, ◌≤◌, true, false, nat_lt, if◌then◌else◌, List, [], ◌++◌, length, sum_by, IsUtf8, encode_utf8_all, Option, None, Some, Ok, Err, ◌⊎◌, refl, sym, ap, ap₂, ◌∙◌, subst, arith}
+use Rattle.std.proofs.Common.{ℕ, ℤ, ◌≡◌, ◌≤◌, false, nat_lt, if◌then◌else◌, List, [], length, sum_by, IsUtf8, encode_utf8_all, Option, None, Some, Ok, refl, sym, ap, ap₂, ◌∙◌, subst, arith}
 use Rattle.std.proofs.lemmas.Bool.{le-ltb}
 use Rattle.std.proofs.lemmas.List.Sums.{sum_by-le-sum_by}
-use Rattle.std.proofs.lemmas.Str.{chars-encodes, encodes-chars, scalars-chars}
+use Rattle.std.proofs.lemmas.Str.{encodes-chars}
 use Rattle.std.specs.Char.{len_utf8}
-use Rattle.std.specs.Str.{all_scalars, chars}
+use Rattle.std.specs.Str.{chars}
 use Rattle.lsp_frame.specs.Limits.{LimitsData}
 use Rattle.lsp_text.specs.Units.{units_in}
 use Rattle.lsp_text.specs.declared.encoding.Encoding.{Encoding}
-use Rattle.lsp_edit.specs.Items.{Item, plain, text_of}
+use Rattle.lsp_edit.specs.Items.{Item, text_of}
 use Rattle.lsp_edit.specs.Indexed.{text_within, bytes_left}
-use Rattle.lsp_edit.specs.declared.indexed.fault.BatchFault.{BatchFault}
-use Rattle.lsp_edit.specs.declared.indexed.fault.BatchFault.TheVariants.{NoMemory}
 use Rattle.lsp_edit.specs.Batch.{ContentChange, meaning}
 use Rattle.lsp_edit.specs.Canonical.{canonical}
 use Rattle.lsp_edit.specs.Compose.{then_items}
 use Rattle.lsp_edit.specs.Joined.{IsJoined, IsReached, JoinedData, joined_text}
 use Rattle.lsp_edit.specs.laws.Batches.{IsCanonical}
-use Rattle.lsp_edit.specs.declared.delta.Delta.{Delta}
-use Rattle.lsp_edit.specs.declared.delta.Delta.TheVariants.{Put, Left}
-use Rattle.lsp_edit.specs.Delta.{IsOn, bytes_after, meant_by}
-use Rattle.lsp_edit.proofs.Batches.ComposeLemmas.{text_of-then, then_means}
+use Rattle.lsp_edit.specs.Delta.{bytes_after, meant_by}
+use Rattle.lsp_edit.proofs.Batches.ComposeLemmas.{then_means}
 use Rattle.lsp_edit.proofs.Batches.LawLemmas.{canonical_law, units_some}
 use Rattle.lsp_store.specs.declared.fault.StoreFault.{StoreFault}
 use Rattle.lsp_store.specs.declared.store.stored.Stored.{Stored}
 use Rattle.lsp_store.specs.Faults.{IsRefusal}
-use Rattle.lsp_store.specs.Message.{AreTexts, body_refusal, change_body}
+use Rattle.lsp_store.specs.Message.{body_refusal, change_body}
 use Rattle.lsp_store.specs.declared.store.plan.Plan.{Plan}
 use Rattle.lsp_store.specs.Opened.{StoreData, entry_under}
 use Rattle.lsp_store.specs.Plan.{IsPlanOf, IsPlanOn}
-use Rattle.lsp_store.specs.Squash.{HasReached, IsSquashAfter, SquashData, add_refusal, reached_entry, squash_after, items_meant, squash_batch, squash_of, squash_refusal}
+use Rattle.lsp_store.specs.Squash.{HasReached, IsSquashAfter, SquashData, add_refusal, reached_entry, squash_after, items_meant, squash_batch, squash_refusal}
 use Rattle.lsp_message.specs.Params.{DocumentItem}
 use Rattle.lsp_store.specs.Table.{IsLeftToMeaning, Refusal, batch_bytes, changed, greatest_batch, entry_refusal, is_stale, meant_text, too_many_changes}
-use Rattle.lsp_store.proofs.Messages.MessageLemmas.{accepted_parts}
 use Rattle.lsp_store.proofs.Messages.ProperLemmas.{bytes_sum}
-use Rattle.lsp_store.proofs.Tables.RefusalLemmas.{meaning_accepted, only_memory}
-use Rattle.lsp_store.proofs.Messages.ScalarLemmas.{scalar-meaning, scalar-text}
+use Rattle.lsp_store.proofs.Tables.PlanLemmas.{on_utf8}
+use Rattle.lsp_store.proofs.Tables.RefusalLemmas.{meaning_accepted}
 
 -- what callers see of the fields
 abbrev pub seen : List ℕ → LimitsData → Encoding → JoinedData → ℤ → SquashData
@@ -52,81 +47,6 @@ weights : (edits : List ContentChange) → batch_bytes edits ≤ sum_by (λ chan
 weights edits = sum_by-le-sum_by (λ (e : ContentChange). length (encode_utf8_all e.text)) (λ
     (e : ContentChange). sum_by len_utf8 e.text)
     edits (λ e. omega (arith, bytes_sum e.text))
-
--- ---- before any batch
-
-pub start_seen : (uri : List ℕ) (limits : LimitsData) (encoding : Encoding) (joined : JoinedData) (before : List ℕ)
-    (version : ℤ) (entry : DocumentItem) → joined ≡ record { before = before; items = plain (chars before) }
-    → uri ≡ entry.uri → before ≡ entry.text
-    → version ≡ entry.version → seen uri limits encoding joined version ≡ squash_of limits encoding entry
-start_seen uri limits encoding joined before version entry is same_uri same_text same_version =
-    (λ i. seen (same_uri i) limits encoding (is i) (same_version i))
-    ∙ ap (λ (t : List ℕ). seen entry.uri limits encoding (record { before = t; items = plain (chars t) }) entry.version)
-    same_text
-
-module _ (uri : List ℕ) (limits : LimitsData) (encoding : Encoding) (joined : JoinedData) (stored : Stored)
-    (at : IsReached joined stored.text) (kept : SquashData) (view : seen uri limits encoding joined stored.version
-    ≡ kept) where
-  text_is : stored.text ≡ bytes_left joined.before joined.items
-  text_is = sym (encodes-chars stored.text at.utf8) ∙ ap encode_utf8_all at.text_is
-
-  refusal_is : (version : ℤ) (more : List ContentChange) → entry_refusal limits (units_in encoding)
-      (entry_under uri stored)
-      version more ≡ add_refusal kept version more
-  refusal_is version more =
-      ap (λ (t : List ℕ). entry_refusal limits (units_in encoding) (record {
-        uri = uri;
-        language = [];
-        version = stored.version;
-        text = t;
-      }) version more) text_is
-      ∙ ap (λ (k : SquashData). add_refusal k version more) view
-
-  pub add_error : (version : ℤ) (more : List ContentChange) (fault : StoreFault)
-      → IsRefusal (entry_refusal limits (units_in encoding) (entry_under uri stored) version more) fault
-      → IsRefusal (add_refusal kept version more) fault
-  add_error version more fault error = subst (λ (r : Option Refusal). IsRefusal r fault) (refusal_is version more) error
-
-  pub left_to_meaning : (version : ℤ) (more : List ContentChange) → IsLeftToMeaning limits
-      (entry_under uri stored) version more
-      → IsLeftToMeaning kept.limits (reached_entry kept) version more
-  left_to_meaning version more left =
-      let at_text =
-      subst (λ (t : List ℕ). IsLeftToMeaning limits (record {
-        uri = uri;
-        language = [];
-        version = stored.version;
-        text = t;
-      }) version more) text_is left in
-      subst (λ (k : SquashData). IsLeftToMeaning k.limits (reached_entry k) version more) view at_text
-
-  -- ---- a batch more
-
-  module _ (version next_version : ℤ) (more : List ContentChange) (next : JoinedData)
-      (accepted : entry_refusal limits (units_in encoding) (entry_under uri stored) version more ≡ None)
-      (is : IsJoined (units_in encoding) joined more next) (version_is : next_version ≡ version) where
-    more_means : meaning (units_in kept.encoding) (text_of (chars kept.text) kept.items) more ≡ Ok is.others
-    more_means = subst (λ (k : SquashData). meaning (units_in k.encoding) (text_of (chars k.text) k.items) more
-        ≡ Ok is.others) view is.means
-
-    next_is : seen uri limits encoding next next_version ≡ record kept {
-      items = then_items kept.items is.others;
-      version = version;
-    }
-    next_is =
-        ap₂ (λ (j : JoinedData) (v : ℤ). seen uri limits encoding j v) is.is version_is
-        ∙ ap (λ (k : SquashData). record k { items = then_items k.items is.others; version = version }) view
-
-    pub adds : IsSquashAfter kept version more (seen uri limits encoding next next_version)
-    adds = record {
-      accepted = sym (refusal_is version more) ∙ accepted;
-      others = is.others;
-      means = more_means;
-      is = next_is;
-      together = λ b p.
-          then_means (units_in kept.encoding) (chars kept.text) b more kept.items is.others p more_means
-          ∙ ap Ok (sym (ap (λ (k : SquashData). k.items) next_is));
-    }
 
 -- ---- the message
 
@@ -178,27 +98,6 @@ module _ (limits : LimitsData) (encoding : Encoding) (entry : DocumentItem) (ver
     le-ltb limits.max_text (length (bytes_left entry.text items)) short,
   ) refl
 
-  pub squash_leaves : changed (units_in encoding) entry version (canonical (units_in encoding) (chars entry.text) items)
-      ≡ record entry { version = version; text = bytes_left entry.text items }
-  squash_leaves = rw all_law.means refl
-
--- ---- what a series means: batches that are accepted one after another mean together what they mean as one list
-
-pub run_on : (units : ℕ → ℕ) (old : List ℕ) (batch more : List ContentChange) (items others : List Item)
-    → meaning units old batch ≡ Ok items
-    → meaning units (text_of old items) more ≡ Ok others → meaning units old (batch ++ more)
-    ≡ Ok (then_items items others)
-run_on units old batch more items others one two = then_means units old batch more items others one two
-
--- Canonical batches that are written singly mean together what the batches that they were written for mean together.
-pub singles_mean : (units : ℕ → ℕ) → ((c : ℕ) → 1 ≤ units c) → (old : List ℕ) (batch more single : List ContentChange)
-    (items others : List Item) → meaning units old batch ≡ Ok items → meaning units old single ≡ Ok items
-    → meaning units (text_of old items) more ≡ Ok others
-    → meaning units old (single ++ canonical units (text_of old items) others) ≡ Ok (then_items items others)
-singles_mean units some old batch more single items others one same two =
-    then_means units old single (canonical units (text_of old items) others) items others same
-    (canonical_law units some (text_of old items) more others two).means
-
 -- What a batch makes of a squash is one thing.
 pub after_is : (old : SquashData) (version : ℤ) (batch : List ContentChange) (new : SquashData)
     → IsSquashAfter old version batch new → new ≡ squash_after old version batch
@@ -214,13 +113,13 @@ pub is_reached : (joined : JoinedData) (text : List ℕ) → IsUtf8 text → cha
 is_reached joined text utf8 is = record { utf8 = utf8; text_is = is }
 
 module _ (kept : SquashData) (entry : DocumentItem) (version : ℤ) (more : List ContentChange) (utf8 : IsUtf8 entry.text)
-    (at : HasReached kept entry)
-    (accepted : entry_refusal kept.limits (units_in kept.encoding) entry version more ≡ None) where
+    (at : HasReached kept entry) where
   same_text : entry.text ≡ bytes_left kept.text kept.items
   same_text = sym (encodes-chars entry.text utf8) ∙ ap encode_utf8_all at.text
 
-  pub add_accepted : add_refusal kept version more ≡ None
-  add_accepted =
+  pub refusal_is : add_refusal kept version more
+      ≡ entry_refusal kept.limits (units_in kept.encoding) entry version more
+  refusal_is =
       ap₂ (λ (t : List ℕ) (v : ℤ). entry_refusal kept.limits (units_in kept.encoding) (record {
         uri = kept.uri;
         language = [];
@@ -228,27 +127,22 @@ module _ (kept : SquashData) (entry : DocumentItem) (version : ℤ) (more : List
         text = t;
       }) version more)
       (sym same_text) (sym at.version)
-      ∙ accepted
 
-  -- A batch more leads to the changed document.
-  pub has_reached : (next : SquashData) → AreTexts more → IsSquashAfter kept version more next
-      → HasReached next (changed (units_in kept.encoding) entry version more)
-  has_reached next texts adds =
-      let means : meaning (units_in kept.encoding) (chars entry.text) more ≡ Ok adds.others =
-      ap (λ t. meaning (units_in kept.encoding) t more) at.text ∙ adds.means in
-      let made : meant_text entry.text (meaning (units_in kept.encoding) (chars entry.text) more)
-      ≡ bytes_left entry.text adds.others = ap (meant_text entry.text) means in
-      let all : all_scalars (text_of (chars entry.text) adds.others) ≡ true =
-      scalar-text (chars entry.text) adds.others (scalars-chars entry.text utf8)
-      (scalar-meaning (units_in kept.encoding) (chars entry.text) more adds.others texts means) in
-      record {
-        text =
-            ap chars made ∙ chars-encodes (text_of (chars entry.text) adds.others) all
-            ∙ ap (λ t. text_of t adds.others) at.text
-            ∙ sym (text_of-then (chars kept.text) kept.items adds.others)
-            ∙ sym (ap (λ (k : SquashData). text_of (chars k.text) k.items) adds.is);
-        version = sym (ap (λ (k : SquashData). k.version) adds.is);
-      }
+  pub left_to_meaning : IsLeftToMeaning kept.limits entry version more
+      → IsLeftToMeaning kept.limits (reached_entry kept) version more
+  left_to_meaning left =
+      let at_text = subst (λ (t : List ℕ). IsLeftToMeaning kept.limits (record {
+        uri = kept.uri;
+        language = [];
+        version = entry.version;
+        text = t;
+      }) version more) same_text left in
+      subst (λ (v : ℤ). IsLeftToMeaning kept.limits (record {
+        uri = kept.uri;
+        language = [];
+        version = v;
+        text = bytes_left kept.text kept.items;
+      }) version more) at.version at_text
 
 -- A batch more, by what is kept of the batches before it.
 pub joins_after : (uri : List ℕ) (limits : LimitsData) (encoding : Encoding) (joined next : JoinedData)
@@ -279,30 +173,56 @@ joins_after uri limits encoding joined next before version next_version kept mor
         ap₂ (λ (j : JoinedData) (v : ℤ). seen uri limits encoding j v) is.is version_is
         ∙ ap (λ (k : SquashData). record k { items = then_items k.items is.others; version = version }) view
 
--- A batch that is accepted is refused only where memory runs out.
-pub memory_alone : (uri : List ℕ) (limits : LimitsData) (encoding : Encoding) (joined : JoinedData) (before : ℤ)
-    (kept : SquashData) → seen uri limits encoding joined before ≡ kept
-    → (entry : DocumentItem) (version : ℤ) (more : List ContentChange)
-    → entry_refusal kept.limits (units_in kept.encoding) entry
-    version more ≡ None
-    → (reached : List ℕ) → reached ≡ entry.text
-    → (fault : BatchFault) → (fault ≡ NoMemory)
-    ⊎ (text_within limits.max_text reached (meaning (units_in encoding) (chars reached) more) ≡ Err fault)
-    → fault ≡ NoMemory
-memory_alone uri limits encoding joined before kept view entry version more accepted reached same fault error =
-    let may : entry_refusal limits (units_in encoding) entry version more ≡ None =
-    subst (λ (k : SquashData). entry_refusal k.limits (units_in k.encoding) entry version more ≡ None) (sym view)
-    accepted in
-    let a = accepted_parts limits (units_in encoding) entry version more may in
-    only_memory limits entry.text (meaning (units_in encoding) (chars entry.text) more) a.items a.means a.short fault
-    (subst (λ (t : List ℕ). (fault ≡ NoMemory)
-    ⊎ (text_within limits.max_text t (meaning (units_in encoding) (chars t) more) ≡ Err fault)) same error)
+-- ---- a batch on a document that is changed with the batches
+
+module _ (uri : List ℕ) (limits : LimitsData) (encoding : Encoding) (joined : JoinedData) (before : ℤ)
+    (kept : SquashData) (view : seen uri limits encoding joined before ≡ kept) (stored : Stored)
+    (utf8 : IsUtf8 stored.text) (at : (u : List ℕ) → HasReached kept (entry_under u stored)) (version : ℤ)
+    (more : List ContentChange) where
+  stored_refusal : entry_refusal limits (units_in encoding) (entry_under uri stored) version more
+      ≡ add_refusal kept version more
+  stored_refusal =
+      ap (λ (k : SquashData). entry_refusal k.limits (units_in k.encoding) (entry_under uri stored) version more) view
+      ∙ sym (refusal_is kept (entry_under uri stored) version more utf8 (at uri))
+
+  pub change_refused : (fault : StoreFault)
+      → IsRefusal (entry_refusal limits (units_in encoding) (entry_under uri stored) version more) fault
+      → IsRefusal (add_refusal kept version more) fault
+  change_refused fault why = subst (λ (r : Option Refusal). IsRefusal r fault) stored_refusal why
+
+  pub change_left : IsLeftToMeaning limits (entry_under uri stored) version more
+      → IsLeftToMeaning kept.limits (reached_entry kept) version more
+  change_left left =
+      left_to_meaning kept (entry_under uri stored) version more utf8 (at uri)
+      (subst (λ (k : SquashData). IsLeftToMeaning k.limits (entry_under uri stored) version more) view left)
+
+  pub change_at : IsReached joined stored.text
+  change_at = is_reached joined stored.text utf8
+      ((at uri).text ∙ sym (ap (λ (k : SquashData). text_of (chars k.text) k.items) view))
+
+  pub change_adds : entry_refusal limits (units_in encoding) (entry_under uri stored) version more ≡ None
+      → (next : JoinedData) (next_version : ℤ) → IsJoined (units_in encoding) joined more next → next_version ≡ version
+      → IsSquashAfter kept version more (seen uri limits encoding next next_version)
+  change_adds accepted next next_version is version_is =
+      joins_after uri limits encoding joined next before version next_version kept more view
+      (sym stored_refusal ∙ accepted) is version_is
+
+-- ---- batches that are kept with the document that they lead to
+
+pub add_refused : (inside kept : SquashData) → inside ≡ kept → (version : ℤ) (batch : List ContentChange)
+    (fault : StoreFault) → IsRefusal (add_refusal inside version batch) fault
+    → IsRefusal (add_refusal kept version batch) fault
+add_refused inside kept view version batch fault why =
+    subst (λ (k : SquashData). IsRefusal (add_refusal k version batch) fault) view why
+
+-- What stays leads to what stays.
+pub reached_still : (old new : SquashData) (was is : Stored) → new ≡ old → is ≡ was
+    → ((uri : List ℕ) → HasReached old (entry_under uri was)) → (uri : List ℕ) → HasReached new (entry_under uri is)
+reached_still old new was is same same_stored at uri =
+    subst (λ (s : Stored). HasReached new (entry_under uri s)) (sym same_stored)
+    (subst (λ (k : SquashData). HasReached k (entry_under uri was)) (sym same) (at uri))
 
 -- ---- a batch that was planned
-
-on_utf8 : (before : List ℕ) (delta : Delta) → IsOn before delta → IsUtf8 before
-on_utf8 before (Put put) on = on.utf8
-on_utf8 before (Left encoding changes left) on = on.utf8
 
 module _ (uri : List ℕ) (limits : LimitsData) (encoding : Encoding) (joined next : JoinedData) (before next_version : ℤ)
     (kept : SquashData) (view : seen uri limits encoding joined before ≡ kept)
@@ -328,8 +248,8 @@ module _ (uri : List ℕ) (limits : LimitsData) (encoding : Encoding) (joined ne
       ∙ entry_accepts
 
   added_accepted : add_refusal kept version batch ≡ None
-  added_accepted = add_accepted kept q.on.entry version batch (on_utf8 q.on.entry.text plan.delta q.on.on) (at q.on)
-      kept_accepts
+  added_accepted = refusal_is kept q.on.entry version batch (on_utf8 q.on.entry.text plan.delta q.on.on) (at q.on)
+      ∙ kept_accepts
 
   batch_means : meaning (units_in coded) (chars text) batch ≡ meant_by text plan.delta
   batch_means = subst (λ (t : List ℕ). meaning (units_in coded) (chars t) batch ≡ meant_by t plan.delta)

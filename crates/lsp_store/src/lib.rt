@@ -6,11 +6,10 @@
 //! - `document`: an open document as a caller reads it. `units` counts units of its whole text.
 //! - `documents`: the open documents, one after another.
 //! - `canonical`: the canonical message of an accepted batch of changes.
-//! - `squash`: many batches on one document as one message.
-//! - `batches`: many batches on one document as one message, for a caller who keeps the document.
+//! - `squash`: many batches on one document as one message; `Batches` for a caller who keeps the
+//!   document, `Squash` for one who doesn't.
 //! - `plan`: a batch that was resolved once on an open document.
 //! - `stored`: the language, version and text of a document, and how a batch changes them.
-//! - `reached`: the document that several batches lead to.
 //! - `fault`: why a call is refused.
 //! - `laws`: what holds of the table of documents after any commands.
 #![tactic(auto)]
@@ -23,8 +22,7 @@ mod store;
 pub use fault::StoreFault;
 pub use laws::store_laws;
 pub use lsp_buffer::TextBuffer;
-pub use squash::Squash;
-pub use squash::batches::Batches;
+pub use squash::{Batches, Squash};
 pub use store::Store;
 pub use store::document::Document;
 pub use store::documents::Documents;

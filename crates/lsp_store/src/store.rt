@@ -115,9 +115,9 @@ impl Store {
     /// [`StoreFault::TextTooLong`]; and with [`StoreFault::NoMemory`]. Only the text after the
     /// whole batch has to be within `max_text` bytes. Costs a hash look-up, and what the batch
     /// costs to apply ([`lsp_edit::IndexedText::change`]): for one change of a range its two
-    /// positions, its block of the text, and an addition for each later block. The first one after
-    /// an open, or after a change of the whole text, costs the text once: it is cut into blocks
-    /// then.
+    /// positions, its block of the text, and an addition for each 32 blocks before it. The first one
+    /// after an open, or after a change of the whole text, costs the text once: it is cut into
+    /// blocks then.
     pub fn change(
         &mut self,
         uri: &str,

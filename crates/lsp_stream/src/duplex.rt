@@ -1,4 +1,7 @@
 //! Both ends of a connection, and whether a read came before a flush.
+//!
+//! A reader alone can't say that it reads in time, since it doesn't see the writer. Borrowing
+//! the reader counts as a read.
 
 ghost use Rattle.std.specs.Prelude.{◌≡◌, ◌||◌, [], not, false};
 ghost use Rattle.std.specs.Borrow.{Lends, sem};

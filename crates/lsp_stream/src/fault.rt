@@ -1,4 +1,6 @@
 //! Why a run from a reader to a writer ends early.
+//!
+//! `EngineFault` is in the lowest of the three crates that return some of it.
 
 ghost use Rattle.std.specs.Prelude.{◌≡◌};
 ghost use Rattle.lsp_stream.specs.declared.fault.EngineFault.TheVariants.{NoMemory};

@@ -22,6 +22,3 @@ pub use fault::EngineFault;
 pub use port::{Sink, Source};
 pub use stop::{CallEnd, StopReader, StopWriter};
 pub use turns::{Turns, flush_out, read_piece, write_given};
-
-#[cfg(test)]
-mod tests;

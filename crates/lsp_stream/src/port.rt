@@ -1,4 +1,8 @@
 //! The reader and the writer that a run reads from and writes to.
+//!
+//! What is known of a reader or a writer is one ghost member, `seen`, so a clause names both
+//! ends in two lines. It says whether all is flushed, so clauses speak of writers whose bytes
+//! can't be observed.
 
 ghost use Rattle.std.specs.Prelude.{◌≡◌, ◌↔◌, true};
 ghost use Rattle.std.specs.Io.{ReadsAtMost, WritesAtMost};

@@ -72,13 +72,15 @@ pub fn left_by_joining(
     requires { length text.now ≤ MAX_OLD_TEXT }
 {
     let mut reached = IndexedText::new(alloc, String::from_str(alloc, text)?)?;
-    let mut joined = Joined::new(alloc, String::from_str(alloc, text)?)?;
+    let mut joined = Joined::over(alloc, &reached)?;
     let (first, second) = changes.split_at(changes.len() / 2);
     if !fits(first) || !fits(second) {
         return Err(BatchFault::TooLong);
     }
-    joined.change(encoding, &mut reached, first, MAX_OLD_TEXT)?;
-    joined.change(encoding, &mut reached, second, MAX_OLD_TEXT)?;
+    let delta = reached.delta(encoding, first, MAX_OLD_TEXT)?;
+    joined.change(&mut reached, delta)?;
+    let delta = reached.delta(encoding, second, MAX_OLD_TEXT)?;
+    joined.change(&mut reached, delta)?;
     let canonical = joined.canonical(encoding)?;
     let text = reached.text().to_string(alloc)?;
     Ok(Left { text, canonical })

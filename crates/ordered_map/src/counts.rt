@@ -1,5 +1,8 @@
 //! How many slots of each block have an entry, so that the slot of an index is found without a look
 //! at each slot before it.
+//!
+//! Counts of 256 slots, added up from the first on. A tree of counts would find an index in
+//! fewer steps, and each removal would change more of it.
 
 ghost use Rattle.std.specs.Prelude.{◌≡◌, ◌+◌, ◌-◌, ◌*◌, ◌/◌, ◌<◌, ◌≤◌, ℕ, All, IfSome, IfNone, length, min, slice_index, vec_len, vec_capacity};
 ghost use Rattle.ordered_map.specs.inside.Slots.{AreCounted, IsLive, counted_last, live_to, somes, uncounted};

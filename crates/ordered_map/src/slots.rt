@@ -1,4 +1,9 @@
 //! `Slots`, the entries in order of insertion, with what is left where some were removed.
+//!
+//! A removed entry leaves its key in its slot, so a removal takes no memory and moves nothing.
+//! A key that comes back has to leave that slot: a text that is no key is inserted last, and
+//! `swap_remove_index` moves it there. A key of an own type could say "none" without a text;
+//! but a `&mut` into an `IndexMap` whose keys name a lifetime can't be returned.
 
 ghost use Rattle.std.specs.Prelude.{◌≡◌, ◌^◌, ◌≤◌, ◌<◌, [], ◌∷◌, ◌++◌, Some, None, IsSome, IfSome, IfOk, OnOk, OnErr, filter, get_or, is_some, length, map, option_map, position, set, string_bytes};
 ghost use Rattle.std.specs.Borrow.{Lends, sem};

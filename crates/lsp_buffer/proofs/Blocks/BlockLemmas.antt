@@ -4,13 +4,14 @@ use Rattle.std.specs.Prelude.{encode_utf8_all}
 use Rattle.std.specs.List.{concat}
 use Rattle.std.specs.Str.{chars, is_utf8, IsUtf8}
 use Rattle.std.proofs.Math.Utf8.{encode}
-use Rattle.std.proofs.lemmas.List.{length-append, get_or-append_right, append-nil}
+use Rattle.std.proofs.lemmas.List.{length-append, get_or-append_right, get_or_default, append-nil, take-append-drop}
 use Rattle.std.proofs.lemmas.List.Folds.{concat-append}
 use Rattle.std.proofs.lemmas.List.Sums.{sum_by-cons}
 use Rattle.std.proofs.lemmas.Str.{IsUtf8-from_is_utf8, IsUtf8-append, encodes-chars, length-encode, len_utf8_bounds, chars-append, chars-nil}
 use Rattle.lsp_text.specs.TextLines.{line_ends}
 use Rattle.lsp_buffer.specs.Blocks.{EndsClear, IsFull, AreBlocks, block_ends}
 use Rattle.lsp_buffer.specs.inside.Cuts.{AreFull}
+use Rattle.lsp_buffer.specs.inside.Parts.{Closes}
 use Rattle.lsp_buffer.proofs.Blocks.SeamLemmas.{seam_count}
 
 -- ---- no carriage return at the end
@@ -52,10 +53,6 @@ clear_text (x ∷ y ∷ text) ends =
 -- What doesn't end with the byte of a carriage return doesn't end with the character.
 pub clear_chars : (bytes : List ℕ) → IsUtf8 bytes → EndsClear bytes → EndsClear (chars bytes)
 clear_chars bytes utf8 ends = clear_text (chars bytes) (subst EndsClear (sym (encodes-chars bytes utf8)) ends)
-
--- Nothing, or it ends with no carriage return.
-abbrev pub Closes : List ℕ → Type 0
-Closes bytes = (bytes ≡ []) ⊎ EndsClear bytes
 
 pub chars_close : (bytes : List ℕ) → IsUtf8 bytes → Closes bytes → Closes (chars bytes)
 chars_close bytes utf8 closes =
@@ -174,3 +171,31 @@ pub split_text : (blocks : List (List ℕ)) (index : ℕ) → IsSplit blocks ind
     ≡ concat (take index blocks) ++ (get_or blocks index [] ++ concat (drop (index + 1) blocks))
 split_text blocks index is =
     ap concat is.whole ∙ concat-append (take index blocks) (get_or blocks index [] ∷ drop (index + 1) blocks)
+
+-- Some of the first blocks, and some after these.
+pub full_take : (n : ℕ) (blocks : List (List ℕ)) → AreFull blocks → AreFull (take n blocks)
+full_take zero blocks full = tt
+full_take (suc n) [] full = tt
+full_take (suc n) (b ∷ blocks) full = (full.0, full_take n blocks full.1)
+
+pub full_drop : (n : ℕ) (blocks : List (List ℕ)) → AreFull blocks → AreFull (drop n blocks)
+full_drop zero blocks full = full
+full_drop (suc n) [] full = tt
+full_drop (suc n) (b ∷ blocks) full = full_drop n blocks full.1
+
+pub full_at : (index : ℕ) (blocks : List (List ℕ)) → index < length blocks → AreFull blocks
+    → IsFull (get_or blocks index [])
+full_at index [] h full = absurd (omega arith)
+full_at zero (b ∷ blocks) h full = full.0
+full_at (suc index) (b ∷ blocks) h full = full_at index blocks (omega arith) full.1
+
+-- The first bytes of a text in blocks, up to a block, are no more than all.
+pub concat_split : (n : ℕ) (blocks : List (List ℕ)) → concat blocks ≡ concat (take n blocks) ++ concat (drop n blocks)
+concat_split n blocks = ap concat (sym (take-append-drop n blocks)) ∙ concat-append (take n blocks) (drop n blocks)
+
+-- A full block is a text.
+pub full_text : (blocks : List (List ℕ)) (index : ℕ) (block : List ℕ) → index < length blocks
+    → block ≡ get_or blocks index block → AreFull blocks → IsUtf8 block
+full_text blocks index block within block_is full =
+    subst IsUtf8 (get_or_default blocks index [] block within ∙ sym block_is)
+    (IsUtf8-from_is_utf8 (get_or blocks index []) (full_at index blocks within full).utf8)

@@ -2,7 +2,7 @@
 -- changes of the text by those of the block.
 use Rattle.std.proofs.Common.{ℕ, zero, suc, ◌≡◌, ◌+◌, ◌-◌, ◌<◌, ◌≤◌, ◌⊎◌, false, List, [], ◌++◌, length, take, drop, get_or, slice_index, Option, Some, None, option_map, ⊎_elim, inl, inr, refl, sym, ap, ◌∙◌, arith, subst}
 use Rattle.std.specs.Prelude.{encode_utf8_all}
-use Rattle.std.specs.Str.{chars, IsUtf8, IsCharBoundary}
+use Rattle.std.specs.Str.{chars, IsCharBoundary}
 use Rattle.std.proofs.Math.Seq.{drop-append-add, take-append-add, drop-append_seam}
 use Rattle.std.proofs.lemmas.List.{length-append, get_or-append_right, get_or_append_left, take-append-le, drop-append-le, append-nil, take_at}
 use Rattle.std.proofs.lemmas.Str.{chars-append, chars-nil, encodes-chars}
@@ -16,9 +16,10 @@ use Rattle.lsp_text.proofs.TextLines.LineLemmas.{splits_none_past}
 use Rattle.lsp_text.proofs.Positions.PositionLemmas.{denoted_whole}
 use Rattle.lsp_text.proofs.Positions.NearLemmas.{exact_near}
 use Rattle.lsp_buffer.specs.Blocks.{EndsClear, carried}
+use Rattle.lsp_buffer.specs.inside.Parts.{AreThree, Closes, IsClearSeam}
 use Rattle.lsp_buffer.specs.inside.Seams.{IsAtOrAfter, IsBefore, position_after, position_from}
 use Rattle.lsp_buffer.proofs.Blocks.SeamLemmas.{head, denoted_left, denoted_last, denoted_right, exact_right, head_right, seam_splits, beyond_splits, seam_count}
-use Rattle.lsp_buffer.proofs.Blocks.BlockLemmas.{Closes, clear_chars, chars_close}
+use Rattle.lsp_buffer.proofs.Blocks.BlockLemmas.{clear_chars, chars_close}
 
 pub carried_none : (line : ℕ) → carried line 0 ≡ 0
 carried_none zero = refl
@@ -112,10 +113,6 @@ module _ (a r : List ℕ) (closes : Closes a) where
       (ap (λ cs. length (encode_utf8_all cs) + place_of (drop (length a) (a ++ r)) k) (take_at a r (length a) refl) ∙
       ap (λ cs. length (encode_utf8_all a) + place_of cs k) (drop-append_seam a r))
 
--- Nothing comes after a part, or it ends with no carriage return.
-abbrev pub IsClearSeam : List ℕ → List ℕ → Type 0
-IsClearSeam b c = (c ≡ []) ⊎ EndsClear b
-
 module _ (b c : List ℕ) where
   pub denoted_before : (units : ℕ → ℕ) → ((c : ℕ) → 1 ≤ units c) → (p : Position) → (c ≡ [])
       ⊎ (EndsClear b × IsBefore (line_ends b) (head units b) p) → denoted units (b ++ c) p ≡ denoted units b p
@@ -139,14 +136,6 @@ module _ (b c : List ℕ) where
       (λ (e : c ≡ []). rw e (rw (append-nil b) refl))
       (λ (e : EndsClear b). seam_splits b c e k h)
       after
-
--- Bytes in three parts.
-pub record AreThree (bytes front block rest : List ℕ) : Type 0 where
-  pub whole : bytes ≡ front ++ (block ++ rest)
-  pub front_utf8 : IsUtf8 front
-  pub block_utf8 : IsUtf8 block
-  pub closes : Closes front
-  pub after : IsClearSeam block rest
 
 module _ (bytes front block rest : List ℕ) (are : AreThree bytes front block rest) where
   a : List ℕ

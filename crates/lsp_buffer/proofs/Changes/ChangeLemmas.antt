@@ -1,18 +1,25 @@
 -- A change of a text in blocks: in its block, or with the blocks cut again.
-use Rattle.std.proofs.Common.{ℕ, ◌≡◌, ◌+◌, ◌-◌, ◌<◌, ◌≤◌, List, [], ◌++◌, length, get_or, take, drop, map, sum, sym, ap, ◌∙◌, arith, subst}
-use Rattle.std.specs.List.{replace_range}
-use Rattle.std.specs.Str.{IsCharBoundary}
-use Rattle.std.proofs.lemmas.List.{get_or_default, length-append, length-drop, length-map, length-take-le, append_assoc, map-append, take_at, take-append-drop}
+use Rattle.std.proofs.Common.{ℕ, zero, suc, ◌≡◌, ◌+◌, ◌-◌, ◌/◌, ◌<◌, ◌≤◌, ◌⊎◌, List, [], ◌∷◌, ◌++◌, length, take, drop, set, get_or, ⊎_elim, inl, inr, refl, sym, ap, ◌∙◌, arith, subst}
+use Rattle.std.specs.List.{concat, replace_range}
+use Rattle.std.specs.Str.{IsUtf8, IsCharBoundary}
+use Rattle.std.proofs.Math.Seq.{drop-cons}
+use Rattle.std.proofs.lemmas.Bool.{cases_lt}
+use Rattle.std.proofs.lemmas.List.{append_assoc, drop_all, get_or_default, length-append, length-drop, length-take-le, set-get_or, set-set, set_split, take-append-drop, take-take}
+use Rattle.std.proofs.lemmas.List.Folds.{concat-append}
+use Rattle.std.proofs.lemmas.Str.{IsUtf8-append, IsUtf8-drop, IsUtf8-from_is_utf8, IsUtf8-take, is_utf8-from_IsUtf8}
+use Rattle.lsp_buffer.specs.declared.counts.Counts.{Counts}
+use Rattle.lsp_buffer.specs.declared.find.Found.{Found}
+use Rattle.lsp_buffer.specs.declared.find.Target.TheVariants.{Offset}
 use Rattle.lsp_buffer.specs.declared.text_buffer.change.BlockRange.{BlockRange}
-use Rattle.lsp_buffer.specs.Blocks.{EndsClear, sums_from}
-use Rattle.lsp_buffer.specs.inside.Changes.{LeavesEnough}
-use Rattle.lsp_buffer.proofs.Blocks.SumLemmas.{length-sums, sums_append}
-use Rattle.lsp_buffer.proofs.Blocks.BlockLemmas.{ends_tail, ends_join}
+use Rattle.lsp_buffer.specs.Blocks.{AreBlocks, AreGroups, EndsClear, IsFull, IsTextBuffer}
+use Rattle.lsp_buffer.specs.inside.Changes.{IsChange, IsRangeOf, IsTaken, JoinsNext, StaysInside, text_after, text_left}
+use Rattle.lsp_buffer.specs.inside.Cuts.{AreFull}
+use Rattle.lsp_buffer.specs.inside.Parts.{IsFound}
+use Rattle.lsp_buffer.proofs.Blocks.BlockLemmas.{IsSplit, blocks_some, concat_split, ends_join, ends_tail, joined_blocks, split}
+use Rattle.lsp_buffer.proofs.Blocks.CutLemmas.{concat_more}
+use Rattle.lsp_buffer.proofs.Blocks.GroupLemmas.{groups_front}
 use Rattle.lsp_buffer.proofs.Blocks.PartLemmas.{take_three, drop_three, boundary_in}
-use Rattle.lsp_buffer.proofs.Queries.FoundLemmas.{IsPlaceFound}
-
-assoc : (a b c : List ℕ) → a ++ b ++ c ≡ a ++ (b ++ c)
-assoc a b c = simp append_assoc
+use Rattle.lsp_buffer.proofs.Queries.FoundLemmas.{IsPlaceFound, chunk_boundary, found_place, part_here}
 
 -- What a change makes of a text in parts: the front of the first block, the new text, and the back of the last.
 pub replaced_parts : (bytes front block rest front' block' rest' new : List ℕ) (start stop from from' : ℕ)
@@ -45,55 +52,406 @@ back_ends block front n h feed =
     (ends_tail (take n block) (drop n block) (omega (arith, length-drop n block))
     (subst EndsClear (sym (take-append-drop n block)) feed))
 
--- The sums of blocks in three parts.
-pub sums_three : (f : List ℕ → ℕ) (sums : List ℕ) (blocks front fresh rest : List (List ℕ)) (first number : ℕ)
-    → sums ≡ sums_from 0 (map f blocks) → front ≡ take first blocks → first ≤ length blocks → number ≡ sum (map f front)
-    →
-    take first sums ++ (sums_from number (map f fresh) ++ sums_from (number + sum (map f fresh)) (map f rest))
-    ≡ sums_from 0 (map f (front ++ (fresh ++ rest)))
-sums_three f sums blocks front fresh rest first number sums_are front_is within number_is =
-    let head : take first sums ≡ sums_from 0 (map f front) =
-    ap (take first) (sums_are ∙ (ap (λ bs. sums_from 0 (map f bs)) (sym (take-append-drop first blocks))
-    ∙ (ap (sums_from 0) (map-append f (take first blocks) (drop first blocks))
-    ∙ sums_append 0 (map f (take first blocks)) (map f (drop first blocks))))) ∙
-    (take_at (sums_from 0 (map f (take first blocks))) (sums_from (0 + sum (map f (take first blocks)))
-    (map f (drop first blocks))) first (omega (
-      arith,
-      length-sums 0 (map f (take first blocks)),
-      length-map (take first blocks) f,
-      length-take-le first blocks within,
-    )) ∙
-    ap (λ bs. sums_from 0 (map f bs)) (sym front_is)) in
-    let rows : map f (front ++ (fresh ++ rest)) ≡ map f front ++ (map f fresh ++ map f rest) =
-    map-append f front (fresh ++ rest) ∙ ap (λ xs. map f front ++ xs) (map-append f fresh rest) in
-    let zero_is : 0 + sum (map f front) ≡ number = omega (arith, number_is) in
-    ap (λ xs. xs ++ (sums_from number (map f fresh) ++ sums_from (number + sum (map f fresh)) (map f rest))) head ∙
-    sym (ap (sums_from 0) rows ∙ (sums_append 0 (map f front) (map f fresh ++ map f rest) ∙
-    ap (λ xs. sums_from 0 (map f front) ++ xs) (ap (λ n. sums_from n (map f fresh ++ map f rest)) zero_is
-    ∙ sums_append number (map f fresh) (map f rest))))
-
--- How long the text is that a change leaves of its blocks.
-pub left_length : (block block' new : List ℕ) (n m : ℕ) → n ≤ length block →
-    length (take n block ++ (new ++ drop m block')) ≡ n + length new + (length block' - m)
-left_length block block' new n m within = omega (
+-- How long a changed text is.
+pub replaced_length : (bytes new : List ℕ) (start stop : ℕ) → start ≤ stop → stop ≤ length bytes
+    → length (replace_range bytes start stop new) ≡ length bytes - (stop - start) + length new
+replaced_length bytes new start stop order within = omega (
   arith,
-  length-append (take n block) (new ++ drop m block'),
-  length-append new (drop m block'),
-  length-take-le n block within,
-  length-drop m block',
+  length-append (take start bytes ++ new) (drop stop bytes),
+  length-append (take start bytes) new,
+  length-take-le start bytes (omega (arith, order, within)),
+  length-drop stop bytes,
 )
 
--- What a change leaves is enough, as it is read.
-pub read_enough : (blocks : List (List ℕ)) (starts : List ℕ) (range : BlockRange) (new block : List ℕ) (from from' : ℕ)
-    → range.first < length starts → range.last < length starts → range.last < length blocks →
-    block ≡ get_or blocks range.last block → from ≡ get_or starts range.first from →
-    from' ≡ get_or starts range.last from' → LeavesEnough blocks starts range new → range.last + 1 < length blocks →
-    1024 ≤ (range.start - from) + length new + (from' + length block - range.end)
-read_enough blocks starts range new block from from' first last last_block block_is from_is from_is' enough more =
-    omega (
+-- ---- the range of a change
+
+first_texts : (blocks : List (List ℕ)) (i j : ℕ) → i ≤ j → length (concat (take i blocks)) ≤ length
+    (concat (take j blocks))
+first_texts blocks i j order = omega (
+  arith,
+  ap length (concat_split i (take j blocks)),
+  length-append (concat (take i (take j blocks))) (concat (drop i (take j blocks))),
+  ap (λ bs. length (concat bs)) (take-take i j blocks order),
+)
+
+-- The blocks that the ends of a range are found in.
+pub record IsRangeFound (blocks : List (List ℕ)) (from to : Found) (start stop : ℕ) : Type 0 where
+  pub are : AreBlocks blocks
+  pub size : length (concat blocks) ≤ 2147483648
+  pub from_is : IsFound blocks (Offset start) from
+  pub to_is : IsFound blocks (Offset stop) to
+  pub order : start ≤ stop
+  pub at_start : IsCharBoundary (concat blocks) start
+  pub at_end : IsCharBoundary (concat blocks) stop
+
+abbrev pub found_range : Found → Found → ℕ → ℕ → BlockRange
+found_range from to start stop = record {
+  first = from.index;
+  start = start - from.before.len;
+  last = to.index;
+  end = stop - to.before.len;
+}
+
+module _ (blocks : List (List ℕ)) (from to : Found) (start stop : ℕ)
+    (is : IsRangeFound blocks from to start stop) where
+  one : IsPlaceFound (concat blocks) (concat (take from.index blocks)) (get_or blocks from.index [])
+      (concat (drop (from.index + 1) blocks)) start from.before.len
+  one = found_place (concat blocks) (concat (take from.index blocks)) (get_or blocks from.index [])
+      (concat (drop (from.index + 1) blocks)) from.before start
+      (part_here blocks (Offset start) from (get_or blocks from.index []) is.are is.size is.from_is
+      (get_or_default blocks from.index [] (get_or blocks from.index []) is.from_is.begins.within))
+
+  two : IsPlaceFound (concat blocks) (concat (take to.index blocks)) (get_or blocks to.index [])
+      (concat (drop (to.index + 1) blocks)) stop to.before.len
+  two = found_place (concat blocks) (concat (take to.index blocks)) (get_or blocks to.index [])
+      (concat (drop (to.index + 1) blocks)) to.before stop
+      (part_here blocks (Offset stop) to (get_or blocks to.index []) is.are is.size is.to_is
+      (get_or_default blocks to.index [] (get_or blocks to.index []) is.to_is.begins.within))
+
+  range_text : (new : List ℕ) → text_after blocks (found_range from to start stop) new
+      ≡ replace_range (concat blocks) start stop new
+  range_text new = replaced_parts (concat blocks) (concat (take from.index blocks)) (get_or blocks from.index [])
+      (concat (drop (from.index + 1) blocks)) (concat (take to.index blocks)) (get_or blocks to.index [])
+      (concat (drop (to.index + 1) blocks)) new start stop from.before.len to.before.len one two is.at_start is.at_end
+
+  range_order : from.index ≤ to.index
+  range_order =
+      ⊎_elim
+      (λ (h : to.index < from.index).
+      absurd (is.to_is.last (omega (arith, h, is.from_is.begins.within)) (omega (
+        arith,
+        first_texts blocks (to.index + 1) from.index (omega (arith, h)),
+        one.low,
+        is.order,
+      ))))
+      (λ (h : from.index ≤ to.index). h)
+      (cases_lt to.index from.index)
+
+  range_end : to.index + 1 < length blocks → stop - to.before.len < length (get_or blocks to.index [])
+  range_end more =
+      ⊎_elim
+      (λ (h : stop - to.before.len < length (get_or blocks to.index [])). h)
+      (λ (h : length (get_or blocks to.index []) ≤ stop - to.before.len).
+      absurd (is.to_is.last more (omega (
+        arith,
+        h,
+        two.low,
+        two.from_is,
+        ap length (concat_more blocks to.index (get_or blocks to.index []) is.to_is.begins.within
+            (get_or_default blocks to.index [] (get_or blocks to.index []) is.to_is.begins.within)),
+        length-append (concat (take to.index blocks)) (get_or blocks to.index []),
+      ))))
+      (cases_lt (stop - to.before.len) (length (get_or blocks to.index [])))
+
+  range_change : (new : List ℕ) → length (replace_range (concat blocks) start stop new) ≤ 2147483648
+      → IsChange blocks (found_range from to start stop) new
+  range_change new room = record {
+    are = is.are;
+    order = range_order;
+    within = is.to_is.begins.within;
+    at_start = chunk_boundary (concat blocks) (concat (take from.index blocks)) (get_or blocks from.index [])
+        (concat (drop (from.index + 1) blocks)) start from.before.len (get_or blocks from.index []) refl one is.at_start;
+    at_end = chunk_boundary (concat blocks) (concat (take to.index blocks)) (get_or blocks to.index [])
+        (concat (drop (to.index + 1) blocks)) stop to.before.len (get_or blocks to.index []) refl two is.at_end;
+    before_end = range_end;
+    forward = λ same. omega (
       arith,
-      enough more,
-      from_is ∙ get_or_default starts range.first from 0 first,
-      from_is' ∙ get_or_default starts range.last from' 0 last,
-      ap length (block_is ∙ get_or_default blocks range.last block [] last_block),
-    )
+      is.order,
+      one.from_is,
+      two.from_is,
+      ap (λ i. length (concat (take i blocks))) same,
+    );
+    size = is.size;
+    room = omega (arith, room, ap length (range_text new));
+  }
+
+  pub range_is : IsRangeOf blocks start stop (found_range from to start stop)
+  range_is = record { change = range_change; text = range_text }
+
+-- ---- what a change leaves
+
+drop_are : (n : ℕ) (blocks : List (List ℕ)) → n < length blocks → AreBlocks blocks → AreBlocks (drop n blocks)
+drop_are n [] h are = absurd (omega arith)
+drop_are zero (b ∷ blocks) h are = are
+drop_are (suc n) (b ∷ []) h are = absurd (omega arith)
+drop_are (suc n) (b ∷ c ∷ blocks) h are = drop_are n (c ∷ blocks) (omega arith) are.1
+
+module _ (blocks : List (List ℕ)) (range : BlockRange) (new : List ℕ) (change : IsChange blocks range new) where
+  pub first_within : range.first < length blocks
+  first_within = omega (arith, change.order, change.within)
+
+  first_split : IsSplit blocks range.first
+  first_split = split blocks range.first change.are first_within
+
+  last_split : IsSplit blocks range.last
+  last_split = split blocks range.last change.are change.within
+
+  -- The blocks that the ends of the range are in.
+  pub first_here : (block : List ℕ) → block ≡ get_or blocks range.first block → get_or blocks range.first [] ≡ block
+  first_here block is = get_or_default blocks range.first [] block first_within ∙ sym is
+
+  pub last_here : (block : List ℕ) → block ≡ get_or blocks range.last block → get_or blocks range.last [] ≡ block
+  last_here block is = get_or_default blocks range.last [] block change.within ∙ sym is
+
+  pub first_at : (block : List ℕ) → block ≡ get_or blocks range.first block → IsCharBoundary block range.start
+  first_at block is = subst (λ (b : List ℕ). IsCharBoundary b range.start) (first_here block is) change.at_start
+
+  pub last_at : (block : List ℕ) → block ≡ get_or blocks range.last block → IsCharBoundary block range.end
+  last_at block is = subst (λ (b : List ℕ). IsCharBoundary b range.end) (last_here block is) change.at_end
+
+  pub left_text : (front back text : List ℕ) → front ≡ get_or blocks range.first front
+      → back ≡ get_or blocks range.last back → text ≡ take range.start front ++ (new ++ drop range.end back)
+      → text ≡ text_left blocks range new
+  left_text front back text front_is back_is text_is =
+      text_is ∙
+      (ap (λ b. take range.start b ++ (new ++ drop range.end back)) (sym (first_here front front_is))
+      ∙ ap (λ b. take range.start (get_or blocks range.first []) ++ (new ++ drop range.end b))
+      (sym (last_here back back_is)))
+
+  block_low : (index : ℕ) → index < length blocks → length (get_or blocks index []) ≤ 2147483648
+  block_low index within = omega (
+    arith,
+    change.size,
+    ap length (concat_split (index + 1) blocks),
+    length-append (concat (take (index + 1) blocks)) (concat (drop (index + 1) blocks)),
+    ap length (concat_more blocks index (get_or blocks index []) within
+        (get_or_default blocks index [] (get_or blocks index []) within)),
+    length-append (concat (take index blocks)) (get_or blocks index []),
+  )
+
+  pub first_small : length (get_or blocks range.first []) ≤ 2147483648
+  first_small = block_low range.first first_within
+
+  pub last_small : length (get_or blocks range.last []) ≤ 2147483648
+  last_small = block_low range.last change.within
+
+  left_length : length (text_left blocks range new) ≡ range.start + length new
+      + (length (get_or blocks range.last []) - range.end)
+  left_length = omega (
+    arith,
+    length-append (take range.start (get_or blocks range.first [])) (new ++ drop range.end (get_or blocks range.last [])),
+    length-append new (drop range.end (get_or blocks range.last [])),
+    length-take-le range.start (get_or blocks range.first []) change.at_start.0,
+    length-drop range.end (get_or blocks range.last []),
+  )
+
+  pub left_here : (block : List ℕ) → block ≡ get_or blocks range.last block → length (text_left blocks range new)
+      ≡ range.start + length new + (length block - range.end)
+  left_here block is =
+      left_length ∙ ap (λ (b : List ℕ). range.start + length new + (length b - range.end)) (last_here block is)
+
+  pub left_small : length (text_left blocks range new) ≤ 2147483648
+  left_small = omega (
+    arith,
+    change.room,
+    length-append (concat (take range.first blocks)) (text_left blocks range new
+        ++ concat (drop (range.last + 1) blocks)),
+    length-append (text_left blocks range new) (concat (drop (range.last + 1) blocks)),
+  )
+
+  left_utf8 : IsUtf8 new → IsUtf8 (text_left blocks range new)
+  left_utf8 utf8 =
+      IsUtf8-append (take range.start (get_or blocks range.first [])) (new ++ drop range.end (get_or blocks range.last []))
+      (IsUtf8-take (get_or blocks range.first []) range.start
+      (IsUtf8-from_is_utf8 (get_or blocks range.first []) first_split.utf8) change.at_start)
+      (IsUtf8-append new (drop range.end (get_or blocks range.last [])) utf8
+      (IsUtf8-drop (get_or blocks range.last []) range.end
+      (IsUtf8-from_is_utf8 (get_or blocks range.last []) last_split.utf8) change.at_end))
+
+  last_full : range.last + 1 < length blocks → IsFull (get_or blocks range.last [])
+  last_full more =
+      ⊎_elim
+      (λ (e : drop (range.last + 1) blocks ≡ []). absurd (omega (
+        arith,
+        more,
+        ap length e,
+        length-drop (range.last + 1) blocks,
+      )))
+      (λ (e : IsFull (get_or blocks range.last []) × AreBlocks (drop (range.last + 1) blocks)). e.0)
+      last_split.after
+
+  left_ends : range.last + 1 < length blocks → EndsClear (text_left blocks range new)
+  left_ends more =
+      subst EndsClear
+      (append_assoc (take range.start (get_or blocks range.first [])) new (drop range.end (get_or blocks range.last [])))
+      (back_ends (get_or blocks range.last []) (take range.start (get_or blocks range.first []) ++ new) range.end
+      (change.before_end more) (last_full more).ends)
+
+  -- What is left is full, or joined with the next block.
+  pub left_full : IsUtf8 new → (JoinsNext blocks (range.last + 1) (length (text_left blocks range new)) → ⊥)
+      → range.last + 1 < length blocks → IsFull (text_left blocks range new)
+  left_full utf8 never more = record {
+    utf8 = is_utf8-from_IsUtf8 (text_left blocks range new) (left_utf8 utf8);
+    ends = left_ends more;
+    enough =
+        ⊎_elim
+        (λ (h : length (text_left blocks range new) < 1024). absurd (never (more, h)))
+        (λ (h : 1024 ≤ length (text_left blocks range new)). h)
+        (cases_lt (length (text_left blocks range new)) 1024);
+  }
+
+  -- ---- the text that is cut
+
+  pub taken_alone : (text : List ℕ) (past : ℕ) → IsUtf8 new → text ≡ text_left blocks range new → past ≡ range.last + 1
+      → (JoinsNext blocks past (length text) → ⊥) → IsTaken blocks range new text past
+  taken_alone text past utf8 text_is past_is never = record {
+    order = omega (arith, past_is, change.order);
+    within = omega (arith, past_is, change.within);
+    whole = ap (λ t. concat (take range.first blocks) ++ (t ++ concat (drop past blocks))) text_is
+        ∙ ap (λ p. concat (take range.first blocks) ++ (text_left blocks range new ++ concat (drop p blocks))) past_is;
+    full = λ more.
+        subst IsFull (sym text_is)
+        (left_full utf8
+        (subst (λ (p : ℕ). JoinsNext blocks p (length (text_left blocks range new)) → ⊥) past_is
+        (subst (λ (t : List ℕ). JoinsNext blocks past (length t) → ⊥) text_is never))
+        (omega (arith, more, past_is)));
+  }
+
+  pub taken_next : (text next : List ℕ) (past : ℕ) → IsUtf8 new → text ≡ text_left blocks range new ++ next
+      → past ≡ range.last + 1 → past < length blocks → next ≡ get_or blocks past next
+      → IsTaken blocks range new text (past + 1)
+  taken_next text next past utf8 text_is past_is within next_is = record {
+    order = omega (arith, past_is, change.order);
+    within = omega (arith, within);
+    whole =
+        ap (λ t. concat (take range.first blocks) ++ (t ++ concat (drop (past + 1) blocks))) text_is ∙
+        (ap (λ t. concat (take range.first blocks) ++ t)
+        (append_assoc (text_left blocks range new) next (concat (drop (past + 1) blocks)) ∙
+        ap (λ t. text_left blocks range new ++ t) (sym rest_is)) ∙
+        ap (λ p. concat (take range.first blocks) ++ (text_left blocks range new ++ concat (drop p blocks))) past_is);
+    full = λ more.
+        let full : IsFull (get_or blocks past []) =
+        ⊎_elim
+        (λ (e : drop (past + 1) blocks ≡ []). absurd (omega (
+          arith,
+          more,
+          ap length e,
+          length-drop (past + 1) blocks,
+        )))
+        (λ (e : IsFull (get_or blocks past []) × AreBlocks (drop (past + 1) blocks)). e.0)
+        (split blocks past change.are within).after in
+        let here : IsFull next = subst IsFull (get_or_default blocks past [] next within ∙ sym next_is) full in
+        subst IsFull (sym text_is)
+        (record {
+          utf8 = is_utf8-from_IsUtf8 (text_left blocks range new ++ next)
+              (IsUtf8-append (text_left blocks range new) next (left_utf8 utf8) (IsUtf8-from_is_utf8 next here.utf8));
+          ends = ends_join (text_left blocks range new) next here.ends;
+          enough = omega (arith, here.enough, length-append (text_left blocks range new) next);
+        });
+  }
+    where
+      rest_is : concat (drop past blocks) ≡ next ++ concat (drop (past + 1) blocks)
+      rest_is =
+          ap concat (drop-cons blocks past next within) ∙
+          (ap (λ b. b ++ concat (drop (suc past) blocks)) (sym next_is)
+          ∙ ap (λ n. next ++ concat (drop n blocks)) (let e : suc past ≡ past + 1 = omega arith in e))
+
+  pub taken_small : (text : List ℕ) (past : ℕ) → IsTaken blocks range new text past → length text ≤ 2147483648
+  taken_small text past taken = omega (
+    arith,
+    change.room,
+    ap length taken.whole,
+    length-append (concat (take range.first blocks)) (text ++ concat (drop past blocks)),
+    length-append text (concat (drop past blocks)),
+  )
+
+  -- The blocks that the text is cut into.
+  module _ (text : List ℕ) (past : ℕ) (fresh : List (List ℕ)) (taken : IsTaken blocks range new text past)
+      (fresh_text : concat fresh ≡ text) (fresh_are : AreBlocks fresh) (fresh_full : IsFull text → AreFull fresh) where
+    pub cut_text : concat (take range.first blocks ++ (fresh ++ drop past blocks)) ≡ text_after blocks range new
+    cut_text =
+        concat-append (take range.first blocks) (fresh ++ drop past blocks) ∙
+        (ap (λ t. concat (take range.first blocks) ++ t)
+        (concat-append fresh (drop past blocks) ∙ ap (λ t. t ++ concat (drop past blocks)) fresh_text) ∙ taken.whole)
+
+    after : (drop past blocks ≡ []) ⊎ (AreFull fresh × AreBlocks (drop past blocks))
+    after =
+        ⊎_elim
+        (λ (more : past < length blocks). inr (fresh_full (taken.full more), drop_are past blocks more change.are))
+        (λ (none : length blocks ≤ past). inl (drop_all past blocks none))
+        (cases_lt past (length blocks))
+
+    cut_groups : (next : List (List ℕ)) (groups now : List Counts) → next ≡ take range.first blocks
+        ++ (fresh ++ drop past blocks) → AreGroups blocks groups → now ≡ take (range.first / 32) groups
+        → AreGroups next now
+    cut_groups next groups now next_is groups_are now_is =
+        subst (λ (bs : List (List ℕ)). AreGroups bs now) (sym next_is)
+        (groups_front blocks (fresh ++ drop past blocks) groups now range.first groups_are (omega (arith, first_within))
+        (omega (arith, blocks_some fresh fresh_are, length-append fresh (drop past blocks))) now_is)
+
+    pub cut_is : (next : List (List ℕ)) (groups now : List Counts) → next ≡ take range.first blocks
+        ++ (fresh ++ drop past blocks) → AreGroups blocks groups → now ≡ take (range.first / 32) groups
+        → IsTextBuffer next now
+    cut_is next groups now next_is groups_are now_is = record {
+      are = subst AreBlocks (sym next_is)
+          (joined_blocks (take range.first blocks) fresh (drop past blocks) first_split.full fresh_are after);
+      size = omega (arith, change.room, ap length (ap concat next_is ∙ cut_text));
+      groups_are = cut_groups next groups now next_is groups_are now_is;
+    }
+
+  -- ---- a change inside a block
+
+  module _ (inside : StaysInside blocks range new) (block : List ℕ) (block_is : block ≡ get_or blocks range.first block)
+    where
+      front_is : get_or blocks range.first [] ≡ block
+      front_is = first_here block block_is
+
+      back_is : get_or blocks range.last [] ≡ block
+      back_is = ap (λ i. get_or blocks i []) (sym inside.0) ∙ front_is
+
+      pub put_order : range.start ≤ range.end
+      put_order = change.forward inside.0
+
+      pub put_start : IsCharBoundary block range.start
+      put_start = subst (λ (b : List ℕ). IsCharBoundary b range.start) front_is change.at_start
+
+      pub put_end : IsCharBoundary block range.end
+      put_end = subst (λ (b : List ℕ). IsCharBoundary b range.end) back_is change.at_end
+
+      put_left : replace_range block range.start range.end new ≡ text_left blocks range new
+      put_left =
+          append_assoc (take range.start block) new (drop range.end block) ∙
+          (ap (λ b. take range.start b ++ (new ++ drop range.end block)) (sym front_is)
+          ∙ ap (λ b. take range.start (get_or blocks range.first []) ++ (new ++ drop range.end b)) (sym back_is))
+
+      pub put_small : length (replace_range block range.start range.end new) ≤ 2147483648
+      put_small = omega (arith, left_small, ap length put_left)
+
+      -- The blocks as they were.
+      pub put_none : (fresh : List ℕ) → fresh ≡ block → set blocks range.first fresh ≡ blocks
+      put_none fresh is = ap (set blocks range.first) (is ∙ sym front_is) ∙ set-get_or blocks range.first []
+
+      module _ (fresh : List ℕ) (next : List (List ℕ)) (fresh_is : fresh ≡ replace_range block range.start range.end new)
+          (next_is : next ≡ set blocks range.first fresh) where
+        next_parts : next ≡ take range.first blocks ++ (text_left blocks range new ∷ [] ++ drop (range.last + 1) blocks)
+        next_parts =
+            next_is ∙ (set_split blocks range.first fresh first_within ∙
+            (ap (λ b. take range.first blocks ++ b ∷ drop (suc range.first) blocks) (fresh_is ∙ put_left) ∙
+            ap (λ n. take range.first blocks ++ text_left blocks range new ∷ drop n blocks)
+            (let e : suc range.first ≡ range.last + 1 = omega (arith, inside.0) in e)))
+
+        pub put_text : concat next ≡ text_after blocks range new
+        put_text = ap concat next_parts ∙ concat-append (take range.first blocks) (text_left blocks range new
+            ∷ drop (range.last + 1) blocks)
+
+        put_after : IsUtf8 new → (drop (range.last + 1) blocks ≡ [])
+            ⊎ (AreFull (text_left blocks range new ∷ []) × AreBlocks (drop (range.last + 1) blocks))
+        put_after utf8 =
+            ⊎_elim
+            (λ (more : range.last + 1 < length blocks). inr (
+              (left_full utf8 inside.2 more, tt),
+              drop_are (range.last + 1) blocks more change.are,
+            ))
+            (λ (none : length blocks ≤ range.last + 1). inl (drop_all (range.last + 1) blocks none))
+            (cases_lt (range.last + 1) (length blocks))
+
+        pub put_are : IsUtf8 new → AreBlocks next
+        put_are utf8 = subst AreBlocks (sym next_parts)
+            (joined_blocks (take range.first blocks) (text_left blocks range new ∷ []) (drop (range.last + 1) blocks)
+            first_split.full (is_utf8-from_IsUtf8 (text_left blocks range new) (left_utf8 utf8)) (put_after utf8))
+
+        pub put_size : length (concat next) ≤ 2147483648
+        put_size = omega (arith, change.room, ap length put_text)
+
+        pub put_back : set next range.first block ≡ blocks
+        put_back = ap (λ bs. set bs range.first block) next_is ∙ (set-set blocks range.first fresh block ∙ put_none block refl)

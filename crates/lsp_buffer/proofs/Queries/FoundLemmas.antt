@@ -1,9 +1,9 @@
--- The block that is found for a place or for a line, and what it says of the text.
-use Rattle.std.proofs.Common.{ℕ, zero, suc, ◌≡◌, ◌+◌, ◌-◌, ◌<◌, ◌≤◌, ◌⊎◌, false, List, [], ◌∷◌, ◌++◌, length, take, drop, map, sum, get_or, slice_index, Option, option_map, ⊎_elim, inl, inr, sym, ap, ◌∙◌, arith, subst}
+-- The block that is found for a byte offset or a position, and what it says of the text.
+use Rattle.std.proofs.Common.{ℕ, zero, suc, ◌≡◌, ◌+◌, ◌-◌, ◌*◌, ◌<◌, ◌≤◌, ◌⊎◌, false, List, [], ◌++◌, length, take, drop, get_or, Option, option_map, ⊎_elim, inl, inr, refl, sym, ap, ◌∙◌, arith, subst}
 use Rattle.std.specs.List.{concat}
 use Rattle.std.specs.Str.{chars, IsUtf8, IsCharBoundary}
 use Rattle.std.proofs.lemmas.Bool.{cases_lt}
-use Rattle.std.proofs.lemmas.List.{length-append, length-drop, get_or_default, take_at, take_more}
+use Rattle.std.proofs.lemmas.List.{append-nil, drop_all, length-append, length-drop, get_or_default, take_at}
 use Rattle.std.proofs.lemmas.Str.{encodes-chars, length-le-encodes, IsUtf8-from_is_utf8}
 use Rattle.lsp_text.specs.declared.position.Position.{Position}
 use Rattle.lsp_text.specs.declared.encoding.Encoding.{Encoding}
@@ -11,20 +11,24 @@ use Rattle.lsp_text.specs.declared.encoding.Encoding.TheVariants.{Utf8, Utf16, U
 use Rattle.lsp_text.specs.Text.{place_of}
 use Rattle.lsp_text.specs.TextLines.{line_ends, line_at, line_start, splits_crlf}
 use Rattle.lsp_text.specs.LineStarts.{IsPlace}
-use Rattle.lsp_text.specs.Starts.{IsLineOf as IsBlockOf}
 use Rattle.lsp_text.specs.Units.{units_in, units_between}
 use Rattle.lsp_text.specs.laws.Units.{utf8_bounds, utf16_bounds, utf32_bounds}
 use Rattle.lsp_text.specs.Positions.{exact_position, denoted}
 use Rattle.lsp_text.proofs.TextLines.LineLemmas.{line_step}
 use Rattle.lsp_text.proofs.Positions.PlaceLemmas.{place_one}
 use Rattle.lsp_text.proofs.PlainLemmas.{units_total}
-use Rattle.lsp_buffer.specs.Blocks.{IsBuffer, IsTextBuffer, AreBlocks, carried, block_ends, head_of, head_after}
-use Rattle.lsp_buffer.specs.inside.Seams.{IsAtOrAfter, IsBefore, heads_end, mark, marks_of, position_after, position_from}
-use Rattle.lsp_buffer.proofs.Queries.HeadLemmas.{blocks_texts, length-heads, heads_at, heads_high, head_full, end_append}
-use Rattle.lsp_buffer.proofs.Queries.MarkLemmas.{marks_at, length-marks, at_or_after, before_from, before_after}
-use Rattle.std.proofs.lemmas.List.Sums.{sum_by-cons}
-use Rattle.lsp_buffer.proofs.Blocks.PartLemmas.{AreThree, resolved_three, inner_index, exact_three, boundary_in, drop_three, ends_three}
-use Rattle.lsp_buffer.proofs.Blocks.BufferLemmas.{starts_count, lines_count, parts, three, start_is, line_is, next_line, none_after, place_inside, last_none, utf8_all, whole_length}
+use Rattle.lsp_buffer.specs.declared.counts.Counts.{Counts}
+use Rattle.lsp_buffer.specs.declared.find.Found.{Found}
+use Rattle.lsp_buffer.specs.declared.find.Target.{Target}
+use Rattle.lsp_buffer.specs.declared.find.Target.TheVariants.{Denoted, Offset}
+use Rattle.lsp_buffer.specs.Blocks.{AreBlocks, EndsClear, IsFull, IsTextBuffer, carried, block_ends, counts_of, head_of}
+use Rattle.lsp_buffer.specs.inside.Counts.{HaveRoom, counts_sum, head_in}
+use Rattle.lsp_buffer.specs.inside.Parts.{AreThree, BeginsBefore, IsFound, IsPart, IsPartAt, Reaches}
+use Rattle.lsp_buffer.specs.inside.Seams.{IsAtOrAfter, IsBefore, position_after, position_from}
+use Rattle.lsp_buffer.proofs.Blocks.BlockLemmas.{IsSplit, blocks_some, blocks_utf8, full_closes, full_utf8, split, split_text}
+use Rattle.lsp_buffer.proofs.Blocks.CountLemmas.{are_sum, ends_both, have_room, head_both, none_count, room_more, room_some, sum_more, sum_some}
+use Rattle.lsp_buffer.proofs.Blocks.CutLemmas.{concat_more}
+use Rattle.lsp_buffer.proofs.Blocks.PartLemmas.{resolved_three, inner_index, exact_three, boundary_in, carried_low, drop_three}
 
 pub units_some : (encoding : Encoding) (c : ℕ) → 1 ≤ units_in encoding c
 units_some Utf8 c = (utf8_bounds c).0
@@ -46,224 +50,295 @@ pub record IsLineFound (bytes front block rest : List ℕ) (units : ℕ → ℕ)
   pub low : IsAtOrAfter first head p
   pub inside : (rest ≡ []) ⊎ IsBefore (block_ends block) (head_of units block) (position_after first head p)
 
-module _ (blocks : List (List ℕ)) (starts lines bytes : List ℕ) (is : IsBuffer blocks starts lines)
-    (view : concat blocks ≡ bytes) where
-  pub bytes_utf8 : IsUtf8 bytes
-  bytes_utf8 = subst IsUtf8 view (utf8_all blocks starts lines is)
+-- ---- the search
 
-  pub bytes_size : length bytes ≤ 2147483648
-  bytes_size = omega (arith, ap length view, is.size)
+pub head_counted : (encoding : Encoding) (text : List ℕ) → head_in (counts_of text) encoding
+    ≡ head_of (units_in encoding) text
+head_counted Utf8 text = refl
+head_counted Utf16 text = refl
+head_counted Utf32 text = refl
 
-  module _ (index : ℕ) (block : List ℕ) (block_is : block ≡ get_or blocks index block) where
-    pub found_place : (place from : ℕ) (shown : List ℕ) → shown ≡ starts → IsBlockOf shown place index
-        → from ≡ get_or starts index from →
-        IsPlaceFound bytes (concat (take index blocks)) block (concat (drop (index + 1) blocks)) place from
-    found_place place from shown same found from_at =
-        let here : IsBlockOf starts place index = subst (λ (xs : List ℕ). IsBlockOf xs place index) same found in
-        let within : index < length blocks = omega (arith, here.within, starts_count blocks starts lines is) in
-        let at : slice_index starts index ≡ from = get_or_default starts index 0 from (omega (arith, here.within))
-        ∙ sym from_at in
-        let start : slice_index starts index ≡ length (concat (take index blocks)) =
-        start_is blocks starts lines is index block within block_is in
-        record {
-          parts = subst (λ (bs : List ℕ). AreThree bs (concat (take index blocks)) block
-              (concat (drop (index + 1) blocks))) view (three blocks starts lines is index block within block_is);
-          from_is = sym at ∙ start;
-          low = omega (arith, start, here.at_most);
-          inside = place_inside blocks starts lines is index block within block_is place here;
-        }
+head_none : (encoding : Encoding) → head_in (counts_of []) encoding ≡ 0
+head_none Utf8 = ap (λ (c : Counts). c.utf8) none_count
+head_none Utf16 = ap (λ (c : Counts). c.utf16) none_count
+head_none Utf32 = ap (λ (c : Counts). c.utf32) none_count
 
-    pub line_at_index : (first : ℕ) → index < length blocks → first ≡ get_or lines index first
-        → first ≡ line_ends (chars (concat (take index blocks)))
-    line_at_index first within first_at =
-        first_at ∙ (get_or_default lines index first 0 (omega (arith, within, lines_count blocks starts lines is))
-        ∙ line_is blocks starts lines is index block within block_is)
+reaches_first : (target : Target) → Reaches target (counts_of [])
+reaches_first (Offset offset) = omega arith
+reaches_first (Denoted encoding p) =
+    ⊎_elim
+    (λ (h : 0 < p.line). inl (omega (arith, h, ap (λ (c : Counts). c.ends) none_count)))
+    (λ (h : p.line ≤ 0). inr (
+      omega (arith, h, ap (λ (c : Counts). c.ends) none_count),
+      omega (arith, head_none encoding),
+    ))
+    (cases_lt 0 p.line)
 
-    -- The last block.
-    pub last_length : (from : ℕ) → index + 1 ≡ length blocks → from ≡ get_or starts index from → from + length block
-        ≡ length bytes
-    last_length from last from_at =
-        let within : index < length blocks = omega arith in
-        let at : slice_index starts index ≡ from =
-        get_or_default starts index 0 from (omega (arith, within, starts_count blocks starts lines is)) ∙ sym from_at in
-        omega (
-          arith,
-          at,
-          start_is blocks starts lines is index block within block_is,
-          ap length view,
-          whole_length blocks starts lines is index block within block_is,
-          ap length (last_none blocks starts lines is index block within block_is last),
-        )
+-- The first block begins before all.
+pub begins_first : (blocks : List (List ℕ)) (target : Target) (before : Counts) → AreBlocks blocks
+    → before ≡ counts_of [] → BeginsBefore blocks target (record { index = 0; before = before })
+begins_first blocks target before are is = record {
+  within = blocks_some blocks are;
+  before = is;
+  low = subst (Reaches target) (sym is) (reaches_first target);
+}
 
-    pub last_lines : (first : ℕ) → index + 1 ≡ length blocks → first ≡ get_or lines index first
-        → first + block_ends block ≡ line_ends (chars bytes)
-    last_lines first last first_at =
-        let within : index < length blocks = omega arith in
-        omega (
-          arith,
-          line_at_index first within first_at,
-          ap (λ bs. line_ends (chars bs)) view,
-          ends_three (concat blocks) (concat (take index blocks)) block (concat (drop (index + 1) blocks))
-              (three blocks starts lines is index block within block_is) (last_none blocks starts lines is index block
-              within block_is last),
-        )
+-- One group more.
+module _ (blocks : List (List ℕ)) (groups : List Counts) (is : IsTextBuffer blocks groups) (target : Target)
+    (number : ℕ) (group before : Counts) (within : number < length groups) (group_is : group ≡ get_or groups number group)
+    (begins : BeginsBefore blocks target (record { index = 32 * number; before = before })) where
+  group_within : 32 * number + 32 < length blocks
+  group_within = omega (arith, within, is.groups_are.within)
 
-module _ (blocks : List (List ℕ)) (starts lines : List ℕ) (heads : Encoding → List ℕ) (bytes : List ℕ)
-    (is : IsTextBuffer blocks starts lines heads) (view : concat blocks ≡ bytes) (encoding : Encoding) where
-  pub heads_count : length (heads encoding) ≡ length blocks
-  heads_count = ap length (is.heads_are encoding) ∙ length-heads (units_in encoding) 0 blocks
+  group_counts : group ≡ counts_of (concat (take 32 (drop (32 * number) blocks)))
+  group_counts = group_is ∙ (get_or_default groups number group (counts_of []) within
+      ∙ is.groups_are.counts number within)
 
-  pub head_small : (k : ℕ) → k < length blocks → get_or (heads encoding) k 0 ≤ 2147483648
-  head_small k h =
-      omega (
-        arith,
-        ap (λ xs. get_or xs k 0) (is.heads_are encoding),
-        heads_high encoding 0 blocks k (blocks_texts blocks is.sums.are) h,
-        is.sums.size,
-      )
+  pub group_room : HaveRoom before group
+  group_room = room_some blocks is.are (32 * number) 32 group_within before group begins.before group_counts is.size
 
-  module _ (index : ℕ) (block : List ℕ) (block_is : block ≡ get_or blocks index block)
-      (within : index < length blocks) where
-    pub head_is : get_or (heads encoding) index 0 ≡ head_of (units_in encoding) (concat (take index blocks))
-    head_is =
-        ap (λ xs. get_or xs index 0) (is.heads_are encoding) ∙
-        (heads_at (units_in encoding) 0 blocks index within
-        ∙ sym (head_full (units_in encoding) (take index blocks) (parts blocks starts lines is.sums index block within
-        block_is).full))
+  pub group_next : (next : Counts) → next ≡ counts_sum before group → Reaches target next
+      → BeginsBefore blocks target (record { index = 32 * (number + 1); before = next })
+  group_next next next_is reaches = record {
+    within = omega (arith, group_within);
+    before = sum_some blocks is.are (32 * number) 32 group_within before group begins.before group_counts next next_is
+        ∙ ap (λ (n : ℕ). counts_of (concat (take n blocks))) (let e : 32 * number + 32 ≡ 32 * (number + 1) = omega arith in e);
+    low = reaches;
+  }
 
-    pub next_head : index + 1 < length blocks → get_or (heads encoding) (index + 1) 0 ≡ head_after (units_in encoding)
-        (get_or (heads encoding) index 0) block
-    next_head h =
-        let row : take (index + 1) blocks ≡ take index blocks ++ block ∷ [] = take_more blocks index block within
-        ∙ ap (λ b. take index blocks ++ b ∷ []) (sym block_is) in
-        ap (λ xs. get_or xs (index + 1) 0) (is.heads_are encoding) ∙
-        (heads_at (units_in encoding) 0 blocks (index + 1) h ∙
-        (ap (heads_end (units_in encoding) 0) row ∙
-        (end_append (units_in encoding) 0 (take index blocks) (block ∷ []) ∙
-        ap (λ x. head_after (units_in encoding) x block)
-        (sym (ap (λ xs. get_or xs index 0) (is.heads_are encoding) ∙ heads_at (units_in encoding) 0 blocks index
-        within)))))
+-- One block more.
+module _ (blocks : List (List ℕ)) (are : AreBlocks blocks) (size : length (concat blocks) ≤ 2147483648)
+    (target : Target) (index : ℕ) (block : List ℕ) (counts before : Counts) (more : index + 1 < length blocks)
+    (block_is : block ≡ get_or blocks index block) (counts_is : counts ≡ counts_of block)
+    (begins : BeginsBefore blocks target (record { index = index; before = before })) where
+  here : IsSplit blocks index
+  here = split blocks index are begins.within
 
-    pub found_line : (p : Position) (first head from : ℕ) → p.character < 4294967296
-        → IsBlockOf (marks_of lines (heads encoding)) (mark p.line p.character) index →
-        first ≡ get_or lines index first → head ≡ get_or (heads encoding) index head → from ≡ get_or starts index from →
-        IsLineFound bytes (concat (take index blocks)) block (concat (drop (index + 1) blocks)) (units_in encoding) p
-        first head from
-    found_line p first head from few found first_at head_at from_at =
-        record {
-          parts = subst (λ (bs : List ℕ). AreThree bs (concat (take index blocks)) block
-              (concat (drop (index + 1) blocks))) view (three blocks starts lines is.sums index block within block_is);
-          from_is = from_at
-              ∙ (get_or_default starts index from 0 (omega (arith, within, starts_count blocks starts lines is.sums))
-              ∙ start_is blocks starts lines is.sums index block within block_is);
-          first_is = first_is ∙ line_is blocks starts lines is.sums index block within block_is;
-          head_is = head_now ∙ head_is;
-          low = after;
-          inside = inside;
-        }
-      where
-        counts : length lines ≡ length blocks
-        counts = lines_count blocks starts lines is.sums
+  pub block_room : HaveRoom before counts
+  block_room =
+      room_more blocks index block begins.within block_is here.full before counts begins.before counts_is
+      (subst IsUtf8 (get_or_default blocks index [] block begins.within ∙ sym block_is)
+      (IsUtf8-from_is_utf8 (get_or blocks index []) here.utf8)) size
 
-        same : length lines ≡ length (heads encoding)
-        same = counts ∙ sym heads_count
+  next_counts : (next : Counts) → next ≡ counts_sum before counts → next ≡ counts_of (concat (take (index + 1) blocks))
+  next_counts next next_is = sum_more blocks index block begins.within block_is here.full before counts begins.before
+      counts_is next next_is
 
-        first_is : first ≡ get_or lines index 0
-        first_is = first_at ∙ get_or_default lines index first 0 (omega (arith, within, counts))
+  pub block_next : (next : Counts) → next ≡ counts_sum before counts → Reaches target next
+      → BeginsBefore blocks target (record { index = index + 1; before = next })
+  block_next next next_is reaches = record { within = more; before = next_counts next next_is; low = reaches }
 
-        head_now : head ≡ get_or (heads encoding) index 0
-        head_now = head_at ∙ get_or_default (heads encoding) index head 0 (omega (arith, within, heads_count))
+  pub block_found : (next : Counts) → next ≡ counts_sum before counts → (Reaches target next → ⊥)
+      → IsFound blocks target (record { index = index; before = before })
+  block_found next next_is never = record {
+    begins = begins;
+    last = λ _ reaches. never (subst (Reaches target) (sym (next_counts next next_is)) reaches);
+  }
 
-        after : IsAtOrAfter first head p
-        after =
-            at_or_after first head p few
-            (omega (
-              arith,
-              found.at_most,
-              marks_at lines (heads encoding) index same (omega (arith, within, counts)),
-              first_is,
-              head_now,
-            ))
+pub last_found : (blocks : List (List ℕ)) (target : Target) (index : ℕ) (before : Counts) → length blocks ≤ index + 1
+    → BeginsBefore blocks target (record { index = index; before = before })
+    → IsFound blocks target (record { index = index; before = before })
+last_found blocks target index before all begins = record { begins = begins; last = λ more. absurd (omega arith) }
 
-        next_mark : index + 1 < length blocks → get_or (marks_of lines (heads encoding)) (index + 1) 0
-            ≡ mark (first + block_ends block) (head_after (units_in encoding) head block)
-        next_mark h =
-            marks_at lines (heads encoding) (index + 1) same (omega (arith, h, counts)) ∙
-            (ap (λ (l : ℕ). mark l (get_or (heads encoding) (index + 1) 0)) (next_line blocks starts lines is.sums index
-            block within block_is h ∙ ap (λ l. l + block_ends block) (sym first_is)) ∙
-            ap (mark (first + block_ends block)) (next_head h ∙ ap (λ x. head_after (units_in encoding) x block)
-            (sym head_now)))
+-- A later byte offset.
+pub begins_later : (blocks : List (List ℕ)) (start stop : ℕ) (found : Found) → start ≤ stop
+    → BeginsBefore blocks (Offset start) found → BeginsBefore blocks (Offset stop) found
+begins_later blocks start stop found order begins = record {
+  within = begins.within;
+  before = begins.before;
+  low = omega (arith, begins.low, order);
+}
 
-        inside : (concat (drop (index + 1) blocks) ≡ [])
-            ⊎ IsBefore (block_ends block) (head_of (units_in encoding) block) (position_after first head p)
-        inside =
-            ⊎_elim
-            (λ (h : index + 1 < length blocks).
-            inr
-            (before_after first head (block_ends block) (head_of (units_in encoding) block) p after
-            (before_from (first + block_ends block) (head_after (units_in encoding) head block) p
-            (omega (
-              arith,
-              head_small (index + 1) h,
-              next_head h,
-              ap (λ x. head_after (units_in encoding) x block) head_now,
-            ))
-            (omega (
-              arith,
-              found.greatest (index + 1) (omega arith) (omega (
-                arith,
-                h,
-                counts,
-                length-marks lines (heads encoding) same,
-              )),
-              next_mark h,
-            )))))
-            (λ (h : length blocks ≤ index + 1). inl (none_after blocks starts lines is.sums index block within block_is
-            h))
-            (cases_lt (index + 1) (length blocks))
+pub same_found : (blocks : List (List ℕ)) (place : ℕ) (found : Found) (block : List ℕ)
+    → BeginsBefore blocks (Offset place) found → block ≡ get_or blocks found.index block
+    → place - found.before.len < length block → IsFound blocks (Offset place) found
+same_found blocks place found block begins block_is inside = record {
+  begins = begins;
+  last = λ _ reaches. omega (
+    arith,
+    reaches,
+    inside,
+    begins.low,
+    ap (λ (c : Counts). c.len) begins.before,
+    ap length (concat_more blocks found.index block begins.within block_is),
+    length-append (concat (take found.index blocks)) block,
+  );
+}
 
-  -- What the search was given, and what it found.
-  module _ (index place : ℕ) (shown_lines shown_heads : List ℕ) (same_lines : shown_lines ≡ lines)
-      (same_heads : shown_heads ≡ heads encoding)
-      (found : IsBlockOf (marks_of shown_lines shown_heads) place index) where
-    found_marks : IsBlockOf (marks_of lines (heads encoding)) place index
-    found_marks = subst (λ (hs : List ℕ). IsBlockOf (marks_of lines hs) place index) same_heads
-        (subst (λ (ls : List ℕ). IsBlockOf (marks_of ls shown_heads) place index) same_lines found)
+pub end_found : (blocks : List (List ℕ)) (target : Target) (found : Found) → length blocks ≤ found.index + 1
+    → BeginsBefore blocks target found → IsFound blocks target found
+end_found blocks target found all begins = record { begins = begins; last = λ more. absurd (omega arith) }
 
-    pub shown_within : index < length blocks
-    shown_within =
-        omega (
-          arith,
-          found_marks.within,
-          length-marks lines (heads encoding) (lines_count blocks starts lines is.sums ∙ sym heads_count),
-          lines_count blocks starts lines is.sums,
-        )
+-- ---- the block that is found
 
-    pub shown_head : slice_index shown_heads index ≡ get_or (heads encoding) index (slice_index shown_heads index)
-    shown_head =
-        ap (λ hs. get_or hs index 0) same_heads ∙ get_or_default (heads encoding) index 0
-        (slice_index shown_heads index) (omega (arith, shown_within, heads_count))
+module _ (blocks : List (List ℕ)) (are : AreBlocks blocks) (index : ℕ) (block : List ℕ)
+    (within : index < length blocks) (block_is : block ≡ get_or blocks index block) where
+  parts : IsSplit blocks index
+  parts = split blocks index are within
 
-  pub found_shown : (index : ℕ) (block : List ℕ) (p : Position) (first from : ℕ) (shown_lines shown_heads : List ℕ)
-      → block ≡ get_or blocks index block → shown_lines ≡ lines → shown_heads ≡ heads encoding
-      → p.character < 4294967296 →
-      IsBlockOf (marks_of shown_lines shown_heads) (mark p.line p.character) index → first ≡ get_or lines index first
-      → from ≡ get_or starts index from →
-      IsLineFound bytes (concat (take index blocks)) block (concat (drop (index + 1) blocks)) (units_in encoding) p
-      first (slice_index shown_heads index) from
-  found_shown index block p first from shown_lines shown_heads block_is same_lines same_heads few found first_at
-      from_at =
-      found_line index block block_is (shown_within index (mark p.line p.character) shown_lines shown_heads same_lines
-      same_heads found) p first (slice_index shown_heads index) from few
-      (found_marks index (mark p.line p.character) shown_lines shown_heads same_lines same_heads found) first_at
-      (shown_head index (mark p.line p.character) shown_lines shown_heads same_lines same_heads found) from_at
+  same : get_or blocks index [] ≡ block
+  same = get_or_default blocks index [] block within ∙ sym block_is
 
-  -- The units before the block with an index, as they are read.
-  pub head_read : (index : ℕ) (block : List ℕ) (shown : List ℕ) → block ≡ get_or blocks index block
-      → index < length blocks → shown ≡ heads encoding → slice_index shown index ≡ head_of (units_in encoding)
-      (concat (take index blocks))
-  head_read index block shown block_is within same =
-      ap (λ hs. get_or hs index 0) same ∙ head_is index block block_is within
+  pub three : AreThree (concat blocks) (concat (take index blocks)) block (concat (drop (index + 1) blocks))
+  three = record {
+    whole = split_text blocks index parts
+        ∙ ap (λ b. concat (take index blocks) ++ (b ++ concat (drop (index + 1) blocks))) same;
+    front_utf8 = full_utf8 (take index blocks) parts.full;
+    block_utf8 = subst IsUtf8 same (IsUtf8-from_is_utf8 (get_or blocks index []) parts.utf8);
+    closes = full_closes (take index blocks) parts.full;
+    after =
+        ⊎_elim
+        (λ (e : drop (index + 1) blocks ≡ []). inl (ap concat e))
+        (λ (e : IsFull (get_or blocks index []) × AreBlocks (drop (index + 1) blocks)). inr
+        (subst EndsClear same e.0.ends))
+        parts.after;
+  }
+
+pub part_here : (blocks : List (List ℕ)) (target : Target) (found : Found) (block : List ℕ) → AreBlocks blocks
+    → length (concat blocks) ≤ 2147483648 → IsFound blocks target found → block ≡ get_or blocks found.index block →
+    IsPartAt (concat blocks) (concat (take found.index blocks)) block (concat (drop (found.index + 1) blocks)) target
+    found.before
+part_here blocks target found block are size is block_is = record {
+  parts = three blocks are found.index block is.begins.within block_is;
+  before_is = is.begins.before;
+  low = is.begins.low;
+  last =
+      ⊎_elim
+      (λ (more : found.index + 1 < length blocks).
+      inr (λ (r : Reaches target (counts_of (concat (take found.index blocks) ++ block))).
+      is.last more (subst (λ (t : List ℕ). Reaches target (counts_of t))
+      (sym (concat_more blocks found.index block is.begins.within block_is)) r)))
+      (λ (none : length blocks ≤ found.index + 1). inl (ap concat (drop_all (found.index + 1) blocks none)))
+      (cases_lt (found.index + 1) (length blocks));
+  utf8 = blocks_utf8 blocks are;
+  size = size;
+}
+
+pub part_of : (blocks : List (List ℕ)) (bytes : List ℕ) (target : Target) (found : Found) (block : List ℕ)
+    → AreBlocks blocks → length (concat blocks) ≤ 2147483648 → concat blocks ≡ bytes → IsFound blocks target found
+    → block ≡ get_or blocks found.index block → IsPart bytes target block found.before
+part_of blocks bytes target found block are size view is block_is = record {
+  front = concat (take found.index blocks);
+  rest = concat (drop (found.index + 1) blocks);
+  at = subst (λ (bs : List ℕ). IsPartAt bs (concat (take found.index blocks)) block
+      (concat (drop (found.index + 1) blocks)) target found.before) view
+      (part_here blocks target found block are size is block_is);
+}
+
+-- A byte offset.
+module _ (bytes front block rest : List ℕ) (before : Counts) (place : ℕ)
+    (part : IsPartAt bytes front block rest (Offset place) before) where
+  front_length : before.len ≡ length front
+  front_length = ap (λ (c : Counts). c.len) part.before_is
+
+  past : length front + length block ≤ place → Reaches (Offset place) (counts_of (front ++ block))
+  past h = omega (arith, h, length-append front block)
+
+  pub found_place : IsPlaceFound bytes front block rest place before.len
+  found_place = record {
+    parts = part.parts;
+    from_is = front_length;
+    low = omega (arith, front_length, part.low);
+    inside =
+        ⊎_elim
+        (λ (e : rest ≡ []). inl e)
+        (λ (never : Reaches (Offset place) (counts_of (front ++ block)) → ⊥).
+        ⊎_elim
+        (λ (h : place < length front + length block). inr (omega (arith, h, front_length, part.low)))
+        (λ (h : length front + length block ≤ place). absurd (never (past h)))
+        (cases_lt place (length front + length block)))
+        part.last;
+  }
+
+  -- The last block, where the offset is past all.
+  whole_length : length bytes ≡ length front + (length block + length rest)
+  whole_length = ap length part.parts.whole ∙ (length-append front (block ++ rest)
+      ∙ ap (λ n. length front + n) (length-append block rest))
+
+  last_none : length bytes ≤ place → rest ≡ []
+  last_none far =
+      ⊎_elim
+      (λ (e : rest ≡ []). e)
+      (λ (never : Reaches (Offset place) (counts_of (front ++ block)) → ⊥).
+      absurd (never (past (omega (arith, far, whole_length)))))
+      part.last
+
+  pub last_room : (next : Counts) → next ≡ counts_of block → HaveRoom before next
+  last_room next next_is = have_room front block before next part.before_is next_is part.parts.front_utf8
+      part.parts.block_utf8 (omega (arith, whole_length, part.size))
+
+  pub last_sum : (next sum : Counts) → next ≡ counts_of block → length bytes ≤ place → sum ≡ counts_sum before next
+      → sum ≡ counts_of bytes
+  last_sum next sum next_is far is =
+      are_sum front block before next part.before_is next_is sum part.parts.front_utf8 part.parts.closes is ∙
+      ap counts_of (sym (part.parts.whole ∙ ap (λ r. front ++ r) (ap (λ r. block ++ r) (last_none far)
+      ∙ append-nil block)))
+
+-- A position.
+not_after : (line head : ℕ) (p : Position) → (IsAtOrAfter line head p → ⊥) → IsBefore line head p
+not_after line head p never =
+    ⊎_elim
+    (λ (h : p.line < line). inl h)
+    (λ (h : line ≤ p.line).
+    ⊎_elim
+    (λ (g : line < p.line). absurd (never (inl g)))
+    (λ (g : p.line ≤ line).
+    ⊎_elim
+    (λ (k : p.character < head). inr (omega (arith, h, g), k))
+    (λ (k : head ≤ p.character). absurd (never (inr (omega (arith, h, g), k))))
+    (cases_lt p.character head))
+    (cases_lt line p.line))
+    (cases_lt p.line line)
+
+before_after : (line head ends own : ℕ) (p : Position) → IsAtOrAfter line head p
+    → IsBefore (line + ends) (carried ends head + own) p → IsBefore ends own (position_after line head p)
+before_after line head ends own p after =
+    let low = carried_low line head p after in
+    ⊎_elim
+    (λ (h : p.line < line + ends). inl (omega (arith, low.0)))
+    (λ (h : (p.line ≡ line + ends) × (p.character < carried ends head + own)).
+    let same : p.line - line ≡ ends = omega (arith, h.0) in
+    inr (same, omega (arith, h.1, low.1, ap (λ (n : ℕ). carried n head) same)))
+
+module _ (bytes front block rest : List ℕ) (before : Counts) (encoding : Encoding) (p : Position)
+    (part : IsPartAt bytes front block rest (Denoted encoding p) before) where
+  ends_are : before.ends ≡ block_ends front
+  ends_are = ap (λ (c : Counts). c.ends) part.before_is
+
+  units_are : head_in before encoding ≡ head_of (units_in encoding) front
+  units_are = ap (λ (c : Counts). head_in c encoding) part.before_is ∙ head_counted encoding front
+
+  ends_next : block_ends (front ++ block) ≡ before.ends + block_ends block
+  ends_next = ends_both front block part.parts.front_utf8 part.parts.closes
+      ∙ ap (λ n. n + block_ends block) (sym ends_are)
+
+  units_next : head_in (counts_of (front ++ block)) encoding
+      ≡ carried (block_ends block) (head_in before encoding) + head_of (units_in encoding) block
+  units_next = head_counted encoding (front ++ block) ∙
+      (head_both front block part.parts.front_utf8 part.parts.closes (units_in encoding) ∙
+      ap (λ n. carried (block_ends block) n + head_of (units_in encoding) block) (sym units_are))
+
+  pub found_line : IsLineFound bytes front block rest (units_in encoding) p before.ends
+      (head_in before encoding) before.len
+  found_line = record {
+    parts = part.parts;
+    from_is = ap (λ (c : Counts). c.len) part.before_is;
+    first_is = ends_are;
+    head_is = units_are;
+    low = part.low;
+    inside =
+        ⊎_elim
+        (λ (e : rest ≡ []). inl e)
+        (λ (never : Reaches (Denoted encoding p) (counts_of (front ++ block)) → ⊥).
+        inr (before_after before.ends (head_in before encoding) (block_ends block) (head_of (units_in encoding) block) p
+        part.low (not_after (before.ends + block_ends block)
+        (carried (block_ends block) (head_in before encoding) + head_of (units_in encoding) block) p
+        (λ (after : IsAtOrAfter (before.ends + block_ends block)
+        (carried (block_ends block) (head_in before encoding) + head_of (units_in encoding) block) p).
+        never (subst (λ (l : ℕ). IsAtOrAfter l (head_in (counts_of (front ++ block)) encoding) p) (sym ends_next)
+        (subst (λ (h : ℕ). IsAtOrAfter (before.ends + block_ends block) h p) (sym units_next) after))))))
+        part.last;
+  }
 
 module _ (bytes front block rest : List ℕ) where
   -- A position.
@@ -398,32 +473,46 @@ module _ (bytes front block rest : List ℕ) where
             found.inside;
       }
 
-rise_low : (text : List ℕ) (k : ℕ) → line_at text k ≤ k
-rise_low text zero = omega arith
-rise_low text (suc k) = omega (arith, (line_step text k).1, rise_low text k)
+-- ---- what a part says of all
 
--- There are no more line ends than bytes.
-pub ends_low : (bytes : List ℕ) → IsUtf8 bytes → line_ends (chars bytes) ≤ length bytes
-ends_low bytes utf8 = omega (
-  arith,
-  rise_low (chars bytes) (length (chars bytes)),
-  length-le-encodes (chars bytes),
-  ap length (encodes-chars bytes utf8),
-)
+module _ (bytes block : List ℕ) (before : Counts) (encoding : Encoding) (p : Position)
+    (part : IsPart bytes (Denoted encoding p) block before) (h : ℕ) (h_is : h ≡ head_in before encoding) where
+  pub low_part : IsAtOrAfter before.ends h p
+  low_part = subst (λ (n : ℕ). IsAtOrAfter before.ends n p) (sym h_is) part.at.low
 
-pub blocks_ends : (blocks : List (List ℕ)) → AreBlocks blocks → sum (map block_ends blocks) ≤ length (concat blocks)
-blocks_ends [] are = absurd are
-blocks_ends (b ∷ []) are = omega (
-  arith,
-  ends_low b (IsUtf8-from_is_utf8 b are),
-  sum_by-cons (λ x. x) (block_ends b) [],
-  length-append b [],
-)
-blocks_ends (b ∷ c ∷ blocks) are =
-    omega (
-      arith,
-      ends_low b (IsUtf8-from_is_utf8 b are.0.utf8),
-      blocks_ends (c ∷ blocks) are.1,
-      sum_by-cons (λ x. x) (block_ends b) (map block_ends (c ∷ blocks)),
-      length-append b (concat (c ∷ blocks)),
-    )
+  pub resolved_part : (inner : Position) (o : Option ℕ) → inner ≡ position_after before.ends h p
+      → o ≡ option_map (place_of (chars block)) (denoted (units_in encoding) (chars block) inner) →
+      option_map (λ n. before.len + n) o ≡ option_map (place_of (chars bytes))
+      (denoted (units_in encoding) (chars bytes) p)
+  resolved_part inner o inner_is is =
+      resolved_found bytes part.front block part.rest encoding p before.ends h before.len o
+      (subst (λ (n : ℕ). IsLineFound bytes part.front block part.rest (units_in encoding) p before.ends n before.len)
+      (sym h_is) (found_line bytes part.front block part.rest before encoding p part.at))
+      (is ∙ ap (λ (q : Position). option_map (place_of (chars block)) (denoted (units_in encoding) (chars block) q))
+      inner_is)
+
+module _ (bytes block : List ℕ) (before : Counts) (place : ℕ) (part : IsPart bytes (Offset place) block before) where
+  pub place_part : IsPlaceFound bytes part.front block part.rest place before.len
+  place_part = found_place bytes part.front block part.rest before place part.at
+
+  pub inner_part : IsPlace (chars bytes) place → IsPlace (chars block) (place - before.len)
+  inner_part = place_inner bytes part.front block part.rest place before.len place_part
+
+  module _ (encoding : Encoding) (h : ℕ) (inner : Position) (h_is : h ≡ head_in before encoding)
+      (at : IsPlace (chars bytes) place)
+      (exact : (j : ℕ) → j ≤ length (chars block) → place_of (chars block) j ≡ place - before.len
+      → inner ≡ exact_position (units_in encoding) (chars block) j) where
+    first_is : before.ends ≡ line_ends (chars part.front)
+    first_is = ap (λ (c : Counts). c.ends) part.at.before_is
+
+    head_is : h ≡ head_of (units_in encoding) part.front
+    head_is = h_is ∙ (ap (λ (c : Counts). head_in c encoding) part.at.before_is ∙ head_counted encoding part.front)
+
+    pub exact_part : (k : ℕ) → k ≤ length (chars bytes) → place_of (chars bytes) k ≡ place
+        → ◌≡◌ {A = Position} (position_from before.ends h inner) (exact_position (units_in encoding) (chars bytes) k)
+    exact_part k within k_at = exact_found bytes part.front block part.rest (units_in encoding) place before.len
+        before.ends h k inner place_part first_is head_is at exact within k_at
+
+    pub exact_few : (before.ends + inner.line ≤ length bytes) × (carried inner.line h + inner.character ≤ length bytes)
+    exact_few = exact_low bytes part.front block part.rest encoding place before.len before.ends h inner part.at.utf8
+        place_part first_is head_is at exact

@@ -9,15 +9,15 @@ ghost use Rattle.lsp_text.specs.TextLines.{line_ends, line_start, line_stop};
 ghost use Rattle.lsp_buffer.specs.Contents.{IsContentOf};
 
 use crate::block::are_text;
-use crate::sums::block_of;
-use crate::text_buffer::TextBuffer;
+use crate::find::Target;
+use crate::text_buffer::{Part, TextBuffer};
 use lsp_text::{Encoding, Position};
 use std::alloc::{AllocError, Global};
 use std::ops::Range;
 
 impl TextBuffer {
     /// Returns the byte offsets of a line's content, without its line end, or `None` if there is no
-    /// such line. Costs two binary searches over the blocks.
+    /// such line. Costs two searches for blocks.
     pub fn line(&self, line: u32) -> Option<Range<usize>>
         ensures content { IfSome result (IsContentOf self.now line) }
         ensures some { OnSome result (line ≤ line_ends (chars self.now)) }
@@ -56,16 +56,15 @@ impl TextBuffer {
     /// Returns the text from an offset on, up to the end of its block. It is empty only at the end
     /// of the text. The offset is a character boundary ([`TextBuffer::is_char_boundary`]).
     ///
-    /// The next chunk begins at `offset + chunk.len()`. Costs a binary search over the blocks.
+    /// The next chunk begins at `offset + chunk.len()`. Costs a search for the block.
     pub fn chunk_from(&self, offset: usize) -> &str
         requires { IsCharBoundary self.now offset }
         ensures part { result.now ≡ take (length result.now) (drop offset self.now) }
         ensures some { offset < length self.now → 0 < length result.now }
         ensures next { IsCharBoundary self.now (offset + length result.now) }
     {
-        let index = block_of(&self.starts, offset);
-        let block = &self.blocks[index];
-        &block.text()[offset - self.starts[index] as usize..]
+        let Part { block, before } = self.part_at(Target::Offset(offset));
+        &block.text()[offset - before.len as usize..]
     }
 
     /// Returns the part of the text from `offset` to `end`, or to the end of its block if that is
@@ -92,8 +91,7 @@ impl TextBuffer {
     /// Copies the bytes from `start` to `end`. `start` is at most `end`, and both are character
     /// boundaries ([`TextBuffer::is_char_boundary`]).
     ///
-    /// Fails only where memory runs out. Costs a binary search for each block of the range, and its
-    /// bytes.
+    /// Fails only where memory runs out. Costs a search for each block of the range, and its bytes.
     pub fn slice(&self, alloc: Global, start: usize, end: usize) -> Result<String, AllocError>
         requires order { start ≤ end }
         requires at_start { IsCharBoundary self.now start }
@@ -108,8 +106,7 @@ impl TextBuffer {
     /// Appends the bytes from `start` to `end` to a string. `start` is at most `end`, and both are
     /// character boundaries ([`TextBuffer::is_char_boundary`]).
     ///
-    /// Fails only where memory runs out. Costs a binary search for each block of the range, and its
-    /// bytes.
+    /// Fails only where memory runs out. Costs a search for each block of the range, and its bytes.
     pub fn push_range(&self, out: &mut String, start: usize, end: usize) -> Result<(), AllocError>
         requires order { start ≤ end }
         requires at_start { IsCharBoundary self.now start }
@@ -144,23 +141,22 @@ impl TextBuffer {
     }
 
     /// Returns the bytes from an offset on, up to the end of their block. There are none only at
-    /// the end of the text. Costs a binary search over the blocks.
+    /// the end of the text. Costs a search for the block.
     fn bytes_from(&self, offset: usize) -> &[u8]
         requires { offset ≤ length self.now }
         ensures part { result.now ≡ take (length result.now) (drop offset self.now) }
         ensures some { offset < length self.now → 0 < length result.now }
     {
-        let index = block_of(&self.starts, offset);
-        let block = &self.blocks[index];
+        let Part { block, before } = self.part_at(Target::Offset(offset));
         let bytes = block.text().as_bytes();
-        let (_, rest) = bytes.split_at(offset - self.starts[index] as usize);
+        let (_, rest) = bytes.split_at(offset - before.len as usize);
         rest
     }
 
     /// Copies the bytes from `start` on, as many as `out` has room for, and returns how many.
     /// `start` is at most the text's length.
     ///
-    /// Costs a binary search for each block of these bytes, and the copy.
+    /// Costs a search for each block of these bytes, and the copy.
     pub fn copy_to(&self, start: usize, out: &mut [u8]) -> usize
         requires { start ≤ length self.now }
         ensures count { result ≡ min (length (drop start self.now)) (length out.old) }

@@ -1,4 +1,8 @@
 //! The result of some batches of changes, in spans that own their texts.
+//!
+//! A layer owns the texts that are left, so text that was typed and deleted again is not kept.
+//! No clause says how much room a text is given, nor a layer's rank: these are costs, and with
+//! any other `len` or `rank` each clause holds.
 
 ghost use Rattle.std.specs.Prelude.{◌≡◌, IfOk, OnOk, length, string_bytes, ◌++◌};
 ghost use Rattle.lsp_edit.specs.Layers.{layer_parts, owned_part, owned_parts};

@@ -1,9 +1,12 @@
 //! The current text of spans, and the ends of a range in it.
+//!
+//! The text that changes meet is built when the second of them is resolved. No clause says when
+//! it is made anew, nor how much room it is given: these are costs. Room for spans is reserved
+//! first. Where memory runs out, that copy is dropped, which callers don't see.
 
 ghost use Rattle.std.specs.Prelude.{◌≡◌, ◌≤◌, IfOk, MatchOption, length, string_bytes};
 ghost use Rattle.std.specs.List.{replace_range};
 ghost use Rattle.std.specs.Str.{IsCharBoundary, IsUtf8, chars};
-ghost use Rattle.lsp_text.specs.LineStarts.{AreLinesOf};
 ghost use Rattle.lsp_text.specs.Units.{units_in};
 ghost use Rattle.lsp_edit.specs.Faults.{places_at};
 ghost use Rattle.lsp_edit.specs.Batch.{ends_of};
@@ -14,7 +17,7 @@ use crate::fault::EditFault;
 use crate::old_text::OldText;
 use crate::pieces::span::Span;
 use lsp_buffer::TextBuffer;
-use lsp_text::{Encoding, Lines, Range};
+use lsp_text::{Encoding, Range};
 use std::alloc::{AllocError, Global};
 
 /// Returns the current text, if there is one already, or else the text of the spans in one block.
@@ -54,24 +57,6 @@ pub fn replaced(
     let mut text = text;
     text.replace_range(start, stop, new)?;
     Ok(text)
-}
-
-/// Returns the text of spans, of `len` bytes, with its lines.
-pub fn text_with_lines(
-    alloc: Global,
-    before: &OldText<'_>,
-    spans: &[Span<'_>],
-    len: usize,
-) -> Result<(String, Lines), AllocError>
-    requires parts { AreParts before.now (parts_of spans.now) }
-    requires room { length (bytes_of before.now (parts_of spans.now)) ≤ 2147483648 }
-    ensures { IfOk result (λ indexed.
-        (string_bytes indexed.0 ≡ bytes_of before.now (parts_of spans.now))
-        × AreLinesOf indexed.1 (string_bytes indexed.0)) }
-{
-    let text = text_of_spans(alloc, before, spans, len)?;
-    let lines = Lines::new(alloc, &text)?;
-    Ok((text, lines))
 }
 
 /// Returns the text of spans, of `len` bytes.

@@ -1,4 +1,7 @@
 //! Spans in a row, with the one at which the next walk over them begins.
+//!
+//! Many spans are one row that remembers where it was changed last. Blocks of spans would save
+//! a move, and `Pieces::spans` could not return them.
 
 ghost use Rattle.std.specs.Prelude.{◌≡◌, ◌≤◌, OnErr, OnOk, length};
 ghost use Rattle.lsp_edit.specs.Parts.{parts_of};

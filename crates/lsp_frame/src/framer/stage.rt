@@ -1,4 +1,7 @@
 //! The stages of a frame that is coming in.
+//!
+//! Header bytes are read as they come; `memchr` finds line ends, and a whole line is read once
+//! more for its name and value.
 
 ghost use Rattle.std.specs.Prelude.{◌≡◌, ◌+◌, ◌<◌, ◌≤◌, ◌^◌, ℕ, [], ◌++◌, length, take, IfOk, IfErr, OnOk, OnErr, IsOkAnd, Ok, false, vec_len, vec_capacity};
 ghost use Rattle.lsp_frame.specs.Stream.{IsFrame};

@@ -32,7 +32,7 @@ use Rattle.lsp_store.specs.declared.fault.StoreFault.{StoreFault}
 use Rattle.lsp_store.specs.declared.fault.StoreFault.TheVariants.{NoMemory}
 use Rattle.lsp_store.specs.Faults.{store_fault_of_encode, IsRefusal}
 use Rattle.lsp_store.specs.Table.{IsLeftToMeaning, Refusal, stale_version, too_many_changes, text_too_long, edit, batch_bytes, greatest_batch, entry_at, entry_refusal, change_refusal, after_change, changed, is_stale, meaning_refusal}
-use Rattle.lsp_store.specs.Message.{AreTexts, DoAlike, IsCanonicalOn, IsReadAgain, IsCanonicalOf, body_refusal, canonical_batch, canonical_body, canonical_frame, change_body, change_message, else_refused, message_refusal, written_content_change}
+use Rattle.lsp_store.specs.Message.{AreTexts, DoAlike, IsCanonicalOn, IsReadAgain, IsCanonicalOf, body_refusal, canonical_batch, canonical_body, canonical_frame, change_body, change_message, else_refused, written_content_change}
 use Rattle.lsp_store.proofs.Messages.FrameLemmas.{frame_one}
 use Rattle.lsp_store.proofs.Messages.ProperLemmas.{bytes_sum, canonical_proper}
 use Rattle.lsp_store.proofs.Tables.RefusalLemmas.{refused_meaning}
@@ -231,21 +231,6 @@ module _ (limits : LimitsData) (encoding : Encoding) (table : List DocumentItem)
     law : IsCanonical (units_in encoding) (chars entry.text) batch accepts.items
     law = laws batch accepts.items accepts.means
 
-    pub message_accepted : body_refusal limits (canonical_body (units_in encoding) table uri version batch) ≡ None
-        → message_refusal limits (units_in encoding) table uri version batch ≡ None
-    message_accepted within = rw (refusal_at batch, may) within
-
-    pub message_refused : (fault : StoreFault)
-        → IsRefusal (body_refusal limits (canonical_body (units_in encoding) table uri version batch)) fault
-        → IsRefusal (message_refusal limits (units_in encoding) table uri version batch) fault
-    message_refused fault error = rw (refusal_at batch, may) error
-
-    pub canonical_is : (answered : List ContentChange) (items : List Item)
-        → meaning (units_in encoding) (chars entry.text) batch
-        ≡ Ok items → answered ≡ canonical (units_in encoding) (chars entry.text) items
-        → canonical_batch (units_in encoding) table uri batch ≡ answered
-    canonical_is answered items means is = batch_at batch items means ∙ sym is
-
     pub canonical_on : IsCanonicalOn (units_in encoding) table uri batch
     canonical_on = record {
       entry = entry;
@@ -255,7 +240,7 @@ module _ (limits : LimitsData) (encoding : Encoding) (table : List DocumentItem)
       is = batch_at batch accepts.items accepts.means;
     }
 
-    settled_fits : limits.max_text ≤ 1073741824
+    settled_fits : length (bytes_left entry.text accepts.items) ≤ 1073741824
         → batch_bytes (canonical (units_in encoding) (chars entry.text) accepts.items) ≤ greatest_batch
     settled_fits small =
         let weigh : batch_bytes (canonical (units_in encoding) (chars entry.text) accepts.items)
@@ -272,13 +257,12 @@ module _ (limits : LimitsData) (encoding : Encoding) (table : List DocumentItem)
           weigh,
           law.short len_utf8,
           bytes_sum (text_of (chars entry.text) accepts.items),
-          accepts.short,
           small,
         )
 
-    pub settled_accepted : limits.max_text ≤ 1073741824 → entry_refusal limits (units_in encoding) entry version
-        (canonical (units_in encoding) (chars entry.text) accepts.items) ≡ None
-    settled_accepted small =
+    settled_may : length (bytes_left entry.text accepts.items) ≤ 1073741824 → entry_refusal limits (units_in encoding)
+        entry version (canonical (units_in encoding) (chars entry.text) accepts.items) ≡ None
+    settled_may small =
         accepted_from limits (units_in encoding) entry version (canonical (units_in encoding) (chars entry.text)
         accepts.items) (record {
           newer = accepts.newer;
@@ -288,6 +272,10 @@ module _ (limits : LimitsData) (encoding : Encoding) (table : List DocumentItem)
           means = law.means;
           short = accepts.short;
         })
+
+    pub settled_accepted : limits.max_text ≤ 1073741824 → entry_refusal limits (units_in encoding) entry version
+        (canonical (units_in encoding) (chars entry.text) accepts.items) ≡ None
+    settled_accepted small = settled_may (omega (arith, accepts.short, small))
 
     settled_batch : canonical_batch (units_in encoding) table uri (canonical (units_in encoding) (chars entry.text)
         accepts.items) ≡ canonical_batch (units_in encoding) table uri batch
@@ -301,25 +289,31 @@ module _ (limits : LimitsData) (encoding : Encoding) (table : List DocumentItem)
         leaves_same (units_in encoding) table uri version (canonical (units_in encoding) (chars entry.text)
         accepts.items) batch entry is_open (rw (law.means, accepts.means) refl)
 
-    settled_of : limits.max_text ≤ 1073741824
+    settled_of : length (bytes_left entry.text accepts.items) ≤ 1073741824
         → body_refusal limits (canonical_body (units_in encoding) table uri version batch) ≡ None
         → IsCanonicalOf limits (units_in encoding) table uri version batch
         (canonical (units_in encoding) (chars entry.text) accepts.items)
     settled_of small within = record {
       accepted =
-          rw (refusal_at (canonical (units_in encoding) (chars entry.text) accepts.items), settled_accepted small)
+          rw (refusal_at (canonical (units_in encoding) (chars entry.text) accepts.items), settled_may small)
           (ap (λ (b : List ContentChange). body_refusal limits (change_body uri version b)) settled_batch ∙ within);
       leaves = settled_leaves;
       same_frame = ap (λ (b : List ContentChange). frame (change_body uri version b)) settled_batch;
     }
 
+    pub settles : length (bytes_left entry.text accepts.items) ≤ 1073741824
+        → body_refusal limits (canonical_body (units_in encoding) table uri version batch) ≡ None
+        → IsCanonicalOf limits (units_in encoding) table uri version batch
+        (canonical_batch (units_in encoding) table uri batch)
+    settles small within =
+        subst (λ (b : List ContentChange). IsCanonicalOf limits (units_in encoding) table uri version batch b)
+        (sym (batch_at batch accepts.items accepts.means)) (settled_of small within)
+
     pub is_settled : limits.max_text ≤ 1073741824
         → body_refusal limits (canonical_body (units_in encoding) table uri version batch) ≡ None
         → IsCanonicalOf limits (units_in encoding) table uri version batch
         (canonical_batch (units_in encoding) table uri batch)
-    is_settled small within =
-        subst (λ (b : List ContentChange). IsCanonicalOf limits (units_in encoding) table uri version batch b)
-        (sym (batch_at batch accepts.items accepts.means)) (settled_of small within)
+    is_settled small within = settles (omega (arith, accepts.short, small)) within
 
   -- ---- of messages that the types hold
 

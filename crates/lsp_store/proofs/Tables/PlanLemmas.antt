@@ -5,13 +5,14 @@ use Rattle.std.proofs.lemmas.Option.{slice_get-map}
 use Rattle.std.proofs.lemmas.Slice.Eq.{bytes_eq-Decides}
 use Rattle.std.specs.List.{position_or_len}
 use Rattle.std.specs.Map.{lookup, lookup_key}
-use Rattle.std.specs.Str.{chars}
+use Rattle.std.specs.Str.{IsUtf8, chars}
 use Rattle.std.specs.declared.alloc.Global.{Global}
 use Rattle.ordered_map.specs.Entries.{set_value_at}
 use Rattle.lsp_frame.specs.Limits.{LimitsData}
 use Rattle.lsp_text.specs.declared.encoding.Encoding.{Encoding}
 use Rattle.lsp_text.specs.Units.{units_in}
 use Rattle.lsp_edit.specs.declared.delta.Delta.{Delta}
+use Rattle.lsp_edit.specs.declared.delta.Delta.TheVariants.{Put, Left}
 use Rattle.lsp_edit.specs.Items.{Item}
 use Rattle.lsp_edit.specs.Batch.{ContentChange, meaning}
 use Rattle.lsp_edit.specs.Canonical.{canonical}
@@ -56,6 +57,20 @@ if_ok_on (Err e) then p o = tt
 pub if_err : {A E : Type 0} {P Q : E → Type 0} (r : Result A E) → ((e : E) → P e → Q e) → IfErr r P → IfErr r Q
 if_err (Ok a) then p = tt
 if_err (Err e) then p = then e p
+
+pub ok_from : {A E Q : Type 0} {P : A → Type 0} (r : Result A E) → ((a : A) → P a → Q) → IfOk r P → OnOk r Q
+ok_from (Ok a) then p = then a p
+ok_from (Err e) then p = tt
+
+-- ---- the text that a delta is of
+
+pub on_utf8 : (before : List ℕ) (delta : Delta) → IsOn before delta → IsUtf8 before
+on_utf8 before (Put put) on = on.utf8
+on_utf8 before (Left encoding batch left) on = on.utf8
+
+pub on_short : (before : List ℕ) (delta : Delta) → IsOn before delta → length before ≤ 1073741824
+on_short before (Put put) on = on.size
+on_short before (Left encoding batch left) on = on.size
 
 -- ---- a document at an index
 

@@ -161,18 +161,3 @@ module _ (limits : LimitsData) (before : List ℕ) where
   text_told meant fault error =
       ⊎_elim (λ (e : fault ≡ text.NoMemory). inl (ap store_fault_of e))
       (λ (e : text_within limits.max_text before meant ≡ Err fault). inr (meaning_told meant fault e)) error
-
-  -- A batch that is accepted is refused only where memory runs out.
-  pub only_memory : (meant : Result (List Item) (ℕ × Fault)) (items : List Item) → meant ≡ Ok items
-      → length (bytes_left before items) ≤ limits.max_text → (fault : BatchFault)
-      → (fault ≡ text.NoMemory) ⊎ (text_within limits.max_text before meant ≡ Err fault) → fault ≡ text.NoMemory
-  only_memory meant items is within fault error =
-      ⊎_elim (λ (e : fault ≡ text.NoMemory). e)
-      (λ (e : text_within limits.max_text before meant ≡ Err fault).
-      let bad : ◌≡◌ {A = Result (List ℕ) BatchFault} (Ok (bytes_left before items)) (Err fault) =
-      rw (is, le-ltb limits.max_text (length (bytes_left before items)) within) at e in absurd (cc))
-      error
-
-  pub meant_within : (meant : Result (List Item) (ℕ × Fault)) (items : List Item) → meant ≡ Ok items
-      → length (bytes_left before items) ≤ limits.max_text → meaning_refusal limits before meant ≡ None
-  meant_within meant items is within = rw (is, le-ltb limits.max_text (length (bytes_left before items)) within) refl

@@ -3,7 +3,7 @@ use Rattle.std.proofs.Common.{◌≡◌, ◌≤◌, ◌<◌, ◌+◌, ◌++◌, 
 use Rattle.std.proofs.lemmas.Bool.{lt-ltb, le-ltb, le-leb, lt-leb}
 use Rattle.std.proofs.lemmas.List.{length-append, length-map}
 use Rattle.std.proofs.lemmas.Option.{slice_get-map}
-use Rattle.std.specs.Map.{lookup, lookup_key, set_value, remove_entry}
+use Rattle.std.specs.Map.{lookup, lookup_key, remove_entry}
 use Rattle.std.specs.declared.alloc.Global.{Global}
 use Rattle.lsp_frame.specs.Limits.{LimitsData}
 use Rattle.lsp_text.specs.declared.encoding.Encoding.{Encoding}
@@ -14,9 +14,9 @@ use Rattle.lsp_store.specs.declared.fault.StoreFault.TheVariants.{AlreadyOpen, T
 use Rattle.lsp_store.specs.declared.store.stored.Stored.{Stored}
 use Rattle.lsp_store.specs.Faults.{refusal_fault, IsRefusal}
 use Rattle.lsp_message.specs.Params.{DocumentItem}
-use Rattle.lsp_store.specs.Table.{IsLeftToMeaning, Refusal, entry_at, is_taken, open_refusal, entry_refusal, change_refusal, changed, after_close, after_open, unless_refused, opens, changes, closes}
+use Rattle.lsp_store.specs.Table.{IsLeftToMeaning, Refusal, entry_at, is_taken, open_refusal, entry_refusal, change_refusal, after_close, after_open, unless_refused, opens, changes, closes}
 use Rattle.lsp_store.specs.Opened.{ChangeMayAllocate, StoreData, Takes, IsRefused, entry_under, entry_of}
-use Rattle.lsp_store.proofs.Tables.TableLemmas.{at_uri, entry_at-lookup, is_some-entry_at, entry_found, table-opened, others_all, others_but_one, table-set_value, set_value-found, table-remove_entry}
+use Rattle.lsp_store.proofs.Tables.TableLemmas.{at_uri, entry_at-lookup, is_some-entry_at, entry_found, table-opened, others_all, others_but_one, table-remove_entry}
 
 -- what callers see of the fields
 abbrev pub seen : LimitsData → List (String Global × Stored) → StoreData
@@ -148,25 +148,6 @@ module _ (limits : LimitsData) (es : List (String Global × Stored)) (kept : Sto
           → IsRefused kept (changes uri version encoding batch) fault
       change_refused fault error = subst (λ (d : StoreData). IsRefused d (changes uri version encoding batch) fault)
           view (rw refusal_is error)
-
-      pub change_same : (next : List (String Global × Stored)) → next ≡ set_value (at_uri uri) es stored
-          → seen limits next ≡ kept
-      change_same next is = ap (seen limits) (is ∙ set_value-found (at_uri uri) es stored found) ∙ view
-
-      pub change_taken : (new : Stored) → entry_refusal limits (units_in encoding) (entry_under uri stored) version
-          batch ≡ None → entry_under uri new ≡ changed (units_in encoding) (entry_under uri stored) version batch
-          → (next : List (String Global × Stored)) → next ≡ set_value (at_uri uri) es new
-          → Takes kept (changes uri version encoding batch) (seen limits next)
-      change_taken new may is next set =
-          subst (λ (d : StoreData). Takes d (changes uri version encoding batch) (seen limits next)) view (record {
-            table = rw (
-              refusal_is,
-              may,
-              set,
-              table-set_value (units_in encoding) uri version batch es stored new found is,
-            ) refl;
-            limits = refl;
-          })
 
   -- ---- the document that was found
 

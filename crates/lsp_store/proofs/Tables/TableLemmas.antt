@@ -1,14 +1,13 @@
 -- The table of documents as an ordered map keeps it.
-use Rattle.std.proofs.Common.{◌≡◌, ◌≤◌, ◌+◌, ℕ, ℤ, Bool, true, false, List, [], ◌∷◌, ◌++◌, length, map, Option, Some, None, option_map, is_some, String, string_bytes, bytes_eq, refl, sym, ap, ◌∙◌, arith, ⊎_elim}
+use Rattle.std.proofs.Common.{◌≡◌, ◌≤◌, ◌+◌, ℕ, Bool, true, false, List, [], ◌∷◌, ◌++◌, length, map, Option, Some, None, option_map, is_some, String, string_bytes, bytes_eq, refl, sym, ap, ◌∙◌, arith, ⊎_elim}
 use Rattle.std.proofs.lemmas.Bool.{cases_Bool}
 use Rattle.std.proofs.lemmas.Slice.Eq.{bytes_eq-Decides}
 use Rattle.std.proofs.lemmas.List.{map-append}
-use Rattle.std.specs.Map.{lookup, lookup_key, set_value, remove_entry}
+use Rattle.std.specs.Map.{lookup, lookup_key, remove_entry}
 use Rattle.std.specs.declared.alloc.Global.{Global}
-use Rattle.lsp_edit.specs.Batch.{ContentChange}
 use Rattle.lsp_store.specs.declared.store.stored.Stored.{Stored}
 use Rattle.lsp_message.specs.Params.{DocumentItem}
-use Rattle.lsp_store.specs.Table.{entry_at, after_change, after_close, after_open, changed}
+use Rattle.lsp_store.specs.Table.{entry_at, after_close, after_open}
 use Rattle.lsp_store.specs.Opened.{entry_under, entry_of}
 
 -- whether a key is this URI
@@ -46,33 +45,6 @@ entry_found uri (e ∷ es) key stored at found =
     rw (is, same_key, same) refl)
     (λ (not : bytes_eq uri (string_bytes e.0) ≡ false). rw not
     (entry_found uri es key stored (rw not at at) (rw not at found))) (cases_Bool (bytes_eq uri (string_bytes e.0)))
-
--- what is put at a URI is the changed document, which keeps its place
-pub table-set_value : (units : ℕ → ℕ) (uri : List ℕ) (version : ℤ) (batch : List ContentChange)
-    (es : List (String Global × Stored)) (stored next : Stored) → Some stored ≡ lookup (at_uri uri) es
-    → entry_under uri next ≡ changed units (entry_under uri stored) version batch
-    → map entry_of (set_value (at_uri uri) es next) ≡ after_change units (map entry_of es) uri version batch
-table-set_value units uri version batch [] stored next found is = refl
-table-set_value units uri version batch (first ∷ es) stored next found is =
-    ⊎_elim
-    (λ (at : bytes_eq uri (string_bytes first.0) ≡ true).
-    let same : stored ≡ first.1 = (let f : Some stored ≡ Some first.1 = rw at at found in cc) in
-    let key : uri ≡ string_bytes first.0 = (bytes_eq-Decides uri (string_bytes first.0)).0 at in
-    rw (at, ← key, ← same, is) refl)
-    (λ (not : bytes_eq uri (string_bytes first.0) ≡ false). rw not
-    (ap (λ (table : List DocumentItem). entry_of first ∷ table) (table-set_value units uri version batch es stored next
-    (rw not at found) is)))
-    (cases_Bool (bytes_eq uri (string_bytes first.0)))
-
--- putting back what is there changes nothing
-pub set_value-found : {K X : Type 0} (test : K → Bool) (es : List (K × X)) (x : X) → Some x ≡ lookup test es
-    → set_value test es x ≡ es
-set_value-found test [] x h = refl
-set_value-found test (e ∷ es) x h =
-    ⊎_elim (λ (is : test e.0 ≡ true). let same : x ≡ e.1 = (let f : Some x ≡ Some e.1 = rw is at h in cc) in
-    rw (is, same) refl)
-    (λ (not : test e.0 ≡ false). rw not (ap (λ rest. e ∷ rest) (set_value-found test es x (rw not at h))))
-    (cases_Bool (test e.0))
 
 -- a URI that is taken out is closed
 pub table-remove_entry : (uri : List ℕ) (es : List (String Global × Stored))

@@ -1,12 +1,13 @@
 //! The canonical message of an accepted batch of changes.
+//!
+//! A message is written from borrowed texts, and `lsp_frame::put_header` puts its header before
+//! it.
 
 ghost use Rattle.std.specs.Prelude.{◌≡◌, ◌<◌, ◌≤◌, ◌↔◌, ◌+◌, ◌-◌, ◌++◌, if◌then◌else◌, nat_lt, List, None, Some, Err, IfErr, IfOk, OnErr, OnOk, length, map, string_bytes, take, ℕ, ℤ};
 ghost use Rattle.lsp_frame.specs.Frame.{frame};
 ghost use Rattle.lsp_text.specs.Units.{units_in};
 ghost use Rattle.lsp_edit.specs.Batch.{ContentChange};
 ghost use Rattle.lsp_edit.specs.Edited.{content_change};
-ghost use Rattle.lsp_message.specs.Outgoing.{OutgoingData, body_of};
-ghost use Rattle.lsp_message.specs.laws.Sent.{IsProper, IsReadAsSent, IsReadBack};
 ghost use Rattle.lsp_store.specs.declared.fault.StoreFault.TheVariants.{BodyTooLong, NoMemory, TooManyChanges};
 ghost use Rattle.lsp_store.specs.Faults.{IsRefusal};
 ghost use Rattle.lsp_store.specs.Opened.{ChangeMayAllocate};
@@ -57,10 +58,6 @@ fn change_frame(
     ensures error { IfErr result
         (IsRefusal (body_refusal limits.now
         (change_body uri.now version (map content_change changes.items)))) }
-    ensures read_as { OnOk result ((m : OutgoingData) → IsProper m → IsReadAsSent m) }
-    ensures read_back { OnOk result ((m : OutgoingData) → IsProper m → IsReadBack m) }
-    ensures unique { OnOk result ((m n : OutgoingData) → IsProper m → IsProper n →
-        body_of m ≡ body_of n → m ≡ n) }
 {
     let mut body = Vec::with_capacity(alloc, USUAL_LENGTH)?;
     push_change(&mut body, uri, version, &changes)?;
@@ -149,9 +146,8 @@ impl Store {
     /// same texts between them. Its positions are in the units of `encoding`.
     ///
     /// Refuses as [`Store::change`] does, then with [`StoreFault::BodyTooLong`] where the body has
-    /// more than `max_body` bytes; and with [`StoreFault::NoMemory`]. Changes nothing. Costs a hash
-    /// look-up, what the batch costs to apply (for one change its two positions, whatever the
-    /// text's length), and the message's bytes.
+    /// more than `max_body` bytes; and with [`StoreFault::NoMemory`]. Changes nothing. Costs what
+    /// [`Store::plan`] and [`Store::planned_message`] cost.
     pub fn canonical_message(
         &self,
         uri: &str,
@@ -200,46 +196,11 @@ impl Store {
             (canonical_batch (units_in encoding) self.now.table uri.now
             (map content_change changes.now))) }
     {
-        let Some(stored) = self.documents.get(uri) else {
-            return Err(StoreFault::NotOpen);
-        };
-        let changes = stored.canonical(&self.limits, version, encoding, changes)?;
-        let alloc = *self.documents.allocator();
-        let bytes = change_frame(alloc, &self.limits, uri, version, changes)?;
-        Ok(bytes)
-    }
-
-    /// Appends the body of the message of [`Store::canonical_message`], so that a caller can put
-    /// its header before it ([`lsp_frame::put_header`]).
-    ///
-    /// Refuses as [`Store::canonical_message`] does, and then the bytes are unchanged. Costs the
-    /// same, with no copy of the message.
-    pub fn push_canonical_body(
-        &self,
-        bytes: &mut Vec<u8>,
-        uri: &str,
-        version: i32,
-        encoding: Encoding,
-        changes: &[Change],
-    ) -> Result<(), StoreFault>
-        ensures body { OnOk result (bytes.new.items ≡ bytes.old.items
-            ++ canonical_body (units_in encoding) self.now.table uri.now version
-            (map content_change changes.now)) }
-        ensures accepted { OnOk result
-            (message_refusal self.now.limits (units_in encoding) self.now.table
-            uri.now version (map content_change changes.now) ≡ None) }
-        ensures error { IfErr result (IsRefusal (message_refusal self.now.limits (units_in encoding)
-            self.now.table uri.now version (map content_change changes.now))) }
-        ensures unchanged { OnErr result (bytes.new.items ≡ bytes.old.items) }
-        ensures memory { result ≡ Err NoMemory
-            → ChangeMayAllocate self.now uri.now version (map content_change changes.now) }
-    {
-        let Some(stored) = self.documents.get(uri) else {
-            return Err(StoreFault::NotOpen);
-        };
-        let batch = stored.canonical(&self.limits, version, encoding, changes)?;
-        push_body(bytes, &self.limits, uri, version, batch)?;
-        Ok(())
+        // `?` isn't proved here.
+        match self.plan(uri, version, encoding, changes) {
+            Ok(plan) => self.planned_message(&plan),
+            Err(fault) => Err(fault),
+        }
     }
 
     /// Returns the URI, the version and the canonical batch of the message of a plan.

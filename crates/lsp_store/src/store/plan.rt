@@ -1,4 +1,7 @@
 //! `Plan`, a batch that was resolved once on an open document.
+//!
+//! A plan keeps the index of its document, and no URI and no batch. What is read from it is
+//! said of each batch that it is of.
 
 use lsp_edit::Delta;
 use std::fmt;

@@ -21,7 +21,6 @@ impl Stored {
     ghost use Rattle.std.specs.Prelude.{◌≡◌, ◌≢◌, ℕ, List, Some, None, Err, IfErr, IfOk, OnErr, OnOk, map, option_map, string_bytes, string_len};
     ghost use Rattle.lsp_text.specs.Units.{units_in};
     ghost use Rattle.lsp_edit.specs.Edited.{content_change};
-    ghost use Rattle.lsp_edit.specs.Indexed.{IsCanonicalBatch};
     ghost use Rattle.lsp_edit.specs.Delta.{IsDeltaOf, IsOn, bytes_after};
     ghost use Rattle.lsp_store.specs.Plan.{planned};
     ghost use Rattle.lsp_store.specs.declared.fault.StoreFault.TheVariants.{NoMemory};
@@ -133,34 +132,5 @@ impl Stored {
         self.text.apply(delta)?;
         self.version = version;
         Ok(())
-    }
-
-    /// Returns the canonical batch of a batch on the document's text. Refuses as [`Stored::plan`]
-    /// does.
-    pub fn canonical(
-        &self,
-        limits: &Limits,
-        version: i32,
-        encoding: Encoding,
-        changes: &[Change],
-    ) -> Result<Vec<Change>, StoreFault>
-        ensures accepted { OnOk result ((uri : List ℕ) →
-            entry_refusal limits.now (units_in encoding) (entry_under uri self.now) version
-            (map content_change changes.now) ≡ None) }
-        ensures batch { IfOk result (λ batch.
-            IsCanonicalBatch (units_in encoding) limits.now.max_text self.now.text
-            (map content_change changes.now) (map content_change batch.items)) }
-        ensures short { (length self.now.text ≤ 1073741824) × (limits.now.max_text ≤ 1073741824) }
-        ensures error { IfErr result (λ fault. (uri : List ℕ) →
-            IsRefusal (entry_refusal limits.now (units_in encoding) (entry_under uri self.now)
-            version (map content_change changes.now)) fault) }
-        // Memory is taken only once nothing but the meaning can refuse the batch.
-        ensures memory { result ≡ Err NoMemory → (uri : List ℕ)
-            → IsLeftToMeaning limits.now (entry_under uri self.now) version
-            (map content_change changes.now) }
-    {
-        let max_text = limits.max_text();
-        self.check_change(limits, version, changes)?;
-        Ok(self.text.canonical(encoding, changes, max_text)?)
     }
 }

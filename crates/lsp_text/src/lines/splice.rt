@@ -1,4 +1,7 @@
 //! The line starts of a text after an edit.
+//!
+//! `Vec::splice` takes memory before it changes anything. Where lines come or go, later starts
+//! move once.
 ghost use Rattle.std.specs.Prelude.{◌≡◌, ◌+◌, ◌-◌, ◌≤◌, ◌<◌, ◌^◌, ℕ, ◌++◌, length, map, take, drop, slice_index, vec_len, OnOk, OnErr};
 ghost use Rattle.lsp_text.specs.LineStarts.{line_starts};
 ghost use Rattle.lsp_text.specs.inside.Splice.{Replaces};

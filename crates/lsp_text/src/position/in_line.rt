@@ -1,4 +1,8 @@
 //! Units and byte offsets inside one line, counted over its bytes.
+//!
+//! Bodies are generic over the private `InLine`, and proved once from it. Units are counted by
+//! bytes: a character's first byte has its units, the others none. So a line's units fit 32
+//! bits.
 ghost use Rattle.std.specs.Prelude.{◌≡◌, ◌+◌, ◌*◌, ◌≤◌, ◌<◌, ℕ, IfSome, length, take, drop, sum_by, option_map};
 ghost use Rattle.std.specs.Str.{IsUtf8, chars};
 ghost use Rattle.lsp_text.specs.Leads.{lead_units_utf16, lead_units_utf32};

@@ -1,60 +1,32 @@
-use Rattle.std.proofs.Common.{◌+◌, ◌∙◌, take, drop, length, arith, sym, ap, subst}
-use Rattle.std.specs.List.{concat}
-use Rattle.lsp_text.specs.Starts.{AreStarts}
-use Rattle.lsp_buffer.proofs.Blocks.BufferLemmas.{starts_count, starts_are_starts}
-use Rattle.lsp_buffer.proofs.Queries.FoundLemmas.{chunk_is, found_place, found_within}
+use Rattle.std.proofs.Common.{◌∙◌, length, arith, ap}
+use Rattle.lsp_buffer.proofs.Queries.FoundLemmas.{IsPlaceFound, chunk_is, found_within, place_part}
 use Rattle.lsp_buffer.proofs.text_buffer.TextBuffer.bytes_from.Goals as goal
-
-pub block_of-index-requires : goal.block_of-index-requires
-block_of-index-requires c =
-    subst AreStarts (sym c.deref.ensures.value) (starts_are_starts c.self.inside.blocks.items c.self.inside.starts.items
-    c.self.inside.lines.items c.self.invariant.sums)
-
-pub index-block-requires : goal.index-block-requires
-index-block-requires c =
-    omega (
-      arith,
-      c.block_of-index.ensures.within,
-      ap length c.deref.ensures.value,
-      starts_count c.self.inside.blocks.items c.self.inside.starts.items c.self.inside.lines.items
-          c.self.invariant.sums,
-      c.self.inside.blocks.ok.0,
-    )
 
 pub split_at-requires : goal.split_at-requires
 split_at-requires c =
-    let found = found_place c.self.inside.blocks.items c.self.inside.starts.items c.self.inside.lines.items
-    c.args.self.now c.self.invariant.sums c.self.view_is c.block_of-index.result c.index-block.result.now
-    c.index-block.ensures
-    c.args.offset c.index.result.now c.deref.result.now c.deref.ensures.value c.block_of-index.ensures
-    c.index.ensures in
+    let found : IsPlaceFound c.args.self.now c.part_at.ensures.front c.part_at.result.block.now c.part_at.ensures.rest c.args.offset
+    c.part_at.result.before.len =
+    (place_part c.args.self.now c.part_at.result.block.now c.part_at.result.before c.args.offset c.part_at.ensures) in
     omega (
       arith,
-      found_within c.args.self.now (concat (take c.block_of-index.result c.self.inside.blocks.items))
-          c.index-block.result.now (concat (drop (c.block_of-index.result + 1) c.self.inside.blocks.items))
-          c.args.offset c.index.result.now found c.requires,
+      found_within c.args.self.now c.part_at.ensures.front c.part_at.result.block.now c.part_at.ensures.rest c.args.offset
+          c.part_at.result.before.len found c.requires,
       found.from_is,
       ap length (c.as_bytes-bytes.ensures.value ∙ c.text.ensures),
     )
 
 pub returns-clause-part : goal.returns-clause-part
 returns-clause-part c =
-    (chunk_is c.args.self.now (concat (take c.block_of-index.result c.self.inside.blocks.items))
-    c.index-block.result.now (concat (drop (c.block_of-index.result + 1) c.self.inside.blocks.items)) c.args.offset
-    c.index.result.now c.as_bytes-bytes.result.now c.split_at.result.1.now (c.as_bytes-bytes.ensures.value
-    ∙ c.text.ensures) c.split_at.ensures.back
-    (found_place c.self.inside.blocks.items c.self.inside.starts.items c.self.inside.lines.items c.args.self.now
-    c.self.invariant.sums c.self.view_is c.block_of-index.result c.index-block.result.now c.index-block.ensures
-    c.args.offset c.index.result.now c.deref.result.now c.deref.ensures.value c.block_of-index.ensures c.index.ensures)
+    (chunk_is c.args.self.now c.part_at.ensures.front c.part_at.result.block.now c.part_at.ensures.rest c.args.offset
+    c.part_at.result.before.len c.as_bytes-bytes.result.now c.split_at.result.1.now
+    (c.as_bytes-bytes.ensures.value ∙ c.text.ensures) c.split_at.ensures.back
+    (place_part c.args.self.now c.part_at.result.block.now c.part_at.result.before c.args.offset c.part_at.ensures)
     c.requires).part
 
 pub returns-clause-some : goal.returns-clause-some
 returns-clause-some c =
-    (chunk_is c.args.self.now (concat (take c.block_of-index.result c.self.inside.blocks.items))
-    c.index-block.result.now (concat (drop (c.block_of-index.result + 1) c.self.inside.blocks.items)) c.args.offset
-    c.index.result.now c.as_bytes-bytes.result.now c.split_at.result.1.now (c.as_bytes-bytes.ensures.value
-    ∙ c.text.ensures) c.split_at.ensures.back
-    (found_place c.self.inside.blocks.items c.self.inside.starts.items c.self.inside.lines.items c.args.self.now
-    c.self.invariant.sums c.self.view_is c.block_of-index.result c.index-block.result.now c.index-block.ensures
-    c.args.offset c.index.result.now c.deref.result.now c.deref.ensures.value c.block_of-index.ensures c.index.ensures)
+    (chunk_is c.args.self.now c.part_at.ensures.front c.part_at.result.block.now c.part_at.ensures.rest c.args.offset
+    c.part_at.result.before.len c.as_bytes-bytes.result.now c.split_at.result.1.now
+    (c.as_bytes-bytes.ensures.value ∙ c.text.ensures) c.split_at.ensures.back
+    (place_part c.args.self.now c.part_at.result.block.now c.part_at.result.before c.args.offset c.part_at.ensures)
     c.requires).some

@@ -1,66 +1,32 @@
-use Rattle.std.proofs.Common.{◌+◌, take, drop, length, arith, sym, ap, subst}
-use Rattle.std.specs.List.{concat}
-use Rattle.lsp_text.specs.Starts.{AreStarts}
-use Rattle.lsp_buffer.proofs.Blocks.BufferLemmas.{starts_count, starts_are_starts}
-use Rattle.lsp_buffer.proofs.Queries.FoundLemmas.{found_place, chunk_boundary, chunk_is, bytes_utf8}
+use Rattle.lsp_buffer.proofs.Queries.FoundLemmas.{chunk_boundary, chunk_is, place_part}
 use Rattle.lsp_buffer.proofs.Queries.ReadLemmas.{chunk_next}
 use Rattle.lsp_buffer.proofs.text_buffer.TextBuffer.chunk_from.Goals as goal
 
-pub block_of-index-requires : goal.block_of-index-requires
-block_of-index-requires c =
-    subst AreStarts (sym c.deref.ensures.value) (starts_are_starts c.self.inside.blocks.items c.self.inside.starts.items
-    c.self.inside.lines.items c.self.invariant.sums)
-
-pub index-block-requires : goal.index-block-requires
-index-block-requires c =
-    omega (
-      arith,
-      c.block_of-index.ensures.within,
-      ap length c.deref.ensures.value,
-      starts_count c.self.inside.blocks.items c.self.inside.starts.items c.self.inside.lines.items
-          c.self.invariant.sums,
-      c.self.inside.blocks.ok.0,
-    )
-
 pub range_from-requires : goal.range_from-requires
 range_from-requires c = λ _.
-    chunk_boundary c.args.self.now (concat (take c.block_of-index.result c.self.inside.blocks.items))
-    c.index-block.result.now (concat (drop (c.block_of-index.result + 1) c.self.inside.blocks.items)) c.args.offset
-    c.index.result.now c.text.result.now c.text.ensures
-    (found_place c.self.inside.blocks.items c.self.inside.starts.items c.self.inside.lines.items c.args.self.now
-    c.self.invariant.sums c.self.view_is c.block_of-index.result c.index-block.result.now c.index-block.ensures
-    c.args.offset c.index.result.now c.deref.result.now c.deref.ensures.value c.block_of-index.ensures c.index.ensures)
+    chunk_boundary c.args.self.now c.part_at.ensures.front c.part_at.result.block.now c.part_at.ensures.rest c.args.offset
+    c.part_at.result.before.len c.text.result.now c.text.ensures
+    (place_part c.args.self.now c.part_at.result.block.now c.part_at.result.before c.args.offset c.part_at.ensures)
     c.requires
 
 pub returns-clause-part : goal.returns-clause-part
 returns-clause-part c =
-    (chunk_is c.args.self.now (concat (take c.block_of-index.result c.self.inside.blocks.items))
-    c.index-block.result.now (concat (drop (c.block_of-index.result + 1) c.self.inside.blocks.items)) c.args.offset
-    c.index.result.now c.text.result.now c.range_from.result.now c.text.ensures c.range_from.ensures.value
-    (found_place c.self.inside.blocks.items c.self.inside.starts.items c.self.inside.lines.items c.args.self.now
-    c.self.invariant.sums c.self.view_is c.block_of-index.result c.index-block.result.now c.index-block.ensures
-    c.args.offset c.index.result.now c.deref.result.now c.deref.ensures.value c.block_of-index.ensures c.index.ensures)
+    (chunk_is c.args.self.now c.part_at.ensures.front c.part_at.result.block.now c.part_at.ensures.rest c.args.offset
+    c.part_at.result.before.len c.text.result.now c.range_from.result.now c.text.ensures c.range_from.ensures.value
+    (place_part c.args.self.now c.part_at.result.block.now c.part_at.result.before c.args.offset c.part_at.ensures)
     c.requires.0).part
 
 pub returns-clause-some : goal.returns-clause-some
 returns-clause-some c =
-    (chunk_is c.args.self.now (concat (take c.block_of-index.result c.self.inside.blocks.items))
-    c.index-block.result.now (concat (drop (c.block_of-index.result + 1) c.self.inside.blocks.items)) c.args.offset
-    c.index.result.now c.text.result.now c.range_from.result.now c.text.ensures c.range_from.ensures.value
-    (found_place c.self.inside.blocks.items c.self.inside.starts.items c.self.inside.lines.items c.args.self.now
-    c.self.invariant.sums c.self.view_is c.block_of-index.result c.index-block.result.now c.index-block.ensures
-    c.args.offset c.index.result.now c.deref.result.now c.deref.ensures.value c.block_of-index.ensures c.index.ensures)
+    (chunk_is c.args.self.now c.part_at.ensures.front c.part_at.result.block.now c.part_at.ensures.rest c.args.offset
+    c.part_at.result.before.len c.text.result.now c.range_from.result.now c.text.ensures c.range_from.ensures.value
+    (place_part c.args.self.now c.part_at.result.block.now c.part_at.result.before c.args.offset c.part_at.ensures)
     c.requires.0).some
 
 pub returns-clause-next : goal.returns-clause-next
 returns-clause-next c =
-    chunk_next c.args.self.now (concat (take c.block_of-index.result c.self.inside.blocks.items))
-    c.index-block.result.now (concat (drop (c.block_of-index.result + 1) c.self.inside.blocks.items)) c.args.offset
-    c.index.result.now
-    (found_place c.self.inside.blocks.items c.self.inside.starts.items c.self.inside.lines.items c.args.self.now
-    c.self.invariant.sums c.self.view_is c.block_of-index.result c.index-block.result.now c.index-block.ensures
-    c.args.offset c.index.result.now c.deref.result.now c.deref.ensures.value c.block_of-index.ensures c.index.ensures)
-    c.text.result.now c.range_from.result.now
-    (bytes_utf8 c.self.inside.blocks.items c.self.inside.starts.items c.self.inside.lines.items c.args.self.now
-    c.self.invariant.sums c.self.view_is)
-    c.text.ensures c.range_from.ensures.value c.requires
+    chunk_next c.args.self.now c.part_at.ensures.front c.part_at.result.block.now c.part_at.ensures.rest c.args.offset
+    c.part_at.result.before.len
+    (place_part c.args.self.now c.part_at.result.block.now c.part_at.result.before c.args.offset c.part_at.ensures)
+    c.text.result.now c.range_from.result.now c.part_at.ensures.at.utf8 c.text.ensures c.range_from.ensures.value
+    c.requires

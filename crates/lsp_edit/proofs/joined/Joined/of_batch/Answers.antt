@@ -1,11 +1,13 @@
-use Rattle.std.proofs.Common.{◌≡◌, ◌+◌, List, length, map, sum_by, string_len, sym, ap, subst, ◌∙◌, arith, rules}
+use Rattle.std.proofs.Common.{◌≡◌, ◌+◌, ℕ, List, Ok, length, map, sum_by, string_len, sym, ap, subst, ◌∙◌, arith, rules}
 use Rattle.std.specs.Slice.Iter.{chunks_rest}
+use Rattle.std.specs.Str.{chars}
 use Rattle.std.proofs.lemmas.List.{map-append, nil_from_length}
 use Rattle.std.proofs.lemmas.List.Sums.{sum_by-append}
 use Rattle.lsp_text.specs.Units.{units_in}
 use Rattle.lsp_edit.specs.declared.change.Change.{Change}
-use Rattle.lsp_edit.specs.Batch.{ContentChange}
+use Rattle.lsp_edit.specs.Batch.{ContentChange, meaning}
 use Rattle.lsp_edit.specs.Edited.{content_change}
+use Rattle.lsp_edit.specs.Indexed.{text_within}
 use Rattle.lsp_edit.specs.Joined.{IsReached}
 use Rattle.lsp_edit.proofs.Deltas.SeriesLemmas.{IsSeries, series_begins, series_ends, series_next}
 use Rattle.lsp_edit.proofs.joined.Joined.of_batch.Goals as goal
@@ -32,7 +34,12 @@ loop-series-preserved c =
     let f = (λ (change : Change). string_len change.text) in
     let sum : sum_by f (chunks_rest c.loop-series.series-iterator) ≡ sum_by f c.in-Some.series.now
     + sum_by f (chunks_rest c.next.new.self)
-    = ap (sum_by f) steps.1.0 ∙ sum_by-append f c.in-Some.series.now (chunks_rest c.next.new.self) in (
+    = ap (sum_by f) steps.1.0 ∙ sum_by-append f c.in-Some.series.now (chunks_rest c.next.new.self) in
+    let series : List ContentChange = map content_change c.in-Some.series.now in
+    let means = c.in_ok-delta.ensures.ok.means in
+    let left : text_within 1073741824 c.loop-series.reached (meaning (units_in c.args.encoding)
+    (chars c.loop-series.reached) series) ≡ Ok c.change.new.reached
+    = c.in_ok-delta.ensures.ok.is ∙ ap (λ (bytes : List ℕ). Ok bytes) (sym c.in_ok-change.ensures.changed) in (
       omega (arith, steps.0, c.loop-series.invariant.0),
       omega (arith, sum, c.loop-series.invariant.1),
       series_next (units_in c.args.encoding) c.args.before.now (map content_change c.args.changes.now)
@@ -42,7 +49,10 @@ loop-series-preserved c =
           (map content_change (chunks_rest c.next.new.self)) c.loop-series.invariant.2
           (ap (map content_change) steps.1.0 ∙ map-append content_change c.in-Some.series.now
           (chunks_rest c.next.new.self))
-          c.in_ok-change.ensures.ok c.in_ok-change.ensures.reached c.in_ok-change.ensures.changed,
+          (c.in_ok-change.ensures.ok (units_in c.args.encoding) series means)
+          (c.in_ok-change.ensures.reached 1073741824 _ (ap (text_within 1073741824 c.loop-series.reached) (sym means)
+          ∙ left))
+          left,
     )
 
 pub returns : goal.returns

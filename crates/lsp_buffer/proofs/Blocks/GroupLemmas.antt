@@ -1,0 +1,149 @@
+-- Groups of blocks.
+use Rattle.std.proofs.Common.{ℕ, ◌≡◌, ◌+◌, ◌-◌, ◌*◌, ◌/◌, ◌<◌, ◌≤◌, ◌⊎◌, List, [], ◌∷◌, ◌++◌, length, take, drop, set, get_or, ⊎_elim, inl, inr, refl, sym, ap, ◌∙◌, arith, subst}
+use Rattle.std.specs.List.{concat}
+use Rattle.std.proofs.lemmas.Bool.{cases_lt}
+use Rattle.std.proofs.lemmas.List.{drop-set-add, drop-set-lt, drop-take, get_or-append_right, get_or-set_other, get_or-set_same, get_or-take, get_or_append_left, length-append, length-set, length-take, length-take-le, take-append-le, take-set-le, take-take}
+use Rattle.lsp_buffer.specs.declared.counts.Counts.{Counts}
+use Rattle.lsp_buffer.specs.Blocks.{AreBlocks, AreGroups, counts_of}
+use Rattle.lsp_buffer.specs.inside.Cuts.{AreFull}
+use Rattle.lsp_buffer.proofs.Blocks.BlockLemmas.{blocks_some}
+use Rattle.lsp_buffer.proofs.Blocks.CountLemmas.{some_full, some_low}
+
+pub no_groups : (blocks : List (List ℕ)) (groups : List Counts) → groups ≡ [] → AreBlocks blocks
+    → AreGroups blocks groups
+no_groups blocks groups none are =
+    subst (AreGroups blocks) (sym none)
+    (record { within = omega (arith, blocks_some blocks are); counts = λ g h. absurd (omega arith) })
+
+-- One group more.
+pub groups_more : (blocks : List (List ℕ)) (groups now : List Counts) (counts : Counts) → AreGroups blocks groups
+    → 32 * (length groups + 1) < length blocks
+    → counts ≡ counts_of (concat (take 32 (drop (32 * length groups) blocks))) → now ≡ groups ++ counts ∷ []
+    → AreGroups blocks now
+groups_more blocks groups now counts are more is now_is =
+    subst (AreGroups blocks) (sym now_is)
+    (record {
+      within = omega (arith, more, length-append groups (counts ∷ []));
+      counts = λ g h.
+          ⊎_elim
+          (λ (earlier : g < length groups). get_or_append_left groups (counts ∷ []) (counts_of []) g earlier
+          ∙ are.counts g earlier)
+          (λ (later : length groups ≤ g).
+          let at : g ≡ length groups = omega (arith, h, later, length-append groups (counts ∷ [])) in
+          get_or-append_right groups (counts ∷ []) (length groups) g (counts_of []) refl later ∙
+          (ap (λ n. get_or (counts ∷ []) n (counts_of [])) (let e : g - length groups ≡ 0 = omega arith in e) ∙
+          (is ∙ ap (λ n. counts_of (concat (take 32 (drop (32 * n) blocks)))) (sym at))))
+          (cases_lt g (length groups));
+    })
+
+-- The blocks of a group, as a slice of the blocks has them.
+module _ (blocks : List (List ℕ)) (are : AreBlocks blocks) (size : length (concat blocks) ≤ 2147483648) (group : ℕ)
+    (within : 32 * group + 32 < length blocks) where
+  count : 32 ≡ 32 * group + 32 - 32 * group
+  count = omega arith
+
+  pub slice_full : AreFull (take (32 * group + 32 - 32 * group) (drop (32 * group) blocks))
+  slice_full = subst (λ (n : ℕ). AreFull (take n (drop (32 * group) blocks))) count
+      (some_full blocks are (32 * group) 32 within)
+
+  pub slice_small : length (concat (take (32 * group + 32 - 32 * group) (drop (32 * group) blocks))) ≤ 2147483648
+  slice_small = omega (
+    arith,
+    ap (λ (n : ℕ). length (concat (take n (drop (32 * group) blocks)))) count,
+    some_low blocks are (32 * group) 32 within,
+  )
+
+  pub slice_counts : (counts : Counts) → counts ≡ counts_of (concat (take (32 * group + 32 - 32 * group)
+      (drop (32 * group) blocks))) → counts ≡ counts_of (concat (take 32 (drop (32 * group) blocks)))
+  slice_counts counts is = is ∙ ap (λ (n : ℕ). counts_of (concat (take n (drop (32 * group) blocks)))) (sym count)
+
+-- The blocks of a group that another block isn't in.
+other_group : (blocks : List (List ℕ)) (index : ℕ) (block : List ℕ) (from : ℕ) → (index < from) ⊎ (from + 32 ≤ index)
+    → take 32 (drop from (set blocks index block)) ≡ take 32 (drop from blocks)
+other_group blocks index block from =
+    ⊎_elim
+    (λ (h : index < from). ap (take 32) (drop-set-lt from blocks index block h))
+    (λ (h : from + 32 ≤ index).
+    ap (λ i. take 32 (drop from (set blocks i block))) (let e : index ≡ from + (index - from) = omega (arith, h) in e) ∙
+    (ap (take 32) (drop-set-add from blocks (index - from) block)
+    ∙ take-set-le 32 (drop from blocks) (index - from) block (omega (arith, h))))
+
+module _ (blocks : List (List ℕ)) (groups : List Counts) (index : ℕ) (block : List ℕ)
+    (are : AreGroups (set blocks index block) groups) where
+  same_group : (g : ℕ) → (g < index / 32) ⊎ (index / 32 < g) → take 32 (drop (32 * g) (set blocks index block))
+      ≡ take 32 (drop (32 * g) blocks)
+  same_group g =
+      ⊎_elim
+      (λ (h : g < index / 32). other_group blocks index block (32 * g) (inr (omega (arith, h))))
+      (λ (h : index / 32 < g). other_group blocks index block (32 * g) (inl (omega (arith, h))))
+
+  pub groups_within : index / 32 < length groups → 32 * (index / 32) + 32 < length blocks
+  groups_within inside = omega (arith, are.within, length-set blocks index block, inside)
+
+  pub groups_same : length groups ≤ index / 32 → AreGroups blocks groups
+  groups_same past = record {
+    within = omega (arith, are.within, length-set blocks index block);
+    counts = λ g h. are.counts g h ∙ ap (λ bs. counts_of (concat bs)) (same_group g (inl (omega (arith, h, past))));
+  }
+
+  pub groups_set : (group : ℕ) (counts : Counts) (now : List Counts) → group ≡ index / 32 → group < length groups
+      → counts ≡ counts_of (concat (take 32 (drop (32 * group) blocks))) → now ≡ set groups group counts
+      → AreGroups blocks now
+  groups_set group counts now group_is within is now_is =
+      subst (AreGroups blocks) (sym now_is)
+      (record {
+        within = omega (arith, are.within, length-set blocks index block, length-set groups group counts);
+        counts = λ g h.
+            let inside : g < length groups = omega (arith, h, length-set groups group counts) in
+            ⊎_elim
+            (λ (less : g < group).
+            get_or-set_other groups group g counts (counts_of []) (λ e. omega (arith, e, less)) ∙
+            (are.counts g inside ∙ ap (λ bs. counts_of (concat bs)) (same_group g (inl (omega (arith, less, group_is))))))
+            (λ (least : group ≤ g).
+            ⊎_elim
+            (λ (more : group < g).
+            get_or-set_other groups group g counts (counts_of []) (λ e. omega (arith, e, more)) ∙
+            (are.counts g inside ∙ ap (λ bs. counts_of (concat bs)) (same_group g (inr (omega (arith, more, group_is))))))
+            (λ (most : g ≤ group).
+            let at : g ≡ group = omega (arith, least, most) in
+            ap (λ n. get_or (set groups group counts) n (counts_of [])) at ∙
+            (get_or-set_same groups group counts (counts_of []) within ∙
+            (is ∙ ap (λ n. counts_of (concat (take 32 (drop (32 * n) blocks)))) (sym at))))
+            (cases_lt group g))
+            (cases_lt g group);
+      })
+
+-- The first blocks stay.
+pub groups_front : (blocks more : List (List ℕ)) (groups now : List Counts) (first : ℕ) → AreGroups blocks groups
+    → first ≤ length blocks → 0 < length more → now ≡ take (first / 32) groups
+    → AreGroups (take first blocks ++ more) now
+groups_front blocks more groups now first are within some now_is =
+    subst (AreGroups (take first blocks ++ more)) (sym now_is)
+    (record {
+      within = omega (
+        arith,
+        length-append (take first blocks) more,
+        front_length,
+        some,
+        count,
+      );
+      counts = λ g h.
+          let less : g < first / 32 = omega (arith, h, count) in
+          let inside : g < length groups = omega (arith, h, length-take (first / 32) groups) in
+          get_or-take (first / 32) groups g (counts_of []) less ∙
+          (are.counts g inside ∙ ap (λ bs. counts_of (concat bs)) (front_same (32 * g) (omega (arith, less))));
+    })
+  where
+    front_length : length (take first blocks) ≡ first
+    front_length = length-take-le first blocks within
+
+    count : length (take (first / 32) groups) ≤ first / 32
+    count = omega (arith, length-take (first / 32) groups)
+
+    front_same : (from : ℕ) → from + 32 ≤ first → take 32 (drop from blocks)
+        ≡ take 32 (drop from (take first blocks ++ more))
+    front_same from h =
+        sym (drop-take from 32 blocks) ∙
+        (ap (drop from) (sym (take-take (from + 32) first blocks h) ∙
+        sym (take-append-le (from + 32) (take first blocks) more (omega (arith, h, front_length)))) ∙
+        drop-take from 32 (take first blocks ++ more))

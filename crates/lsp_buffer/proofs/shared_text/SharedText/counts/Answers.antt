@@ -1,0 +1,28 @@
+use Rattle.std.proofs.Common.{◌≡◌, ◌-◌, length, arith, ap, subst}
+use Rattle.std.specs.Str.{IsUtf8}
+use Rattle.lsp_buffer.specs.Blocks.{block_ends}
+use Rattle.lsp_buffer.proofs.Blocks.CountLemmas.{ends_low}
+use Rattle.lsp_buffer.proofs.shared_text.SharedText.counts.Goals as goal
+
+pub overflow_cast-result : goal.overflow_cast-result
+overflow_cast-result c = omega (arith, ap length c.text-text.ensures, c.lines-lines.ensures.size)
+
+pub overflow_cast-result-2 : goal.overflow_cast-result-2
+overflow_cast-result-2 c = omega (
+  arith,
+  c.count.ensures.line_ends c.args.self.now c.lines-lines.ensures,
+  ends_low c.args.self.now (subst IsUtf8 c.text-text.ensures c.text-text.utf8),
+  c.lines-lines.ensures.size,
+)
+
+pub returns : goal.returns
+returns c =
+    let ends : c.count.result - 1 ≡ block_ends c.args.self.now =
+    omega (arith, c.count.ensures.line_ends c.args.self.now c.lines-lines.ensures) in
+    λ i. record {
+      len = ap length c.text-text.ensures i;
+      ends = ends i;
+      utf8 = c.head.ensures i;
+      utf16 = c.head-2.ensures i;
+      utf32 = c.head-3.ensures i;
+    }

@@ -1,0 +1,40 @@
+use Rattle.std.proofs.Common.{◌≡◌, ◌∙◌, List, ℕ, ap, sym, subst, string_bytes, rules, w32, to_z, of_z}
+use Rattle.std.proofs.lemmas.Int.{to_z-of_z}
+use Rattle.lsp_edit.specs.Delta.{IsOn}
+use Rattle.lsp_message.specs.Params.{DocumentItem}
+use Rattle.lsp_store.proofs.SquashLemmas.{plan_after, plan_at, plan_reached}
+use Rattle.lsp_store.proofs.squash.Batches.add_plan.Goals as goal
+
+pub add_delta-requires-clause-reached : goal.add_delta-requires-clause-reached
+add_delta-requires-clause-reached c =
+    plan_at (string_bytes c.self.inside.uri) c.self.inside.limits c.self.inside.encoding c.self.inside.joined
+    c.self.inside.version c.args.self.now c.self.view_is c.args.store.now c.args.plan.now c.requires.on
+    c.document.inside.stored.now.text
+    (ap (λ (e : DocumentItem). e.text) (c.document.view_is ∙ c.planned_document-document.ensures c.requires.on))
+    (c.requires.reached c.requires.on)
+
+pub add_delta-requires-clause-on : goal.add_delta-requires-clause-on
+add_delta-requires-clause-on c =
+    subst (λ (t : List ℕ). IsOn t c.args.plan.now.delta)
+    (sym (ap (λ (e : DocumentItem). e.text) (c.document.view_is ∙ c.planned_document-document.ensures c.requires.on)))
+    c.requires.on.on
+
+pub returns-clause-added : goal.returns-clause-added
+returns-clause-added c = λ uri version encoding batch q coded limits.
+    let given : to_z w32 (of_z w32 c.args.plan.now.version) ≡ c.args.plan.now.version =
+    to_z-of_z w32 c.args.plan.now.version (search rules) in (
+      plan_after (string_bytes c.self.inside.uri) c.self.inside.limits c.self.inside.encoding c.self.inside.joined
+          c.add_delta.new.self c.self.inside.version _ c.args.self.now c.self.view_is c.args.store.now c.args.plan.now
+          given
+          c.document.inside.stored.now.text
+          (λ on. ap (λ (e : DocumentItem). e.text) (c.document.view_is ∙ c.planned_document-document.ensures on))
+          c.requires.reached
+          c.in_ok-add_delta.ensures.ok c.in_ok-add_delta.ensures.reached uri version encoding batch q coded limits,
+      plan_reached (string_bytes c.self.inside.uri) c.self.inside.limits c.self.inside.encoding c.self.inside.joined
+          c.add_delta.new.self c.self.inside.version _ c.args.self.now c.self.view_is c.args.store.now c.args.plan.now
+          given
+          c.document.inside.stored.now.text
+          (λ on. ap (λ (e : DocumentItem). e.text) (c.document.view_is ∙ c.planned_document-document.ensures on))
+          c.requires.reached
+          c.in_ok-add_delta.ensures.ok c.in_ok-add_delta.ensures.reached uri version encoding batch q coded limits,
+    )

@@ -1,5 +1,0 @@
-//! `Told` and `Duplex` over scripted readers and writers, and the texts of faults.
-
-mod adapter;
-mod duplex;
-mod faults;
