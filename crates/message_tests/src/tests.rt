@@ -2,5 +2,6 @@
 //! and calls that run out of memory.
 
 mod bodies;
+mod faults;
 mod frames;
 mod messages;
