@@ -1,5 +1,5 @@
-//! Maps, documents and the sessions about them: worked rows, printed faults, and calls that run out of
-//! memory.
+//! Maps, documents and the sessions about them: worked rows, printed faults, and calls that run out
+//! of memory.
 
 mod client;
 mod faults;

@@ -1,8 +1,9 @@
-//! Canonical messages with their exact bytes, and calls on a store that run out of memory. Positions
-//! are in UTF-16.
+//! Canonical messages with their exact bytes, and calls on a store that run out of memory.
+//! Positions are in UTF-16.
 
 mod made_again;
 mod plans;
+mod reads;
 mod squash;
 mod text_edits;
 

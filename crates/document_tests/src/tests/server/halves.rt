@@ -1,5 +1,5 @@
-//! A change in its two halves: it is planned, and the plan is committed. Calls that run out of memory
-//! are made again.
+//! A change in its two halves: it is planned, and the plan is committed. Calls that run out of
+//! memory are made again.
 
 use super::{new_server, pass};
 use crate::tests::{Open, URI, is_left};
@@ -43,8 +43,8 @@ fn perform(server: &mut Server, params: &ChangeParams) -> Result<Answer, ServerF
     }
 }
 
-/// Returns whether a change leaves a text. Where memory runs out the document is unchanged, and both
-/// halves are made again.
+/// Returns whether a change leaves a text. Where memory runs out the document is unchanged, and
+/// both halves are made again.
 fn is_performed(
     server: &mut Server,
     params: &ChangeParams,

@@ -28,8 +28,8 @@ static MESSAGES: [Message; 9] = [
     (EXIT, "exit 0", None),
 ];
 
-/// Returns whether the message has its answer. Where memory runs out the server is unchanged, and the
-/// same body is passed again.
+/// Returns whether the message has its answer. Where memory runs out the server is unchanged, and
+/// the same body is passed again.
 fn is_answered(
     alloc: Global,
     server: &mut Server,

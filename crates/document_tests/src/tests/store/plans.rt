@@ -1,5 +1,5 @@
-//! A batch that is planned: its message, its body and its text are read from the plan, other batches
-//! are joined to it, and it is applied.
+//! A batch that is planned: its message, its body and its text are read from the plan, other
+//! batches are joined to it, and it is applied.
 
 ghost use Rattle.std.specs.Prelude.{IfOk};
 ghost use Rattle.lsp_store.specs.Plan.{IsPlanOn};

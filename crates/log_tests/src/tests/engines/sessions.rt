@@ -160,8 +160,8 @@ fn logs_of_version_2(rt: HostRuntime) -> Result<(), Fail> {
     Ok(())
 }
 
-/// The encodings that a server announces after `initialize`, and the word of a change that is inside
-/// a character in UTF-8 and after it in UTF-32.
+/// The encodings that a server announces after `initialize`, and the word of a change that is
+/// inside a character in UTF-8 and after it in UTF-32.
 static ANNOUNCED: [(&str, &str); 2] = [("utf-32", "changed"), ("utf-8", "refused E1")];
 
 /// Returns a log whose server announces an encoding.

@@ -112,8 +112,8 @@ fn as_batch(alloc: Global, text: &str, edits: &[TextEdit]) -> Result<Vec<Change>
     kept(alloc, text)?.batch_of_edits(Encoding::Utf16, edits)
 }
 
-/// Returns whether edits are one batch, and leave their text. Out of memory is counted, and the call
-/// made again.
+/// Returns whether edits are one batch, and leave their text. Out of memory is counted, and the
+/// call made again.
 fn is_edited(alloc: Global, row: &Edited, refused: &mut usize) -> Result<bool, Fail> {
     let (before, edits, after, canonical) = *row;
     let edits = again!(refused, AllocError, text_edits(alloc, edits))?;
