@@ -107,7 +107,7 @@ fn are_applied<'a>(
     refused: &mut usize,
 ) -> Result<bool, EditFault> {
     for (change, text) in changes.iter().zip(row.2) {
-        if !is_applied(pieces, change, text, refused)? {
+        if !is_applied(pieces, change, *text, refused)? {
             return Ok(false);
         }
     }
