@@ -47,6 +47,7 @@ static const char sample[] = "a\r\nb\xf0\x9f\x98\x80";
 #include "test/positions.h"
 #include "test/streams.h"
 #include "test/edits.h"
+#include "test/members.h"
 #include "test/memory.h"
 #include "test/greatest.h"
 
@@ -63,6 +64,7 @@ int main(void) {
     test_server();
     test_other_kinds();
     test_logs();
+    test_log_options();
     test_log_faults();
     test_log_refusals();
     test_framer();
@@ -80,6 +82,12 @@ int main(void) {
     test_take_of_other_kinds();
     test_server_batch_of_edits();
     test_server_message();
+    test_texts();
+    test_message_uri();
+    test_defaults();
+    test_settings_of_servers();
+    test_settings_of_clients();
+    test_members_of_results();
     test_refused(run_refused);
     test_refused(run_refused_server);
     test_refused(run_refused_logs);

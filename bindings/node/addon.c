@@ -4,6 +4,7 @@
 #include <node_api.h>
 #include <stdio.h>
 #include <stdlib.h>
+#include <string.h>
 
 #include "laspidru.h"
 
@@ -11,9 +12,11 @@ enum {
     MOST_ARGUMENTS = 6,
     FEW_EDITS = 4,
     NUMBERS_OF_EDIT = 6,
-    NUMBERS_OF_SETTINGS = 7,
+    NUMBERS_OF_CLIENT = 7,
     NUMBERS_OF_SERVER = 8,
-    MESSAGE_LEN = 96,
+    NUMBERS_OF_LOG = 11,
+    TEXT_LEN = 120,
+    MESSAGE_LEN = 200,
     REPORTED_STEP = 65536 /* the collector hears of a document's size after changes of so many bytes */
 };
 
@@ -34,13 +37,13 @@ NAPI_MODULE_INIT() {
         {"offset", 0, offset, 0, 0, 0, napi_default, 0},      {"position", 0, position, 0, 0, 0, napi_default, 0},
         {"newFramer", 0, new_framer, 0, 0, 0, napi_default, 0}, {"feed", 0, feed, 0, 0, 0, napi_default, 0},
         {"isAtRest", 0, is_at_rest, 0, 0, 0, napi_default, 0}, {"newServer", 0, new_server, 0, 0, 0, napi_default, 0},
-        {"handle", 0, handle_body, 0, 0, 0, napi_default, 0}, {"documents", 0, documents, 0, 0, 0, napi_default, 0},
+        {"texts", 0, all_texts, 0, 0, 0, napi_default, 0},    {"version", 0, version, 0, 0, 0, napi_default, 0},
         {"newClient", 0, new_client, 0, 0, 0, napi_default, 0}, {"call", 0, call, 0, 0, 0, napi_default, 0},
         {"openAt", 0, open_at, 0, 0, 0, napi_default, 0},     {"edit", 0, edit, 0, 0, 0, napi_default, 0},
         {"closeAt", 0, close_at, 0, 0, 0, napi_default, 0},   {"deliver", 0, deliver, 0, 0, 0, napi_default, 0},
         {"state", 0, state_of, 0, 0, 0, napi_default, 0},     {"document", 0, document_at, 0, 0, 0, napi_default, 0},
         {"offsetAt", 0, offset_at, 0, 0, 0, napi_default, 0}, {"positionAt", 0, position_at, 0, 0, 0, napi_default, 0},
-        {"lineAt", 0, line_at, 0, 0, 0, napi_default, 0},     {"encoding", 0, encoding_of, 0, 0, 0, napi_default, 0},
+        {"lineAt", 0, line_at, 0, 0, 0, napi_default, 0},     {"uri", 0, uri_of, 0, 0, 0, napi_default, 0},
         {"batchOfEditsAt", 0, batch_of_edits_at, 0, 0, 0, napi_default, 0},
         {"canonicalMessage", 0, canonical_message, 0, 0, 0, napi_default, 0},
     };

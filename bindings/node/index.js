@@ -33,4 +33,7 @@ function loaded() {
   }
 }
 
-module.exports = over(loaded());
+/** The bytes of a log, or of the file of a path, an URL or a number. */
+const read = (log) => (typeof log === 'string' || typeof log === 'number' || log instanceof URL ? fs.readFileSync(log) : log);
+
+module.exports = over(loaded(), read);

@@ -28,7 +28,7 @@ class Session:
             self.to_server.append(getattr(self.client, word)(*arguments))
             return "sent"
         except LaspidruError as error:
-            return f"refused {error.code}"
+            return f"refused {NUMBERS[error.code]}"
 
     def deliver(self, end, frames, replies):
         """The first message, in two pieces."""
@@ -43,11 +43,11 @@ class Session:
 
     def serve(self):
         event = self.deliver(self.server, self.to_server, self.to_client)
-        return event and f"server {KINDS[event.kind]} {event.reason} {event.status or 0} {event.error}" or "nothing"
+        return event and f"server {KINDS[event.kind]} {NUMBERS.get(event.reason, 0)} {event.status or 0} {event.error}" or "nothing"
 
     def hear(self):
         event = self.deliver(self.client, self.to_client, self.to_server)
-        return event and f"client {KINDS[event.kind]} {event.reason}" or "nothing"
+        return event and f"client {KINDS[event.kind]} {NUMBERS.get(event.reason, 0)}" or "nothing"
 
     def end(self):
         found = [f"waiting {len(self.to_server)} {len(self.to_client)}"]

@@ -60,7 +60,7 @@ static napi_value new_framer(napi_env env, napi_callback_info info) {
 }
 
 /* feed(framer, piece, start): [how many bytes of the piece were taken from `start` on, and where a message is whole its body], or
-   where the frame is faulty the negative number of F1 to F7, and its place. */
+   where the frame is faulty the negative number of F1 to F7, and its byte offset. */
 static napi_value feed(napi_env env, napi_callback_info info) {
     napi_value found[MOST_ARGUMENTS], body = NULL;
     laspidru_handle *framer;
@@ -74,11 +74,11 @@ static napi_value feed(napi_env env, napi_callback_info info) {
         return refuse_arguments(env);
     laspidru_u32 code = laspidru_framer_feed(framer, (const unsigned char *)piece + start, len - start, &taken);
     if (code == LASPIDRU_BAD_FRAME)
-        return array_of(env, (const double[]){-(double)taken.frame, (double)taken.place}, 2, NULL);
+        return array_of(env, (const double[]){-(double)taken.frame, (double)taken.offset}, 2, NULL);
     if (code != LASPIDRU_OK)
         return refuse(env, code);
     if (taken.is_whole) {
-        body = buffer_of(env, laspidru_framer_body, framer, taken.body_len);
+        body = buffer_of(env, laspidru_body, framer, taken.body_len);
         if (body == NULL)
             return refuse(env, LASPIDRU_OUT_OF_MEMORY);
         laspidru_framer_next(framer);
@@ -97,7 +97,7 @@ static napi_value is_at_rest(napi_env env, napi_callback_info info) {
     return code == LASPIDRU_OK ? made(env, napi_get_boolean(env, at_rest, &out), &out) : refuse(env, code);
 }
 
-/* newServer(numbers): a Uint32Array in the order of laspidru_settings */
+/* newServer(numbers): a Uint32Array of the limits, the encoding, isFixed, isFull, lenient */
 static napi_value new_server(napi_env env, napi_callback_info info) {
     napi_value found[MOST_ARGUMENTS];
     const void *numbers;
@@ -106,29 +106,29 @@ static napi_value new_server(napi_env env, napi_callback_info info) {
         count != NUMBERS_OF_SERVER)
         return refuse_arguments(env);
     const laspidru_u32 *n = numbers;
-    laspidru_settings settings = {n[0], n[1], n[2], n[3], n[4], n[5] != 0, n[6] != 0, n[7] != 0};
+    laspidru_settings settings = {.max_body = n[0], .max_text = n[1], .max_docs = n[2], .max_changes = n[3],
+                                  .encoding = n[4], .is_fixed = n[5] != 0, .is_full = n[6] != 0, .lenient = n[7] != 0};
     laspidru_handle *handle = calloc(1, sizeof *handle);
     return handle != NULL ? made_end(env, handle, laspidru_server_new(handle, &settings)) : refuse(env, LASPIDRU_OUT_OF_MEMORY);
 }
 
-/* newClient(numbers): a Uint32Array in the order of laspidru_client_settings */
+/* newClient(numbers): a Uint32Array of the limits, utf8, utf32, lenient */
 static napi_value new_client(napi_env env, napi_callback_info info) {
     napi_value found[MOST_ARGUMENTS];
     const void *numbers;
     size_t count;
     if (!arguments(env, info, 1, found) || !elements(env, found[0], napi_uint32_array, &numbers, &count) ||
-        count != NUMBERS_OF_SETTINGS)
+        count != NUMBERS_OF_CLIENT)
         return refuse_arguments(env);
     const laspidru_u32 *n = numbers;
-    laspidru_client_settings settings = {n[0], n[1], n[2], n[3], n[4] != 0, n[5] != 0, n[6] != 0};
+    laspidru_client_settings settings = {.max_body = n[0], .max_text = n[1], .max_docs = n[2], .max_changes = n[3],
+                                         .utf8 = n[4] != 0, .utf32 = n[5] != 0, .lenient = n[6] != 0};
     laspidru_handle *handle = calloc(1, sizeof *handle);
     return handle != NULL ? made_end(env, handle, laspidru_client_new(handle, &settings)) : refuse(env, LASPIDRU_OUT_OF_MEMORY);
 }
 
-typedef laspidru_u32 handling(laspidru_handle *end, const unsigned char *body, laspidru_size body_len, laspidru_answer *answer);
-
-/* What an end did with a body: [kind, reason, status, error, and where there is a frame to send that]. */
-static napi_value handled(napi_env env, napi_callback_info info, handling *handle, copying *copy) {
+/* deliver(end, body): what an end did with a body: [kind, reason, status, error, and where there is a frame to send that] */
+static napi_value deliver(napi_env env, napi_callback_info info) {
     napi_value found[MOST_ARGUMENTS], frame = NULL;
     laspidru_handle *end;
     laspidru_answer it = {0};
@@ -137,29 +137,35 @@ static napi_value handled(napi_env env, napi_callback_info info, handling *handl
     if (!arguments(env, info, 2, found) || !end_of(env, found[0], &end) ||
         !elements(env, found[1], napi_uint8_array, &body, &len))
         return refuse_arguments(env);
-    laspidru_u32 code = handle(end, body, len, &it);
+    laspidru_u32 code = laspidru_deliver(end, body, len, &it);
     if (code != LASPIDRU_OK)
         return refuse(env, code);
-    if (it.kind == LASPIDRU_REPLIED && (frame = buffer_of(env, copy, end, it.reply_len)) == NULL)
+    if (it.kind == LASPIDRU_REPLIED && (frame = buffer_of(env, laspidru_frame, end, it.reply_len)) == NULL)
         return refuse(env, LASPIDRU_OUT_OF_MEMORY);
     return array_of(env, (const double[]){it.kind, it.reason, it.status, it.error}, 4, frame);
 }
 
-/* handle(server, body) */
-static napi_value handle_body(napi_env env, napi_callback_info info) {
-    return handled(env, info, laspidru_server_handle, laspidru_server_reply);
-}
-
-/* deliver(client, body) */
-static napi_value deliver(napi_env env, napi_callback_info info) {
-    return handled(env, info, laspidru_client_deliver, laspidru_client_frame);
+/* uri(body): the URI of the document that it opens, changes or closes, or undefined */
+static napi_value uri_of(napi_env env, napi_callback_info info) {
+    napi_value found[MOST_ARGUMENTS], out = NULL;
+    laspidru_size copied = 0;
+    const void *body;
+    size_t len;
+    if (!arguments(env, info, 1, found) || !elements(env, found[0], napi_uint8_array, &body, &len))
+        return refuse_arguments(env);
+    unsigned char *uri = malloc(len + 1);
+    laspidru_u32 code = uri != NULL ? laspidru_message_uri(body, len, 0, uri, len, &copied) : LASPIDRU_OUT_OF_MEMORY;
+    if (code == LASPIDRU_OK && napi_create_string_utf8(env, (const char *)uri, copied, &out) != napi_ok)
+        code = LASPIDRU_OUT_OF_MEMORY;
+    free(uri);
+    return code == LASPIDRU_OK || code == LASPIDRU_NO_DOCUMENT ? out : refuse(env, code);
 }
 
 /* The frame of a client's call that is done. */
 static napi_value frame_of(napi_env env, laspidru_handle *client, laspidru_u32 code, size_t len) {
     if (code != LASPIDRU_OK)
         return refuse(env, code);
-    napi_value out = buffer_of(env, laspidru_client_frame, client, len);
+    napi_value out = buffer_of(env, laspidru_frame, client, len);
     return out != NULL ? out : refuse(env, LASPIDRU_OUT_OF_MEMORY);
 }
 
@@ -231,42 +237,29 @@ static napi_value close_at(napi_env env, napi_callback_info info) {
     return frame_of(env, client, code, len);
 }
 
-/* state(client): [phase, reason, encoding, how many documents are open] */
+/* state(end): [phase, reason, encoding, how many documents are open] */
 static napi_value state_of(napi_env env, napi_callback_info info) {
     napi_value found[MOST_ARGUMENTS];
-    laspidru_handle *client;
+    laspidru_handle *end;
     laspidru_state it;
-    if (!arguments(env, info, 1, found) || !end_of(env, found[0], &client))
+    if (!arguments(env, info, 1, found) || !end_of(env, found[0], &end))
         return refuse_arguments(env);
-    laspidru_u32 code = laspidru_client_state(client, &it);
+    laspidru_u32 code = laspidru_session_state(end, &it);
     if (code != LASPIDRU_OK)
         return refuse(env, code);
     return array_of(env, (const double[]){it.phase, it.reason, it.encoding, (double)it.documents}, 4, NULL);
 }
 
-/* documents(server): how many are open */
-static napi_value documents(napi_env env, napi_callback_info info) {
-    napi_value found[MOST_ARGUMENTS], out = NULL;
-    laspidru_handle *server;
-    laspidru_size len = 0;
-    if (!arguments(env, info, 1, found) || !end_of(env, found[0], &server))
-        return refuse_arguments(env);
-    laspidru_u32 code = laspidru_server_documents(server, &len);
-    return code == LASPIDRU_OK ? made(env, napi_create_double(env, (double)len, &out), &out) : refuse(env, code);
-}
-
 /* An end, and the URI of a document of it. */
 typedef struct {
     laspidru_handle *end;
-    bool is_client;
     const void *uri;
     size_t uri_len;
 } named;
 
-/* The first three arguments: end, isClient, uri. */
+/* The first two arguments: end, uri. */
 static int named_of(napi_env env, const napi_value *found, named *it) {
-    return end_of(env, found[0], &it->end) && napi_get_value_bool(env, found[1], &it->is_client) == napi_ok &&
-           elements(env, found[2], napi_uint8_array, &it->uri, &it->uri_len);
+    return end_of(env, found[0], &it->end) && elements(env, found[1], napi_uint8_array, &it->uri, &it->uri_len);
 }
 
 /* So many bytes of the text of an open document: a string, or NULL. */
@@ -276,8 +269,7 @@ static napi_value string_at(napi_env env, const named *it, size_t start, size_t 
     unsigned char *bytes = malloc(len + 1);
     if (bytes == NULL)
         return NULL;
-    laspidru_u32 code = it->is_client ? laspidru_client_text(it->end, it->uri, it->uri_len, start, bytes, len, &copied)
-                                      : laspidru_server_text(it->end, it->uri, it->uri_len, start, bytes, len, &copied);
+    laspidru_u32 code = laspidru_open_text(it->end, it->uri, it->uri_len, start, bytes, len, &copied);
     if (code != LASPIDRU_OK || napi_create_string_utf8(env, (const char *)bytes, copied, &out) != napi_ok)
         out = NULL;
     free(bytes);
@@ -289,16 +281,15 @@ static napi_value nothing_or_refuse(napi_env env, laspidru_u32 code) {
     return code == LASPIDRU_NOT_OPEN ? NULL : refuse(env, code);
 }
 
-/* document(end, isClient, uri, withText): [version, and where it is asked for the text] of an open document, or undefined */
+/* document(end, uri, withText): [version, and where it is asked for the text] of an open document, or undefined */
 static napi_value document_at(napi_env env, napi_callback_info info) {
     napi_value found[MOST_ARGUMENTS], text = NULL;
     laspidru_opened opened;
     bool with_text;
     named it;
-    if (!arguments(env, info, 4, found) || !named_of(env, found, &it) || napi_get_value_bool(env, found[3], &with_text) != napi_ok)
+    if (!arguments(env, info, 3, found) || !named_of(env, found, &it) || napi_get_value_bool(env, found[2], &with_text) != napi_ok)
         return refuse_arguments(env);
-    laspidru_u32 code = it.is_client ? laspidru_client_document(it.end, it.uri, it.uri_len, &opened)
-                                     : laspidru_server_document(it.end, it.uri, it.uri_len, &opened);
+    laspidru_u32 code = laspidru_open_state(it.end, it.uri, it.uri_len, &opened);
     if (code != LASPIDRU_OK)
         return nothing_or_refuse(env, code);
     if (with_text && (text = string_at(env, &it, 0, opened.bytes)) == NULL)
@@ -306,107 +297,93 @@ static napi_value document_at(napi_env env, napi_callback_info info) {
     return array_of(env, (const double[]){opened.version}, 1, text);
 }
 
-/* offsetAt(end, isClient, uri, encoding, line, character): a byte offset in an open document, or undefined */
+/* offsetAt(end, uri, encoding, line, character): a byte offset in an open document, or undefined */
 static napi_value offset_at(napi_env env, napi_callback_info info) {
     napi_value found[MOST_ARGUMENTS], out = NULL;
     laspidru_u32 encoding;
     laspidru_position place;
     laspidru_size at = 0;
     named it;
-    if (!arguments(env, info, 6, found) || !named_of(env, found, &it) ||
-        napi_get_value_uint32(env, found[3], &encoding) != napi_ok ||
-        napi_get_value_uint32(env, found[4], &place.line) != napi_ok ||
-        napi_get_value_uint32(env, found[5], &place.character) != napi_ok)
+    if (!arguments(env, info, 5, found) || !named_of(env, found, &it) ||
+        napi_get_value_uint32(env, found[2], &encoding) != napi_ok ||
+        napi_get_value_uint32(env, found[3], &place.line) != napi_ok ||
+        napi_get_value_uint32(env, found[4], &place.character) != napi_ok)
         return refuse_arguments(env);
-    laspidru_u32 code = it.is_client ? laspidru_client_offset(it.end, it.uri, it.uri_len, encoding, place, &at)
-                                     : laspidru_server_offset(it.end, it.uri, it.uri_len, encoding, place, &at);
+    laspidru_u32 code = laspidru_open_offset(it.end, it.uri, it.uri_len, encoding, place, &at);
     if (code != LASPIDRU_OK)
         return nothing_or_refuse(env, code);
     return made(env, napi_create_double(env, (double)at, &out), &out);
 }
 
-/* positionAt(end, isClient, uri, encoding, byteOffset): [line, character] in an open document, or undefined */
+/* positionAt(end, uri, encoding, byteOffset): [line, character] in an open document, or undefined */
 static napi_value position_at(napi_env env, napi_callback_info info) {
     napi_value found[MOST_ARGUMENTS];
     laspidru_u32 encoding;
     laspidru_position place;
     int64_t at;
     named it;
-    if (!arguments(env, info, 5, found) || !named_of(env, found, &it) ||
-        napi_get_value_uint32(env, found[3], &encoding) != napi_ok || napi_get_value_int64(env, found[4], &at) != napi_ok || at < 0)
+    if (!arguments(env, info, 4, found) || !named_of(env, found, &it) ||
+        napi_get_value_uint32(env, found[2], &encoding) != napi_ok || napi_get_value_int64(env, found[3], &at) != napi_ok || at < 0)
         return refuse_arguments(env);
-    laspidru_u32 code = it.is_client ? laspidru_client_position(it.end, it.uri, it.uri_len, encoding, (laspidru_size)at, &place)
-                                     : laspidru_server_position(it.end, it.uri, it.uri_len, encoding, (laspidru_size)at, &place);
+    laspidru_u32 code = laspidru_open_position(it.end, it.uri, it.uri_len, encoding, (laspidru_size)at, &place);
     if (code != LASPIDRU_OK)
         return nothing_or_refuse(env, code);
     return array_of(env, (const double[]){place.line, place.character}, 2, NULL);
 }
 
-/* lineAt(end, isClient, uri, number): a line of an open document without its line end, or undefined */
+/* lineAt(end, uri, number): a line of an open document without its line end, or undefined */
 static napi_value line_at(napi_env env, napi_callback_info info) {
     napi_value found[MOST_ARGUMENTS];
     laspidru_u32 number;
     laspidru_line range;
     named it;
-    if (!arguments(env, info, 4, found) || !named_of(env, found, &it) || napi_get_value_uint32(env, found[3], &number) != napi_ok)
+    if (!arguments(env, info, 3, found) || !named_of(env, found, &it) || napi_get_value_uint32(env, found[2], &number) != napi_ok)
         return refuse_arguments(env);
-    laspidru_u32 code = it.is_client ? laspidru_client_line(it.end, it.uri, it.uri_len, number, &range)
-                                     : laspidru_server_line(it.end, it.uri, it.uri_len, number, &range);
+    laspidru_u32 code = laspidru_open_line(it.end, it.uri, it.uri_len, number, &range);
     if (code != LASPIDRU_OK)
         return nothing_or_refuse(env, code);
     napi_value out = string_at(env, &it, range.start, range.end - range.start);
     return out != NULL ? out : refuse(env, LASPIDRU_OUT_OF_MEMORY);
 }
 
-/* encoding(server): its number; 0 before one is chosen */
-static napi_value encoding_of(napi_env env, napi_callback_info info) {
-    napi_value found[MOST_ARGUMENTS], out = NULL;
-    laspidru_handle *server;
-    laspidru_u32 encoding = 0;
-    if (!arguments(env, info, 1, found) || !end_of(env, found[0], &server))
-        return refuse_arguments(env);
-    laspidru_u32 code = laspidru_server_encoding(server, &encoding);
-    return code == LASPIDRU_OK ? made(env, napi_create_uint32(env, encoding, &out), &out) : refuse(env, code);
-}
-
-/* batchOfEditsAt(server, uri, encoding, numbers, texts): the canonical batch of text edits on an open document */
+/* batchOfEditsAt(end, uri, encoding, numbers, texts): the canonical batch of text edits on an open document */
 static napi_value batch_of_edits_at(napi_env env, napi_callback_info info) {
     napi_value found[MOST_ARGUMENTS];
-    laspidru_handle *server, changes = {0};
+    laspidru_handle *end, changes = {0};
     laspidru_edits_fault fault = {0, 0, 0};
     const void *uri;
     size_t uri_len;
     batch it;
-    if (!arguments(env, info, 5, found) || !end_of(env, found[0], &server) ||
+    if (!arguments(env, info, 5, found) || !end_of(env, found[0], &end) ||
         !elements(env, found[1], napi_uint8_array, &uri, &uri_len) ||
         napi_get_value_uint32(env, found[2], &it.encoding) != napi_ok)
         return refuse_arguments(env);
     if (!read_edits(env, found[3], found[4], &it))
         return NULL;
-    laspidru_u32 code = laspidru_server_batch_of_edits(server, uri, uri_len, it.encoding, it.edits, it.count, it.texts,
+    laspidru_u32 code = laspidru_open_batch_of_edits(end, uri, uri_len, it.encoding, it.edits, it.count, it.texts,
                                                        it.texts_len, &changes, &fault);
     free_batch(&it);
     return code == LASPIDRU_OK ? changes_of(env, &changes) : refuse_text_edits(env, code, fault);
 }
 
-/* canonicalMessage(server, uri, version, encoding, numbers, texts): the frame of the canonical message of a batch on an open
+/* canonicalMessage(end, uri, version, encoding, numbers, texts): the frame of the canonical message of a batch on an open
    document */
 static napi_value canonical_message(napi_env env, napi_callback_info info) {
     napi_value found[MOST_ARGUMENTS];
-    laspidru_handle *server, output = {0};
+    laspidru_handle *end, output = {0};
     laspidru_fault fault = {0, 0};
     laspidru_size len = 0;
     const void *uri;
     size_t uri_len;
     int32_t version;
     batch it;
-    if (!arguments(env, info, 6, found) || !end_of(env, found[0], &server) ||
+    if (!arguments(env, info, 6, found) || !end_of(env, found[0], &end) ||
         !elements(env, found[1], napi_uint8_array, &uri, &uri_len) ||
         napi_get_value_int32(env, found[2], &version) != napi_ok || napi_get_value_uint32(env, found[3], &it.encoding) != napi_ok)
         return refuse_arguments(env);
     if (!read_edits(env, found[4], found[5], &it))
         return NULL;
-    laspidru_u32 code = laspidru_server_canonical_message(server, uri, uri_len, version, it.encoding, it.edits, it.count, it.texts,
+    laspidru_u32 code = laspidru_open_canonical_message(end, uri, uri_len, version, it.encoding, it.edits, it.count, it.texts,
                                                           it.texts_len, &output, &fault, &len);
     free_batch(&it);
     if (code != LASPIDRU_OK)

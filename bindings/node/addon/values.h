@@ -2,48 +2,33 @@
 
 static const unsigned char no_bytes[1];
 
-/* The name of a code. */
-static const char *word_of(laspidru_u32 code) {
-    static const char *const words[] = {
-        [LASPIDRU_OK] = "OK",
-        [LASPIDRU_NOT_UTF8] = "NOT_UTF8",
-        [LASPIDRU_OUT_OF_MEMORY] = "OUT_OF_MEMORY",
-        [LASPIDRU_IN_USE] = "IN_USE",
-        [LASPIDRU_EMPTY] = "EMPTY",
-        [LASPIDRU_TOO_LONG] = "TOO_LONG",
-        [LASPIDRU_INSIDE_CHARACTER] = "INSIDE_CHARACTER",
-        [LASPIDRU_REVERSED_RANGE] = "REVERSED_RANGE",
-        [LASPIDRU_BAD_ENCODING] = "BAD_ENCODING",
-        [LASPIDRU_BAD_LENGTH] = "BAD_LENGTH",
-        [LASPIDRU_OTHER_KIND] = "OTHER_KIND",
-        [LASPIDRU_OUT_OF_RANGE] = "OUT_OF_RANGE",
-        [LASPIDRU_BAD_LIMIT] = "BAD_LIMIT",
-        [LASPIDRU_ENDED] = "ENDED",
-        [LASPIDRU_NOT_OPEN] = "NOT_OPEN",
-        [LASPIDRU_ALREADY_OPEN] = "ALREADY_OPEN",
-        [LASPIDRU_TOO_MANY_DOCUMENTS] = "TOO_MANY_DOCUMENTS",
-        [LASPIDRU_STALE_VERSION] = "STALE_VERSION",
-        [LASPIDRU_TOO_MANY_CHANGES] = "TOO_MANY_CHANGES",
-        [LASPIDRU_INVALID_PARAMS] = "INVALID_PARAMS",
-        [LASPIDRU_CUT] = "CUT",
-        [LASPIDRU_BAD_FRAME] = "BAD_FRAME",
-        [LASPIDRU_BODY_TOO_LONG] = "BODY_TOO_LONG",
-        [LASPIDRU_BAD_LOG] = "BAD_LOG",
-        [LASPIDRU_TOO_MANY_TURNS] = "TOO_MANY_TURNS",
-        [LASPIDRU_OVERLAP] = "OVERLAP",
-        [LASPIDRU_FAILED] = "FAILED",
-        [LASPIDRU_NO_MESSAGE] = "NO_MESSAGE",
-        [LASPIDRU_WRONG_PHASE] = "WRONG_PHASE",
-        [LASPIDRU_NOT_AN_ANSWER] = "NOT_AN_ANSWER",
-        [LASPIDRU_ERROR_ANSWER] = "ERROR_ANSWER",
-        [LASPIDRU_NO_SYNC] = "NO_SYNC",
-    };
-    return code < sizeof words / sizeof *words ? words[code] : "UNKNOWN";
+/* The name of a code, and what it means. */
+typedef struct {
+    char name[TEXT_LEN + 1];
+    const char *why;
+} words;
+
+static words words_of(laspidru_u32 code) {
+    words it = {{0}, ""};
+    laspidru_size len = 0;
+    laspidru_text(code, 0, (unsigned char *)it.name, TEXT_LEN, &len);
+    return it;
 }
 
-/* Throws a RangeError whose code is that of the library. Where an exception is pending already, that one stays. */
+/* Cuts the text behind its name. (The words have to stay where they are.) */
+static void cut(words *it) {
+    char *colon = strchr(it->name, ':');
+    if (colon == NULL)
+        return;
+    *colon = 0;
+    it->why = colon + 2;
+}
+
+/* Throws a RangeError with the name of a code and what it means. Where an exception is pending already, that one stays. */
 static napi_value refuse(napi_env env, laspidru_u32 code) {
-    napi_throw_range_error(env, word_of(code), word_of(code));
+    words it = words_of(code);
+    cut(&it);
+    napi_throw_range_error(env, it.name, it.why);
     return NULL;
 }
 
@@ -71,22 +56,26 @@ static int set_boolean(napi_env env, napi_value object, const char *name, int is
     return napi_get_boolean(env, is_so, &value) == napi_ok && set(env, object, name, value);
 }
 
-/* A RangeError of a code, with a message; or NULL. */
-static napi_value range_error(napi_env env, laspidru_u32 code, const char *message) {
-    napi_value word, text, error;
-    int is_made = napi_create_string_utf8(env, word_of(code), NAPI_AUTO_LENGTH, &word) == napi_ok &&
+/* A RangeError of a code that says where it was found, or NULL. */
+static napi_value range_error(napi_env env, laspidru_u32 code, const char *where) {
+    napi_value name, text, error;
+    char message[MESSAGE_LEN];
+    words it = words_of(code);
+    cut(&it);
+    snprintf(message, sizeof message, "%s: %s", where, it.why);
+    int is_made = napi_create_string_utf8(env, it.name, NAPI_AUTO_LENGTH, &name) == napi_ok &&
                   napi_create_string_utf8(env, message, NAPI_AUTO_LENGTH, &text) == napi_ok &&
-                  napi_create_range_error(env, word, text, &error) == napi_ok;
+                  napi_create_range_error(env, name, text, &error) == napi_ok;
     return is_made ? error : NULL;
 }
 
 /* Throws a RangeError, which says `change` and `atEnd` where a change is faulty. */
 static napi_value refuse_change(napi_env env, laspidru_u32 code, laspidru_fault fault) {
-    char message[MESSAGE_LEN];
+    char where[MESSAGE_LEN];
     if (code != LASPIDRU_INSIDE_CHARACTER && code != LASPIDRU_REVERSED_RANGE)
         return refuse(env, code);
-    snprintf(message, sizeof message, "change at index %zu: %s", (size_t)fault.change, word_of(code));
-    napi_value error = range_error(env, code, message);
+    snprintf(where, sizeof where, "change at index %zu", (size_t)fault.change);
+    napi_value error = range_error(env, code, where);
     if (error == NULL || !set_number(env, error, "change", (double)fault.change) || !set_boolean(env, error, "atEnd", fault.at_end))
         return refuse(env, LASPIDRU_OUT_OF_MEMORY);
     napi_throw(env, error);
@@ -95,15 +84,15 @@ static napi_value refuse_change(napi_env env, laspidru_u32 code, laspidru_fault 
 
 /* Throws a RangeError, which says `edit`, `atEnd` and for two that overlap `other` where text edits are faulty. */
 static napi_value refuse_text_edits(napi_env env, laspidru_u32 code, laspidru_edits_fault fault) {
-    char message[MESSAGE_LEN];
-    if (code != LASPIDRU_INSIDE_CHARACTER && code != LASPIDRU_REVERSED_RANGE && code != LASPIDRU_OVERLAP)
-        return refuse(env, code);
+    char where[MESSAGE_LEN];
     int are_two = code == LASPIDRU_OVERLAP;
+    if (code != LASPIDRU_INSIDE_CHARACTER && code != LASPIDRU_REVERSED_RANGE && !are_two)
+        return refuse(env, code);
     if (are_two)
-        snprintf(message, sizeof message, "edits at the indexes %zu and %zu: %s", (size_t)fault.edit, (size_t)fault.other, word_of(code));
+        snprintf(where, sizeof where, "edits at the indexes %zu and %zu", (size_t)fault.edit, (size_t)fault.other);
     else
-        snprintf(message, sizeof message, "edit at index %zu: %s", (size_t)fault.edit, word_of(code));
-    napi_value error = range_error(env, code, message);
+        snprintf(where, sizeof where, "edit at index %zu", (size_t)fault.edit);
+    napi_value error = range_error(env, code, where);
     int is_made = error != NULL && set_number(env, error, "edit", (double)fault.edit) &&
                   set_boolean(env, error, "atEnd", fault.at_end) &&
                   (!are_two || set_number(env, error, "other", (double)fault.other));
@@ -127,4 +116,25 @@ static int elements(napi_env env, napi_value value, napi_typedarray_type wanted,
         return 0;
     *found = *count > 0 ? data : no_bytes;
     return 1;
+}
+
+/* texts(): an array of the texts of all codes, by their numbers */
+static napi_value all_texts(napi_env env, napi_callback_info info) {
+    napi_value out, text;
+    (void)info;
+    int is_made = napi_create_array(env, &out) == napi_ok;
+    for (laspidru_u32 code = 0; is_made; code++) {
+        words it = words_of(code);
+        if (*it.name == 0)
+            break;
+        is_made = napi_create_string_utf8(env, it.name, NAPI_AUTO_LENGTH, &text) == napi_ok && napi_set_element(env, out, code, text) == napi_ok;
+    }
+    return is_made ? out : refuse(env, LASPIDRU_OUT_OF_MEMORY);
+}
+
+/* version(): the version of the library */
+static napi_value version(napi_env env, napi_callback_info info) {
+    napi_value out = NULL;
+    (void)info;
+    return made(env, napi_create_uint32(env, laspidru_version(), &out), &out);
 }

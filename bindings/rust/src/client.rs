@@ -1,9 +1,11 @@
 //! A client's end of a session: it keeps an editor's documents, and each call returns the frame to send.
 
+use crate::codes::{codes, BadLimit};
 use crate::framer::FrameError;
 use crate::received::{NotTaken, Received};
-use crate::server::{refusal, Refusal};
-use crate::{batch, ffi, Change, Encoding, Error, Position, DEFAULT_LIMITS};
+use crate::server::{refusal, MessageError, Refusal};
+use crate::session::session;
+use crate::{batch, changes_of, demand_edits, ffi, passed_edits, Change, Encoding, Error, Position, TextEdit, DEFAULT_LIMITS};
 use std::fmt;
 
 /// How a client is set up. UTF-16 is always offered, after UTF-8 and before UTF-32: an order that LSP reads as a preference.
@@ -51,18 +53,18 @@ pub enum Phase {
     Failed(Reason),
 }
 
-/// Why a session can't continue.
-#[derive(Clone, Copy, Debug, PartialEq, Eq)]
-#[non_exhaustive]
-pub enum Reason {
-    /// No message, a response to no request of the client, or one that can't be read.
-    NotAnAnswer,
-    /// An error response to `initialize` or `shutdown`.
-    ErrorAnswer,
-    /// The server doesn't want to be notified of documents, or of changes.
-    NoSync,
-    /// The server announces an encoding that wasn't offered.
-    BadEncoding,
+codes! {
+    /// Why a session can't continue.
+    Reason {
+        /// No message, a response to no request of the client, or one that can't be read.
+        NotAnAnswer = NOT_AN_ANSWER,
+        /// An error response to `initialize` or `shutdown`.
+        ErrorAnswer = ERROR_ANSWER,
+        /// The server doesn't want to be notified of documents, or of changes.
+        NoSync = NO_SYNC,
+        /// The server announces an encoding that wasn't offered.
+        BadEncoding = BAD_ENCODING,
+    }
 }
 
 /// What a client did with a message of the server.
@@ -102,7 +104,7 @@ pub enum ClientError {
     /// The same call can be made again.
     OutOfMemory,
     /// A limit is out of its range.
-    BadLimit,
+    BadLimit(BadLimit),
     /// The stream is faulty, as the source says, and no more of it is taken.
     Frame(FrameError),
 }
@@ -117,7 +119,7 @@ impl fmt::Display for ClientError {
             }
             ClientError::ReversedRange { change } => write!(f, "{}", Error::ReversedRange { change: *change }),
             ClientError::OutOfMemory => write!(f, "out of memory"),
-            ClientError::BadLimit => write!(f, "a limit is out of its range"),
+            ClientError::BadLimit(limit) => write!(f, "{limit}"),
             ClientError::Frame(_) => write!(f, "the stream is faulty"),
         }
     }
@@ -174,7 +176,7 @@ impl Client {
     /// # Errors
     /// [`ClientError::WrongPhase`] but in [`Phase::New`], and [`ClientError::OutOfMemory`].
     pub fn start(&mut self) -> Result<Vec<u8>, ClientError> {
-        self.call(ffi::Lifecycle::Start)
+        self.call(ffi::laspidru_client_start)
     }
 
     /// Opens a document, and returns the frame of `textDocument/didOpen`.
@@ -197,7 +199,7 @@ impl Client {
         let (edits, texts) = batch(changes);
         let (mut fault, mut len) = (ffi::Fault::default(), 0);
         demand(self.handle.client_edit(uri, version, &edits, &texts, &mut fault, &mut len), &fault)?;
-        Ok(self.handle.client_frame(len))
+        Ok(self.handle.frame(len))
     }
 
     /// Closes a document, and returns the frame of `textDocument/didClose`.
@@ -214,7 +216,7 @@ impl Client {
     /// # Errors
     /// [`ClientError::WrongPhase`] but in [`Phase::Ready`], and [`ClientError::OutOfMemory`].
     pub fn shutdown(&mut self) -> Result<Vec<u8>, ClientError> {
-        self.call(ffi::Lifecycle::Shutdown)
+        self.call(ffi::laspidru_client_shutdown)
     }
 
     /// Ends the session, once `shutdown` was answered, and returns the frame of `exit`.
@@ -222,7 +224,7 @@ impl Client {
     /// # Errors
     /// [`ClientError::WrongPhase`] but in [`Phase::Closed`], and [`ClientError::OutOfMemory`].
     pub fn exit(&mut self) -> Result<Vec<u8>, ClientError> {
-        self.call(ffi::Lifecycle::Exit)
+        self.call(ffi::laspidru_client_exit)
     }
 
     /// Takes bytes that were read. [`Client::next_message`] then has the messages that end in them.
@@ -236,7 +238,7 @@ impl Client {
     /// [`ClientError::Frame`] if the stream is faulty, and [`ClientError::WrongPhase`] for a message in a phase in which none is
     /// awaited. After [`ClientError::OutOfMemory`] the same call continues.
     pub fn next_message(&mut self) -> Result<Option<(Vec<u8>, Delivered)>, ClientError> {
-        match self.received.take_by(&self.handle, ffi::End::Client) {
+        match self.received.take_by(&self.handle) {
             Ok(found) => Ok(found.map(|(body, answer)| (body, self.delivered(&answer)))),
             Err(NotTaken::Stream(fault)) => Err(ClientError::Frame(fault)),
             Err(NotTaken::Code(code)) => demand(code, &ffi::Fault::default()).and(Ok(None)),
@@ -249,13 +251,13 @@ impl Client {
     /// [`ClientError::WrongPhase`] in [`Phase::New`], [`Phase::Done`] and [`Phase::Failed`], and [`ClientError::OutOfMemory`].
     pub fn deliver(&mut self, body: &[u8]) -> Result<Delivered, ClientError> {
         let mut answer = ffi::Answer::default();
-        demand(self.handle.client_deliver(body, &mut answer), &ffi::Fault::default())?;
+        demand(self.handle.deliver(body, &mut answer), &ffi::Fault::default())?;
         Ok(self.delivered(&answer))
     }
 
     fn delivered(&self, answer: &ffi::Answer) -> Delivered {
         match answer.kind {
-            ffi::REPLIED => Delivered::Send(self.handle.client_frame(answer.reply_len)),
+            ffi::REPLIED => Delivered::Send(self.handle.frame(answer.reply_len)),
             ffi::NOTED => Delivered::Noted,
             ffi::IGNORED => Delivered::Ignored,
             ffi::BAD_SERVER => Delivered::BadServer(reason(answer.reason)),
@@ -265,7 +267,7 @@ impl Client {
 
     /// Returns the phase of the session.
     pub fn phase(&self) -> Phase {
-        let state = self.state();
+        let state = self.handle.state();
         match state.phase {
             ffi::PHASE_NEW => Phase::New,
             ffi::PHASE_ASKED => Phase::Asked,
@@ -278,53 +280,6 @@ impl Client {
         }
     }
 
-    /// Returns the encoding that was agreed on, or `None` before that.
-    pub fn encoding(&self) -> Option<Encoding> {
-        Encoding::of(self.state().encoding)
-    }
-
-    /// Returns how many documents are open.
-    pub fn document_count(&self) -> usize {
-        self.state().documents
-    }
-
-    /// Returns the version of the open document of a URI, which is compared byte for byte.
-    pub fn version(&self, uri: &str) -> Option<i32> {
-        self.handle.opened(ffi::End::Client, uri).map(|opened| opened.version)
-    }
-
-    /// Returns a copy of the text of the open document of a URI, which is compared byte for byte.
-    pub fn text(&self, uri: &str) -> Option<String> {
-        self.handle.text(ffi::End::Client, uri)
-    }
-
-    /// Returns a line, counted from 0, of the open document of a URI, without its line end, or `None` if no document of the URI
-    /// is open or it has no such line. The rest of the text is not read.
-    pub fn line(&self, uri: &str, number: u32) -> Option<String> {
-        self.handle.line(ffi::End::Client, uri, number)
-    }
-
-    /// Returns the byte offset of a position in the open document of a URI, or `None` if no document of the URI is open. A
-    /// position after the line's end is the line's end. Positions count units of [`Client::encoding`].
-    ///
-    /// # Errors
-    /// [`Error::NoPosition`] if the position is inside a character.
-    pub fn offset(&self, uri: &str, position: Position) -> Result<Option<usize>, Error> {
-        self.handle.offset(ffi::End::Client, uri, self.units(), position)
-    }
-
-    /// Returns the exact position of a byte offset in the open document of a URI, or `None` if no document of the URI is open.
-    ///
-    /// # Errors
-    /// [`Error::NoPosition`] if the offset is inside a character, inside a CRLF or past the end.
-    pub fn position(&self, uri: &str, offset: usize) -> Result<Option<Position>, Error> {
-        self.handle.position(ffi::End::Client, uri, self.units(), offset)
-    }
-
-    fn units(&self) -> u32 {
-        self.encoding().unwrap_or(Encoding::Utf16) as u32
-    }
-
     fn call(&mut self, call: ffi::Lifecycle) -> Result<Vec<u8>, ClientError> {
         let mut len = 0;
         self.frame(self.handle.client_call(call, &mut len), len)
@@ -332,15 +287,11 @@ impl Client {
 
     fn frame(&self, code: u32, len: usize) -> Result<Vec<u8>, ClientError> {
         demand(code, &ffi::Fault::default())?;
-        Ok(self.handle.client_frame(len))
-    }
-
-    fn state(&self) -> ffi::State {
-        let mut state = ffi::State::default();
-        assert_eq!(self.handle.client_state(&mut state), ffi::OK, "the handle of a client is full");
-        state
+        Ok(self.handle.frame(len))
     }
 }
+
+session!(Client);
 
 impl fmt::Debug for Client {
     fn fmt(&self, f: &mut fmt::Formatter<'_>) -> fmt::Result {
@@ -350,23 +301,16 @@ impl fmt::Debug for Client {
 }
 
 fn reason(code: u32) -> Reason {
-    match code {
-        ffi::NOT_AN_ANSWER => Reason::NotAnAnswer,
-        ffi::ERROR_ANSWER => Reason::ErrorAnswer,
-        ffi::NO_SYNC => Reason::NoSync,
-        ffi::BAD_ENCODING => Reason::BadEncoding,
-        code => unreachable!("a bad server by the reason {code}"),
-    }
+    Reason::of(code).expect("a code for which a session fails")
 }
 
 fn demand(code: u32, fault: &ffi::Fault) -> Result<(), ClientError> {
     match code {
         ffi::OK => Ok(()),
         ffi::OUT_OF_MEMORY => Err(ClientError::OutOfMemory),
-        ffi::BAD_LIMIT => Err(ClientError::BadLimit),
         ffi::WRONG_PHASE => Err(ClientError::WrongPhase),
         ffi::INSIDE_CHARACTER => Err(ClientError::InsideCharacter { change: fault.change, at_end: fault.at_end }),
         ffi::REVERSED_RANGE => Err(ClientError::ReversedRange { change: fault.change }),
-        code => Err(ClientError::Refused(refusal(code))),
+        code => Err(BadLimit::of(code).map_or_else(|| ClientError::Refused(refusal(code)), ClientError::BadLimit)),
     }
 }

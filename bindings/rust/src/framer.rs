@@ -1,5 +1,6 @@
 //! Takes a stream apart into its messages.
 
+use crate::codes::BadLimit;
 use crate::ffi;
 use crate::received::{NotTaken, Received};
 use std::fmt;
@@ -29,7 +30,7 @@ pub enum FrameError {
     /// The same call can be made again.
     OutOfMemory,
     /// The limit is out of its range.
-    BadLimit,
+    BadLimit(BadLimit),
     /// The stream is faulty: the number of F1 to F7, and the byte offset on which it was decided. No more is taken.
     Fault {
         /// The fault's number, from 1 to 7.
@@ -45,7 +46,7 @@ impl fmt::Display for FrameError {
     fn fmt(&self, f: &mut fmt::Formatter<'_>) -> fmt::Result {
         match self {
             FrameError::OutOfMemory => write!(f, "out of memory"),
-            FrameError::BadLimit => write!(f, "a limit is out of its range"),
+            FrameError::BadLimit(limit) => write!(f, "{limit}"),
             FrameError::Fault { number, offset } => write!(f, "frame fault F{number} at byte offset {offset}"),
             FrameError::Failed => write!(f, "the stream was faulty before"),
         }
@@ -63,7 +64,7 @@ impl Framer {
         let handle = ffi::Handle::empty();
         match handle.framer_new(max_body) {
             ffi::OK => Ok(Framer { handle, received: Received::default() }),
-            ffi::BAD_LIMIT => Err(FrameError::BadLimit),
+            ffi::BAD_MAX_BODY => Err(FrameError::BadLimit(BadLimit::MaxBody)),
             ffi::OUT_OF_MEMORY => Err(FrameError::OutOfMemory),
             code => unreachable!("code {code} of an empty handle"),
         }
@@ -83,7 +84,7 @@ impl Framer {
         match self.received.take(|piece, taken| self.handle.framer_feed(piece, taken)) {
             Ok(None) => Ok(None),
             Ok(Some(len)) => {
-                let body = self.handle.framer_body(len);
+                let body = self.handle.body(len);
                 assert_eq!(self.handle.framer_next(), ffi::OK, "the handle of a framer is full");
                 Ok(Some(body))
             }

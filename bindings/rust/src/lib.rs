@@ -35,6 +35,7 @@ use std::cell::OnceCell;
 use std::fmt;
 
 pub mod client;
+mod codes;
 #[allow(unsafe_code)]
 mod ffi;
 pub mod framer;
@@ -43,10 +44,27 @@ pub mod log;
 mod lsp;
 mod received;
 pub mod server;
+mod session;
 
 pub use client::Client;
+pub use codes::BadLimit;
 pub use framer::Framer;
 pub use server::Server;
+
+/// Returns the version of the library that is linked, as `0.1.0`.
+pub fn version() -> String {
+    let number = ffi::version();
+    format!("{}.{}.{}", number / 10_000, number / 100 % 100, number % 100)
+}
+
+/// Returns the URI of the document that a message opens, changes or closes, or `None` if it does none of these or its parameters
+/// can't be read. The body is that of [`Server::next_message`].
+///
+/// # Errors
+/// [`Error::OutOfMemory`].
+pub fn message_uri(body: &[u8]) -> Result<Option<String>, Error> {
+    ffi::message_uri(body)
+}
 
 /// The limits that `lspsync` has by default: max_body, max_text, max_docs and max_changes.
 const DEFAULT_LIMITS: [usize; 4] = [16_777_216, 16_777_216, 1_024, 65_536];

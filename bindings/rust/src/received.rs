@@ -52,7 +52,7 @@ impl Received {
             }
             ffi::BAD_FRAME => {
                 self.is_inside = true;
-                Err(NotTaken::Stream(FrameError::Fault { number: taken.frame, offset: taken.place }))
+                Err(NotTaken::Stream(FrameError::Fault { number: taken.frame, offset: taken.offset }))
             }
             ffi::FAILED => Err(NotTaken::Stream(FrameError::Failed)),
             // (an end that takes no more is asked for nothing)
@@ -62,9 +62,9 @@ impl Received {
     }
 
     /// Hands what is left to an end of a session: the body of the message that ends there, and the end's answer.
-    pub fn take_by(&mut self, handle: &ffi::Handle, end: ffi::End) -> Result<Option<(Vec<u8>, ffi::Answer)>, NotTaken> {
+    pub fn take_by(&mut self, handle: &ffi::Handle) -> Result<Option<(Vec<u8>, ffi::Answer)>, NotTaken> {
         let mut answer = ffi::Answer::default();
-        let len = self.take(|piece, taken| handle.take(end, piece, taken, &mut answer))?;
-        Ok(len.map(|len| (handle.body(end, len), answer)))
+        let len = self.take(|piece, taken| handle.take(piece, taken, &mut answer))?;
+        Ok(len.map(|len| (handle.body(len), answer)))
     }
 }

@@ -1,7 +1,9 @@
 //! A server's end of a session: bytes or bodies of messages go in, and it keeps the open documents.
 
+use crate::codes::{codes, BadLimit};
 use crate::framer::FrameError;
 use crate::received::{NotTaken, Received};
+use crate::session::session;
 use crate::{batch, changes_of, demand_edits, ffi, passed_edits, Change, Encoding, Error, Position, TextEdit, DEFAULT_LIMITS};
 use std::fmt;
 
@@ -84,47 +86,29 @@ pub enum Answer {
     Exit(u8),
 }
 
-/// Why a document notification of the client, or a client's call on a document, was refused.
-#[derive(Clone, Copy, Debug, PartialEq, Eq)]
-#[non_exhaustive]
-pub enum Refusal {
-    /// The params are not those of the notification.
-    InvalidParams,
-    /// A text has more than `max_text` bytes, or a message to be sent more than `max_body`.
-    TooLong,
-    /// An end of a range lies inside a character.
-    InsideCharacter,
-    /// A range starts after its end.
-    ReversedRange,
-    /// No document of this URI is open.
-    NotOpen,
-    /// A document of this URI is open already.
-    AlreadyOpen,
-    /// `max_docs` documents are open.
-    TooManyDocuments,
-    /// The version is not greater than the current one.
-    StaleVersion,
-    /// There are more than `max_changes` changes, or too long ones.
-    TooManyChanges,
-}
-
-impl fmt::Display for Refusal {
-    fn fmt(&self, f: &mut fmt::Formatter<'_>) -> fmt::Result {
-        f.write_str(match self {
-            Refusal::InvalidParams => "the parameters can't be read",
-            Refusal::TooLong => "a text or its message has more bytes than the limit allows",
-            Refusal::InsideCharacter => "an end of a range lies inside a character",
-            Refusal::ReversedRange => "a range starts after its end",
-            Refusal::NotOpen => "the document is not open",
-            Refusal::AlreadyOpen => "the document is open already",
-            Refusal::TooManyDocuments => "as many documents are open as the limit allows",
-            Refusal::StaleVersion => "the version is not greater than the current one",
-            Refusal::TooManyChanges => "there are more changes than the limit allows, or too long ones",
-        })
+codes! {
+    /// Why a document notification of the client, or a client's call on a document, was refused.
+    Refusal {
+        /// The params are not those of the notification.
+        InvalidParams = INVALID_PARAMS,
+        /// A text has more than `max_text` bytes, or a message to be sent more than `max_body`.
+        TooLong = TOO_LONG,
+        /// An end of a range lies inside a character.
+        InsideCharacter = INSIDE_CHARACTER,
+        /// A range starts after its end.
+        ReversedRange = REVERSED_RANGE,
+        /// No document of this URI is open.
+        NotOpen = NOT_OPEN,
+        /// A document of this URI is open already.
+        AlreadyOpen = ALREADY_OPEN,
+        /// `max_docs` documents are open.
+        TooManyDocuments = TOO_MANY_DOCUMENTS,
+        /// The version is not greater than the current one.
+        StaleVersion = STALE_VERSION,
+        /// There are more than `max_changes` changes, or too long ones.
+        TooManyChanges = TOO_MANY_CHANGES,
     }
 }
-
-impl std::error::Error for Refusal {}
 
 /// Why there is no server, or no answer. Then nothing changed.
 #[derive(Clone, Copy, Debug, PartialEq, Eq)]
@@ -133,7 +117,7 @@ pub enum ServerError {
     /// The same body can be passed again.
     OutOfMemory,
     /// A limit is out of its range.
-    BadLimit,
+    BadLimit(BadLimit),
     /// `exit` came before.
     Ended,
     /// The stream is faulty, as the source says, and no more of it is taken.
@@ -144,7 +128,7 @@ impl fmt::Display for ServerError {
     fn fmt(&self, f: &mut fmt::Formatter<'_>) -> fmt::Result {
         match self {
             ServerError::OutOfMemory => write!(f, "out of memory"),
-            ServerError::BadLimit => write!(f, "a limit is out of its range"),
+            ServerError::BadLimit(limit) => write!(f, "{limit}"),
             ServerError::Ended => write!(f, "the session has ended"),
             ServerError::Frame(_) => write!(f, "the stream is faulty"),
         }
@@ -180,6 +164,17 @@ pub enum MessageError {
     },
     /// The same call can be made again.
     OutOfMemory,
+}
+
+impl MessageError {
+    pub(crate) fn of(code: u32, fault: &ffi::Fault) -> Self {
+        match code {
+            ffi::OUT_OF_MEMORY => MessageError::OutOfMemory,
+            ffi::INSIDE_CHARACTER => MessageError::InsideCharacter { change: fault.change, at_end: fault.at_end },
+            ffi::REVERSED_RANGE => MessageError::ReversedRange { change: fault.change },
+            code => MessageError::Refused(refusal(code)),
+        }
+    }
 }
 
 impl fmt::Display for MessageError {
@@ -257,7 +252,7 @@ impl Server {
     /// [`ServerError::Frame`] if the stream is faulty, and [`ServerError::Ended`] for a message after `exit`. After
     /// [`ServerError::OutOfMemory`] the same call continues.
     pub fn next_message(&mut self) -> Result<Option<(Vec<u8>, Answer)>, ServerError> {
-        match self.received.take_by(&self.handle, ffi::End::Server) {
+        match self.received.take_by(&self.handle) {
             Ok(found) => Ok(found.map(|(body, answer)| (body, self.answered(&answer)))),
             Err(NotTaken::Stream(fault)) => Err(ServerError::Frame(fault)),
             Err(NotTaken::Code(code)) => demand(code).and(Ok(None)),
@@ -275,16 +270,15 @@ impl Server {
     /// [`ServerError::Ended`] after `exit`, and [`ServerError::OutOfMemory`]: then the same body can be passed again.
     pub fn handle(&mut self, body: &[u8]) -> Result<Answer, ServerError> {
         let mut answer = ffi::Answer::default();
-        demand(self.handle.server_handle(body, &mut answer))?;
+        demand(self.handle.deliver(body, &mut answer))?;
         Ok(self.answered(&answer))
     }
 
     fn answered(&self, answer: &ffi::Answer) -> Answer {
         match answer.kind {
-            ffi::REPLIED => Answer::Reply {
-                frame: self.handle.server_reply(answer.reply_len),
-                code: (answer.error != 0).then_some(answer.error),
-            },
+            ffi::REPLIED => {
+                Answer::Reply { frame: self.handle.frame(answer.reply_len), code: (answer.error != 0).then_some(answer.error) }
+            }
             ffi::CHANGED => Answer::Changed,
             ffi::DROPPED => Answer::Dropped,
             ffi::IGNORED => Answer::Ignored,
@@ -293,92 +287,9 @@ impl Server {
             kind => unreachable!("an answer of kind {kind}"),
         }
     }
-
-    /// Returns the encoding of positions, once `initialize` was answered.
-    pub fn encoding(&self) -> Option<Encoding> {
-        let mut number = 0;
-        assert_eq!(self.handle.server_encoding(&mut number), ffi::OK, "the handle of a server is full");
-        Encoding::of(number)
-    }
-
-    /// Returns the canonical batch of what text edits mean on the open document of a URI: the changes of the `didChange` that
-    /// reports them, or `None` if no document of the URI is open. Positions count units of [`Server::encoding`], and all ranges
-    /// count in the text as it is. The document stays as it is.
-    ///
-    /// # Errors
-    /// As those of [`Document::batch_of_edits`](crate::Document::batch_of_edits).
-    pub fn batch_of_edits(&self, uri: &str, edits: &[TextEdit]) -> Result<Option<Vec<Change>>, Error> {
-        let (passed, texts) = passed_edits(edits);
-        let (mut fault, found) = (ffi::EditsFault::default(), ffi::Handle::empty());
-        let units = self.units();
-        match self.handle.server_batch_of_edits(uri, units, &passed, texts.as_bytes(), &found, &mut fault) {
-            ffi::NOT_OPEN => Ok(None),
-            code => demand_edits(code, &fault).map(|()| Some(changes_of(&found))),
-        }
-    }
-
-    /// Returns the frame of the one canonical `didChange` that means the same as these changes of the open document of a URI,
-    /// under a version greater than its own. Positions count units of [`Server::encoding`]. The document stays as it is.
-    ///
-    /// # Errors
-    /// What the documents would refuse the changes for, [`Refusal::TooLong`] if the message would be too long, or
-    /// [`MessageError::OutOfMemory`].
-    pub fn canonical_message(&self, uri: &str, version: i32, changes: &[Change]) -> Result<Vec<u8>, MessageError> {
-        let (edits, texts) = batch(changes);
-        let (mut fault, units) = (ffi::Fault::default(), self.units());
-        let frame = self.handle.server_canonical_message(uri, version, units, &edits, &texts, &mut fault);
-        frame.map_err(|code| match code {
-            ffi::OUT_OF_MEMORY => MessageError::OutOfMemory,
-            ffi::INSIDE_CHARACTER => MessageError::InsideCharacter { change: fault.change, at_end: fault.at_end },
-            ffi::REVERSED_RANGE => MessageError::ReversedRange { change: fault.change },
-            code => MessageError::Refused(refusal(code)),
-        })
-    }
-
-    /// Returns how many documents are open.
-    pub fn document_count(&self) -> usize {
-        let mut len = 0;
-        assert_eq!(self.handle.server_documents(&mut len), ffi::OK, "the handle of a server is full");
-        len
-    }
-
-    /// Returns the version of the open document of a URI, which is compared byte for byte.
-    pub fn version(&self, uri: &str) -> Option<i32> {
-        self.handle.opened(ffi::End::Server, uri).map(|opened| opened.version)
-    }
-
-    /// Returns a copy of the text of the open document of a URI, which is compared byte for byte.
-    pub fn text(&self, uri: &str) -> Option<String> {
-        self.handle.text(ffi::End::Server, uri)
-    }
-
-    /// Returns a line, counted from 0, of the open document of a URI, without its line end, or `None` if no document of the URI
-    /// is open or it has no such line. The rest of the text is not read.
-    pub fn line(&self, uri: &str, number: u32) -> Option<String> {
-        self.handle.line(ffi::End::Server, uri, number)
-    }
-
-    /// Returns the byte offset of a position in the open document of a URI, or `None` if no document of the URI is open. A
-    /// position after the line's end is the line's end. Positions count units of [`Server::encoding`].
-    ///
-    /// # Errors
-    /// [`Error::NoPosition`] if the position is inside a character.
-    pub fn offset(&self, uri: &str, position: Position) -> Result<Option<usize>, Error> {
-        self.handle.offset(ffi::End::Server, uri, self.units(), position)
-    }
-
-    /// Returns the exact position of a byte offset in the open document of a URI, or `None` if no document of the URI is open.
-    ///
-    /// # Errors
-    /// [`Error::NoPosition`] if the offset is inside a character, inside a CRLF or past the end.
-    pub fn position(&self, uri: &str, offset: usize) -> Result<Option<Position>, Error> {
-        self.handle.position(ffi::End::Server, uri, self.units(), offset)
-    }
-
-    fn units(&self) -> u32 {
-        self.encoding().unwrap_or(Encoding::Utf16) as u32
-    }
 }
+
+session!(Server);
 
 impl fmt::Debug for Server {
     fn fmt(&self, f: &mut fmt::Formatter<'_>) -> fmt::Result {
@@ -390,23 +301,11 @@ fn demand(code: u32) -> Result<(), ServerError> {
     match code {
         ffi::OK => Ok(()),
         ffi::OUT_OF_MEMORY => Err(ServerError::OutOfMemory),
-        ffi::BAD_LIMIT => Err(ServerError::BadLimit),
         ffi::ENDED => Err(ServerError::Ended),
-        code => unreachable!("code {code} of a handle of its kind and valid arguments"),
+        code => Err(ServerError::BadLimit(BadLimit::of(code).expect("a handle of its kind and valid arguments"))),
     }
 }
 
 pub(crate) fn refusal(reason: u32) -> Refusal {
-    match reason {
-        ffi::TOO_LONG => Refusal::TooLong,
-        ffi::INSIDE_CHARACTER => Refusal::InsideCharacter,
-        ffi::REVERSED_RANGE => Refusal::ReversedRange,
-        ffi::NOT_OPEN => Refusal::NotOpen,
-        ffi::ALREADY_OPEN => Refusal::AlreadyOpen,
-        ffi::TOO_MANY_DOCUMENTS => Refusal::TooManyDocuments,
-        ffi::STALE_VERSION => Refusal::StaleVersion,
-        ffi::TOO_MANY_CHANGES => Refusal::TooManyChanges,
-        ffi::INVALID_PARAMS => Refusal::InvalidParams,
-        reason => unreachable!("a notification that is refused by {reason}"),
-    }
+    Refusal::of(reason).expect("a code for which a notification or a call is refused")
 }

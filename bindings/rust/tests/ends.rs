@@ -3,7 +3,7 @@
 use laspidru::client::{Client, ClientError, Delivered, Phase, Reason};
 use laspidru::framer::{FrameError, Framer};
 use laspidru::server::{Answer, ChangeForm, EncodingChoice, MessageError, Refusal, Server, ServerError};
-use laspidru::{client, server, Change, Document, Encoding, Error, Position, Range};
+use laspidru::{client, server, BadLimit, Change, Document, Encoding, Error, Position, Range};
 use std::collections::VecDeque;
 use std::error::Error as _;
 
@@ -226,7 +226,7 @@ fn refused_calls_say_why() {
     assert_eq!(client.deliver(b"{}"), Err(ClientError::WrongPhase));
     assert_eq!(client.text("a").as_deref(), Some("\u{e9}"));
     let bad = client::Settings { max_body: 1, ..Default::default() };
-    assert_eq!(Client::new(&bad).err(), Some(ClientError::BadLimit));
+    assert_eq!(Client::new(&bad).err(), Some(ClientError::BadLimit(BadLimit::MaxBody)));
 }
 
 #[test]
@@ -253,7 +253,7 @@ fn errors_have_a_source() {
         |error: &dyn std::error::Error| (error.to_string(), error.source().map(ToString::to_string).unwrap_or_default());
     let faulty = ("the stream is faulty".into(), "frame fault F5 at byte offset 20".into());
     assert_eq!([with_source(&ServerError::Frame(fault)), with_source(&ClientError::Frame(fault))], [faulty.clone(), faulty]);
-    let refused = ("the call was refused".into(), "the document is not open".into());
+    let refused = ("the call was refused".into(), "no document of this URI is open".into());
     assert_eq!(
         [with_source(&ClientError::Refused(refusal)), with_source(&MessageError::Refused(refusal))],
         [refused.clone(), refused]
@@ -274,7 +274,7 @@ fn streams() {
     let fault = FrameError::Fault { number: 1, offset: 43 + 22 + 14 };
     assert_eq!((framer.next_body(), framer.next_body()), (Err(fault), Err(FrameError::Failed)));
     assert!(framer.bodies().next().is_none());
-    assert_eq!(Framer::new(4095).err(), Some(FrameError::BadLimit));
+    assert_eq!(Framer::new(4095).err(), Some(FrameError::BadLimit(BadLimit::MaxBody)));
     let mut server = Server::new(&server::Settings::default()).unwrap();
     server.receive(b"Content-Length: x\r\n\r\n");
     assert_eq!(server.next_message(), Err(ServerError::Frame(FrameError::Fault { number: 5, offset: 20 })));

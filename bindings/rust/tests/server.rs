@@ -1,5 +1,5 @@
 use laspidru::server::{Answer, EncodingChoice, MessageError, Refusal, Server, ServerError, Settings};
-use laspidru::{Change, Encoding, Error, Position, Range, TextEdit};
+use laspidru::{message_uri, version, BadLimit, Change, Encoding, Error, Position, Range, TextEdit};
 
 const URI: &str = "file:///a";
 
@@ -94,9 +94,19 @@ fn each_refusal_has_its_name() -> Result<(), ServerError> {
 }
 
 #[test]
+fn a_message_names_its_document() -> Result<(), Error> {
+    let close = notification("textDocument/didClose", r#"{"textDocument":{"uri":"file:///a"}}"#);
+    assert_eq!(message_uri(close.as_bytes())?.as_deref(), Some(URI));
+    assert_eq!(message_uri(request(1, "shutdown", "null").as_bytes())?, None);
+    Ok(())
+}
+
+#[test]
 fn settings() -> Result<(), ServerError> {
     let bad = Settings { max_body: 1, ..Settings::default() };
-    assert_eq!(Server::new(&bad).map(drop), Err(ServerError::BadLimit));
+    assert_eq!(Server::new(&bad).map(drop), Err(ServerError::BadLimit(BadLimit::MaxBody)));
+    assert_eq!(BadLimit::MaxBody.to_string(), "max_body is out of its range, 4,096 to 1,073,741,824 bytes");
+    assert_eq!((version(), Refusal::StaleVersion.name()), ("0.1.0".into(), "STALE_VERSION".into()));
     let fixed = Settings { choice: EncodingChoice::Fixed(Encoding::Utf8), ..Settings::default() };
     let mut server = Server::new(&fixed)?;
     let body = request(1, "initialize", r#"{"capabilities":{}}"#);
