@@ -2,16 +2,17 @@
 
 ghost use Rattle.std.specs.Prelude.{◌≡◌, ◌≢◌, ◌⊎◌, None};
 ghost use Rattle.laspidru.specs.Codes.{IsAnswer, IsAnswerOrNoMemory, unless};
-ghost use Rattle.laspidru.specs.Logs.{IsCommandRun, IsEnded, IsUnlessEnded, as_output, run_asked};
-ghost use Rattle.laspidru.specs.Logs.{stored_output};
+ghost use Rattle.laspidru.specs.Logs.{IsCommandRun, IsEnded, IsUnlessEnded, RunAsked, as_output};
+ghost use Rattle.laspidru.specs.Logs.{run_asked, stored_output};
 ghost use Rattle.laspidru.specs.Objects.{IsCopy, in_use, rest_asked};
 
 use crate::bytes::{copy_from, utf8_text};
 use crate::codes::{EMPTY, IN_USE, NOT_UTF8, OK, OTHER_KIND, OUT_OF_MEMORY, OUT_OF_RANGE};
-use crate::command::{CommandRun, command_named, command_of, run_command};
+use crate::command::{CommandName, CommandRun, command_named, command_of, run_command};
 use crate::endings::{Ending, LogSettings, ending_of, log_settings_of};
 use crate::handle::Handle;
 use crate::object::Object;
+use lsp_replay::Settings;
 use std::alloc::Global;
 
 /// Puts the output of a run into an empty handle. After a fault that isn't the log's the output
@@ -34,6 +35,33 @@ fn keep(alloc: Global, handle: &mut Handle, run: CommandRun, out: &mut Ending) -
     handle.put(object);
     *out = ending;
     code
+}
+
+/// Runs a command by its name, and puts its output into an empty handle.
+#[tactic(auto, using(crate::proofs::Runs::command_ran))]
+fn run_into(
+    alloc: Global,
+    handle: &mut Handle,
+    name: CommandName,
+    taken: Settings,
+    settings: &LogSettings,
+    uri: &str,
+    log: &[u8],
+    out: &mut Ending,
+) -> u32
+    requires { handle.old.value ≡ None }
+    ensures answer { let asked : RunAsked =
+        record { name = name; uri = uri.now; settings = taken } in
+        (result ≡ OUT_OF_MEMORY)
+        ⊎ IsCommandRun asked settings.now log.now result handle.new.value out.new }
+    ensures unchanged { IsUnlessEnded result
+        ((handle.new.value ≡ handle.old.value) × (out.new ≡ out.old)) }
+{
+    let Ok(command) = command_of(alloc, name, settings, uri) else {
+        return OUT_OF_MEMORY;
+    };
+    let run = run_command(alloc, command, taken, log);
+    keep(alloc, handle, run, out)
 }
 
 /// Runs a command over the bytes of a log, and puts its output into an empty handle: of
@@ -75,11 +103,7 @@ pub extern "C" fn laspidru_log_run(
         Ok(taken) => taken,
         Err(code) => return code,
     };
-    let Ok(command) = command_of(alloc, name, settings, uri) else {
-        return OUT_OF_MEMORY;
-    };
-    let run = run_command(alloc, command, taken, log);
-    keep(alloc, handle, run, out)
+    run_into(alloc, handle, name, taken, settings, uri, log, out)
 }
 
 /// Copies an object's output.
