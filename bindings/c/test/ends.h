@@ -23,12 +23,7 @@ static void test_framer(void) {
     laspidru_taken taken = {0, 0, 0, 0, 0};
     unsigned char out[4] = "---";
     laspidru_size copied = 9;
-    laspidru_bool at_rest = 0;
-    CHECK(laspidru_framer_feed(&framer, at, 1, &taken) == LASPIDRU_EMPTY && is_taken(taken, 0, 0, 0));
-    CHECK(laspidru_framer_new(&framer, 4095) == LASPIDRU_BAD_MAX_BODY && !framer.is_full);
-    CHECK(laspidru_framer_new(&framer, 1073741825) == LASPIDRU_BAD_MAX_BODY);
     CHECK(laspidru_framer_new(&framer, 4096) == LASPIDRU_OK && framer.is_full && is_at_rest(&framer, 1));
-    CHECK(laspidru_framer_new(&framer, 4096) == LASPIDRU_IN_USE);
     CHECK(laspidru_body(&framer, 0, out, 3, &copied) == LASPIDRU_NO_MESSAGE && copied == 9);
     /* A byte at a time, up to the first message; then all that is left, which goes up to the end of the second one. */
     for (; at < bytes(stream) + 22; at++)
@@ -37,8 +32,6 @@ static void test_framer(void) {
     CHECK(is_body(&framer, "ab") && is_at_rest(&framer, 0));
     CHECK(laspidru_framer_feed(&framer, at, (laspidru_size)(end - at), &taken) == LASPIDRU_OK && is_taken(taken, 0, 1, 2));
     CHECK(laspidru_body(&framer, 1, out, 3, &copied) == LASPIDRU_OK && copied == 1 && memcmp(out, "b--", 3) == 0);
-    CHECK(laspidru_body(&framer, 2, out, 3, &copied) == LASPIDRU_OK && copied == 0);
-    CHECK(laspidru_body(&framer, 3, out, 3, &copied) == LASPIDRU_OUT_OF_RANGE && copied == 0);
     CHECK(laspidru_framer_next(&framer) == LASPIDRU_OK && is_at_rest(&framer, 1));
     CHECK(laspidru_framer_next(&framer) == LASPIDRU_OK && is_at_rest(&framer, 1));
     CHECK(laspidru_framer_feed(&framer, at, (laspidru_size)(end - at), &taken) == LASPIDRU_OK && is_taken(taken, 21, 1, 0));
@@ -53,11 +46,6 @@ static void test_framer(void) {
     CHECK(taken.offset == 68 + 14 && taken.frame == 1 && taken.bytes == 0 && !taken.is_whole);
     CHECK(laspidru_framer_feed(&framer, bytes("C"), 1, &taken) == LASPIDRU_FAILED && taken.offset == 82);
     CHECK(laspidru_body(&framer, 0, out, 3, &copied) == LASPIDRU_NO_MESSAGE && is_at_rest(&framer, 0));
-    laspidru_close(&framer);
-    CHECK(laspidru_framer_next(&framer) == LASPIDRU_EMPTY && laspidru_framer_at_rest(&framer, &at_rest) == LASPIDRU_EMPTY);
-    CHECK(laspidru_framer_new(&framer, 4096) == LASPIDRU_OK);
-    CHECK(laspidru_framer_feed(&framer, bytes("Content-Length: 4097\r\n\r\n"), 24, &taken) == LASPIDRU_BAD_FRAME);
-    CHECK(taken.frame == 6 && taken.offset == 23);
     laspidru_close(&framer);
 }
 
@@ -91,18 +79,6 @@ static void start_client(laspidru_handle *client) {
     CHECK(sends(client, answer.reply_len, "{\"jsonrpc\":\"2.0\",\"method\":\"initialized\",\"params\":{}}"));
 }
 
-static void test_client_new(void) {
-    laspidru_handle client = {0};
-    laspidru_client_settings bad = client_settings;
-    laspidru_size len = 9;
-    bad.max_docs = 0;
-    CHECK(laspidru_client_new(&client, &bad) == LASPIDRU_BAD_MAX_DOCS && !client.is_full);
-    CHECK(laspidru_client_start(&client, &len) == LASPIDRU_EMPTY && len == 9);
-    CHECK(laspidru_client_new(&client, &client_settings) == LASPIDRU_OK && client.is_full);
-    CHECK(laspidru_client_new(&client, &bad) == LASPIDRU_IN_USE && is_state(&client, LASPIDRU_PHASE_NEW, 0, 0, 0));
-    laspidru_close(&client);
-}
-
 static void test_client_lifecycle(void) {
     static const char asked[] = "{\"id\":1,\"jsonrpc\":\"2.0\",\"method\":\"initialize\",\"params\":{\"capabilities\":{\"general\":"
                                 "{\"positionEncodings\":[\"utf-8\",\"utf-16\"]}},\"processId\":null,\"rootUri\":null}}";
@@ -113,12 +89,8 @@ static void test_client_lifecycle(void) {
     CHECK(laspidru_client_new(&client, &client_settings) == LASPIDRU_OK);
     CHECK(laspidru_frame(&client, 0, out, 7, &copied) == LASPIDRU_OK && copied == 0);
     CHECK(hand(&client, capabilities, &answer) == LASPIDRU_WRONG_PHASE && answer.kind == 9);
-    CHECK(laspidru_client_shutdown(&client, &len) == LASPIDRU_WRONG_PHASE && laspidru_client_exit(&client, &len) == LASPIDRU_WRONG_PHASE);
-    CHECK(client_open(&client, uri_a, 1, "a", &len) == LASPIDRU_WRONG_PHASE && len == 9);
     CHECK(laspidru_client_start(&client, &len) == LASPIDRU_OK && sends(&client, len, asked));
     CHECK(laspidru_frame(&client, 1, out, 6, &copied) == LASPIDRU_OK && copied == 6 && memcmp(out, "ontent-", 7) == 0);
-    CHECK(laspidru_frame(&client, len + 1, out, 6, &copied) == LASPIDRU_OUT_OF_RANGE && copied == 6);
-    CHECK(laspidru_client_start(&client, &len) == LASPIDRU_WRONG_PHASE && sends(&client, len, asked));
     CHECK(is_state(&client, LASPIDRU_PHASE_ASKED, 0, 0, 0));
     CHECK(hand(&client, "{\"jsonrpc\":\"2.0\",\"method\":\"$/logTrace\"}", &answer) == LASPIDRU_OK && is_kind(answer, LASPIDRU_IGNORED, 0, 0));
     CHECK(laspidru_frame(&client, 0, out, 7, &copied) == LASPIDRU_OK && copied == 0);
@@ -126,7 +98,6 @@ static void test_client_lifecycle(void) {
     CHECK(hand(&client, capabilities, &answer) == LASPIDRU_OK && is_kind(answer, LASPIDRU_REPLIED, 0, 0));
     CHECK(is_state(&client, LASPIDRU_PHASE_READY, 0, LASPIDRU_UTF8, 0));
     CHECK(laspidru_client_shutdown(&client, &len) == LASPIDRU_OK && sends(&client, len, "{\"id\":2,\"jsonrpc\":\"2.0\",\"method\":\"shutdown\"}"));
-    CHECK(client_open(&client, uri_a, 1, "a", &len) == LASPIDRU_WRONG_PHASE);
     CHECK(hand(&client, "{\"jsonrpc\":\"2.0\",\"id\":2,\"result\":null}", &answer) == LASPIDRU_OK && is_kind(answer, LASPIDRU_NOTED, 0, 0));
     CHECK(is_state(&client, LASPIDRU_PHASE_CLOSED, 0, LASPIDRU_UTF8, 0));
     CHECK(laspidru_client_exit(&client, &len) == LASPIDRU_OK && sends(&client, len, "{\"jsonrpc\":\"2.0\",\"method\":\"exit\"}"));
@@ -138,26 +109,14 @@ static void test_client_documents(void) {
     laspidru_handle client = {0};
     laspidru_edit both[2] = {{{1, 0}, {1, 1}, 2, 0}, {{0, 0}, {0, 0}, 1, 0}};
     laspidru_edit inside = {{0, 1}, {0, 2}, 0, 0}, reversed = {{0, 1}, {0, 0}, 0, 0}, whole = {{0, 0}, {0, 0}, 3, 1};
-    laspidru_edit five[5] = {{{0, 0}, {0, 0}, 0, 0}};
     laspidru_fault fault = {9, 1};
     laspidru_opened opened = {9, 9};
     laspidru_size len = 9, copied = 9;
     unsigned char out[4] = "---";
     start_client(&client);
-    CHECK(laspidru_client_open(&client, bytes("\xff"), 1, bytes("c"), 1, 1, bytes("a"), 1, &len) == LASPIDRU_NOT_UTF8 && len == 9);
-    CHECK(laspidru_client_open(&client, bytes("u"), 1, bytes("\xff"), 1, 1, bytes("a"), 1, &len) == LASPIDRU_NOT_UTF8);
-    CHECK(laspidru_client_open(&client, bytes("u"), 1, bytes("c"), 1, 1, bytes("\xff"), 1, &len) == LASPIDRU_NOT_UTF8);
-    CHECK(client_edit(&client, 2, both, 2, "XYQ", &fault, &len) == LASPIDRU_NOT_OPEN && len == 9);
-    CHECK(laspidru_client_close(&client, bytes(uri_a), 9, &len) == LASPIDRU_NOT_OPEN);
     CHECK(client_open(&client, uri_a, 1, "ab\ncd", &len) == LASPIDRU_OK && holds(&client, 1, "ab\ncd"));
     CHECK(sends(&client, len, "{\"jsonrpc\":\"2.0\",\"method\":\"textDocument/didOpen\",\"params\":{\"textDocument\":{\"languageId\":\"c\","
                               "\"text\":\"ab\\ncd\",\"uri\":\"file:///a\",\"version\":1}}}"));
-    CHECK(client_open(&client, uri_a, 2, "x", &len) == LASPIDRU_ALREADY_OPEN && holds(&client, 1, "ab\ncd"));
-    CHECK(client_open(&client, "b", 1, "1234567890123456789012345678901234567890123456789012345678901234.", &len) == LASPIDRU_TOO_LONG);
-    CHECK(client_edit(&client, 1, both, 2, "XYQ", &fault, &len) == LASPIDRU_STALE_VERSION && holds(&client, 1, "ab\ncd"));
-    CHECK(client_edit(&client, 2, five, 5, "", &fault, &len) == LASPIDRU_TOO_MANY_CHANGES);
-    CHECK(client_edit(&client, 2, both, 2, "XY", &fault, &len) == LASPIDRU_BAD_LENGTH);
-    CHECK(client_edit(&client, 2, both, 2, "X\xffQ", &fault, &len) == LASPIDRU_NOT_UTF8);
     CHECK(client_edit(&client, 2, &reversed, 1, "", &fault, &len) == LASPIDRU_REVERSED_RANGE && fault.change == 0 && !fault.at_end);
     CHECK(holds(&client, 1, "ab\ncd") && is_state(&client, LASPIDRU_PHASE_READY, 0, LASPIDRU_UTF8, 1));
     CHECK(client_edit(&client, 7, both, 2, "XYQ", &fault, &len) == LASPIDRU_OK && holds(&client, 7, "Qab\nXYd"));
@@ -169,10 +128,6 @@ static void test_client_documents(void) {
     CHECK(client_edit(&client, 9, &inside, 1, "", &fault, &len) == LASPIDRU_INSIDE_CHARACTER && fault.change == 0 && !fault.at_end);
     CHECK(holds(&client, 8, "\xc3\xa9."));
     CHECK(laspidru_open_text(&client, bytes(uri_a), 9, 2, out, 3, &copied) == LASPIDRU_OK && copied == 1 && memcmp(out, ".--", 3) == 0);
-    CHECK(laspidru_open_text(&client, bytes(uri_a), 9, 4, out, 3, &copied) == LASPIDRU_OUT_OF_RANGE && copied == 1);
-    CHECK(laspidru_open_text(&client, bytes(uri_a), 8, 0, out, 3, &copied) == LASPIDRU_NOT_OPEN);
-    CHECK(laspidru_open_state(&client, bytes("\xff"), 1, &opened) == LASPIDRU_NOT_UTF8 && opened.version == 9);
-    CHECK(client_open(&client, "b", 1, "", &len) == LASPIDRU_OK && client_open(&client, "c", 1, "", &len) == LASPIDRU_TOO_MANY_DOCUMENTS);
     CHECK(laspidru_client_close(&client, bytes(uri_a), 9, &len) == LASPIDRU_OK);
     CHECK(sends(&client, len, "{\"jsonrpc\":\"2.0\",\"method\":\"textDocument/didClose\",\"params\":{\"textDocument\":{\"uri\":\"file:///a\"}}}"));
     CHECK(laspidru_open_state(&client, bytes(uri_a), 9, &opened) == LASPIDRU_NOT_OPEN && opened.version == 9);
@@ -187,12 +142,8 @@ static void test_bad_servers(void) {
         laspidru_u32 reason;
     } rows[] = {
         {"{", LASPIDRU_NOT_AN_ANSWER},
-        {"[]", LASPIDRU_NOT_AN_ANSWER},
-        {"{\"jsonrpc\":\"2.0\",\"id\":2,\"result\":null}", LASPIDRU_NOT_AN_ANSWER},
-        {"{\"jsonrpc\":\"2.0\",\"id\":1,\"result\":{}}", LASPIDRU_NOT_AN_ANSWER},
         {"{\"jsonrpc\":\"2.0\",\"id\":1,\"error\":{\"code\":1,\"message\":\"\"}}", LASPIDRU_ERROR_ANSWER},
         {"{\"jsonrpc\":\"2.0\",\"id\":1,\"result\":{\"capabilities\":{}}}", LASPIDRU_NO_SYNC},
-        {"{\"jsonrpc\":\"2.0\",\"id\":1,\"result\":{\"capabilities\":{\"textDocumentSync\":0}}}", LASPIDRU_NO_SYNC},
         {"{\"jsonrpc\":\"2.0\",\"id\":1,\"result\":{\"capabilities\":{\"textDocumentSync\":2,\"positionEncoding\":\"utf-32\"}}}",
          LASPIDRU_BAD_ENCODING},
     };
@@ -210,48 +161,6 @@ static void test_bad_servers(void) {
     CHECK(client_open(&client, uri_a, 1, "ab\ncd", &len) == LASPIDRU_OK);
     CHECK(hand(&client, capabilities, &answer) == LASPIDRU_OK && is_kind(answer, LASPIDRU_BAD_SERVER, LASPIDRU_NOT_AN_ANSWER, 0));
     CHECK(holds(&client, 1, "ab\ncd") && is_state(&client, LASPIDRU_PHASE_FAILED, LASPIDRU_NOT_AN_ANSWER, LASPIDRU_UTF8, 1));
-    laspidru_close(&client);
-}
-
-/* A handle of another kind, to each of the new functions. */
-static void test_ends_of_other_kinds(void) {
-    laspidru_handle document = {0}, client = {0};
-    laspidru_taken taken = {9, 9, 9, 9, 1};
-    laspidru_answer answer = {9, 9, 9, 9, 9};
-    laspidru_opened opened = {9, 9};
-    laspidru_state state = {9, 9, 9, 9};
-    laspidru_fault fault = {9, 1};
-    laspidru_bool at_rest = 1;
-    laspidru_size len = 9;
-    unsigned char out[1] = {'-'};
-    CHECK(open_text(&document, "a") == LASPIDRU_OK);
-    CHECK(laspidru_framer_feed(&document, bytes("C"), 1, &taken) == LASPIDRU_OTHER_KIND && taken.bytes == 9);
-    CHECK(laspidru_body(&document, 0, out, 1, &len) == LASPIDRU_OTHER_KIND && len == 9 && out[0] == '-');
-    CHECK(laspidru_framer_next(&document) == LASPIDRU_OTHER_KIND);
-    CHECK(laspidru_framer_at_rest(&document, &at_rest) == LASPIDRU_OTHER_KIND && at_rest);
-    CHECK(laspidru_client_start(&document, &len) == LASPIDRU_OTHER_KIND && laspidru_client_shutdown(&document, &len) == LASPIDRU_OTHER_KIND);
-    CHECK(laspidru_client_exit(&document, &len) == LASPIDRU_OTHER_KIND && client_open(&document, "u", 1, "a", &len) == LASPIDRU_OTHER_KIND);
-    CHECK(client_edit(&document, 1, 0, 0, "", &fault, &len) == LASPIDRU_OTHER_KIND && fault.change == 9);
-    CHECK(laspidru_client_close(&document, bytes("u"), 1, &len) == LASPIDRU_OTHER_KIND && len == 9);
-    CHECK(hand(&document, capabilities, &answer) == LASPIDRU_OTHER_KIND && answer.kind == 9);
-    CHECK(laspidru_frame(&document, 0, out, 1, &len) == LASPIDRU_OTHER_KIND && len == 9);
-    CHECK(laspidru_session_state(&document, &state) == LASPIDRU_OTHER_KIND && state.phase == 9);
-    CHECK(laspidru_open_state(&document, bytes("u"), 1, &opened) == LASPIDRU_OTHER_KIND && opened.bytes == 9);
-    CHECK(laspidru_open_text(&document, bytes("u"), 1, 0, out, 1, &len) == LASPIDRU_OTHER_KIND && len == 9);
-    CHECK(has_text(&document, "a"));
-    laspidru_close(&document);
-    CHECK(client_open(&client, "u", 1, "a", &len) == LASPIDRU_EMPTY && client_edit(&client, 1, 0, 0, "", &fault, &len) == LASPIDRU_EMPTY);
-    CHECK(laspidru_client_close(&client, bytes("u"), 1, &len) == LASPIDRU_EMPTY && hand(&client, "", &answer) == LASPIDRU_EMPTY);
-    CHECK(laspidru_frame(&client, 0, out, 1, &len) == LASPIDRU_EMPTY && laspidru_session_state(&client, &state) == LASPIDRU_EMPTY);
-    CHECK(laspidru_open_state(&client, bytes("u"), 1, &opened) == LASPIDRU_EMPTY);
-    CHECK(laspidru_open_text(&client, bytes("u"), 1, 0, out, 1, &len) == LASPIDRU_EMPTY && len == 9);
-    CHECK(laspidru_client_new(&client, &client_settings) == LASPIDRU_OK);
-    CHECK(has_text(&client, "") == 0 && laspidru_framer_next(&client) == LASPIDRU_OTHER_KIND && hand(&client, "", &answer) == LASPIDRU_WRONG_PHASE);
-    laspidru_close(&client);
-    /* A server has none of a client's own calls. */
-    CHECK(laspidru_server_new(&client, &settings) == LASPIDRU_OK && laspidru_client_start(&client, &len) == LASPIDRU_OTHER_KIND);
-    CHECK(client_open(&client, "u", 1, "a", &len) == LASPIDRU_OTHER_KIND && client_edit(&client, 1, 0, 0, "", &fault, &len) == LASPIDRU_OTHER_KIND);
-    CHECK(laspidru_client_close(&client, bytes("u"), 1, &len) == LASPIDRU_OTHER_KIND && len == 9);
     laspidru_close(&client);
 }
 

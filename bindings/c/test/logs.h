@@ -190,36 +190,3 @@ static void test_log_faults(void) {
     add_frame(&cut, "", long_change);
     CHECK(writes(LASPIDRU_NORMALISE, &long_texts, cut, LASPIDRU_BODY_TOO_LONG, log, &ending) && is_fault(ending, 0, offset));
 }
-
-static void test_log_refusals(void) {
-    static const char *const session[] = {initialize, 0};
-    part log = log_of(session);
-    laspidru_handle output = {0}, document = {0};
-    unsigned char out[8] = "-------";
-    laspidru_size copied = 9;
-    laspidru_u32 command;
-    laspidru_ending ending = {9, 9, 9, 9, 9, 9, 9};
-    CHECK(open_text(&document, "a") == LASPIDRU_OK);
-    CHECK(laspidru_output_copy(&output, 0, out, 7, &copied) == LASPIDRU_EMPTY && copied == 9);
-    CHECK(laspidru_output_copy(&document, 0, out, 7, &copied) == LASPIDRU_OTHER_KIND && copied == 9);
-    CHECK(run_log(&output, 6, &log_settings, log, &ending) == LASPIDRU_OUT_OF_RANGE && !output.is_full);
-    for (command = LASPIDRU_CHECK; command <= LASPIDRU_CONVERT; command++) {
-        laspidru_log_settings bad = log_settings;
-        bad.max_changes = 0;
-        CHECK(run_log(&output, command, &bad, log, &ending) == LASPIDRU_BAD_MAX_CHANGES && !output.is_full);
-        bad.encoding = 9;
-        CHECK(run_log(&output, command, &bad, log, &ending) == LASPIDRU_BAD_ENCODING && !output.is_full);
-        CHECK(laspidru_log_run(&output, command, &bad, bytes("\xff"), 1, log.bytes, log.len, &ending) == LASPIDRU_NOT_UTF8);
-        CHECK(run_log(&document, command, &bad, log, &ending) == LASPIDRU_IN_USE && has_text(&document, "a"));
-        CHECK(ending.status == 9 && ending.output_len == 9);
-    }
-    CHECK(run_log(&output, LASPIDRU_CHECK, &log_settings, log, &ending) == LASPIDRU_OK && ending.output_len == 8);
-    CHECK(laspidru_output_copy(&output, 9, out, 7, &copied) == LASPIDRU_OUT_OF_RANGE && copied == 9 && out[0] == '-');
-    CHECK(laspidru_output_copy(&output, 8, out, 7, &copied) == LASPIDRU_OK && copied == 0);
-    CHECK(laspidru_output_copy(&output, 2, out, 3, &copied) == LASPIDRU_OK && copied == 3 && memcmp(out, "rep----", 7) == 0);
-    CHECK(laspidru_document_copy(&output, 0, out, 7, &copied) == LASPIDRU_OTHER_KIND && copied == 3);
-    CHECK(run_log(&output, LASPIDRU_CHECK, &log_settings, log, &ending) == LASPIDRU_IN_USE);
-    laspidru_close(&output);
-    CHECK(!output.is_full);
-    laspidru_close(&document);
-}

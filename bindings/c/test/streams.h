@@ -94,25 +94,6 @@ static void test_server_take_in_order(void) {
     laspidru_close(&server);
 }
 
-static void test_server_take_faults(void) {
-    static const char *const session[] = {initialize, open_a, 0};
-    static char stream[STREAM_ROOM];
-    laspidru_size len = stream_of(stream, session), at = 0;
-    laspidru_handle server = {0};
-    laspidru_taken taken = {9, 9, 9, 9, 1};
-    laspidru_answer answer = {9, 9, 9, 9, 9};
-    CHECK(laspidru_server_new(&server, &settings) == LASPIDRU_OK);
-    for (; at < len; at += taken.bytes)
-        CHECK(laspidru_take(&server, bytes(stream) + at, len - at, &taken, &answer) == LASPIDRU_OK && taken.is_whole);
-    answer.kind = 9;
-    CHECK(laspidru_take(&server, bytes("Content-Length 3"), 16, &taken, &answer) == LASPIDRU_BAD_FRAME);
-    CHECK(taken.offset == len + 14 && taken.frame == 1 && taken.bytes == 0 && !taken.is_whole && answer.kind == 9);
-    CHECK(laspidru_take(&server, bytes("C"), 1, &taken, &answer) == LASPIDRU_FAILED && taken.bytes == 0 && taken.offset == 0);
-    /* The documents stay, and bodies are handled as before. */
-    CHECK(holds(&server, 1, "ab\ncd") && hand(&server, change_a, &answer) == LASPIDRU_OK && holds(&server, 7, "ab\nXYd"));
-    laspidru_close(&server);
-}
-
 static void test_client_take(void) {
     static const char asks[] = "{\"jsonrpc\":\"2.0\",\"id\":7,\"method\":\"workspace/configuration\",\"params\":{}}";
     static const char notes[] = "{\"jsonrpc\":\"2.0\",\"method\":\"window/logMessage\",\"params\":{}}";
@@ -141,19 +122,4 @@ static void test_client_take(void) {
         CHECK(laspidru_take(&client, bytes("C"), 1, &taken, &answer) == LASPIDRU_WRONG_PHASE && answer.kind == 9);
         laspidru_close(&client);
     }
-}
-
-static void test_take_of_other_kinds(void) {
-    laspidru_handle document = {0}, client = {0};
-    laspidru_taken taken = {9, 9, 9, 9, 1};
-    laspidru_answer answer = {9, 9, 9, 9, 9};
-    laspidru_size copied = 9;
-    unsigned char out[1] = {'-'};
-    CHECK(open_text(&document, "a") == LASPIDRU_OK && laspidru_client_new(&client, &client_settings) == LASPIDRU_OK);
-    CHECK(laspidru_take(&document, bytes("C"), 1, &taken, &answer) == LASPIDRU_OTHER_KIND && taken.bytes == 9 && answer.kind == 9);
-    CHECK(laspidru_take(&document, bytes("C"), 1, &taken, &answer) == LASPIDRU_OTHER_KIND && taken.bytes == 9 && answer.kind == 9);
-    CHECK(laspidru_body(&document, 0, out, 1, &copied) == LASPIDRU_OTHER_KIND && copied == 9 && out[0] == '-');
-    CHECK(has_text(&document, "a"));
-    laspidru_close(&document);
-    laspidru_close(&client);
 }
