@@ -1,7 +1,7 @@
 'use strict';
 // Texts that are kept as LSP 3.17 says, and both ends of a session, by a library that is proved (docs/node.md). `TextDocument` has the members
 // of vscode-languageserver-textdocument. Unlike there a position inside a character is refused by a RangeError.
-let addon; // what calls the library: laspidru.node, or over its WebAssembly module what module.js has
+let addon; // what calls the library: what module.js has over laspidru.node, or over the WebAssembly module
 
 const [encoder, decoder] = [new TextEncoder(), new TextDecoder()];
 
@@ -63,7 +63,7 @@ function checked(text) {
   return text;
 }
 
-const NUMBERS = 6; // of each change, as the addon takes it
+const NUMBERS = 8; // of each change: those of the library's struct, of which one is a half and one for room
 const WHOLE = { start: { line: 0, character: 0 }, end: { line: 0, character: 0 } };
 const ROOM = Buffer.alloc(65536); // for the texts of a short batch
 
@@ -80,7 +80,7 @@ function joined(texts, units, numbers) {
   return bytes;
 }
 
-/** Changes as the addon takes them: six numbers of each, and the bytes of all texts. */
+/** Changes as the library takes them: eight numbers of each, and the bytes of all texts. */
 function passed(changes, kind = 'change') {
   if (!Array.isArray(changes)) throw new TypeError('changes are no array');
   const numbers = new Uint32Array(NUMBERS * changes.length);
@@ -94,7 +94,7 @@ function passed(changes, kind = 'change') {
     numbers[first + 1] = uint(start.character, kind, index);
     numbers[first + 2] = uint(end.line, kind, index);
     numbers[first + 3] = uint(end.character, kind, index);
-    numbers[first + 5] = range ? 0 : 1;
+    numbers[first + 6] = range ? 0 : 1;
     units += checked(text).length;
     texts.push(text);
   }

@@ -1,7 +1,6 @@
 'use strict';
-// The addon over a WebAssembly module of the library: the same functions as addon.c has, with the same arguments. The module imports nothing.
-// It has the layout of 64 bits, also for wasm32: sizes are i64 (BigInt), and a pointer in memory has 8 bytes. malloc and free take a size as
-// long as a pointer.
+// What calls the library for api.js: over the addon (addon.c), or over a WebAssembly module of the library. A function of the library takes a
+// handle, numbers, positions, and bytes: a place in `room`, where structs are passed too, or an array. The layout is that of 64 bits, also in wasm32.
 const { Buffer } = require('./api.js');
 
 // declared: by tools/declared
@@ -26,7 +25,8 @@ const AT = {
 
 const OK = 0;
 const REPLIED = 0;
-const NUMBERS_OF_EDIT = 6;
+const ROOM = 65536;
+const REPORTED_STEP = 65536; // the collector hears of a document's size after changes of so many bytes
 const SERVER = ['encoding', 'is_fixed', 'is_full', 'lenient'];
 const CLIENT = ['utf8', 'utf32', 'lenient'];
 const LOG = ['encoding', 'lenient', 'squash', 'documents', 'texts', 'bodies', 'has_uri'];
@@ -47,10 +47,6 @@ function lacking(error) {
   return new Error(`laspidru's module needs WebAssembly with vectors of 128 bits (SIMD), which this engine lacks; it is in ${has}`, { cause: error });
 }
 
-function refuseArguments() {
-  throw new TypeError('an argument has another type');
-}
-
 /** Whether a size has 64 bits: malloc then takes no number. */
 function isOf64({ malloc, free }) {
   try {
@@ -61,17 +57,12 @@ function isOf64({ malloc, free }) {
   }
 }
 
-/** A handle of the library: its place in the module's memory. */
-class Held {
-  constructor(at) {
-    this.at = at;
-  }
-}
-
-function addonOf(module_) {
+/** The library in a WebAssembly module, which imports nothing. Sizes are i64 (BigInt); malloc and free take a size as long as a pointer. */
+function inModule(module_) {
   const exported = new WebAssembly.Instance(module_, {}).exports;
   const { memory } = exported;
-  let [bytes, view] = [new Uint8Array(memory.buffer), new DataView(memory.buffer)];
+  const lib = { runOut() { throw new RangeError('out of memory'); } };
+  const look = () => Object.assign(lib, { bytes: new Uint8Array(memory.buffer), view: new DataView(memory.buffer) });
   let trap;
 
   /** A function of the module, after which `bytes` and `view` are of its memory as it then is. After any has trapped none is called again: the
@@ -80,7 +71,7 @@ function addonOf(module_) {
     if (trap === undefined) {
       try {
         const result = call(...given);
-        if (bytes.buffer !== memory.buffer) [bytes, view] = [new Uint8Array(memory.buffer), new DataView(memory.buffer)];
+        if (lib.bytes.buffer !== memory.buffer) look();
         return result;
       } catch (error) {
         trap = error;
@@ -88,14 +79,103 @@ function addonOf(module_) {
     }
     throw new Error("laspidru's module has trapped, as it does where its stack is spent, and is used no more", { cause: trap });
   };
-  // (each by its name without `laspidru_`)
-  const wasm = Object.fromEntries(Object.entries(exported).filter(([, it]) => typeof it === 'function')
-    .map(([name, it]) => [name.replace('laspidru_', ''), guarded(it)]));
+  look();
+  for (const [name, it] of Object.entries(exported)) if (typeof it === 'function') lib[name.replace('laspidru_', '')] = guarded(it);
   // A place in the module's memory is a number here, and as the module has it in its calls.
   const is64 = isOf64(exported);
   const place = is64 ? BigInt : (at) => at;
   const number = is64 ? Number : (at) => at >>> 0;
+  const allocated = (size) => (is64 || size < 2 ** 31 ? number(lib.malloc(place(size))) : 0) || lib.runOut();
+  const free = (at) => { if (trap === undefined) lib.free(place(at)); };
+  const drop = (handle) => { if (trap === undefined) lib.close(handle); };
+  const finished = new FinalizationRegistry((at) => {
+    drop(place(at));
+    free(at);
+  });
+  const decoder = new TextDecoder('utf-8', { ignoreBOM: true });
+  const room = allocated(ROOM);
+  let used = 0;
+  let own = []; // what long bytes have for a call
 
+  function take(size) {
+    const all = size < ROOM ? (size + 15) & ~15 : size;
+    if (used + all <= ROOM) {
+      used += all;
+      return room + used - all;
+    }
+    const at = allocated(size);
+    own.push(at);
+    return at;
+  }
+
+  return Object.assign(lib, {
+    place,
+    size: BigInt,
+    /** A position by value: its line in the low half. */
+    position: (line, character) => [BigInt.asIntN(64, (BigInt(character) << 32n) | BigInt(line))],
+    take,
+    /** So many bytes that a call writes: how they are passed, and the first of them, as they are read. */
+    block(size) {
+      const at = take(size);
+      return { passed: place(at), part: (length) => lib.bytes.subarray(at, at + length) };
+    },
+    array(array, length) {
+      const at = take(length);
+      lib.bytes.set(new Uint8Array(array.buffer, array.byteOffset, length), at);
+      return place(at);
+    },
+    string: (part) => decoder.decode(part),
+    owned: (part) => Buffer.from(part),
+    handle() {
+      const held = { at: allocated(AT.handle.size) };
+      lib.bytes.fill(0, held.at, held.at + AT.handle.size);
+      finished.register(held, held.at);
+      return held;
+    },
+    of: ({ at }) => place(at),
+    isFull: ({ at }) => lib.bytes[at + AT.handle.is_full] !== 0,
+    drop: ({ at }) => drop(place(at)),
+    report() {},
+    done() {
+      used = 0;
+      own.forEach(free);
+      own = [];
+    },
+  });
+}
+
+/** The library in the addon. */
+function inAddon(addon) {
+  const bytes = new Uint8Array(ROOM);
+  addon.bind(bytes);
+  const it = (value) => value;
+  let used = 0;
+  return {
+    ...addon,
+    bytes,
+    view: new DataView(bytes.buffer),
+    take(size) {
+      used += (size + 15) & ~15;
+      return used - ((size + 15) & ~15);
+    },
+    place: it,
+    size: it,
+    position: (line, character) => [line, character],
+    block(size) {
+      const passed = Buffer.allocUnsafe(size);
+      return { passed, part: (length) => (length === size ? passed : passed.subarray(0, length)) };
+    },
+    array: it,
+    string: (part) => part.toString(),
+    owned: it,
+    of: it,
+    done() { used = 0; },
+  };
+}
+
+/** What api.js calls. */
+function over(lib) {
+  const { place, size, take } = lib;
   const texts = []; // [name, what it means] of each code, by its number
 
   function refusal(code, where = '', more = {}) {
@@ -107,140 +187,76 @@ function addonOf(module_) {
     throw refusal(code);
   }
 
-  function malloc(size) {
-    const at = is64 || size < 2 ** 31 ? number(wasm.malloc(place(size))) : 0;
-    if (at === 0) refuse(texts.findIndex(([name]) => name === 'OUT_OF_MEMORY'));
-    return at;
-  }
+  lib.runOut = () => refuse(texts.findIndex(([name]) => name === 'OUT_OF_MEMORY'));
 
-  // What a call is passed lies in room that is used again; long bytes have their own for the call.
-  const ROOM = 65536;
-  const room = malloc(ROOM);
-  let used = 0;
-  let own = [];
-
-  function take(size) {
-    const all = size < ROOM ? (size + 15) & ~15 : size;
-    if (used + all <= ROOM) {
-      used += all;
-      return room + used - all;
-    }
-    const at = malloc(size);
-    own.push(at);
-    return at;
-  }
-
-  function zeroes(size) {
-    const at = take(size);
-    bytes.fill(0, at, at + size);
+  function zeroes(length) {
+    const at = take(length);
+    lib.bytes.fill(0, at, at + length);
     return at;
   }
 
   /** Makes calls, and frees what they took. */
-  function within(work) {
-    used = 0;
+  const within = (work) => (...given) => {
     try {
-      return work();
+      return work(...given);
     } finally {
-      if (trap === undefined) for (const at of own) wasm.free(place(at));
-      own = [];
+      lib.done();
     }
-  }
+  };
 
-  const u32 = (at) => view.getUint32(at, true);
-  const i32 = (at) => view.getInt32(at, true);
-  const u64 = (at) => Number(view.getBigUint64(at, true));
-  const bool = (at) => bytes[at] !== 0;
+  const u32 = (at) => lib.view.getUint32(at, true);
+  const i32 = (at) => lib.view.getInt32(at, true);
+  const u64 = (at) => u32(at) + 2 ** 32 * u32(at + 4);
+  const bool = (at) => lib.bytes[at] !== 0;
   const isCode = (code, ...names) => names.includes(texts[code]?.[0]);
-  const decoder = new TextDecoder('utf-8', { ignoreBOM: true });
-  const stringOf = (part) => decoder.decode(part);
 
-  const handleOf = (held) => (held instanceof Held ? place(held.at) : refuseArguments());
-  const bytesOf = (value) => (value instanceof Uint8Array ? value : refuseArguments());
-  const wordsOf = (value, count = value?.length) => (value instanceof Uint32Array && value.length === count ? value : refuseArguments());
-  const numberOf = (value) => (typeof value === 'number' ? value : refuseArguments());
-  const sizeOf = (value) => BigInt(numberOf(value));
-  /** A position by value: its line in the low half. */
-  const positionOf = (line, character) => BigInt.asIntN(64, (BigInt(numberOf(character)) << 32n) | BigInt(numberOf(line)));
+  /** Elements that are passed, and how many, as arguments. */
+  const passed = (array, count = array.length, length = count) => [lib.array(array, length), size(count)];
 
-  /** Bytes that are passed: their place and length, as arguments. */
-  function passed(value) {
-    const array = bytesOf(value);
-    const at = take(array.length);
-    bytes.set(array, at);
-    return [place(at), BigInt(array.length)];
-  }
-
-  /** Edits and their texts, as arguments. */
+  /** Edits and their texts, as arguments. Eight numbers of an edit are its struct. */
   function editsOf(numbers, texts) {
-    const all = wordsOf(numbers);
-    if (all.length % NUMBERS_OF_EDIT !== 0) refuseArguments();
-    const count = all.length / NUMBERS_OF_EDIT;
-    const at = zeroes(AT.edit.size * count);
     let length = 0;
-    for (let i = 0; i < count; i++) {
-      const [from, to] = [NUMBERS_OF_EDIT * i, at + AT.edit.size * i];
-      for (let k = 0; k < 4; k++) view.setUint32(to + 4 * k, all[from + k], true); // (start and end)
-      view.setUint32(to + AT.edit.len, all[from + 4], true);
-      bytes[to + AT.edit.is_whole] = all[from + 5] !== 0 ? 1 : 0;
-      length += all[from + 4];
-    }
-    return [place(at), BigInt(count), ...passed(bytesOf(texts).subarray(0, length))];
+    for (let i = 4; i < numbers.length; i += 8) length += numbers[i];
+    return [...passed(numbers, numbers.length / 8, numbers.byteLength), ...passed(texts, length)];
   }
 
   /** The limits, and then these members of a struct. */
   function settingsOf(numbers, offsets, members) {
-    const all = wordsOf(numbers, 4 + members.length);
     const at = zeroes(offsets.size);
-    for (let i = 0; i < 4; i++) view.setUint32(at + 8 * i, all[i], true);
-    members.forEach((member, i) => {
-      if (member === 'encoding') view.setUint32(at + offsets[member], all[4 + i], true);
-      else bytes[at + offsets[member]] = all[4 + i] !== 0 ? 1 : 0;
-    });
+    for (let i = 0; i < 4; i++) lib.view.setUint32(at + 8 * i, numbers[i], true);
+    members.forEach((member, i) => { lib.bytes[at + offsets[member]] = numbers[4 + i]; });
     return at;
   }
 
   /** What `found` has of the bytes that a call writes, so many of them. */
-  function written(size, call, found = () => undefined, refused = refuse) {
-    const at = zeroes(size);
+  function written(length, call, found = () => undefined, refused = refuse) {
+    const at = zeroes(length);
     const code = call(place(at));
     return code === OK ? found(at) : refused(code, at);
   }
 
   /** The bytes that a call copies, where there are so many. */
   function copied(length, copy) {
-    const at = take(length || 1);
-    return written(8, (count) => copy(place(at), BigInt(length), count), (count) => bytes.subarray(at, at + u64(count)));
+    const block = lib.block(length || 1);
+    return written(8, (count) => copy(block.passed, size(length), count), (count) => block.part(u64(count)));
   }
-  const bufferOf = (length, copy) => Buffer.from(copied(length, copy));
-
-  const finished = new FinalizationRegistry((at) => {
-    if (trap !== undefined) return;
-    wasm.close(place(at));
-    wasm.free(place(at));
-  });
+  const bufferOf = (length, copy) => lib.owned(copied(length, copy));
+  const stringOf = (length, copy) => lib.string(copied(length, copy));
 
   /** A new handle, filled by a call. */
   function made(fill) {
-    const at = malloc(AT.handle.size);
-    bytes.fill(0, at, at + AT.handle.size);
-    const code = fill(place(at));
-    if (code !== OK) {
-      wasm.free(place(at));
-      refuse(code);
-    }
-    const held = new Held(at);
-    finished.register(held, at);
-    return held;
+    const held = lib.handle();
+    const code = fill(lib.of(held));
+    return code === OK ? held : refuse(code);
   }
 
+  const spare = lib.handle();
   /** A handle for the time of some work. */
   function during(work) {
-    const handle = place(zeroes(AT.handle.size));
     try {
-      return work(handle);
+      return work(lib.of(spare));
     } finally {
-      if (trap === undefined) wasm.close(handle);
+      lib.drop(spare);
     }
   }
 
@@ -260,17 +276,15 @@ function addonOf(module_) {
 
   /** The changes of a batch. */
   function changesOf(batch) {
-    const [out, at, { len, is_whole: isWhole }] = [[], zeroes(AT.edit.size + 8), AT.edit];
-    const count = place(at + AT.edit.size);
-    const length = written(8, (to) => wasm.batch_len(batch, to), u64);
-    for (let [index, size, to] = [0, 4096, take(4096)]; index < length;) {
-      const code = wasm.batch_edit(batch, BigInt(index), place(at), place(to), BigInt(size), count);
+    const [out, at, count] = [[], zeroes(AT.edit.size), place(zeroes(8))];
+    const length = written(8, (to) => lib.batch_len(batch, to), u64);
+    for (let [index, most, block] = [0, 4096, lib.block(4096)]; index < length;) {
+      const code = lib.batch_edit(batch, size(index), place(at), block.passed, size(most), count);
       if (code !== OK) refuse(code);
-      if (u64(at + len) > size) {
-        size = u64(at + len);
-        to = take(size);
-      } else {
-        out.push([u32(at), u32(at + 4), u32(at + 8), u32(at + 12), bool(at + isWhole), stringOf(bytes.subarray(to, to + u64(at + len)))]);
+      const bytes = u64(at + AT.edit.len);
+      if (bytes > most) [most, block] = [bytes, lib.block(bytes)];
+      else {
+        out.push([u32(at), u32(at + 4), u32(at + 8), u32(at + 12), bool(at + AT.edit.is_whole), lib.string(block.part(bytes))]);
         index++;
       }
     }
@@ -278,108 +292,130 @@ function addonOf(module_) {
   }
 
   const batchOf = (call, refused) => during((batch) => written(AT.edits_fault.size, (at) => call(batch, at), () => changesOf(batch), refused));
-  const textOf = (held, start, length) => stringOf(copied(length, (...out) => wasm.document_copy(handleOf(held), BigInt(start), ...out)));
-  const lengthsOf = (held) => written(AT.length.size, (at) => wasm.document_size(handleOf(held), at), (at) => [u64(at + AT.length.bytes), u64(at + AT.length.lines)]);
-  const frameAt = (held, length) => bufferOf(length, (...to) => wasm.frame(handleOf(held), 0n, ...to));
+  const textOf = (held, start, length) => stringOf(length, (...out) => lib.document_copy(lib.of(held), size(start), ...out));
+  const lengthsOf = (held) => written(AT.length.size, (at) => lib.document_size(lib.of(held), at), (at) => [u64(at + AT.length.bytes), u64(at + AT.length.lines)]);
+  const frameAt = (held, length) => bufferOf(length, (...to) => lib.frame(lib.of(held), size(0), ...to));
+
+  /** After so many bytes were put in: where that is due, the collector hears how much memory a document has, else a program that drops many
+   * would keep them too long. */
+  function note(document, bytes) {
+    document.putIn += bytes;
+    if (document.putIn < REPORTED_STEP) return;
+    document.putIn = 0;
+    lib.report(document.held, lengthsOf(document.held)[0]);
+  }
+
+  /** Makes edits of a document. */
+  const edited = (document, call, fault, refused, encoding, numbers, texts) => {
+    const edits = editsOf(numbers, texts);
+    written(fault.size, (at) => call(lib.of(document.held), encoding, ...edits, at), undefined, refused);
+    note(document, Number(edits[3]));
+  };
 
   /** The frame of a call of a client, which says how long it is. */
-  const frameOf = (client, call, refused) => written(AT.fault.size + 8, (at) => call(handleOf(client), place(number(at) + AT.fault.size), at),
+  const frameOf = (client, call, refused) => written(AT.fault.size + 8, (at) => call(lib.of(client), place(Number(at) + AT.fault.size), at),
     (at) => frameAt(client, u64(at + AT.fault.size)), refused);
 
-  /** What a call answers of an open document; undefined where none of the URI is open. */
+  /** What a call answers of an open document; undefined where none of the URI are open. */
   function ofOpen(end, uri, call, found, ...more) {
     const named = passed(uri);
-    const text = (start, length) => stringOf(copied(length, (...to) => wasm.open_text(handleOf(end), ...named, BigInt(start), ...to)));
-    return written(16, (at) => call(handleOf(end), ...named, ...more, at), (at) => found(at, text),
+    const text = (start, length) => stringOf(length, (...to) => lib.open_text(lib.of(end), ...named, size(start), ...to));
+    return written(16, (at) => call(lib.of(end), ...named, ...more, at), (at) => found(at, text),
       (code) => (isCode(code, 'NOT_OPEN') ? undefined : refuse(code)));
   }
 
   const calls = {
-    open: (text) => made((handle) => wasm.document_open(handle, ...passed(text))),
-    close: (held) => void wasm.close(handleOf(held)),
-    change: (held, encoding, ...edits) =>
-      written(AT.fault.size, (at) => wasm.document_change(handleOf(held), numberOf(encoding), ...editsOf(...edits), at), undefined, refuseChange),
-    applyEdits: (held, encoding, ...edits) =>
-      written(AT.edits_fault.size, (at) => wasm.document_apply_edits(handleOf(held), numberOf(encoding), ...editsOf(...edits), at), undefined, refuseEdits),
-    canonical: (held, encoding, ...edits) =>
-      batchOf((...out) => wasm.document_canonical(handleOf(held), numberOf(encoding), ...editsOf(...edits), ...out), refuseChange),
-    batchOfEdits: (held, encoding, ...edits) =>
-      batchOf((...out) => wasm.document_batch_of_edits(handleOf(held), numberOf(encoding), ...editsOf(...edits), ...out), refuseEdits),
-    text: (held) => textOf(held, 0, lengthsOf(held)[0]),
-    lineCount: (held) => lengthsOf(held)[1],
-    line: (held, line) => written(AT.line.size, (at) => wasm.document_line(handleOf(held), numberOf(line), at),
+    open(text) {
+      const document = { held: made((handle) => lib.document_open(handle, ...passed(text))), putIn: REPORTED_STEP };
+      note(document, 0);
+      return document;
+    },
+    close({ held }) {
+      lib.drop(held);
+      lib.report(held, 0);
+    },
+    change: (document, ...edits) => edited(document, lib.document_change, AT.fault, refuseChange, ...edits),
+    applyEdits: (document, ...edits) => edited(document, lib.document_apply_edits, AT.edits_fault, refuseEdits, ...edits),
+    canonical: ({ held }, encoding, ...edits) =>
+      batchOf((...out) => lib.document_canonical(lib.of(held), encoding, ...editsOf(...edits), ...out), refuseChange),
+    batchOfEdits: ({ held }, encoding, ...edits) =>
+      batchOf((...out) => lib.document_batch_of_edits(lib.of(held), encoding, ...editsOf(...edits), ...out), refuseEdits),
+    text: ({ held }) => textOf(held, 0, lengthsOf(held)[0]),
+    lineCount: ({ held }) => lengthsOf(held)[1],
+    line: ({ held }, line) => written(AT.line.size, (at) => lib.document_line(lib.of(held), line, at),
       (at) => textOf(held, u64(at + AT.line.start), u64(at + AT.line.end) - u64(at + AT.line.start))),
-    offset: (held, encoding, ...position) =>
-      written(8, (at) => wasm.document_offset(handleOf(held), numberOf(encoding), positionOf(...position), at), u64),
-    position: (held, encoding, offset) =>
-      written(8, (at) => wasm.document_position(handleOf(held), numberOf(encoding), sizeOf(offset), at), (at) => [u32(at), u32(at + 4)]),
+    offset: ({ held }, encoding, ...position) =>
+      written(8, (at) => lib.document_offset(lib.of(held), encoding, ...lib.position(...position), at), u64),
+    position: ({ held }, encoding, offset) =>
+      written(8, (at) => lib.document_position(lib.of(held), encoding, size(offset), at), (at) => [u32(at), u32(at + 4)]),
     log(command, log, numbers, last, uri) {
       return during((output) => {
         const [at, settings, it] = [zeroes(AT.ending.size), settingsOf(numbers, AT.log_settings, LOG), AT.ending];
-        view.setBigUint64(settings + AT.log_settings.at, sizeOf(last), true);
-        const code = wasm.log_run(output, numberOf(command), place(settings), ...passed(uri), ...passed(log), place(at));
-        if (!bool(number(output) + AT.handle.is_full)) refuse(code);
+        lib.view.setBigUint64(settings + AT.log_settings.at, BigInt(last), true);
+        const code = lib.log_run(output, command, place(settings), ...passed(uri), ...passed(log), place(at));
+        if (!lib.isFull(spare)) refuse(code);
         const ended = { code, status: u32(at + it.status), missing: u32(at + it.missing), frame: u32(at + it.frame) };
         const counts = { messages: u64(at + it.messages), refused: u64(at + it.refused), offset: u64(at + it.offset) };
-        return { ...ended, ...counts, output: bufferOf(u64(at + it.output_len), (...out) => wasm.output_copy(output, 0n, ...out)) };
+        return { ...ended, ...counts, output: bufferOf(u64(at + it.output_len), (...out) => lib.output_copy(output, size(0), ...out)) };
       });
     },
-    newFramer: (maxBody) => made((handle) => wasm.framer_new(handle, sizeOf(maxBody))),
+    newFramer: (maxBody) => made((handle) => lib.framer_new(handle, size(maxBody))),
     feed(framer, piece, start) {
-      if (numberOf(start) > bytesOf(piece).length) refuseArguments();
-      const handle = handleOf(framer);
-      const it = AT.taken;
-      return written(it.size, (at) => wasm.framer_feed(handle, ...passed(piece.subarray(start)), at), (at) => {
+      const [handle, it] = [lib.of(framer), AT.taken];
+      return written(it.size, (at) => lib.framer_feed(handle, ...passed(piece.subarray(start)), at), (at) => {
         if (!bool(at + it.is_whole)) return [u64(at + it.bytes)];
-        const body = bufferOf(u64(at + it.body_len), (...to) => wasm.body(handle, 0n, ...to));
-        wasm.framer_next(handle);
+        const body = bufferOf(u64(at + it.body_len), (...to) => lib.body(handle, size(0), ...to));
+        lib.framer_next(handle);
         return [u64(at + it.bytes), body];
       }, (code, at) => (isCode(code, 'BAD_FRAME') ? [-u32(at + it.frame), u64(at + it.offset)] : refuse(code)));
     },
-    isAtRest: (framer) => written(8, (at) => wasm.framer_at_rest(handleOf(framer), at), bool),
-    newServer: (numbers) => made((handle) => wasm.server_new(handle, place(settingsOf(numbers, AT.settings, SERVER)))),
-    newClient: (numbers) => made((handle) => wasm.client_new(handle, place(settingsOf(numbers, AT.client_settings, CLIENT)))),
-    deliver: (end, body) => written(AT.answer.size, (at) => wasm.deliver(handleOf(end), ...passed(body), at), (at) => {
+    isAtRest: (framer) => written(8, (at) => lib.framer_at_rest(lib.of(framer), at), bool),
+    newServer: (numbers) => made((handle) => lib.server_new(handle, place(settingsOf(numbers, AT.settings, SERVER)))),
+    newClient: (numbers) => made((handle) => lib.client_new(handle, place(settingsOf(numbers, AT.client_settings, CLIENT)))),
+    deliver: (end, body) => written(AT.answer.size, (at) => lib.deliver(lib.of(end), ...passed(body), at), (at) => {
       const it = AT.answer;
       const out = [u32(at + it.kind), u32(at + it.reason), u32(at + it.status), i32(at + it.error)];
       if (out[0] === REPLIED) out.push(frameAt(end, u64(at + it.reply_len)));
       return out;
     }),
     uri(body) {
-      const [array, length] = passed(body);
-      const at = take(Number(length) || 1);
-      return written(8, (count) => wasm.message_uri(array, length, 0n, place(at), length, count), (count) => stringOf(bytes.subarray(at, at + u64(count))),
-        (code) => (isCode(code, 'NO_DOCUMENT') ? undefined : refuse(code)));
+      const block = lib.block(body.length || 1);
+      return written(8, (count) => lib.message_uri(...passed(body), size(0), block.passed, size(body.length), count),
+        (count) => lib.string(block.part(u64(count))), (code) => (isCode(code, 'NO_DOCUMENT') ? undefined : refuse(code)));
     },
     texts: () => texts.map(([name, why]) => `${name}: ${why}`),
-    version: () => wasm.version(),
-    call: (client, which) => frameOf(client, [wasm.client_start, wasm.client_shutdown, wasm.client_exit][which] ?? refuseArguments()),
+    version: () => lib.version(),
+    call: (client, which) => frameOf(client, [lib.client_start, lib.client_shutdown, lib.client_exit][which]),
     openAt: (client, uri, language, version, text) => frameOf(client, (handle, length) =>
-      wasm.client_open(handle, ...passed(uri), ...passed(language), numberOf(version), ...passed(text), length)),
+      lib.client_open(handle, ...passed(uri), ...passed(language), version, ...passed(text), length)),
     edit: (client, uri, version, ...edits) => frameOf(client, (handle, length, fault) =>
-      wasm.client_edit(handle, ...passed(uri), numberOf(version), ...editsOf(...edits), fault, length), refuseChange),
-    closeAt: (client, uri) => frameOf(client, (handle, length) => wasm.client_close(handle, ...passed(uri), length)),
-    state: (end) => written(AT.state.size, (at) => wasm.session_state(handleOf(end), at),
+      lib.client_edit(handle, ...passed(uri), version, ...editsOf(...edits), fault, length), refuseChange),
+    closeAt: (client, uri) => frameOf(client, (handle, length) => lib.client_close(handle, ...passed(uri), length)),
+    state: (end) => written(AT.state.size, (at) => lib.session_state(lib.of(end), at),
       (at) => [u32(at + AT.state.phase), u32(at + AT.state.reason), u32(at + AT.state.encoding), u64(at + AT.state.documents)]),
-    document: (end, uri, withText) => ofOpen(end, uri, wasm.open_state, (at, text) =>
+    document: (end, uri, withText) => ofOpen(end, uri, lib.open_state, (at, text) =>
       [i32(at + AT.opened.version), ...(withText ? [text(0, u64(at + AT.opened.bytes))] : [])]),
-    offsetAt: (end, uri, encoding, ...position) => ofOpen(end, uri, wasm.open_offset, u64, numberOf(encoding), positionOf(...position)),
+    offsetAt: (end, uri, encoding, ...position) => ofOpen(end, uri, lib.open_offset, u64, encoding, ...lib.position(...position)),
     positionAt: (end, uri, encoding, offset) =>
-      ofOpen(end, uri, wasm.open_position, (at) => [u32(at + AT.position.line), u32(at + AT.position.character)], numberOf(encoding), sizeOf(offset)),
+      ofOpen(end, uri, lib.open_position, (at) => [u32(at + AT.position.line), u32(at + AT.position.character)], encoding, size(offset)),
     lineAt: (end, uri, line) =>
-      ofOpen(end, uri, wasm.open_line, (at, text) => text(u64(at + AT.line.start), u64(at + AT.line.end) - u64(at + AT.line.start)), numberOf(line)),
+      ofOpen(end, uri, lib.open_line, (at, text) => text(u64(at + AT.line.start), u64(at + AT.line.end) - u64(at + AT.line.start)), line),
     batchOfEditsAt: (end, uri, encoding, ...edits) => batchOf((...out) =>
-      wasm.open_batch_of_edits(handleOf(end), ...passed(uri), numberOf(encoding), ...editsOf(...edits), ...out), refuseEdits),
+      lib.open_batch_of_edits(lib.of(end), ...passed(uri), encoding, ...editsOf(...edits), ...out), refuseEdits),
     canonicalMessage: (end, uri, version, encoding, ...edits) => during((output) => written(AT.fault.size + 8, (at) =>
-      wasm.open_canonical_message(handleOf(end), ...passed(uri), numberOf(version), numberOf(encoding), ...editsOf(...edits), output, at,
-        place(number(at) + AT.fault.size)), (at) => bufferOf(u64(at + AT.fault.size), (...out) => wasm.output_copy(output, 0n, ...out)), refuseChange)),
+      lib.open_canonical_message(lib.of(end), ...passed(uri), version, encoding, ...editsOf(...edits), output, at,
+        place(Number(at) + AT.fault.size)), (at) => bufferOf(u64(at + AT.fault.size), (...out) => lib.output_copy(output, size(0), ...out)), refuseChange)),
   };
-  const textAt = (code) => within(() => {
-    const [at, count] = [take(120), zeroes(8)];
-    return wasm.text(code, 0n, place(at), 120n, place(count)) === OK ? stringOf(bytes.subarray(at, at + u64(count))) : undefined;
+  const textAt = within((code) => {
+    const block = lib.block(120);
+    const count = zeroes(8);
+    return lib.text(code, size(0), block.passed, size(120), place(count)) === OK ? lib.string(block.part(u64(count))) : undefined;
   });
   for (let text = textAt(0); text !== undefined; text = textAt(texts.length)) texts.push(text.split(': '));
-  return Object.fromEntries(Object.entries(calls).map(([name, call]) => [name, (...given) => within(() => call(...given))]));
+  return Object.fromEntries(Object.entries(calls).map(([name, call]) => [name, within(call)]));
 }
 
-module.exports = { addonOf, compiled, lacking };
+const addonOf = (module_) => over(inModule(module_));
+const addonOver = (addon) => over(inAddon(addon));
+
+module.exports = { addonOf, addonOver, compiled, lacking };
