@@ -19,21 +19,21 @@ macro_rules! codes {
                 }
             }
 
-            fn text(self) -> String {
-                $crate::ffi::text(match self {
+            fn code(self) -> u32 {
+                match self {
                     $($name::$variant => $crate::ffi::$code,)*
-                })
+                }
             }
 
             /// Returns the name of the code in laspidru.h, without `LASPIDRU_`.
             pub fn name(self) -> String {
-                self.text().split(": ").next().unwrap_or_default().into()
+                $crate::ffi::text(self.code()).split(": ").next().unwrap_or_default().into()
             }
         }
 
         impl ::std::fmt::Display for $name {
             fn fmt(&self, f: &mut ::std::fmt::Formatter<'_>) -> ::std::fmt::Result {
-                f.write_str(self.text().split_once(": ").map_or("", |(_, why)| why))
+                f.write_str(&$crate::codes::why(self.code()))
             }
         }
 
@@ -41,6 +41,11 @@ macro_rules! codes {
     };
 }
 pub(crate) use codes;
+
+/// What a code means.
+pub(crate) fn why(code: u32) -> String {
+    crate::ffi::text(code).split_once(": ").map_or_else(String::new, |(_, why)| why.into())
+}
 
 codes! {
     /// A limit that is out of its range. Its words say which range that is.

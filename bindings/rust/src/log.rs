@@ -1,25 +1,16 @@
 //! The commands of `lspsync` on the bytes of a log.
 
 use crate::codes::BadLimit;
-use crate::framer::FrameError;
-use crate::{ffi, Encoding, DEFAULT_LIMITS};
+use crate::{ffi, Encoding, Error, Limits};
 use std::fmt;
 
 /// How a log is read, and what of it is written. The default is that of `lspsync`.
-#[derive(Clone, Copy, Debug, PartialEq, Eq)]
+#[derive(Clone, Copy, Debug, Default, PartialEq, Eq)]
 pub struct Settings {
-    /// 4,096 to 1,073,741,824 bytes of a message.
-    pub max_body: usize,
-    /// Up to 1,073,741,824 bytes of a document.
-    pub max_text: usize,
-    /// 1 to 65,536 open documents.
-    pub max_docs: usize,
-    /// 1 to 1,048,576 changes in one message.
-    pub max_changes: usize,
+    /// The limits.
+    pub limits: Limits,
     /// What positions count in a log of version 1. A log of version 2 names it itself.
     pub encoding: Encoding,
-    /// Whether a change of any version is taken, and an open document may be opened again.
-    pub lenient: bool,
     /// Whether [`normalise`] writes changes of one document that follow each other as one message.
     pub squash: bool,
     /// Whether [`normalise`] leaves out the records that are neither about the session nor about a text.
@@ -28,14 +19,6 @@ pub struct Settings {
     pub texts: bool,
     /// Whether [`trace`] writes each body.
     pub bodies: bool,
-}
-
-impl Default for Settings {
-    fn default() -> Self {
-        let [max_body, max_text, max_docs, max_changes] = DEFAULT_LIMITS;
-        let (encoding, [lenient, squash, documents, texts, bodies]) = (Encoding::Utf16, [false; 5]);
-        Settings { max_body, max_text, max_docs, max_changes, encoding, lenient, squash, documents, texts, bodies }
-    }
 }
 
 /// The part of a log that [`replay_part`] reads, and what it writes.
@@ -107,7 +90,7 @@ impl fmt::Display for LogError {
             LogError::TooManyTurns => write!(f, "too many reads and writes"),
             LogError::Fault { fault: LogFault::Cut, offset, .. } => write!(f, "truncated at byte offset {offset}"),
             LogError::Fault { fault: LogFault::BadFrame(number), offset, .. } => {
-                write!(f, "{}", FrameError::Fault { number: *number, offset: *offset })
+                write!(f, "{}", Error::Frame { number: *number, offset: *offset })
             }
             LogError::Fault { fault: LogFault::BodyTooLong, offset, .. } => write!(f, "body too long at byte offset {offset}"),
             LogError::Fault { fault: LogFault::BadLog, offset, .. } => write!(f, "bad log at byte offset {offset}"),
@@ -179,13 +162,13 @@ pub fn convert(log: &[u8], settings: &Settings) -> Result<Output, LogError> {
 
 fn run(command: u32, log: &[u8], settings: &Settings, part: &Part<'_>) -> Result<Output, LogError> {
     let settings = ffi::LogSettings {
-        max_body: settings.max_body,
-        max_text: settings.max_text,
-        max_docs: settings.max_docs,
-        max_changes: settings.max_changes,
+        max_body: settings.limits.max_body,
+        max_text: settings.limits.max_text,
+        max_docs: settings.limits.max_docs,
+        max_changes: settings.limits.max_changes,
         at: part.at.unwrap_or(0),
         encoding: settings.encoding as u32,
-        lenient: settings.lenient,
+        lenient: settings.limits.lenient,
         squash: settings.squash,
         documents: settings.documents,
         texts: settings.texts,

@@ -68,13 +68,12 @@ macro_rules! session {
             /// it is.
             ///
             /// # Errors
-            /// What the documents would refuse the changes for, [`Refusal::TooLong`] if the message would be too long, or
-            /// [`MessageError::OutOfMemory`].
-            pub fn canonical_message(&self, uri: &str, version: i32, changes: &[Change]) -> Result<Vec<u8>, MessageError> {
+            /// As those of [`Client::edit`](crate::Client::edit).
+            pub fn canonical_message(&self, uri: &str, version: i32, changes: &[Change]) -> Result<Vec<u8>, Error> {
                 let (edits, texts) = batch(changes);
                 let mut fault = ffi::Fault::default();
                 let frame = self.handle.open_canonical_message(uri, version, self.units(), &edits, &texts, &mut fault);
-                frame.map_err(|code| MessageError::of(code, &fault))
+                frame.map_err(|code| Error::of(code, &fault))
             }
 
             fn units(&self) -> u32 {

@@ -1,5 +1,5 @@
 use laspidru::log::{check, convert, explain, normalise, replay, replay_part, trace, LogError, LogFault, Part, Settings};
-use laspidru::BadLimit;
+use laspidru::{BadLimit, Limits};
 
 const STALE: &[u8] = include_bytes!("../../../examples/stale-version.log");
 const CUT: &[u8] = include_bytes!("../../../examples/cut-short.log");
@@ -13,7 +13,7 @@ fn commands_write_what_lspsync_does() -> Result<(), LogError> {
     let checked = check(STALE, &settings)?;
     assert_eq!(checked.bytes, b"1 reply\n2 changed\n3 refused S5\n4 refused S4\n5 changed\n");
     assert_eq!((checked.messages, checked.refused), (5, 2));
-    let lenient = Settings { lenient: true, ..settings };
+    let lenient = Settings { limits: Limits { lenient: true, ..Limits::default() }, ..settings };
     assert_eq!(check(STALE, &lenient)?.bytes, b"1 reply\n2 changed\n3 changed\n4 refused S4\n5 changed\n");
     assert_eq!(convert(TYPING, &settings)?.bytes, WITH_REPLIES);
     let squash = Settings { squash: true, ..settings };
@@ -48,7 +48,10 @@ fn a_fault_has_an_offset_and_the_output_up_to_it() {
     assert_eq!(check(CUT, &settings), fault(LogFault::Cut, 505, b"1 reply\n2 changed\n"));
     assert_eq!(replay(b"Content-Length 2", &settings), fault(LogFault::BadFrame(1), 14, b""));
     assert_eq!(convert(b"lsp-session-log 2\n", &settings), fault(LogFault::BadLog, 0, b""));
-    assert_eq!(check(b"", &Settings { max_body: 1, ..settings }), Err(LogError::BadLimit(BadLimit::MaxBody)));
+    assert_eq!(
+        check(b"", &Settings { limits: Limits { max_body: 1, ..Limits::default() }, ..settings }),
+        Err(LogError::BadLimit(BadLimit::MaxBody))
+    );
     let said = |log: &[u8]| check(log, &settings).unwrap_err().to_string();
     assert_eq!([said(CUT), said(b"Content-Length 2")], ["truncated at byte offset 505", "frame fault F1 at byte offset 14"]);
 }
