@@ -6,7 +6,8 @@ ghost use Rattle.std.specs.Str.{is_utf8};
 ghost use Rattle.lsp_edit.specs.declared.indexed.fault.BatchFault.TheVariants.{Edit as EditOf};
 ghost use Rattle.lsp_edit.specs.Edited.{content_change};
 ghost use Rattle.laspidru.specs.Objects.{encoding_numbered, position_at};
-ghost use Rattle.laspidru.specs.Batches.{IsReport, edit_with, edits_of, is_end, len_of, refused_edit};
+ghost use Rattle.laspidru.specs.Batches.{IsReport, edit_with, edits_of, is_end, len_of};
+ghost use Rattle.laspidru.specs.Batches.{refused_edit};
 
 use crate::bytes::utf8_text;
 use crate::codes::{
