@@ -135,7 +135,6 @@ function inModule(module_) {
     of: ({ at }) => place(at),
     isFull: ({ at }) => lib.bytes[at + AT.handle.is_full] !== 0,
     drop: ({ at }) => drop(place(at)),
-    report() {},
     done() {
       used = 0;
       own.forEach(free);
@@ -297,10 +296,10 @@ function over(lib) {
   const frameAt = (held, length) => bufferOf(length, (...to) => lib.frame(lib.of(held), size(0), ...to));
 
   /** After so many bytes were put in: where that is due, the collector hears how much memory a document has, else a program that drops many
-   * would keep them too long. */
+   * would keep them too long. (That of a module it can't be told.) */
   function note(document, bytes) {
     document.putIn += bytes;
-    if (document.putIn < REPORTED_STEP) return;
+    if (!lib.report || document.putIn < REPORTED_STEP) return;
     document.putIn = 0;
     lib.report(document.held, lengthsOf(document.held)[0]);
   }
@@ -332,7 +331,7 @@ function over(lib) {
     },
     close({ held }) {
       lib.drop(held);
-      lib.report(held, 0);
+      lib.report?.(held, 0);
     },
     change: (document, ...edits) => edited(document, lib.document_change, AT.fault, refuseChange, ...edits),
     applyEdits: (document, ...edits) => edited(document, lib.document_apply_edits, AT.edits_fault, refuseEdits, ...edits),
