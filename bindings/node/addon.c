@@ -103,6 +103,11 @@ static napi_value refuse_arguments(napi_env env) {
     return NULL;
 }
 
+static napi_value run_out(napi_env env) {
+    napi_throw_error(env, "OUT_OF_MEMORY", "out of memory");
+    return NULL;
+}
+
 static void report_size(napi_env env, held *it, int64_t bytes) {
     int64_t all;
     if (bytes != it->reported && napi_adjust_external_memory(env, bytes - it->reported, &all) == napi_ok)
@@ -122,11 +127,10 @@ static napi_value new_handle(napi_env env, napi_callback_info info) {
     napi_value out = NULL;
     held *it = calloc(1, sizeof *it);
     (void)info;
-    if (it == NULL || napi_create_external(env, it, free_held, NULL, &out) != napi_ok) {
-        free(it);
-        napi_throw_error(env, "OUT_OF_MEMORY", "out of memory");
-    }
-    return out;
+    if (it != NULL && napi_create_external(env, it, free_held, NULL, &out) == napi_ok)
+        return out;
+    free(it);
+    return run_out(env);
 }
 
 /* isFull(handle), drop(handle), report(handle, bytes): a handle alone, which isn't of the library's calls */
@@ -185,23 +189,38 @@ static napi_value bind(napi_env env, napi_callback_info info) {
     return NULL;
 }
 
-/* Reads an argument of a kind: a handle, bytes, or a number. */
+/* Reads an argument of a kind: a handle, bytes, or a number. Bytes may be null, for a string that the call copies. */
 static int read_value(napi_env env, const instance *of, char kind, napi_value given, value *out) {
     uint32_t place;
+    napi_valuetype type;
     if (kind == 'h')
         return napi_get_value_external(env, given, &out->at) == napi_ok; /* (the handle is the first member) */
     if (kind == 'n')
         return napi_get_value_int64(env, given, (int64_t *)&out->n) == napi_ok;
+    out->at = NULL;
     if (napi_get_value_uint32(env, given, &place) != napi_ok)
-        return elements(env, given, &out->at);
+        return elements(env, given, &out->at) || (napi_typeof(env, given, &type) == napi_ok && type == napi_null);
     out->at = of->room + place;
     return of->room != NULL;
+}
+
+/* The string that a call copies, or its code. After the bytes come their room, and how many were copied. */
+static napi_value string_of(napi_env env, const function *it, value *values, value *copies) {
+    napi_value out = NULL;
+    copies->at = malloc(copies[1].n + 1);
+    if (copies->at == NULL)
+        return run_out(env);
+    laspidru_u32 code = it->call(values);
+    napi_status status = code == LASPIDRU_OK ? napi_create_string_utf8(env, copies->at, *(laspidru_size *)copies[2].at, &out)
+                                             : napi_create_uint32(env, code, &out);
+    free(copies->at);
+    return status == napi_ok ? out : run_out(env);
 }
 
 /* A function of the library. */
 static napi_value called(napi_env env, napi_callback_info info) {
     napi_value found[MOST_ARGUMENTS], out = NULL;
-    value values[MOST_ARGUMENTS];
+    value values[MOST_ARGUMENTS], *copies = NULL;
     size_t count = MOST_ARGUMENTS, i = 0;
     void *data;
     if (napi_get_cb_info(env, info, &count, found, NULL, &data) != napi_ok)
@@ -213,8 +232,12 @@ static napi_value called(napi_env env, napi_callback_info info) {
                                napi_get_value_uint32(env, found[++i], &to->position.character) != napi_ok
                          : !read_value(env, it->of, *kind, found[i], to))
             return refuse_arguments(env);
+        if (*kind == 'b' && to->at == NULL)
+            copies = to;
     }
-    return napi_create_uint32(env, it->it->call(values), &out) == napi_ok ? out : refuse_arguments(env);
+    if (copies != NULL)
+        return string_of(env, it->it, values, copies);
+    return napi_create_uint32(env, it->it->call(values), &out) == napi_ok ? out : run_out(env);
 }
 
 static void free_instance(napi_env env, void *data, void *hint) {
@@ -237,7 +260,5 @@ NAPI_MODULE_INIT() {
         it->functions[i] = (bound){&functions[i], it};
         is_made = define(env, exports, functions[i].name, called, &it->functions[i]);
     }
-    if (!is_made)
-        napi_throw_error(env, "OUT_OF_MEMORY", "out of memory");
-    return exports;
+    return is_made ? exports : run_out(env);
 }

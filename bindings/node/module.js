@@ -108,24 +108,26 @@ function inModule(module_) {
     return at;
   }
 
+  /** The bytes that a call copies, up to so many. */
+  function copied(length, copy) {
+    const [at, count] = [take(length || 1), take(8)];
+    const code = copy(place(at), BigInt(length), place(count));
+    return code === OK ? lib.bytes.subarray(at, at + lib.view.getUint32(count, true)) : lib.refuse(code);
+  }
+
   return Object.assign(lib, {
     place,
     size: BigInt,
     /** A position by value: its line in the low half. */
     position: (line, character) => [BigInt.asIntN(64, (BigInt(character) << 32n) | BigInt(line))],
     take,
-    /** So many bytes that a call writes: how they are passed, and the first of them, as they are read. */
-    block(size) {
-      const at = take(size);
-      return { passed: place(at), part: (length) => lib.bytes.subarray(at, at + length) };
-    },
     array(array, length) {
       const at = take(length);
       lib.bytes.set(new Uint8Array(array.buffer, array.byteOffset, length), at);
       return place(at);
     },
-    string: (part) => decoder.decode(part),
-    owned: (part) => Buffer.from(part),
+    string: (length, copy) => decoder.decode(copied(length, copy)),
+    buffer: (length, copy) => Buffer.from(copied(length, copy)),
     handle() {
       const held = { at: allocated(AT.handle.size) };
       lib.bytes.fill(0, held.at, held.at + AT.handle.size);
@@ -160,13 +162,16 @@ function inAddon(addon) {
     place: it,
     size: it,
     position: (line, character) => [line, character],
-    block(size) {
-      const passed = Buffer.allocUnsafe(size);
-      return { passed, part: (length) => (length === size ? passed : passed.subarray(0, length)) };
-    },
     array: it,
-    string: (part) => part.toString(),
-    owned: it,
+    string(length, copy) {
+      const found = copy(null, length, this.take(8)); // (the addon makes a string where it is passed no bytes to write)
+      return typeof found === 'string' ? found : this.refuse(found);
+    },
+    buffer(length, copy) {
+      const out = Buffer.allocUnsafe(length);
+      const code = copy(out, length, this.take(8));
+      return code === OK ? out : this.refuse(code);
+    },
     of: it,
     done() { used = 0; },
   };
@@ -186,6 +191,8 @@ function over(lib) {
     throw refusal(code);
   }
 
+  const demand = (code) => code === OK || refuse(code);
+
   lib.runOut = () => refuse(texts.findIndex(([name]) => name === 'OUT_OF_MEMORY'));
 
   function zeroes(length) {
@@ -195,9 +202,9 @@ function over(lib) {
   }
 
   /** Makes calls, and frees what they took. */
-  const within = (work) => (...given) => {
+  const within = (work) => (a, b, c, d, e, f) => {
     try {
-      return work(...given);
+      return work(a, b, c, d, e, f);
     } finally {
       lib.done();
     }
@@ -212,12 +219,15 @@ function over(lib) {
   /** Elements that are passed, and how many, as arguments. */
   const passed = (array, count = array.length, length = count) => [lib.array(array, length), size(count)];
 
-  /** Edits and their texts, as arguments. Eight numbers of an edit are its struct. */
-  function editsOf(numbers, texts) {
+  /** How many bytes the texts of edits have. Eight numbers of an edit are its struct. */
+  function lengthOf(numbers) {
     let length = 0;
     for (let i = 4; i < numbers.length; i += 8) length += numbers[i];
-    return [...passed(numbers, numbers.length / 8, numbers.byteLength), ...passed(texts, length)];
+    return length;
   }
+
+  /** Edits and their texts, as arguments. */
+  const editsOf = (numbers, texts) => [...passed(numbers, numbers.length / 8, numbers.byteLength), ...passed(texts, lengthOf(numbers))];
 
   /** The limits, and then these members of a struct. */
   function settingsOf(numbers, offsets, members) {
@@ -229,18 +239,10 @@ function over(lib) {
 
   /** What `found` has of the bytes that a call writes, so many of them. */
   function written(length, call, found = () => undefined, refused = refuse) {
-    const at = zeroes(length);
+    const at = take(length);
     const code = call(place(at));
     return code === OK ? found(at) : refused(code, at);
   }
-
-  /** The bytes that a call copies, where there are so many. */
-  function copied(length, copy) {
-    const block = lib.block(length || 1);
-    return written(8, (count) => copy(block.passed, size(length), count), (count) => block.part(u64(count)));
-  }
-  const bufferOf = (length, copy) => lib.owned(copied(length, copy));
-  const stringOf = (length, copy) => lib.string(copied(length, copy));
 
   /** A new handle, filled by a call. */
   function made(fill) {
@@ -275,25 +277,26 @@ function over(lib) {
 
   /** The changes of a batch. */
   function changesOf(batch) {
-    const [out, at, count] = [[], zeroes(AT.edit.size), place(zeroes(8))];
+    const [out, at] = [[], take(AT.edit.size)];
     const length = written(8, (to) => lib.batch_len(batch, to), u64);
-    for (let [index, most, block] = [0, 4096, lib.block(4096)]; index < length;) {
-      const code = lib.batch_edit(batch, size(index), place(at), block.passed, size(most), count);
-      if (code !== OK) refuse(code);
-      const bytes = u64(at + AT.edit.len);
-      if (bytes > most) [most, block] = [bytes, lib.block(bytes)];
-      else {
-        out.push([u32(at), u32(at + 4), u32(at + 8), u32(at + 12), bool(at + AT.edit.is_whole), lib.string(block.part(bytes))]);
-        index++;
-      }
+    for (let index = 0; index < length; index++) {
+      const copy = (...to) => lib.batch_edit(batch, size(index), place(at), ...to);
+      lib.buffer(0, copy); // (the edit alone, for the length of its text)
+      out.push([u32(at), u32(at + 4), u32(at + 8), u32(at + 12), bool(at + AT.edit.is_whole), lib.string(u64(at + AT.edit.len), copy)]);
     }
     return out;
   }
 
   const batchOf = (call, refused) => during((batch) => written(AT.edits_fault.size, (at) => call(batch, at), () => changesOf(batch), refused));
-  const textOf = (held, start, length) => stringOf(length, (...out) => lib.document_copy(lib.of(held), size(start), ...out));
-  const lengthsOf = (held) => written(AT.length.size, (at) => lib.document_size(lib.of(held), at), (at) => [u64(at + AT.length.bytes), u64(at + AT.length.lines)]);
-  const frameAt = (held, length) => bufferOf(length, (...to) => lib.frame(lib.of(held), size(0), ...to));
+  const textOf = (held, start, length) => lib.string(length, (...to) => lib.document_copy(lib.of(held), size(start), ...to));
+  const frameAt = (held, length) => lib.buffer(length, (...to) => lib.frame(lib.of(held), size(0), ...to));
+
+  /** Where the length of a document is written. */
+  function lengthsAt(held) {
+    const at = take(AT.length.size);
+    demand(lib.document_size(lib.of(held), place(at)));
+    return at;
+  }
 
   /** After so many bytes were put in: where that is due, the collector hears how much memory a document has, else a program that drops many
    * would keep them too long. (That of a module it can't be told.) */
@@ -301,14 +304,16 @@ function over(lib) {
     document.putIn += bytes;
     if (!lib.report || document.putIn < REPORTED_STEP) return;
     document.putIn = 0;
-    lib.report(document.held, lengthsOf(document.held)[0]);
+    lib.report(document.held, u64(lengthsAt(document.held)));
   }
 
-  /** Makes edits of a document. */
-  const edited = (document, call, fault, refused, encoding, numbers, texts) => {
-    const edits = editsOf(numbers, texts);
-    written(fault.size, (at) => call(lib.of(document.held), encoding, ...edits, at), undefined, refused);
-    note(document, Number(edits[3]));
+  /** Edits of a document by a call. (Without what others have in short, since this is each keystroke.) */
+  const edited = (call, fault, refused) => (document, encoding, numbers, texts) => {
+    const [at, length] = [take(fault.size), lengthOf(numbers)];
+    const [edits, bytes] = [lib.array(numbers, numbers.byteLength), lib.array(texts, length)];
+    const code = call(lib.of(document.held), encoding, edits, size(numbers.length / 8), bytes, size(length), place(at));
+    if (code !== OK) refused(code, at);
+    note(document, length);
   };
 
   /** The frame of a call of a client, which says how long it is. */
@@ -318,7 +323,7 @@ function over(lib) {
   /** What a call answers of an open document; undefined where none of the URI are open. */
   function ofOpen(end, uri, call, found, ...more) {
     const named = passed(uri);
-    const text = (start, length) => stringOf(length, (...to) => lib.open_text(lib.of(end), ...named, size(start), ...to));
+    const text = (start, length) => lib.string(length, (...to) => lib.open_text(lib.of(end), ...named, size(start), ...to));
     return written(16, (at) => call(lib.of(end), ...named, ...more, at), (at) => found(at, text),
       (code) => (isCode(code, 'NOT_OPEN') ? undefined : refuse(code)));
   }
@@ -333,29 +338,38 @@ function over(lib) {
       lib.drop(held);
       lib.report?.(held, 0);
     },
-    change: (document, ...edits) => edited(document, lib.document_change, AT.fault, refuseChange, ...edits),
-    applyEdits: (document, ...edits) => edited(document, lib.document_apply_edits, AT.edits_fault, refuseEdits, ...edits),
+    change: edited(lib.document_change, AT.fault, refuseChange),
+    applyEdits: edited(lib.document_apply_edits, AT.edits_fault, refuseEdits),
     canonical: ({ held }, encoding, ...edits) =>
       batchOf((...out) => lib.document_canonical(lib.of(held), encoding, ...editsOf(...edits), ...out), refuseChange),
     batchOfEdits: ({ held }, encoding, ...edits) =>
       batchOf((...out) => lib.document_batch_of_edits(lib.of(held), encoding, ...editsOf(...edits), ...out), refuseEdits),
-    text: ({ held }) => textOf(held, 0, lengthsOf(held)[0]),
-    lineCount: ({ held }) => lengthsOf(held)[1],
-    line: ({ held }, line) => written(AT.line.size, (at) => lib.document_line(lib.of(held), line, at),
-      (at) => textOf(held, u64(at + AT.line.start), u64(at + AT.line.end) - u64(at + AT.line.start))),
-    offset: ({ held }, encoding, ...position) =>
-      written(8, (at) => lib.document_offset(lib.of(held), encoding, ...lib.position(...position), at), u64),
-    position: ({ held }, encoding, offset) =>
-      written(8, (at) => lib.document_position(lib.of(held), encoding, size(offset), at), (at) => [u32(at), u32(at + 4)]),
+    text: ({ held }) => textOf(held, 0, u64(lengthsAt(held))),
+    lineCount: ({ held }) => u64(lengthsAt(held) + AT.length.lines),
+    line({ held }, line) {
+      const at = take(AT.line.size);
+      demand(lib.document_line(lib.of(held), line, place(at)));
+      return textOf(held, u64(at + AT.line.start), u64(at + AT.line.end) - u64(at + AT.line.start));
+    },
+    offset({ held }, encoding, line, character) {
+      const at = take(8);
+      demand(lib.document_offset(lib.of(held), encoding, ...lib.position(line, character), place(at)));
+      return u64(at);
+    },
+    position({ held }, encoding, offset) {
+      const at = take(AT.position.size);
+      demand(lib.document_position(lib.of(held), encoding, size(offset), place(at)));
+      return [u32(at), u32(at + 4)];
+    },
     log(command, log, numbers, last, uri) {
       return during((output) => {
-        const [at, settings, it] = [zeroes(AT.ending.size), settingsOf(numbers, AT.log_settings, LOG), AT.ending];
+        const [at, settings, it] = [take(AT.ending.size), settingsOf(numbers, AT.log_settings, LOG), AT.ending];
         lib.view.setBigUint64(settings + AT.log_settings.at, BigInt(last), true);
         const code = lib.log_run(output, command, place(settings), ...passed(uri), ...passed(log), place(at));
         if (!lib.isFull(spare)) refuse(code);
         const ended = { code, status: u32(at + it.status), missing: u32(at + it.missing), frame: u32(at + it.frame) };
         const counts = { messages: u64(at + it.messages), refused: u64(at + it.refused), offset: u64(at + it.offset) };
-        return { ...ended, ...counts, output: bufferOf(u64(at + it.output_len), (...out) => lib.output_copy(output, size(0), ...out)) };
+        return { ...ended, ...counts, output: lib.buffer(u64(at + it.output_len), (...to) => lib.output_copy(output, size(0), ...to)) };
       });
     },
     newFramer: (maxBody) => made((handle) => lib.framer_new(handle, size(maxBody))),
@@ -363,7 +377,7 @@ function over(lib) {
       const [handle, it] = [lib.of(framer), AT.taken];
       return written(it.size, (at) => lib.framer_feed(handle, ...passed(piece.subarray(start)), at), (at) => {
         if (!bool(at + it.is_whole)) return [u64(at + it.bytes)];
-        const body = bufferOf(u64(at + it.body_len), (...to) => lib.body(handle, size(0), ...to));
+        const body = lib.buffer(u64(at + it.body_len), (...to) => lib.body(handle, size(0), ...to));
         lib.framer_next(handle);
         return [u64(at + it.bytes), body];
       }, (code, at) => (isCode(code, 'BAD_FRAME') ? [-u32(at + it.frame), u64(at + it.offset)] : refuse(code)));
@@ -378,9 +392,12 @@ function over(lib) {
       return out;
     }),
     uri(body) {
-      const block = lib.block(body.length || 1);
-      return written(8, (count) => lib.message_uri(...passed(body), size(0), block.passed, size(body.length), count),
-        (count) => lib.string(block.part(u64(count))), (code) => (isCode(code, 'NO_DOCUMENT') ? undefined : refuse(code)));
+      try {
+        return lib.string(body.length, (...to) => lib.message_uri(...passed(body), size(0), ...to));
+      } catch (error) {
+        if (error.code === 'NO_DOCUMENT') return undefined;
+        throw error;
+      }
     },
     texts: () => texts.map(([name, why]) => `${name}: ${why}`),
     version: () => lib.version(),
@@ -403,14 +420,12 @@ function over(lib) {
       lib.open_batch_of_edits(lib.of(end), ...passed(uri), encoding, ...editsOf(...edits), ...out), refuseEdits),
     canonicalMessage: (end, uri, version, encoding, ...edits) => during((output) => written(AT.fault.size + 8, (at) =>
       lib.open_canonical_message(lib.of(end), ...passed(uri), version, encoding, ...editsOf(...edits), output, at,
-        place(Number(at) + AT.fault.size)), (at) => bufferOf(u64(at + AT.fault.size), (...out) => lib.output_copy(output, size(0), ...out)), refuseChange)),
+        place(Number(at) + AT.fault.size)), (at) => lib.buffer(u64(at + AT.fault.size), (...to) => lib.output_copy(output, size(0), ...to)), refuseChange)),
   };
-  const textAt = within((code) => {
-    const block = lib.block(120);
-    const count = zeroes(8);
-    return lib.text(code, size(0), block.passed, size(120), place(count)) === OK ? lib.string(block.part(u64(count))) : undefined;
-  });
-  for (let text = textAt(0); text !== undefined; text = textAt(texts.length)) texts.push(text.split(': '));
+  lib.refuse = () => undefined; // (there are no more texts)
+  const textAt = within((code) => lib.string(120, (...to) => lib.text(code, size(0), ...to)));
+  for (let text = textAt(0); text; text = textAt(texts.length)) texts.push(text.split(': '));
+  lib.refuse = refuse;
   return Object.fromEntries(Object.entries(calls).map(([name, call]) => [name, within(call)]));
 }
 
