@@ -95,7 +95,7 @@ function inModule(module_) {
   const decoder = new TextDecoder('utf-8', { ignoreBOM: true });
   const room = allocated(ROOM);
   let used = 0;
-  let own = []; // what long bytes have for a call
+  const own = []; // what long bytes have for a call
 
   function take(size) {
     const all = size < ROOM ? (size + 15) & ~15 : size;
@@ -137,10 +137,11 @@ function inModule(module_) {
     of: ({ at }) => place(at),
     isFull: ({ at }) => lib.bytes[at + AT.handle.is_full] !== 0,
     drop: ({ at }) => drop(place(at)),
-    done() {
-      used = 0;
-      own.forEach(free);
-      own = [];
+    mark: () => [used, own.length],
+    /** Frees what was taken since. */
+    done([to, count] = [0, 0]) {
+      used = to;
+      own.splice(count).forEach(free);
     },
   });
 }
@@ -173,7 +174,8 @@ function inAddon(addon) {
       return code === OK ? out : this.refuse(code);
     },
     of: it,
-    done() { used = 0; },
+    mark: () => [used],
+    done([to] = [0]) { used = to; },
   };
 }
 
@@ -279,10 +281,12 @@ function over(lib) {
   function changesOf(batch) {
     const [out, at] = [[], take(AT.edit.size)];
     const length = written(8, (to) => lib.batch_len(batch, to), u64);
+    const mark = lib.mark();
     for (let index = 0; index < length; index++) {
       const copy = (...to) => lib.batch_edit(batch, size(index), place(at), ...to);
       lib.buffer(0, copy); // (the edit alone, for the length of its text)
       out.push([u32(at), u32(at + 4), u32(at + 8), u32(at + 12), bool(at + AT.edit.is_whole), lib.string(u64(at + AT.edit.len), copy)]);
+      lib.done(mark);
     }
     return out;
   }
