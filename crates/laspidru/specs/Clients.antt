@@ -12,7 +12,7 @@ use Rattle.lsp_client.specs.declared.phase.Phase.{Phase}
 use Rattle.lsp_client.specs.declared.phase.Phase.TheVariants.{New, Asked, Ready, Closing, Closed, Done, Failed}
 use Rattle.lsp_client.specs.declared.phase.Reason.{Reason}
 use Rattle.lsp_client.specs.declared.phase.Reason.TheVariants.{NotAnAnswer, ErrorAnswer, NoSync, BadEncoding}
-use Rattle.lsp_client.specs.Step.{Call, ClientData, starts, shuts_down, exits, orders, opens, edits, Order, Sending, DeliveredData, sends, noted, ignored, bad_server, new_client}
+use Rattle.lsp_client.specs.Step.{Call, ClientData, starts, shuts_down, exits, opens, edits, Order, Sending, DeliveredData, sends, noted, ignored, bad_server, new_client}
 use Rattle.laspidru.specs.declared.answers.Answer.{Answer}
 use Rattle.laspidru.specs.declared.reports.Call.{Call as Lifecycle}
 use Rattle.laspidru.specs.declared.reports.Call.TheVariants.{Start, Shutdown, Exit}
