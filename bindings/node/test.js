@@ -202,7 +202,8 @@ test('faulty logs, and refused options', () => {
   assert.throws(() => check(Buffer.alloc(0), { maxBody: 1 }), { code: 'BAD_MAX_BODY', message: WHY.BAD_MAX_BODY });
   assert.throws(() => check(Buffer.alloc(0), { maxBody: 2 ** 32 + 4096 }), { code: 'BAD_MAX_BODY' });
   assert.throws(() => check(Buffer.alloc(0), { encoding: 'utf-7' }), { code: 'BAD_ENCODING' });
-  assert.throws(() => check('text'), TypeError);
+  assert.throws(() => check('no such file'), { code: 'ENOENT' });
+  assert.throws(() => check({}), TypeError);
 });
 
 // Numbers that look random.

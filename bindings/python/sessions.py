@@ -2,6 +2,7 @@
 import sys
 
 from laspidru import ENCODINGS, Client, LaspidruError, Server
+from laspidru._library import NUMBERS
 
 NAMES = {number: name for name, number in ENCODINGS.items()}
 KINDS = {"replied": 0, "changed": 1, "dropped": 2, "ignored": 3, "refused": 4, "exited": 5, "send": 0, "noted": 6, "bad-server": 7}

@@ -151,7 +151,7 @@ class Tests(unittest.TestCase):
         fault = self.refuses("INSIDE_CHARACTER", client.edit, "a", 2, [change(at(0, 0), at(0, 1), "")])
         self.assertEqual((fault.change, fault.at_end), (0, True))
         self.refuses("OUT_OF_RANGE", client.open, "b", "c", 2 ** 31, "")
-        self.refuses(laspidru.NOT_UTF8, client.open, "b", "c", 1, "\ud800")
+        self.refuses("NOT_UTF8", client.open, "b", "c", 1, "\ud800")
         self.assertRaises(TypeError, client.open, b"b", "c", 1, "")
         self.assertRaises(TypeError, client.deliver, "text")
         self.assertEqual((client.version("a"), client.text("a"), client.version("b")), (1, "\u00e9", None))
@@ -250,7 +250,7 @@ class Tests(unittest.TestCase):
         self.refuses("OUT_OF_RANGE", server.position, "a", -1)
         self.refuses("BAD_ENCODING", server.position, "a", 0, "utf-7")
         self.refuses("BAD_ENCODING", server.position, "a", 0, "")
-        self.refuses(laspidru.NOT_UTF8, server.line, "\ud800", 0)
+        self.refuses("NOT_UTF8", server.line, "\ud800", 0)
         for found in (server.line("b", 0), server.byte_offset("b", at(0, 0)), server.position("b", 0),
                       server.position_in("b", at(0, 0), "utf-8"), Client().line("a", 0), Client().position("a", 0)):
             self.assertIsNone(found)

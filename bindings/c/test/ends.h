@@ -131,7 +131,7 @@ static void test_client_documents(void) {
     CHECK(laspidru_client_close(&client, bytes(uri_a), 9, &len) == LASPIDRU_OK);
     CHECK(sends(&client, len, "{\"jsonrpc\":\"2.0\",\"method\":\"textDocument/didClose\",\"params\":{\"textDocument\":{\"uri\":\"file:///a\"}}}"));
     CHECK(laspidru_open_state(&client, bytes(uri_a), 9, &opened) == LASPIDRU_NOT_OPEN && opened.version == 9);
-    CHECK(is_state(&client, LASPIDRU_PHASE_READY, 0, LASPIDRU_UTF8, 1));
+    CHECK(is_state(&client, LASPIDRU_PHASE_READY, 0, LASPIDRU_UTF8, 0));
     laspidru_close(&client);
 }
 
