@@ -283,7 +283,7 @@ function over(lib) {
     const length = written(8, (to) => lib.batch_len(batch, to), u64);
     const mark = lib.mark();
     for (let index = 0; index < length; index++) {
-      const copy = (...to) => lib.batch_edit(batch, size(index), place(at), ...to);
+      const copy = (out, most, count) => lib.batch_edit(batch, size(index), place(at), out, most, count);
       lib.buffer(0, copy); // (the edit alone, for the length of its text)
       out.push([u32(at), u32(at + 4), u32(at + 8), u32(at + 12), bool(at + AT.edit.is_whole), lib.string(u64(at + AT.edit.len), copy)]);
       lib.done(mark);
@@ -292,8 +292,8 @@ function over(lib) {
   }
 
   const batchOf = (call, refused) => during((batch) => written(AT.edits_fault.size, (at) => call(batch, at), () => changesOf(batch), refused));
-  const textOf = (held, start, length) => lib.string(length, (...to) => lib.document_copy(lib.of(held), size(start), ...to));
-  const frameAt = (held, length) => lib.buffer(length, (...to) => lib.frame(lib.of(held), size(0), ...to));
+  const textOf = (held, start, length) => lib.string(length, (out, most, count) => lib.document_copy(lib.of(held), size(start), out, most, count));
+  const frameAt = (held, length) => lib.buffer(length, (out, most, count) => lib.frame(lib.of(held), size(0), out, most, count));
 
   /** Where the length of a document is written. */
   function lengthsAt(held) {
@@ -324,12 +324,15 @@ function over(lib) {
   const frameOf = (client, call, refused) => written(AT.fault.size + 8, (at) => call(lib.of(client), place(Number(at) + AT.fault.size), at),
     (at) => frameAt(client, u64(at + AT.fault.size)), refused);
 
-  /** What a call answers of an open document; undefined where none of the URI are open. */
-  function ofOpen(end, uri, call, found, ...more) {
-    const named = passed(uri);
-    const text = (start, length) => lib.string(length, (...to) => lib.open_text(lib.of(end), ...named, size(start), ...to));
-    return written(16, (at) => call(lib.of(end), ...named, ...more, at), (at) => found(at, text),
-      (code) => (isCode(code, 'NOT_OPEN') ? undefined : refuse(code)));
+  /** What a call has of an open document, which `found` reads where it was written; undefined where none of the URI is open. */
+  function ofOpen(end, uri, call, found) {
+    const handle = lib.of(end);
+    const name = lib.array(uri, uri.length);
+    const length = size(uri.length);
+    const at = take(16);
+    const code = call(handle, name, length, place(at));
+    if (code !== OK) return isCode(code, 'NOT_OPEN') ? undefined : refuse(code);
+    return found(at, (start, room) => lib.string(room, (out, most, count) => lib.open_text(handle, name, length, size(start), out, most, count)));
   }
 
   const calls = {
@@ -414,12 +417,13 @@ function over(lib) {
     state: (end) => written(AT.state.size, (at) => lib.session_state(lib.of(end), at),
       (at) => [u32(at + AT.state.phase), u32(at + AT.state.reason), u32(at + AT.state.encoding), u64(at + AT.state.documents)]),
     document: (end, uri, withText) => ofOpen(end, uri, lib.open_state, (at, text) =>
-      [i32(at + AT.opened.version), ...(withText ? [text(0, u64(at + AT.opened.bytes))] : [])]),
-    offsetAt: (end, uri, encoding, ...position) => ofOpen(end, uri, lib.open_offset, u64, encoding, ...lib.position(...position)),
-    positionAt: (end, uri, encoding, offset) =>
-      ofOpen(end, uri, lib.open_position, (at) => [u32(at + AT.position.line), u32(at + AT.position.character)], encoding, size(offset)),
-    lineAt: (end, uri, line) =>
-      ofOpen(end, uri, lib.open_line, (at, text) => text(u64(at + AT.line.start), u64(at + AT.line.end) - u64(at + AT.line.start)), line),
+      [i32(at + AT.opened.version), withText ? text(0, u64(at + AT.opened.bytes)) : undefined]),
+    offsetAt: (end, uri, encoding, line, character) =>
+      ofOpen(end, uri, (handle, name, length, at) => lib.open_offset(handle, name, length, encoding, ...lib.position(line, character), at), u64),
+    positionAt: (end, uri, encoding, offset) => ofOpen(end, uri, (handle, name, length, at) =>
+      lib.open_position(handle, name, length, encoding, size(offset), at), (at) => [u32(at + AT.position.line), u32(at + AT.position.character)]),
+    lineAt: (end, uri, line) => ofOpen(end, uri, (handle, name, length, at) => lib.open_line(handle, name, length, line, at),
+      (at, text) => text(u64(at + AT.line.start), u64(at + AT.line.end) - u64(at + AT.line.start))),
     batchOfEditsAt: (end, uri, encoding, ...edits) => batchOf((...out) =>
       lib.open_batch_of_edits(lib.of(end), ...passed(uri), encoding, ...editsOf(...edits), ...out), refuseEdits),
     canonicalMessage: (end, uri, version, encoding, ...edits) => during((output) => written(AT.fault.size + 8, (at) =>
