@@ -76,26 +76,27 @@ fn apply<'a>(pieces: &mut Pieces<'a>, change: &'a Change) -> Result<(), EditFaul
     pieces.apply(Encoding::Utf16, change)
 }
 
-/// Applies a change to pieces of the first text. Out of memory leaves that text and its spans, and
-/// the same change is applied again. Returns whether the result is the second text.
+/// Applies a change. Out of memory leaves the text and its spans, and the same change is applied
+/// again. Returns whether the result is the text.
 fn is_applied<'a>(
     pieces: &mut Pieces<'a>,
     change: &'a Change,
-    texts: (&str, &str),
+    text: &str,
     refused: &mut usize,
 ) -> Result<bool, EditFault> {
     let spans = pieces.spans().len();
+    let before = text_of(pieces, refused)?;
     match apply(pieces, change) {
         Err(EditFault::NoMemory) => {
             *refused = refused.saturating_add(1);
-            if pieces.spans().len() != spans || !has_text(pieces, texts.0, refused)? {
+            if pieces.spans().len() != spans || !has_text(pieces, &before, refused)? {
                 return Ok(false);
             }
             apply(pieces, change)?;
         }
         answer => answer?,
     }
-    Ok(has_text(pieces, texts.1, refused)?)
+    Ok(has_text(pieces, text, refused)?)
 }
 
 /// Applies the changes of a row so.
@@ -105,12 +106,10 @@ fn are_applied<'a>(
     row: &Row,
     refused: &mut usize,
 ) -> Result<bool, EditFault> {
-    let mut before = row.0;
-    for (change, after) in changes.iter().zip(row.2) {
-        if !is_applied(pieces, change, (before, after), refused)? {
+    for (change, text) in changes.iter().zip(row.2) {
+        if !is_applied(pieces, change, text, refused)? {
             return Ok(false);
         }
-        before = *after;
     }
     Ok(changes.len() == row.2.len())
 }

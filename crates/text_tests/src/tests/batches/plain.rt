@@ -65,14 +65,15 @@ fn is_left_by_both(
 
 /// Composes the edits as one batch, and as one after the other.
 fn are_left(alloc: Global, refused: &mut usize) -> Result<bool, EditFault> {
-    let edits = batch_again(alloc, &EDITS, refused)?;
     let wanted = batch_again(alloc, &CANONICAL, refused)?;
-    let (first, second) = edits.split_at(1);
+    let edits = batch_again(alloc, &EDITS, refused)?;
     let is_left = is_left_by_one(alloc, &edits, &wanted, refused)?;
+    let first = batch_again(alloc, &EDITS[..1], refused)?;
+    let second = batch_again(alloc, &EDITS[1..], refused)?;
     let is_same = again!(
         refused,
         EditFault::NoMemory,
-        is_left_by_both(alloc, first, second, &wanted, refused)
+        is_left_by_both(alloc, &first, &second, &wanted, refused)
     )?;
     Ok(is_left && is_same)
 }
