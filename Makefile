@@ -98,7 +98,7 @@ $(SHARED): $(ARCHIVE) $(BUILD)/heap.o bindings/exports.map
 	mv "$@.new" "$@"
 
 $(ARCHIVE):
-	@echo "$@ isn't built: tools/c proves and builds it ($$(cat install/kit); README.md, What is needed)" >&2; exit 1
+	@echo "$@ isn't built: tools/c proves and builds it ($$(cat install/kit); README.md, Run it)" >&2; exit 1
 
 needed:
 	@case "$(PREFIX)" in /*) ;; *) echo "PREFIX has to begin with /, and it is $(PREFIX)" >&2; exit 1 ;; esac
