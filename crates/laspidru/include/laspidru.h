@@ -1,7 +1,7 @@
 /* Copyright (c) 2026 The Laspidru authors. SPDX-License-Identifier: MIT OR Apache-2.0 */
 
-/* Laspidru: texts that are kept as LSP 3.17 says, by a library that is proved. docs/c.md has examples, and
-   CODES.md beside this file each function's codes.
+/* Laspidru: texts that are kept as LSP 3.17 says, by a library that is proved. docs/c.md has examples,
+   CODES.md beside this file what the codes mean, and the end of this file those of each function.
 
    Each function but laspidru_close and laspidru_version tests the bytes, numbers and handles that it is passed, and
    returns a code. Pointers, lengths and bools are yours (CODES.md). Where the code isn't LASPIDRU_OK nothing has changed;
@@ -454,6 +454,47 @@ laspidru_u32 laspidru_log_run(laspidru_handle *output, laspidru_u32 command, con
 /* Copies the bytes of the output from `start` on, as many as `out` holds, and says how many. */
 laspidru_u32 laspidru_output_copy(laspidru_handle *output, laspidru_size start,
     unsigned char *out, laspidru_size out_len, laspidru_size *copied);
+
+/* ---- Codes of each call.
+   They come in this order. A call on a full handle begins with those of what it is passed: NOT_UTF8 of the URI; BAD_ENCODING;
+   BAD_LENGTH or NOT_UTF8 of the first such edit; IN_USE of the handle that is to be filled; EMPTY, OTHER_KIND. Then come:
+
+   batch_edit, document_copy, document_line, frame, output_copy, text: OUT_OF_RANGE
+   body: NO_MESSAGE, OUT_OF_RANGE
+   client_close: WRONG_PHASE; OUT_OF_MEMORY, or NOT_OPEN, or TOO_LONG of the message
+   client_edit: WRONG_PHASE; OUT_OF_MEMORY, or NOT_OPEN, STALE_VERSION, TOO_MANY_CHANGES, INSIDE_CHARACTER,
+      REVERSED_RANGE, TOO_LONG, also of a message that is too long
+   client_exit, client_shutdown, client_start: WRONG_PHASE; OUT_OF_MEMORY
+   client_new: IN_USE, BAD_MAX_BODY, BAD_MAX_TEXT, BAD_MAX_DOCS, BAD_MAX_CHANGES; OUT_OF_MEMORY
+   client_open: WRONG_PHASE; OUT_OF_MEMORY, or ALREADY_OPEN, TOO_MANY_DOCUMENTS, TOO_LONG, also of a message that is too
+      long
+   deliver: ENDED of a server, WRONG_PHASE of a client; OUT_OF_MEMORY, after which the body may be passed again
+   document_apply_edits: those of document_batch_of_edits without IN_USE, and TOO_LONG where the text that would be left
+      is too long
+   document_batch_of_edits: TOO_LONG; OUT_OF_MEMORY, or the fault; that is INSIDE_CHARACTER or REVERSED_RANGE of the
+      first such edit, else OVERLAP
+   document_canonical: those of document_change, with IN_USE of batch before EMPTY
+   document_change: TOO_LONG; OUT_OF_MEMORY, or INSIDE_CHARACTER, REVERSED_RANGE or TOO_LONG if there is no text after
+      the batch
+   document_offset: INSIDE_CHARACTER
+   document_open: IN_USE, TOO_LONG, NOT_UTF8; OUT_OF_MEMORY
+   document_position: INSIDE_CHARACTER, also for an offset between CR and LF or past the end
+   framer_feed: FAILED; OUT_OF_MEMORY, or BAD_FRAME
+   framer_new: IN_USE, BAD_MAX_BODY; OUT_OF_MEMORY
+   log_run: IN_USE; OUT_OF_RANGE of the command; NOT_UTF8 of the URI; BAD_ENCODING, BAD_MAX_BODY, BAD_MAX_TEXT,
+      BAD_MAX_DOCS, BAD_MAX_CHANGES; OUT_OF_MEMORY, or the fault: CUT, BAD_FRAME, BAD_LOG, of normalise also
+      BODY_TOO_LONG; TOO_MANY_TURNS is for more than 2^64-1 reads and writes
+   message_uri: OUT_OF_MEMORY; NO_DOCUMENT of any other body, OUT_OF_RANGE
+   open_batch_of_edits: NOT_OPEN, TOO_LONG; OUT_OF_MEMORY, or the fault, as of document_batch_of_edits
+   open_canonical_message: OUT_OF_MEMORY, or NOT_OPEN, STALE_VERSION, TOO_MANY_CHANGES, INSIDE_CHARACTER,
+      REVERSED_RANGE, TOO_LONG, also of a message that is too long
+   open_line, open_text: NOT_OPEN, OUT_OF_RANGE
+   open_offset: NOT_OPEN, INSIDE_CHARACTER
+   open_position: NOT_OPEN; INSIDE_CHARACTER, also for an offset between CR and LF or past the end
+   open_state: NOT_OPEN
+   server_new: IN_USE, BAD_ENCODING, BAD_MAX_BODY, BAD_MAX_TEXT, BAD_MAX_DOCS, BAD_MAX_CHANGES; OUT_OF_MEMORY
+   take: ENDED of a server, WRONG_PHASE of a client; FAILED; OUT_OF_MEMORY, or BAD_FRAME
+*/
 
 #ifdef __cplusplus
 }
