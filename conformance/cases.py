@@ -2,7 +2,10 @@
 """Writes the cases of the vectors, without what they mean: cases.py vectors | edits | sessions | frames
 
 The named cases are below, each with a sentence on what it tests, the section of LSP 3.17 that it is about, and whether the standard
-"says" what it means or leaves it "open". The random ones are the same on each run."""
+"says" what it means or leaves it "open". The random ones are the same on each run.
+
+After a change of these, `python3 conformance/cases.py edits | ./launch lsp_vectors > conformance/edits.jsonl` makes a file of vectors
+anew, and so for the others. It is then copied into crates/lsp_vectors/data/ too."""
 import json
 import sys
 

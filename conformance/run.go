@@ -166,7 +166,7 @@ func handled(server *C.laspidru_handle, it object) (string, error) {
 	}
 	body, bodyLen := passed(written)
 	var answer C.laspidru_answer
-	if err := demand(C.laspidru_server_handle(server, body, bodyLen, &answer)); err != nil {
+	if err := demand(C.laspidru_deliver(server, body, bodyLen, &answer)); err != nil {
 		return "", err
 	}
 	switch answer.kind {
@@ -182,7 +182,7 @@ func handled(server *C.laspidru_handle, it object) (string, error) {
 func documentOf(server *C.laspidru_handle, uri string) (object, error) {
 	var opened C.laspidru_opened
 	name, nameLen := passed([]byte(uri))
-	switch code := C.laspidru_server_document(server, name, nameLen, &opened); code {
+	switch code := C.laspidru_open_state(server, name, nameLen, &opened); code {
 	case C.LASPIDRU_OK:
 	case C.LASPIDRU_NOT_OPEN:
 		return nil, nil
@@ -190,7 +190,7 @@ func documentOf(server *C.laspidru_handle, uri string) (object, error) {
 		return nil, demand(code)
 	}
 	text, err := copied(opened.bytes, func(out *C.uchar, room C.laspidru_size, found *C.laspidru_size) C.laspidru_u32 {
-		return C.laspidru_server_text(server, name, nameLen, 0, out, room, found)
+		return C.laspidru_open_text(server, name, nameLen, 0, out, room, found)
 	})
 	return object{"uri": uri, "version": opened.version, "text": string(text)}, err
 }
@@ -258,7 +258,7 @@ func take(framer *C.laspidru_handle, piece []byte, taken *C.laspidru_taken) (bod
 			continue
 		}
 		body, err := copied(taken.body_len, func(out *C.uchar, room C.laspidru_size, found *C.laspidru_size) C.laspidru_u32 {
-			return C.laspidru_framer_body(framer, 0, out, room, found)
+			return C.laspidru_body(framer, 0, out, room, found)
 		})
 		if err != nil {
 			return bodies, C.LASPIDRU_FAILED
@@ -281,7 +281,7 @@ func stream(pieces []string) (object, error) {
 		found, code := take(&framer, bytesOf(piece), &taken)
 		bodies = append(bodies, found...)
 		if code == C.LASPIDRU_BAD_FRAME {
-			return object{"bodies": bodies, "fault": object{"why": faults[taken.frame], "offset": taken.place}}, nil
+			return object{"bodies": bodies, "fault": object{"why": faults[taken.frame], "offset": taken.offset}}, nil
 		}
 		if err := demand(code); err != nil {
 			return nil, err

@@ -75,7 +75,7 @@ function frames(pieces) {
   } catch (fault) {
     if (!(fault instanceof FrameFault)) throw fault;
     write(fault.events);
-    return { bodies, fault: { why: FAULTS[fault.frame - 1], offset: fault.place } };
+    return { bodies, fault: { why: FAULTS[fault.frame - 1], offset: fault.offset } };
   }
 }
 

@@ -8,8 +8,8 @@ import sys
 sys.path.insert(0, os.path.join(os.path.dirname(os.path.realpath(__file__)), "..", "bindings", "python"))
 import laspidru  # noqa: E402
 
-REFUSALS = {laspidru.INSIDE_CHARACTER: "inside-character", laspidru.REVERSED_RANGE: "reversed-range", laspidru.OVERLAP: "overlap",
-            laspidru.OUT_OF_RANGE: "invalid-params"}
+REFUSALS = {"INSIDE_CHARACTER": "inside-character", "REVERSED_RANGE": "reversed-range", "OVERLAP": "overlap",
+            "OUT_OF_RANGE": "invalid-params"}
 WORDS = {"M4": "invalid-params", "S1": "already-open", "S4": "not-open", "S5": "stale-version", "E1": "inside-character", "E2": "reversed-range"}
 FAULTS = ("bad-header", "header-too-long", "missing-length", "repeated-header", "bad-length", "body-too-long", "bad-charset")
 
@@ -22,7 +22,7 @@ def refused(fault):
     for name in ("change", "edit", "other"):
         if getattr(fault, name, None) is not None:
             found[name] = getattr(fault, name)
-    if fault.code == laspidru.INSIDE_CHARACTER:
+    if fault.code == "INSIDE_CHARACTER":
         found["end"] = "end" if fault.at_end else "start"
     return found
 
@@ -61,7 +61,7 @@ def frames(pieces):
             bodies += framer.receive(piece.encode("latin-1"))
         except laspidru.FrameFault as found:
             bodies += found.events
-            fault = {"offset": found.place, "why": FAULTS[found.frame - 1]}
+            fault = {"offset": found.offset, "why": FAULTS[found.frame - 1]}
             break
     return {"bodies": [body.decode("latin-1") for body in bodies], "fault": fault}
 

@@ -2,9 +2,8 @@
 //!
 //! Copy this file, and replace `answer` by what asks your library. As an example of your crate, `examples/vectors.rs`, it is run by
 //! `ask.py cargo run -q --example vectors`. It needs `serde_json`.
-use laspidru::framer::{FrameError, Framer};
 use laspidru::server::{Answer, EncodingChoice, Refusal, Server, Settings};
-use laspidru::{Change, Document, Encoding, Error, Position, Range, TextEdit};
+use laspidru::{Change, Document, Encoding, Error, Framer, Position, Range, TextEdit};
 use serde_json::{json, Value};
 use std::collections::BTreeSet;
 use std::io::{stdin, stdout, Write};
@@ -106,7 +105,7 @@ fn stream(vector: &Value) -> Result<Value> {
         for body in framer.bodies() {
             match body {
                 Ok(body) => bodies.push(body.into_iter().map(char::from).collect::<String>()),
-                Err(FrameError::Fault { number, offset }) => {
+                Err(Error::Frame { number, offset }) => {
                     return Ok(json!({"bodies": bodies, "fault": {"why": FAULTS[number as usize - 1], "offset": offset}}));
                 }
                 Err(error) => return Err(error.into()),

@@ -126,12 +126,20 @@ def after_first(said):
 
 
 def calls_block():
-    """Returns which codes the calls return, a row for those with the same."""
+    """Returns which codes the calls return, a row of the header for those with the same."""
     text = "".join(text_of(it) for it in sorted(glob.glob(CALLS, root_dir=TOP, recursive=True)))
     groups = {}
     for comment, name in all_in(r'((?:^///.*\n)+)(?:^#\[.*\n)*^pub extern "C" fn laspidru_(\w+)', text, CALLS):
         said = codes_said(commented(comment))
         if said and after_first(said):
             groups.setdefault(after_first(said), []).append(f"`{name}`")
-    return "".join(filled(f"- {', '.join(sorted(names))}: {said}") for said, names in sorted(groups.items(), key=lambda it: min(it[1])))
+    rows = (f"{', '.join(sorted(names))}: {said}".replace("`", "") for said, names in sorted(groups.items(), key=lambda it: min(it[1])))
+    return "".join(textwrap.fill(it, 120, initial_indent="   ", subsequent_indent="      ", break_on_hyphens=False) + "\n" for it in rows)
+
+
+def header():
+    """Returns the header with the codes of its calls, which are the comment that begins with these words."""
+    text = text_of(HEADER)
+    begin, _, rest = all_in(r"((?:.*\n)*/\* ---- Codes of each call\.\n(?:   \S.*\n)*\n)((?:   .*\n)*)(\*/\n(?:.*\n)*)", text, HEADER)[0]
+    return begin + calls_block() + rest
 

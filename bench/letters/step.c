@@ -1,5 +1,5 @@
 /* step LINES: what a keystroke's didChange costs a server through C, in nanoseconds of the processor, the least of many short rounds: by
-   laspidru_server_take from the frame's bytes, then by laspidru_server_handle from the body. The text and the keystrokes are those of the row
+   laspidru_take from the frame's bytes, then by laspidru_deliver from the body. The text and the keystrokes are those of the row
    `write, and Server::handle` of `lsp_bench pairs`, which also writes each message. */
 #include <stdio.h>
 #include <stdlib.h>
@@ -53,8 +53,8 @@ static void begin(laspidru_handle *server) {
     laspidru_settings settings = LASPIDRU_SETTINGS_DEFAULT;
     laspidru_answer answer;
     demand(laspidru_server_new(server, &settings) == LASPIDRU_OK);
-    demand(laspidru_server_handle(server, (bytes)initialize, strlen(initialize), &answer) == LASPIDRU_OK);
-    demand(laspidru_server_handle(server, (bytes)opening, strlen(opening), &answer) == LASPIDRU_OK && answer.kind == LASPIDRU_CHANGED);
+    demand(laspidru_deliver(server, (bytes)initialize, strlen(initialize), &answer) == LASPIDRU_OK);
+    demand(laspidru_deliver(server, (bytes)opening, strlen(opening), &answer) == LASPIDRU_OK && answer.kind == LASPIDRU_CHANGED);
 }
 
 /* What a keystroke costs in one round. */
@@ -66,10 +66,10 @@ static double round_of(int from_bytes) {
     double start = now();
     for (size_t i = 0; i < COUNT; i++)
         if (from_bytes)
-            demand(laspidru_server_take(&server, (bytes)frames[i], lens[i], &taken, &answer) == LASPIDRU_OK && taken.is_whole &&
+            demand(laspidru_take(&server, (bytes)frames[i], lens[i], &taken, &answer) == LASPIDRU_OK && taken.is_whole &&
                    answer.kind == LASPIDRU_CHANGED);
         else
-            demand(laspidru_server_handle(&server, (bytes)frames[i] + lens[i] - body_lens[i], body_lens[i], &answer) == LASPIDRU_OK &&
+            demand(laspidru_deliver(&server, (bytes)frames[i] + lens[i] - body_lens[i], body_lens[i], &answer) == LASPIDRU_OK &&
                    answer.kind == LASPIDRU_CHANGED);
     double each = (now() - start) / COUNT;
     laspidru_close(&server);

@@ -40,12 +40,12 @@ int main(void) {
     unsigned char *log = read_all(&len);
     if (!log)
         return 4;
-    laspidru_u32 code = laspidru_log_check(&output, &settings, log, len, &ending);
+    laspidru_u32 code = laspidru_log_run(&output, LASPIDRU_CHECK, &settings, log, 0, log, len, &ending);
     print_output(&output);
     laspidru_close(&output);
     free(log);
     if (code == LASPIDRU_OK)
         return (int)ending.status;
-    fprintf(stderr, "code %u at %llu\n", (unsigned)code, (unsigned long long)ending.place);
+    fprintf(stderr, "code %u at %llu\n", (unsigned)code, (unsigned long long)ending.offset);
     return 5;
 }

@@ -11,26 +11,34 @@ static int reply(laspidru_handle *server, laspidru_size len) {
     unsigned char part[4096];
     laspidru_size start, copied;
     for (start = 0; start < len; start += copied)
-        if (laspidru_server_reply(server, start, part, sizeof part, &copied) != LASPIDRU_OK ||
+        if (laspidru_frame(server, start, part, sizeof part, &copied) != LASPIDRU_OK ||
             fwrite(part, 1, copied, stdout) != copied)
             return 0;
     return fflush(stdout) == 0;
 }
 
+/* Prints what a code means. */
+static void print_text(const char *what, laspidru_u32 code) {
+    unsigned char text[120];
+    laspidru_size len = 0;
+    laspidru_text(code, 0, text, sizeof text, &len);
+    fprintf(stderr, "%s: %.*s\n", what, (int)len, (const char *)text);
+}
+
 /* What becomes of a message that was taken: the status to end with, or that the session goes on. */
 static int answered(laspidru_handle *server, laspidru_answer answer) {
-    laspidru_size documents = 0;
+    laspidru_state state = {0};
     switch (answer.kind) {
     case LASPIDRU_REPLIED: /* with the error -32601 the request is yours: answer it instead */
         if (answer.error == -32700 || answer.error == -32600) /* a change may be lost with it */
             fprintf(stderr, "faulty: error %d\n", (int)answer.error);
         return reply(server, answer.reply_len) ? GOES_ON : FAILED;
     case LASPIDRU_CHANGED:
-        laspidru_server_documents(server, &documents);
-        fprintf(stderr, "changed: %zu open\n", (size_t)documents);
+        laspidru_session_state(server, &state);
+        fprintf(stderr, "changed: %zu open\n", (size_t)state.documents);
         return GOES_ON;
     case LASPIDRU_REFUSED:
-        fprintf(stderr, "refused: code %u\n", (unsigned)answer.reason);
+        print_text("refused", answer.reason);
         return GOES_ON;
     case LASPIDRU_EXITED:
         return (int)answer.status;
@@ -45,7 +53,7 @@ static int take(laspidru_handle *server, const unsigned char *piece, laspidru_si
     laspidru_answer answer;
     int status = GOES_ON;
     while (len > 0 && status == GOES_ON) {
-        if (laspidru_server_take(server, piece, len, &taken, &answer) != LASPIDRU_OK)
+        if (laspidru_take(server, piece, len, &taken, &answer) != LASPIDRU_OK)
             return FAILED;
         piece += taken.bytes;
         len -= taken.bytes;

@@ -19,37 +19,33 @@ static void demand(laspidru_u32 code) {
     exit(2);
 }
 
-typedef laspidru_u32 (*copying)(laspidru_handle *, laspidru_size, unsigned char *, laspidru_size, laspidru_size *);
-
-/* Copies so many bytes, the first half and then the rest. */
-static unsigned char *copied(copying copy, laspidru_handle *handle, laspidru_size len) {
+/* Copies the frame to send, which has so many bytes, the first half and then the rest. */
+static unsigned char *copied(laspidru_handle *handle, laspidru_size len) {
     unsigned char *out = malloc(len + 1);
     laspidru_size first, rest;
-    demand(copy(handle, 0, out, len / 2, &first));
-    demand(copy(handle, first, out + first, len - first, &rest));
+    demand(laspidru_frame(handle, 0, out, len / 2, &first));
+    demand(laspidru_frame(handle, first, out + first, len - first, &rest));
     if (first + rest != len) demand(99);
     return out;
 }
 
-static void push(struct queue *queue, copying copy, laspidru_handle *handle, laspidru_size len) {
+static void push(struct queue *queue, laspidru_handle *handle, laspidru_size len) {
     int at = (queue->first + queue->count++) % MOST;
-    queue->frames[at] = copied(copy, handle, len);
+    queue->frames[at] = copied(handle, len);
     queue->lens[at] = len;
 }
 
-typedef laspidru_u32 (*taking)(laspidru_handle *, bytes, laspidru_size, laspidru_taken *, laspidru_answer *);
-
 /* An end takes the first frame that waits, in two pieces. False where none waits. */
-static int take(struct queue *queue, taking piece_taken, laspidru_handle *end, laspidru_answer *answer) {
+static int take(struct queue *queue, laspidru_handle *end, laspidru_answer *answer) {
     if (queue->count == 0) return 0;
     unsigned char *frame = queue->frames[queue->first];
     laspidru_size all = queue->lens[queue->first], cut = all * 2 / 3;
     laspidru_taken taken;
     queue->first = (queue->first + 1) % MOST;
     queue->count--;
-    demand(piece_taken(end, frame, cut, &taken, answer));
+    demand(laspidru_take(end, frame, cut, &taken, answer));
     if (taken.is_whole || taken.bytes != cut) demand(99);
-    demand(piece_taken(end, frame + cut, all - cut, &taken, answer));
+    demand(laspidru_take(end, frame + cut, all - cut, &taken, answer));
     if (!taken.is_whole || taken.bytes != all - cut) demand(99);
     free(frame);
     return 1;
@@ -57,21 +53,21 @@ static int take(struct queue *queue, taking piece_taken, laspidru_handle *end, l
 
 static void serve(void) {
     laspidru_answer answer;
-    if (!take(&to_server, laspidru_server_take, &server, &answer)) { puts("nothing"); return; }
-    if (answer.kind == LASPIDRU_REPLIED) push(&to_client, laspidru_server_reply, &server, answer.reply_len);
+    if (!take(&to_server, &server, &answer)) { puts("nothing"); return; }
+    if (answer.kind == LASPIDRU_REPLIED) push(&to_client, &server, answer.reply_len);
     printf("server %u %u %u %d\n", answer.kind, answer.reason, answer.status, answer.error);
 }
 
 static void hear(void) {
     laspidru_answer answer;
-    if (!take(&to_client, laspidru_client_take, &client, &answer)) { puts("nothing"); return; }
-    if (answer.kind == LASPIDRU_REPLIED) push(&to_server, laspidru_client_frame, &client, answer.reply_len);
+    if (!take(&to_client, &client, &answer)) { puts("nothing"); return; }
+    if (answer.kind == LASPIDRU_REPLIED) push(&to_server, &client, answer.reply_len);
     printf("client %u %u\n", answer.kind, answer.reason);
 }
 
 static void called(laspidru_u32 code, laspidru_size len) {
     if (code != LASPIDRU_OK) { printf("refused %u\n", code); return; }
-    push(&to_server, laspidru_client_frame, &client, len);
+    push(&to_server, &client, len);
     puts("sent");
 }
 
@@ -102,15 +98,12 @@ static void edit(const char *uri, int version, int count) {
     called(code, len);
 }
 
-typedef laspidru_u32 (*opening)(laspidru_handle *, bytes, laspidru_size, laspidru_opened *);
-typedef laspidru_u32 (*reading)(laspidru_handle *, bytes, laspidru_size, laspidru_size, unsigned char *, laspidru_size, laspidru_size *);
-
-static void print_document(const char *name, laspidru_handle *end, opening document, reading text, const char *uri) {
+static void print_document(const char *name, laspidru_handle *end, const char *uri) {
     static unsigned char out[ROOM];
     laspidru_opened opened;
     laspidru_size count;
-    if (document(end, (bytes)uri, strlen(uri), &opened) == LASPIDRU_NOT_OPEN) return;
-    demand(text(end, (bytes)uri, strlen(uri), 0, out, sizeof out, &count));
+    if (laspidru_open_state(end, (bytes)uri, strlen(uri), &opened) == LASPIDRU_NOT_OPEN) return;
+    demand(laspidru_open_text(end, (bytes)uri, strlen(uri), 0, out, sizeof out, &count));
     if (count != opened.bytes) demand(99);
     printf("%s %s %d ", name, uri, opened.version);
     for (laspidru_size i = 0; i < count; i++)
@@ -124,8 +117,8 @@ static void print_document(const char *name, laspidru_handle *end, opening docum
 static void end_session(void) {
     printf("waiting %d %d\n", to_server.count, to_client.count);
     for (int i = 0; i < 3; i++) {
-        print_document("client", &client, laspidru_client_document, laspidru_client_text, URIS[i]);
-        print_document("server", &server, laspidru_server_document, laspidru_server_text, URIS[i]);
+        print_document("client", &client, URIS[i]);
+        print_document("server", &server, URIS[i]);
     }
     laspidru_close(&client);
     laspidru_close(&server);
@@ -138,8 +131,8 @@ static void begin(const char *line) {
     int utf8, utf32, preferred, full;
     laspidru_size text, docs, changes;
     if (sscanf(line, "session %d %d %d %d %zu %zu %zu", &utf8, &utf32, &preferred, &full, &text, &docs, &changes) != 7) demand(99);
-    laspidru_settings settings = {16777216, text, docs, changes, preferred, 0, full, 0};
-    laspidru_client_settings offers = {16777216, text, docs, changes, utf8, utf32, 0};
+    laspidru_settings settings = {.max_body = 16777216, .max_text = text, .max_docs = docs, .max_changes = changes, .encoding = preferred, .is_full = full};
+    laspidru_client_settings offers = {.max_body = 16777216, .max_text = text, .max_docs = docs, .max_changes = changes, .utf8 = utf8, .utf32 = utf32};
     demand(laspidru_server_new(&server, &settings));
     demand(laspidru_client_new(&client, &offers));
 }

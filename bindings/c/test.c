@@ -47,39 +47,34 @@ static const char sample[] = "a\r\nb\xf0\x9f\x98\x80";
 #include "test/positions.h"
 #include "test/streams.h"
 #include "test/edits.h"
+#include "test/members.h"
 #include "test/memory.h"
-#include "test/greatest.h"
 
 int main(void) {
-    test_open();
-    test_copy();
-    test_positions();
-    test_lines();
+    test_documents();
     test_change();
-    test_canonical();
-    test_apply_edits();
-    test_batch_of_edits();
-    test_server_new();
+    test_edits();
     test_server();
-    test_other_kinds();
     test_logs();
+    test_log_options();
     test_log_faults();
-    test_log_refusals();
     test_framer();
-    test_client_new();
     test_client_lifecycle();
     test_client_documents();
     test_bad_servers();
-    test_ends_of_other_kinds();
     test_both_ends();
     test_positions_of_ends();
     test_server_take();
     test_server_take_in_order();
-    test_server_take_faults();
     test_client_take();
-    test_take_of_other_kinds();
     test_server_batch_of_edits();
     test_server_message();
+    test_texts();
+    test_message_uri();
+    test_defaults();
+    test_settings_of_servers();
+    test_settings_of_clients();
+    test_members_of_results();
     test_refused(run_refused);
     test_refused(run_refused_server);
     test_refused(run_refused_logs);
@@ -87,8 +82,6 @@ int main(void) {
     test_refused(run_refused_client);
     test_refused(run_refused_take);
     test_refused(run_refused_served);
-    if (getenv("LASPIDRU_GREATEST"))
-        test_greatest();
     CHECK(heap_blocks() == 0);
     printf("%d passed, %d failed\n", passed, failed);
     return failed != 0;

@@ -3,51 +3,85 @@
 local has_ffi, ffi = pcall(require, "ffi")
 if not has_ffi then error("laspidru needs LuaJIT, as Neovim has it, and this is " .. _VERSION, 0) end
 
-ffi.cdef([[
+ffi.cdef([[ // declared: by tools/declared
 typedef struct { void *pointer; bool is_full; } laspidru_handle;
 typedef struct { uint32_t line, character; } laspidru_position;
-typedef struct { laspidru_position start, end_; size_t len; bool is_whole; } laspidru_edit;
+typedef struct { laspidru_position start, end; size_t len; bool is_whole; } laspidru_edit;
 typedef struct { size_t change; bool at_end; } laspidru_fault;
 typedef struct { size_t edit, other; bool at_end; } laspidru_edits_fault;
-typedef struct { size_t start, end_; } laspidru_line;
+typedef struct { size_t start, end; } laspidru_line;
 typedef struct { size_t bytes, lines; } laspidru_length;
-typedef struct { size_t bytes, body_len; uint64_t place; uint32_t frame; bool is_whole; } laspidru_taken;
+typedef struct { size_t max_body, max_text, max_docs, max_changes; uint32_t encoding; bool is_fixed, is_full, lenient;
+    } laspidru_settings;
+typedef struct { uint32_t kind, reason, status; int32_t error; size_t reply_len; } laspidru_answer;
+typedef struct { size_t bytes, body_len; uint64_t offset; uint32_t frame; bool is_whole; } laspidru_taken;
 typedef struct { size_t max_body, max_text, max_docs, max_changes; bool utf8, utf32, lenient; } laspidru_client_settings;
 typedef struct { uint32_t phase, reason, encoding; size_t documents; } laspidru_state;
-typedef struct { uint32_t kind, reason, status; int32_t error; size_t reply_len; } laspidru_answer;
 typedef struct { int32_t version; size_t bytes; } laspidru_opened;
-uint32_t laspidru_document_open(laspidru_handle *, const char *, size_t);
-void laspidru_close(laspidru_handle *);
-uint32_t laspidru_document_change(laspidru_handle *, uint32_t, const laspidru_edit *, size_t, const char *, size_t, laspidru_fault *);
-uint32_t laspidru_document_apply_edits(laspidru_handle *, uint32_t, const laspidru_edit *, size_t, const char *, size_t,
-    laspidru_edits_fault *);
-uint32_t laspidru_document_canonical(laspidru_handle *, uint32_t, const laspidru_edit *, size_t, const char *, size_t,
-    laspidru_handle *, laspidru_fault *);
-uint32_t laspidru_document_size(laspidru_handle *, laspidru_length *);
-uint32_t laspidru_document_line(laspidru_handle *, uint32_t, laspidru_line *);
-uint32_t laspidru_document_copy(laspidru_handle *, size_t, char *, size_t, size_t *);
-uint32_t laspidru_document_offset(laspidru_handle *, uint32_t, laspidru_position, size_t *);
-uint32_t laspidru_document_position(laspidru_handle *, uint32_t, size_t, laspidru_position *);
-uint32_t laspidru_batch_len(laspidru_handle *, size_t *);
-uint32_t laspidru_batch_edit(laspidru_handle *, size_t, laspidru_edit *, char *, size_t, size_t *);
-uint32_t laspidru_client_new(laspidru_handle *, const laspidru_client_settings *);
-uint32_t laspidru_client_start(laspidru_handle *, size_t *);
-uint32_t laspidru_client_open(laspidru_handle *, const char *, size_t, const char *, size_t, int32_t, const char *, size_t, size_t *);
-uint32_t laspidru_client_edit(laspidru_handle *, const char *, size_t, int32_t, const laspidru_edit *, size_t, const char *, size_t,
-    laspidru_fault *, size_t *);
-uint32_t laspidru_client_close(laspidru_handle *, const char *, size_t, size_t *);
-uint32_t laspidru_client_shutdown(laspidru_handle *, size_t *);
-uint32_t laspidru_client_exit(laspidru_handle *, size_t *);
-uint32_t laspidru_client_take(laspidru_handle *, const char *, size_t, laspidru_taken *, laspidru_answer *);
-uint32_t laspidru_client_body(laspidru_handle *, size_t, char *, size_t, size_t *);
-uint32_t laspidru_client_deliver(laspidru_handle *, const char *, size_t, laspidru_answer *);
-uint32_t laspidru_client_frame(laspidru_handle *, size_t, char *, size_t, size_t *);
-uint32_t laspidru_client_state(laspidru_handle *, laspidru_state *);
-uint32_t laspidru_client_document(laspidru_handle *, const char *, size_t, laspidru_opened *);
-uint32_t laspidru_client_text(laspidru_handle *, const char *, size_t, size_t, char *, size_t, size_t *);
-uint32_t laspidru_client_offset(laspidru_handle *, const char *, size_t, uint32_t, laspidru_position, size_t *);
-uint32_t laspidru_client_position(laspidru_handle *, const char *, size_t, uint32_t, size_t, laspidru_position *);
-uint32_t laspidru_client_line(laspidru_handle *, const char *, size_t, uint32_t, laspidru_line *);
+typedef struct { size_t max_body, max_text, max_docs, max_changes; uint64_t at; uint32_t encoding; bool lenient, squash,
+    documents, texts, bodies, has_uri; } laspidru_log_settings;
+typedef struct { uint32_t status, frame, missing; uint64_t messages, refused, offset; size_t output_len; } laspidru_ending;
+uint32_t laspidru_version(void);
+uint32_t laspidru_text(uint32_t code, size_t start, unsigned char *out, size_t out_len, size_t *copied);
+uint32_t laspidru_document_open(laspidru_handle *document, const unsigned char *text, size_t text_len);
+void laspidru_close(laspidru_handle *handle);
+uint32_t laspidru_document_change(laspidru_handle *document, uint32_t encoding, const laspidru_edit *edits, size_t edits_len,
+    const unsigned char *texts, size_t texts_len, laspidru_fault *fault);
+uint32_t laspidru_document_size(laspidru_handle *document, laspidru_length *length);
+uint32_t laspidru_document_line(laspidru_handle *document, uint32_t line, laspidru_line *range);
+uint32_t laspidru_document_copy(laspidru_handle *document, size_t start, unsigned char *out, size_t out_len, size_t *copied);
+uint32_t laspidru_document_offset(laspidru_handle *document, uint32_t encoding, laspidru_position position, size_t *offset);
+uint32_t laspidru_document_position(laspidru_handle *document, uint32_t encoding, size_t offset, laspidru_position *position);
+uint32_t laspidru_document_canonical(laspidru_handle *document, uint32_t encoding, const laspidru_edit *edits, size_t edits_len,
+    const unsigned char *texts, size_t texts_len, laspidru_handle *batch, laspidru_fault *fault);
+uint32_t laspidru_document_apply_edits(laspidru_handle *document, uint32_t encoding, const laspidru_edit *edits, size_t edits_len,
+    const unsigned char *texts, size_t texts_len, laspidru_edits_fault *fault);
+uint32_t laspidru_document_batch_of_edits(laspidru_handle *document, uint32_t encoding, const laspidru_edit *edits,
+    size_t edits_len, const unsigned char *texts, size_t texts_len, laspidru_handle *batch, laspidru_edits_fault *fault);
+uint32_t laspidru_batch_len(laspidru_handle *batch, size_t *len);
+uint32_t laspidru_batch_edit(laspidru_handle *batch, size_t index, laspidru_edit *edit, unsigned char *out, size_t out_len,
+    size_t *copied);
+uint32_t laspidru_framer_new(laspidru_handle *framer, size_t max_body);
+uint32_t laspidru_framer_feed(laspidru_handle *framer, const unsigned char *piece, size_t piece_len, laspidru_taken *taken);
+uint32_t laspidru_framer_next(laspidru_handle *framer);
+uint32_t laspidru_framer_at_rest(laspidru_handle *framer, bool *at_rest);
+uint32_t laspidru_server_new(laspidru_handle *server, const laspidru_settings *settings);
+uint32_t laspidru_client_new(laspidru_handle *client, const laspidru_client_settings *settings);
+uint32_t laspidru_client_start(laspidru_handle *client, size_t *frame_len);
+uint32_t laspidru_client_open(laspidru_handle *client, const unsigned char *uri, size_t uri_len, const unsigned char *language,
+    size_t language_len, int32_t version, const unsigned char *text, size_t text_len, size_t *frame_len);
+uint32_t laspidru_client_edit(laspidru_handle *client, const unsigned char *uri, size_t uri_len, int32_t version,
+    const laspidru_edit *edits, size_t edits_len, const unsigned char *texts, size_t texts_len, laspidru_fault *fault,
+    size_t *frame_len);
+uint32_t laspidru_client_close(laspidru_handle *client, const unsigned char *uri, size_t uri_len, size_t *frame_len);
+uint32_t laspidru_client_shutdown(laspidru_handle *client, size_t *frame_len);
+uint32_t laspidru_client_exit(laspidru_handle *client, size_t *frame_len);
+uint32_t laspidru_take(laspidru_handle *end, const unsigned char *piece, size_t piece_len, laspidru_taken *taken,
+    laspidru_answer *answer);
+uint32_t laspidru_body(laspidru_handle *end_or_framer, size_t start, unsigned char *out, size_t out_len, size_t *copied);
+uint32_t laspidru_deliver(laspidru_handle *end, const unsigned char *body, size_t body_len, laspidru_answer *answer);
+uint32_t laspidru_frame(laspidru_handle *end, size_t start, unsigned char *out, size_t out_len, size_t *copied);
+uint32_t laspidru_session_state(laspidru_handle *end, laspidru_state *state);
+uint32_t laspidru_message_uri(const unsigned char *body, size_t body_len, size_t start, unsigned char *out, size_t out_len,
+    size_t *copied);
+uint32_t laspidru_open_state(laspidru_handle *end, const unsigned char *uri, size_t uri_len, laspidru_opened *document);
+uint32_t laspidru_open_text(laspidru_handle *end, const unsigned char *uri, size_t uri_len, size_t start, unsigned char *out,
+    size_t out_len, size_t *copied);
+uint32_t laspidru_open_offset(laspidru_handle *end, const unsigned char *uri, size_t uri_len, uint32_t encoding,
+    laspidru_position position, size_t *offset);
+uint32_t laspidru_open_position(laspidru_handle *end, const unsigned char *uri, size_t uri_len, uint32_t encoding, size_t offset,
+    laspidru_position *position);
+uint32_t laspidru_open_line(laspidru_handle *end, const unsigned char *uri, size_t uri_len, uint32_t line, laspidru_line *range);
+uint32_t laspidru_open_batch_of_edits(laspidru_handle *end, const unsigned char *uri, size_t uri_len, uint32_t encoding,
+    const laspidru_edit *edits, size_t edits_len, const unsigned char *texts, size_t texts_len, laspidru_handle *batch,
+    laspidru_edits_fault *fault);
+uint32_t laspidru_open_canonical_message(laspidru_handle *end, const unsigned char *uri, size_t uri_len, int32_t version,
+    uint32_t encoding, const laspidru_edit *edits, size_t edits_len, const unsigned char *texts, size_t texts_len,
+    laspidru_handle *output, laspidru_fault *fault, size_t *frame_len);
+uint32_t laspidru_log_run(laspidru_handle *output, uint32_t command, const laspidru_log_settings *settings,
+    const unsigned char *uri, size_t uri_len, const unsigned char *log, size_t log_len, laspidru_ending *ending);
+uint32_t laspidru_output_copy(laspidru_handle *output, size_t start, unsigned char *out, size_t out_len, size_t *copied);
+// end of declared
 ]])
 
 -- How systems name the library: for the loader, and beside this file for several processors
@@ -83,32 +117,42 @@ local ENCODINGS = { ["utf-8"] = 8, ["utf-16"] = 16, ["utf-32"] = 32 }
 local NAMES = { [8] = "utf-8", [16] = "utf-16", [32] = "utf-32" }
 local PHASES = { [0] = "new", "asked", "ready", "closing", "closed", "done", "failed" }
 local KINDS = { [0] = "send", [3] = "ignored", [6] = "noted", [7] = "bad-server" }
-local CODES = {
-    "NOT_UTF8", "OUT_OF_MEMORY", "IN_USE", "EMPTY", "TOO_LONG", "INSIDE_CHARACTER", "REVERSED_RANGE", "BAD_ENCODING", "BAD_LENGTH",
-    "OTHER_KIND", "OUT_OF_RANGE", "BAD_LIMIT", "ENDED", "NOT_OPEN", "ALREADY_OPEN", "TOO_MANY_DOCUMENTS", "STALE_VERSION",
-    "TOO_MANY_CHANGES", "INVALID_PARAMS", "CUT", "BAD_FRAME", "BODY_TOO_LONG", "BAD_LOG", "TOO_MANY_TURNS", "OVERLAP", "FAILED",
-    "NO_MESSAGE", "WRONG_PHASE", "NOT_AN_ANSWER", "ERROR_ANSWER", "NO_SYNC",
-}
 
--- What a refused call raises: a table with `code`, and where a change or a text edit is faulty with `change`, `edit`, `other`,
--- `at_end`; of a faulty frame with `frame` and `place`. It changed nothing.
+-- The name of each code, by its number, and what it means, by its name: as the library says it
+local CODES, WHY = {}, {}
+do
+    local out, count, code = ffi.new("unsigned char[120]"), ffi.new("size_t[1]"), 0
+    while C.laspidru_text(code, 0, out, 120, count) == 0 do
+        local name, why_ = ffi.string(out, count[0]):match("^(.-): (.*)$")
+        CODES[code], WHY[name], code = name, why_, code + 1
+    end
+end
+local function is(code, ...)
+    for _, name in ipairs({ ... }) do
+        if CODES[code] == name then return true end
+    end
+    return false
+end
+
+-- What a refused call raises: a table with `code`, the name of the code, and `why`; where a change or a text edit is faulty with `change`,
+-- `edit`, `other`, `at_end`; of a faulty frame, and of a log, with `frame` and `offset`. It changed nothing.
 local Refusal = {}
 Refusal.__index = Refusal
 function Refusal.__tostring(self)
     local where = self.change and "change at index " .. self.change .. ": "
         or self.other and "edits at the indexes " .. self.edit .. " and " .. self.other .. ": "
         or self.edit and "edit at index " .. self.edit .. ": " or ""
-    return where .. self.code
+    return where .. self.why
 end
 
-local function refuse(code, more)
+local function refuse(name, more)
     more = more or {}
-    more.code = CODES[code] or tostring(code)
+    more.code, more.why = name, WHY[name]
     error(setmetatable(more, Refusal), 0)
 end
 
 local function demand(code)
-    if code ~= 0 then refuse(code) end
+    if code ~= 0 then refuse(CODES[code]) end
 end
 
 local function text_of(value, what)
@@ -117,16 +161,16 @@ local function text_of(value, what)
 end
 
 -- A number that has so many values. The FFI would take any, and drop bits.
-local function number(value, low, high)
+local function number(value, low, high, name)
     if type(value) ~= "number" then error("a number is no number", 0) end
-    if value < low or value > high or value % 1 ~= 0 then refuse(11) end
+    if value < low or value > high or value % 1 ~= 0 then refuse(name or "OUT_OF_RANGE") end
     return value
 end
 
 local function uint(value) return number(value, 0, 4294967295) end
 
 local function encoding_of(name)
-    return ENCODINGS[name] or refuse(8)
+    return ENCODINGS[name] or refuse("BAD_ENCODING")
 end
 
 -- A handle, which the collector closes.
@@ -136,7 +180,7 @@ end
 
 -- So many bytes that a call copies.
 local function copied(call, len)
-    local out, count = ffi.new("char[?]", math.max(len, 1)), ffi.new("size_t[1]")
+    local out, count = ffi.new("unsigned char[?]", math.max(len, 1)), ffi.new("size_t[1]")
     demand(call(out, len, count))
     return ffi.string(out, count[0])
 end
@@ -150,14 +194,14 @@ local function batch(changes, key)
         edit.len, edit.is_whole = #texts[index], range == nil
         if range then
             edit.start.line, edit.start.character = uint(range.start.line), uint(range.start.character)
-            edit.end_.line, edit.end_.character = uint(range["end"].line), uint(range["end"].character)
+            edit["end"].line, edit["end"].character = uint(range["end"].line), uint(range["end"].character)
         end
     end
     return edits, #changes, table.concat(texts)
 end
 
 local function demand_change(code, fault)
-    if code == 6 or code == 7 then refuse(code, { change = tonumber(fault.change), at_end = fault.at_end }) end
+    if is(code, "INSIDE_CHARACTER", "REVERSED_RANGE") then refuse(CODES[code], { change = tonumber(fault.change), at_end = fault.at_end }) end
     demand(code)
 end
 
@@ -166,7 +210,7 @@ local function written(edit, text)
     return {
         range = {
             start = { line = edit.start.line, character = edit.start.character },
-            ["end"] = { line = edit.end_.line, character = edit.end_.character },
+            ["end"] = { line = edit["end"].line, character = edit["end"].character },
         },
         text = text,
     }
@@ -177,7 +221,7 @@ local function changes_of(found)
     demand(C.laspidru_batch_len(found, count))
     for index = 1, tonumber(count[0]) do
         local edit = ffi.new("laspidru_edit")
-        demand(C.laspidru_batch_edit(found, index - 1, edit, ffi.new("char[1]"), 0, ffi.new("size_t[1]")))
+        demand(C.laspidru_batch_edit(found, index - 1, edit, ffi.new("unsigned char[1]"), 0, ffi.new("size_t[1]")))
         local text = copied(function(...) return C.laspidru_batch_edit(found, index - 1, edit, ...) end, tonumber(edit.len))
         out[index] = written(edit, text)
     end
@@ -214,7 +258,7 @@ end
 function Document:line(line)
     local handle, range = self.handle, ffi.new("laspidru_line")
     demand(C.laspidru_document_line(handle, uint(line), range))
-    local len = tonumber(range.end_ - range.start)
+    local len = tonumber(range["end"] - range.start)
     return copied(function(...) return C.laspidru_document_copy(handle, range.start, ...) end, len)
 end
 
@@ -233,9 +277,9 @@ function Document:apply_edits(edits_)
     local edits, count, texts = batch(edits_, "newText")
     local fault = ffi.new("laspidru_edits_fault")
     local code = C.laspidru_document_apply_edits(self.handle, self.encoding, edits, count, texts, #texts, fault)
-    if code == 6 or code == 7 or code == 25 then
-        local other = code == 25 and tonumber(fault.other) or nil
-        refuse(code, { edit = tonumber(fault.edit), other = other, at_end = fault.at_end })
+    if is(code, "INSIDE_CHARACTER", "REVERSED_RANGE", "OVERLAP") then
+        local other = is(code, "OVERLAP") and tonumber(fault.other) or nil
+        refuse(CODES[code], { edit = tonumber(fault.edit), other = other, at_end = fault.at_end })
     end
     demand(code)
 end
@@ -271,28 +315,32 @@ end
 local Client = {}
 Client.__index = Client
 
+local LIMITS = { max_body = 16777216, max_text = 16777216, max_docs = 1024, max_changes = 65536 }
+
+-- Settings with the limits of options, which may be lenient.
+local function with_limits(settings, options)
+    for name, default in pairs(LIMITS) do
+        settings[name] = number(options[name] or default, 0, 2 ^ 53, "BAD_" .. name:upper())
+    end
+    settings.lenient = options.lenient and true or false
+    return settings
+end
+
 -- Options are `utf8`, `utf32` (what it offers beside UTF-16, always in the order utf-8, utf-16, utf-32, which LSP reads as
 -- a preference), `max_body`, `max_text`, `max_docs`, `max_changes`, and `lenient`: an edit of any version is taken, and an
 -- open document may be opened again.
 function Client.new(options)
     options = options or {}
     local self = setmetatable({ handle = new_handle(), rest = "" }, Client)
-    local settings = ffi.new("laspidru_client_settings", {
-        max_body = number(options.max_body or 16777216, 0, 2 ^ 53),
-        max_text = number(options.max_text or 16777216, 0, 2 ^ 53),
-        max_docs = number(options.max_docs or 1024, 0, 2 ^ 53),
-        max_changes = number(options.max_changes or 65536, 0, 2 ^ 53),
-        utf8 = options.utf8 and true or false,
-        utf32 = options.utf32 and true or false,
-        lenient = options.lenient and true or false,
-    })
+    local settings = with_limits(ffi.new("laspidru_client_settings"), options)
+    settings.utf8, settings.utf32 = options.utf8 and true or false, options.utf32 and true or false
     demand(C.laspidru_client_new(self.handle, settings))
     return self
 end
 
 local function frame_of(self, len)
     local handle = self.handle
-    return copied(function(...) return C.laspidru_client_frame(handle, 0, ...) end, tonumber(len))
+    return copied(function(...) return C.laspidru_frame(handle, 0, ...) end, tonumber(len))
 end
 
 local function call(self, code, len)
@@ -348,15 +396,15 @@ end
 local function event_of(self, answer, body)
     local event = { kind = KINDS[answer.kind], body = body }
     if event.kind == "send" then event.frame = frame_of(self, answer.reply_len) end
-    if event.kind == "bad-server" then event.reason = CODES[answer.reason] end
+    if event.kind == "bad-server" then event.reason, event.why = CODES[answer.reason], WHY[CODES[answer.reason]] end
     return event
 end
 
--- What the client does with the body of a message of the server: {kind, body}, with `frame` where kind is "send", and with `reason`
--- where it is "bad-server". The others are "noted" and "ignored".
+-- What the client does with the body of a message of the server: {kind, body}, with `frame` where kind is "send", and with `reason` and
+-- `why` where it is "bad-server". The others are "noted" and "ignored".
 function Client:deliver(body)
     local answer = ffi.new("laspidru_answer")
-    demand(C.laspidru_client_deliver(self.handle, text_of(body, "a body"), #body, answer))
+    demand(C.laspidru_deliver(self.handle, text_of(body, "a body"), #body, answer))
     return event_of(self, answer, body)
 end
 
@@ -364,15 +412,15 @@ end
 -- the message before, if there was one.
 local function next_event(self, last)
     local handle, taken, answer = self.handle, ffi.new("laspidru_taken"), ffi.new("laspidru_answer")
-    local code, has_rest = C.laspidru_client_take(handle, self.rest, #self.rest, taken, answer), self.rest ~= ""
+    local code, has_rest = C.laspidru_take(handle, self.rest, #self.rest, taken, answer), self.rest ~= ""
     -- Of a stream that is refused no more is taken.
-    self.rest = (code == 0 or code == 2) and self.rest:sub(tonumber(taken.bytes) + 1) or ""
-    if code == 21 then refuse(code, { frame = taken.frame, place = tonumber(taken.place) }) end
+    self.rest = is(code, "OK", "OUT_OF_MEMORY") and self.rest:sub(tonumber(taken.bytes) + 1) or ""
+    if is(code, "BAD_FRAME") then refuse("BAD_FRAME", { frame = taken.frame, offset = tonumber(taken.offset) }) end
     -- A client that listens no more has no use for what follows.
-    if code == 28 and (last or not has_rest) then return nil end
+    if is(code, "WRONG_PHASE") and (last or not has_rest) then return nil end
     demand(code)
     if not taken.is_whole then return nil end
-    return event_of(self, answer, copied(function(...) return C.laspidru_client_body(handle, 0, ...) end, tonumber(taken.body_len)))
+    return event_of(self, answer, copied(function(...) return C.laspidru_body(handle, 0, ...) end, tonumber(taken.body_len)))
 end
 
 -- What the client does with each message that ends in these bytes, as `deliver` says it: a list of events, once all are handled. They
@@ -392,7 +440,7 @@ end
 
 local function state_of(self)
     local state = ffi.new("laspidru_state")
-    demand(C.laspidru_client_state(self.handle, state))
+    demand(C.laspidru_session_state(self.handle, state))
     return state
 end
 
@@ -412,13 +460,13 @@ end
 
 -- Whether a call found its document open. Another refusal is raised.
 local function is_open(code)
-    if code ~= 14 then demand(code) end
-    return code ~= 14
+    if not is(code, "NOT_OPEN") then demand(code) end
+    return code == 0
 end
 
 local function opened_at(self, uri)
     local opened = ffi.new("laspidru_opened")
-    return is_open(C.laspidru_client_document(self.handle, text_of(uri, "a URI"), #uri, opened)) and opened or nil
+    return is_open(C.laspidru_open_state(self.handle, text_of(uri, "a URI"), #uri, opened)) and opened or nil
 end
 
 -- The version of the open document of a URI, or nil.
@@ -431,15 +479,15 @@ end
 function Client:text(uri)
     local opened, handle = opened_at(self, uri), self.handle
     if not opened then return nil end
-    return copied(function(...) return C.laspidru_client_text(handle, uri, #uri, 0, ...) end, tonumber(opened.bytes))
+    return copied(function(...) return C.laspidru_open_text(handle, uri, #uri, 0, ...) end, tonumber(opened.bytes))
 end
 
 -- A line, counted from 0, of the open document of a URI, without its line end, or nil. The rest of the text is not read.
 function Client:line(uri, line)
     local handle, range = self.handle, ffi.new("laspidru_line")
-    if not is_open(C.laspidru_client_line(handle, text_of(uri, "a URI"), #uri, uint(line), range)) then return nil end
-    local len = tonumber(range.end_ - range.start)
-    return copied(function(...) return C.laspidru_client_text(handle, uri, #uri, range.start, ...) end, len)
+    if not is_open(C.laspidru_open_line(handle, text_of(uri, "a URI"), #uri, uint(line), range)) then return nil end
+    local len = tonumber(range["end"] - range.start)
+    return copied(function(...) return C.laspidru_open_text(handle, uri, #uri, range.start, ...) end, len)
 end
 
 -- The number of the encoding that was agreed on; of UTF-16 before.
@@ -451,15 +499,57 @@ end
 -- The byte offset, counted from 0, of a position in the open document of a URI, or nil. One after the line's end is the line's end.
 function Client:offset(uri, position)
     local place, offset = ffi.new("laspidru_position", uint(position.line), uint(position.character)), ffi.new("size_t[1]")
-    local code = C.laspidru_client_offset(self.handle, text_of(uri, "a URI"), #uri, units_of(self), place, offset)
+    local code = C.laspidru_open_offset(self.handle, text_of(uri, "a URI"), #uri, units_of(self), place, offset)
     return is_open(code) and tonumber(offset[0]) or nil
 end
 
 -- The exact position of a byte offset in the open document of a URI, or nil.
 function Client:position(uri, offset)
     local place, at = ffi.new("laspidru_position"), number(offset, 0, 2 ^ 53)
-    if not is_open(C.laspidru_client_position(self.handle, text_of(uri, "a URI"), #uri, units_of(self), at, place)) then return nil end
+    if not is_open(C.laspidru_open_position(self.handle, text_of(uri, "a URI"), #uri, units_of(self), at, place)) then return nil end
     return { line = place.line, character = place.character }
 end
 
-return { Document = Document, Client = Client }
+-- The bytes of a log: they themselves, or what is left of a file that is open.
+local function bytes_of(log)
+    return type(log) == "string" and log or log:read("*a")
+end
+
+local COMMANDS = { check = 0, explain = 1, trace = 2, replay = 3, normalise = 4, convert = 5 }
+
+-- Runs a command of lspsync on a log: what it wrote, and {status, messages, refused}. Options are lspsync's: `encoding`, the four limits,
+-- `lenient`; `explain` of check, `texts` and `bodies` of trace, `at` and `uri` of replay, `squash` and `documents` of normalise.
+local function run(name, log, options)
+    options = options or {}
+    local settings, ending = with_limits(ffi.new("laspidru_log_settings"), options), ffi.new("laspidru_ending")
+    for _, flag in ipairs({ "squash", "documents", "texts", "bodies" }) do settings[flag] = options[flag] and true or false end
+    settings.encoding, settings.has_uri = encoding_of(options.encoding or "utf-16"), options.uri ~= nil
+    settings.at = options.at and number(options.at, 1, 2 ^ 53) or 0
+    local data, uri, output = bytes_of(log), text_of(options.uri or "", "a URI"), new_handle()
+    local command = COMMANDS[options.explain and "explain" or name]
+    local code = C.laspidru_log_run(output, command, settings, uri, #uri, data, #data, ending)
+    if not output.is_full then demand(code) end
+    local written_ = copied(function(...) return C.laspidru_output_copy(output, 0, ...) end, tonumber(ending.output_len))
+    if code ~= 0 then refuse(CODES[code], { offset = tonumber(ending.offset), frame = ending.frame, output = written_ }) end
+    demand(ending.missing)
+    return written_, { status = ending.status, messages = tonumber(ending.messages), refused = tonumber(ending.refused) }
+end
+
+-- The document that the body of a message opens, changes or closes, or nil.
+local function message_uri(body)
+    local out, count = ffi.new("unsigned char[?]", math.max(#text_of(body, "a body"), 1)), ffi.new("size_t[1]")
+    local code = C.laspidru_message_uri(body, #body, 0, out, #body, count)
+    if is(code, "NO_DOCUMENT") then return nil end
+    demand(code)
+    return ffi.string(out, count[0])
+end
+
+local number_ = C.laspidru_version()
+local module = {
+    Document = Document, Client = Client, WHY = WHY, message_uri = message_uri,
+    version = ("%d.%d.%d"):format(number_ / 10000, number_ / 100 % 100, number_ % 100),
+}
+for _, name in ipairs({ "check", "trace", "replay", "normalise", "convert" }) do
+    module[name] = function(log, options) return run(name, log, options) end
+end
+return module

@@ -29,7 +29,7 @@ equal(document:text(), "Qa\r\nXY\xf0\x9f\x98\x80")
 local fault = refuses("INSIDE_CHARACTER", document.change, document, { change(at(0, 0), at(0, 0), "Z"), change(at(1, 2), at(1, 3), "") })
 equal(fault.change, 1)
 equal(fault.at_end, true)
-equal(tostring(fault), "change at index 1: INSIDE_CHARACTER")
+equal(tostring(fault), "change at index 1: a position lies inside a character")
 refuses("REVERSED_RANGE", document.change, document, { change(at(0, 1), at(0, 0), "") })
 refuses("NOT_UTF8", document.change, document, { { text = "\xff" } })
 refuses("OUT_OF_RANGE", document.line, document, 2)
@@ -45,7 +45,7 @@ formatted:apply_edits({ edit(at(0, 0), at(0, 0), "1"), edit(at(0, 1), at(0, 2), 
 equal(formatted:text(), "1a2c")
 fault = refuses("OVERLAP", formatted.apply_edits, formatted, { edit(at(0, 0), at(0, 2), ""), edit(at(0, 1), at(0, 3), "") })
 equal(fault.other, 1)
-equal(tostring(fault), "edits at the indexes 0 and 1: OVERLAP")
+equal(tostring(fault), "edits at the indexes 0 and 1: two edits overlap")
 local canonical = formatted:canonical({ { text = "1a3c" } })
 equal(#canonical, 1)
 equal(canonical[1].range.start.character, 0)
@@ -103,12 +103,12 @@ local bad = Client.new()
 bad:start()
 fault = refuses("BAD_FRAME", bad.receive, bad, framed('{"jsonrpc":"2.0","method":"a"}') .. "Content-Length 2")
 equal(#fault.events, 1)
-equal(fault.place, 52 + 14)
+equal(fault.offset, 52 + 14)
 equal(fault.frame, 1)
 refuses("FAILED", bad.receive, bad, "")
 equal(bad:deliver("{").reason, "NOT_AN_ANSWER")
 equal(bad:phase(), "failed")
-refuses("BAD_LIMIT", Client.new, { max_docs = 0 })
+equal(tostring(refuses("BAD_MAX_DOCS", Client.new, { max_docs = 0 })), "max_docs is out of its range, 1 to 65,536 documents")
 
 -- What follows a message with which no session can continue is of no use.
 local failed = Client.new()
@@ -148,6 +148,24 @@ local function some_changes()
     end
     return changes
 end
+
+-- logs
+local log_path = (arg[0]:match("^(.*)/") or ".") .. "/../../examples/stale-version.log"
+local function log_file() return assert(io.open(log_path, "rb")) end
+local checked, counts = laspidru.check(log_file())
+equal(checked, "1 reply\n2 changed\n3 refused S5\n4 refused S4\n5 changed\n")
+equal(counts.status .. " " .. counts.messages .. " " .. counts.refused, "1 5 2")
+equal(laspidru.check(log_file(), { explain = true }):match("^1 reply\n2 changed\n3 refused S5 of ") ~= nil, true)
+equal(#laspidru.trace(log_file(), { bodies = true }) > #laspidru.trace(log_file()), true)
+equal((laspidru.replay(log_file(), { uri = "file:///a" })), "aXc")
+equal((laspidru.replay(log_file(), { uri = "file:///a", at = 2 })), "abc")
+refuses("NOT_OPEN", laspidru.replay, log_file(), { uri = "file:///none" })
+refuses("OUT_OF_RANGE", laspidru.replay, log_file(), { at = 9 })
+equal(refuses("BAD_FRAME", laspidru.normalise, "Content-Length 2").offset, 14)
+equal(laspidru.message_uri('{"jsonrpc":"2.0","method":"textDocument/didClose","params":{"textDocument":{"uri":"a"}}}'), "a")
+equal(laspidru.message_uri("{}"), nil)
+equal(laspidru.version, "0.1.0")
+equal(laspidru.WHY.STALE_VERSION, "the version is not greater than the current one")
 
 local function session()
     local editor = Client.new()

@@ -1,7 +1,7 @@
 'use strict';
 // Texts that are kept as LSP 3.17 says, and both ends of a session, by a library that is proved (docs/node.md). `TextDocument` has the members
 // of vscode-languageserver-textdocument. Unlike there a position inside a character is refused by a RangeError.
-let addon; // what calls the library: laspidru.node, or over its WebAssembly module what module.js has
+let addon; // what calls the library: what module.js has over laspidru.node, or over the WebAssembly module
 
 const [encoder, decoder] = [new TextEncoder(), new TextDecoder()];
 
@@ -41,8 +41,11 @@ class Bytes extends Uint8Array {
 const Buffer = globalThis.Buffer ?? Bytes;
 const UTF16 = 16;
 
+let WORDS; // the names of the library's codes, by their numbers
+let WHY; // and what each means, by its name
+
 /** A RangeError as the library's refusals are. */
-function refusal(code, message = code) {
+function refusal(code, message = WHY[code]) {
   return Object.assign(new RangeError(message), { code });
 }
 
@@ -60,7 +63,7 @@ function checked(text) {
   return text;
 }
 
-const NUMBERS = 6; // of each change, as the addon takes it
+const NUMBERS = 8; // of each change: those of the library's struct, of which one is a half and one for room
 const WHOLE = { start: { line: 0, character: 0 }, end: { line: 0, character: 0 } };
 const ROOM = Buffer.alloc(65536); // for the texts of a short batch
 
@@ -77,7 +80,7 @@ function joined(texts, units, numbers) {
   return bytes;
 }
 
-/** Changes as the addon takes them: six numbers of each, and the bytes of all texts. */
+/** Changes as the library takes them: eight numbers of each, and the bytes of all texts. */
 function passed(changes, kind = 'change') {
   if (!Array.isArray(changes)) throw new TypeError('changes are no array');
   const numbers = new Uint32Array(NUMBERS * changes.length);
@@ -91,7 +94,7 @@ function passed(changes, kind = 'change') {
     numbers[first + 1] = uint(start.character, kind, index);
     numbers[first + 2] = uint(end.line, kind, index);
     numbers[first + 3] = uint(end.character, kind, index);
-    numbers[first + 5] = range ? 0 : 1;
+    numbers[first + 6] = range ? 0 : 1;
     units += checked(text).length;
     texts.push(text);
   }
@@ -258,20 +261,29 @@ const utf8 = (text) => Buffer.from(checked(text));
 
 const LIMITS = { maxBody: 16777216, maxText: 16777216, maxDocs: 1024, maxChanges: 65536 };
 
+const OF_LIMITS = { maxBody: 'BAD_MAX_BODY', maxText: 'BAD_MAX_TEXT', maxDocs: 'BAD_MAX_DOCS', maxChanges: 'BAD_MAX_CHANGES' };
+
 /** The four limits of options. */
 function limitsOf(options) {
-  const { maxBody, maxText, maxDocs, maxChanges } = { ...LIMITS, ...options };
-  const limits = [maxBody, maxText, maxDocs, maxChanges];
-  if (!limits.every((limit) => limit >>> 0 === limit)) throw refusal('BAD_LIMIT');
-  return limits;
+  return Object.entries(OF_LIMITS).map(([name, code]) => {
+    const limit = options[name] ?? LIMITS[name];
+    if (limit >>> 0 !== limit) throw refusal(code);
+    return limit;
+  });
 }
 
-/** A fault of a stream: which of F1 to F7 its `frame` has, and the byte offset `place` on which that was decided. No more of the
- * stream is taken. `events` has what `receive` had before it. */
+/** The number of an encoding. */
+function unitsOf(name) {
+  if (!Object.hasOwn(ENCODINGS, name)) throw refusal('BAD_ENCODING');
+  return ENCODINGS[name];
+}
+
+/** A fault of a stream: which of F1 to F7 its `frame` has, and the byte `offset` on which that was decided. No more of the stream is
+ * taken. `events` has what `receive` had before it. */
 class FrameFault extends Error {
-  constructor(frame, place) {
-    super(`F${frame} at ${place}`);
-    Object.assign(this, { name: 'FrameFault', code: 'BAD_FRAME', place, frame, events: [] });
+  constructor(frame, offset) {
+    super(`${WHY.BAD_FRAME}: F${frame} at ${offset}`);
+    Object.assign(this, { name: 'FrameFault', code: 'BAD_FRAME', offset, frame, events: [] });
   }
 }
 
@@ -357,16 +369,11 @@ function receive(framer, bytes, handle) {
   return events;
 }
 
-const WORDS = [
-  'OK', 'NOT_UTF8', 'OUT_OF_MEMORY', 'IN_USE', 'EMPTY', 'TOO_LONG', 'INSIDE_CHARACTER', 'REVERSED_RANGE', 'BAD_ENCODING', 'BAD_LENGTH',
-  'OTHER_KIND', 'OUT_OF_RANGE', 'BAD_LIMIT', 'ENDED', 'NOT_OPEN', 'ALREADY_OPEN', 'TOO_MANY_DOCUMENTS', 'STALE_VERSION',
-  'TOO_MANY_CHANGES', 'INVALID_PARAMS', 'CUT', 'BAD_FRAME', 'BODY_TOO_LONG', 'BAD_LOG', 'TOO_MANY_TURNS', 'OVERLAP', 'FAILED',
-  'NO_MESSAGE', 'WRONG_PHASE', 'NOT_AN_ANSWER', 'ERROR_ANSWER', 'NO_SYNC',
-];
 const SERVER_KINDS = ['replied', 'changed', 'dropped', 'ignored', 'refused', 'exited'];
 const CLIENT_KINDS = { 0: 'send', 3: 'ignored', 6: 'noted', 7: 'bad-server' };
 const PHASES = ['new', 'asked', 'ready', 'closing', 'closed', 'done', 'failed'];
 const NAMES = { 8: 'utf-8', 16: 'utf-16', 32: 'utf-32' };
+const ENCODINGS = { 'utf-8': 8, 'utf-16': 16, 'utf-32': 32 };
 
 /** A byte offset as it is, where the library can take it. */
 function byteOffsetOf(value) {
@@ -375,46 +382,97 @@ function byteOffsetOf(value) {
   return value;
 }
 
-/** What both ends have of their open documents. Each call returns undefined where no document of the URI is open. */
+/** What an end did with a message. */
+class Event {
+  constructor(kinds, body, [kind, reason, status, error, frame]) {
+    this.kind = kinds[kind];
+    this.body = body;
+    if (frame) this.frame = frame;
+    if (this.kind === 'replied') this.error = error;
+    if (this.kind === 'exited') this.status = status;
+    if (reason) [this.reason, this.why] = [WORDS[reason], WHY[WORDS[reason]]];
+  }
+
+  /** The document that the message opens, changes or closes, where it does one of these and its params are valid. */
+  get uri() {
+    return addon.uri(this.body);
+  }
+}
+
+/** What both ends have. What is asked of open documents is undefined where no document of the URI is open. */
 class End {
   #end;
-  #isClient;
+  #kinds;
+  #framer;
 
-  constructor(end, isClient) {
+  constructor(end, kinds, maxBody) {
     this.#end = end;
-    this.#isClient = isClient;
+    this.#kinds = kinds;
+    this.#framer = new Framer({ maxBody });
+  }
+
+  /** What the end does with each message that ends in these bytes. Each is handled at its own step: until the next one the documents are
+   * those that a request speaks of. A faulty frame throws FrameFault at its step, with no `events`. A loop that ends early leaves the rest
+   * to the next call. */
+  messages(bytes) {
+    this.#framer.add(Buffer.from(bytesOf(bytes))); // (a copy, since the steps come later)
+    return steps(this.#framer, (body) => this.handle(body));
+  }
+
+  /** The same as an array, once all of these messages are handled: a server's documents are then those after the last one. So answer
+   * requests by `messages`. A faulty frame throws FrameFault, whose `events` came before it. */
+  receive(bytes) {
+    return receive(this.#framer, bytes, (body) => this.handle(body));
+  }
+
+  /** What the end does with the body of a message. */
+  handle(body) {
+    return new Event(this.#kinds, body, addon.deliver(this.#end, bytesOf(body)));
+  }
+
+  /** "new", "asked", "ready", "closing", "closed", "done" or "failed"; of a server "new", "ready", "closed" or "done". */
+  get phase() {
+    return PHASES[addon.state(this.#end)[0]];
+  }
+
+  /** The encoding that was agreed on; undefined before. */
+  get encoding() {
+    return NAMES[addon.state(this.#end)[2]];
+  }
+
+  get documentCount() {
+    return addon.state(this.#end)[3];
   }
 
   /** The number of an encoding, or else of the session's; of UTF-16 before one is agreed on. */
-  #units(name = this.encoding ?? 'utf-16') {
-    if (!Object.hasOwn(ENCODINGS, name)) throw refusal('BAD_ENCODING');
-    return ENCODINGS[name];
+  #units(name) {
+    return name === undefined ? addon.state(this.#end)[2] || UTF16 : unitsOf(name);
   }
 
   /** The version of the open document of a URI. */
   version(uri) {
-    return addon.document(this.#end, this.#isClient, utf8(uri), false)?.[0];
+    return addon.document(this.#end, utf8(uri), false)?.[0];
   }
 
   /** The text of the open document of a URI. */
   text(uri) {
-    return addon.document(this.#end, this.#isClient, utf8(uri), true)?.[1];
+    return addon.document(this.#end, utf8(uri), true)?.[1];
   }
 
   /** A line, counted from 0, of the open document of a URI, without its line end. The rest of the text is not read. */
   lineAt(uri, line) {
-    return addon.lineAt(this.#end, this.#isClient, utf8(uri), uint(line));
+    return addon.lineAt(this.#end, utf8(uri), uint(line));
   }
 
   /** The byte offset of a position in the open document of a URI: in the UTF-8 of its text. One after the line's end is the line's end.
    * Positions count units of the session's encoding, or of this one. */
   byteOffset(uri, { line, character }, encoding) {
-    return addon.offsetAt(this.#end, this.#isClient, utf8(uri), this.#units(encoding), uint(line), uint(character));
+    return addon.offsetAt(this.#end, utf8(uri), this.#units(encoding), uint(line), uint(character));
   }
 
   /** The exact position of a byte offset in the open document of a URI, in the session's encoding or in this one. */
   position(uri, byteOffset, encoding) {
-    const found = addon.positionAt(this.#end, this.#isClient, utf8(uri), this.#units(encoding), byteOffsetOf(byteOffset));
+    const found = addon.positionAt(this.#end, utf8(uri), this.#units(encoding), byteOffsetOf(byteOffset));
     return found && { line: found[0], character: found[1] };
   }
 
@@ -423,83 +481,38 @@ class End {
     const byteOffset = this.byteOffset(uri, position);
     return byteOffset === undefined ? undefined : this.position(uri, byteOffset, encoding);
   }
-}
-
-/** A server's end of a session, without input and output of its own. */
-class Server extends End {
-  #server;
-  #framer;
-
-  constructor({ encoding = 'utf-16', isFixed = false, isFull = false, lenient = false, ...limits } = {}) {
-    if (!Object.hasOwn(ENCODINGS, encoding)) throw refusal('BAD_ENCODING');
-    const numbers = [...limitsOf(limits), ENCODINGS[encoding], isFixed ? 1 : 0, isFull ? 1 : 0, lenient ? 1 : 0];
-    const server = addon.newServer(Uint32Array.from(numbers));
-    super(server, false);
-    this.#server = server;
-    this.#framer = new Framer({ maxBody: numbers[0] });
-  }
-
-  /** What the server does with each message that ends in these bytes. Each is handled at its own step: until the next one the documents
-   * are those that a request speaks of. A faulty frame throws FrameFault at its step, with no `events`. A loop that ends early leaves the
-   * rest to the next call. */
-  messages(bytes) {
-    this.#framer.add(Buffer.from(bytesOf(bytes))); // (a copy, since the steps come later)
-    return steps(this.#framer, (body) => this.handle(body));
-  }
-
-  /** The same as an array, once all of these messages are handled: the documents are then those after the last one. So answer requests by
-   * `messages`. A faulty frame throws FrameFault, whose `events` came before it. */
-  receive(bytes) {
-    return receive(this.#framer, bytes, (body) => this.handle(body));
-  }
-
-  /** What the server does with the body of a message. */
-  handle(body) {
-    const [kind, reason, status, error, frame] = addon.handle(this.#server, bytesOf(body));
-    const event = { kind: SERVER_KINDS[kind], body };
-    if (frame) Object.assign(event, { frame, error });
-    if (event.kind === 'refused') event.reason = WORDS[reason];
-    if (event.kind === 'exited') event.status = status;
-    return event;
-  }
-
-  /** The encoding of positions, once `initialize` was answered; undefined before. */
-  get encoding() {
-    return NAMES[addon.encoding(this.#server)];
-  }
-
-  #units() {
-    return addon.encoding(this.#server) || UTF16;
-  }
 
   /** The canonical batch of what text edits mean on the open document of a URI: the changes of the didChange that reports them. All
    * count in the text as it is, which stays. */
   batchOfEdits(uri, edits) {
-    return addon.batchOfEditsAt(this.#server, utf8(uri), this.#units(), ...passedEdits(edits)).map(written);
+    return addon.batchOfEditsAt(this.#end, utf8(uri), this.#units(), ...passedEdits(edits)).map(written);
   }
 
   /** The frame of the one canonical didChange that means the same as these changes of the open document of a URI, under a version
    * greater than its own. The document stays as it is. */
   canonicalMessage(uri, version, changes) {
-    return addon.canonicalMessage(this.#server, utf8(uri), int(version), this.#units(), ...passed(changes));
-  }
-
-  get documentCount() {
-    return addon.documents(this.#server);
+    return addon.canonicalMessage(this.#end, utf8(uri), int(version), this.#units(), ...passed(changes));
   }
 }
 
-/** A client's end of a session: it keeps an editor's documents, and each call returns the bytes to send. */
+/** A server's end of a session, without input and output of its own. */
+class Server extends End {
+  constructor({ encoding = 'utf-16', isFixed = false, isFull = false, lenient = false, ...limits } = {}) {
+    const numbers = [...limitsOf(limits), unitsOf(encoding), isFixed ? 1 : 0, isFull ? 1 : 0, lenient ? 1 : 0];
+    super(addon.newServer(Uint32Array.from(numbers)), SERVER_KINDS, numbers[0]);
+  }
+}
+
+/** A client's end of a session: it keeps an editor's documents, and each call returns the bytes to send. What it receives changes no
+ * document: its own calls do. */
 class Client extends End {
   #client;
-  #framer;
 
   constructor({ utf8 = false, utf32 = false, lenient = false, ...limits } = {}) {
     const numbers = [...limitsOf(limits), utf8 ? 1 : 0, utf32 ? 1 : 0, lenient ? 1 : 0];
     const client = addon.newClient(Uint32Array.from(numbers));
-    super(client, true);
+    super(client, CLIENT_KINDS, numbers[0]);
     this.#client = client;
-    this.#framer = new Framer({ maxBody: numbers[0] });
   }
 
   /** Begins the session: `initialize`. */
@@ -532,75 +545,76 @@ class Client extends End {
     return addon.call(this.#client, 2);
   }
 
-  /** What the client does with each message that ends in these bytes, once all are handled. They change no document: the client's own calls
-   * do. A faulty frame throws FrameFault, whose `events` came before it. */
-  receive(bytes) {
-    return receive(this.#framer, bytes, (body) => this.deliver(body));
-  }
-
   /** What the client does with the body of a message of the server. */
   deliver(body) {
-    const [kind, reason, , , frame] = addon.deliver(this.#client, bytesOf(body));
-    const event = { kind: CLIENT_KINDS[kind], body };
-    if (frame) event.frame = frame;
-    if (event.kind === 'bad-server') event.reason = WORDS[reason];
-    return event;
-  }
-
-  get phase() {
-    return PHASES[addon.state(this.#client)[0]];
-  }
-
-  /** The encoding that was agreed on; undefined before. */
-  get encoding() {
-    return NAMES[addon.state(this.#client)[2]];
-  }
-
-  get documentCount() {
-    return addon.state(this.#client)[3];
+    return this.handle(body);
   }
 }
 
-const ENCODINGS = { 'utf-8': 8, 'utf-16': 16, 'utf-32': 32 };
-const LOG_DEFAULTS = { ...LIMITS, encoding: 'utf-16', squash: false, lenient: false };
-
-/** A fault of a log: its `code`, its byte offset `place`, which of F1 to F7 a faulty `frame` has, else 0, and the `output` up to it. */
+/** A fault of a log: its `code`, its byte `offset`, which of F1 to F7 a faulty `frame` has, else 0, and the `output` up to it. */
 class LogFault extends Error {
-  constructor({ code, place, frame, output }) {
-    super(`${code} at ${place}`);
-    Object.assign(this, { name: 'LogFault', code, place, frame, output });
+  constructor({ code, offset, frame, output }) {
+    super(`${WHY[WORDS[code]]} at ${offset}`);
+    Object.assign(this, { name: 'LogFault', code: WORDS[code], offset, frame, output });
   }
 }
 
-function run(command, log, options) {
-  const { maxBody, maxText, maxDocs, maxChanges, encoding, squash, lenient } = { ...LOG_DEFAULTS, ...options };
-  const limits = [maxBody, maxText, maxDocs, maxChanges];
-  if (!Object.hasOwn(ENCODINGS, encoding)) throw refusal('BAD_ENCODING');
-  if (!limits.every((limit) => limit >>> 0 === limit)) throw refusal('BAD_LIMIT');
-  const ended = addon.log(command, log, Uint32Array.of(...limits, ENCODINGS[encoding], squash ? 1 : 0, lenient ? 1 : 0));
-  if (ended.code !== 'OK') throw new LogFault(ended);
-  const { output, status, messages, refused } = ended;
-  return { output, status, messages, refused };
+/** What a command wrote; `records` has the objects of the lines of JSON that trace and replay write. */
+class LogOutput {
+  constructor({ output, status, messages, refused }) {
+    Object.assign(this, { output, status, messages, refused });
+  }
+
+  get records() {
+    return this.output.toString('utf8').split('\n').slice(0, -1).map((line) => JSON.parse(line));
+  }
 }
 
-// The commands of lspsync on the bytes of a log. Options are LOG_DEFAULTS' members.
+const COMMANDS = { check: 0, explain: 1, trace: 2, replay: 3, normalise: 4, convert: 5 };
+const FLAGS = ['lenient', 'squash', 'documents', 'texts', 'bodies']; // as the addon takes them after the encoding
+let read; // the bytes of a log that isn't bytes
 
-/** What a server answers to each record of a log, a line for each. */
-const check = (log, options) => run(0, log, options);
+function run(command, log, { at = 0, uri, encoding = 'utf-16', ...options } = {}, has = []) {
+  const unknown = Object.keys(options).find((it) => !(it in OF_LIMITS) && it !== 'lenient' && !has.includes(it));
+  if (unknown !== undefined) throw new TypeError(`there is no option ${unknown}`);
+  const numbers = [...limitsOf(options), unitsOf(encoding), ...FLAGS.map((it) => (options[it] ? 1 : 0)), uri === undefined ? 0 : 1];
+  const ended = addon.log(COMMANDS[command], bytesOf(read(log)), Uint32Array.from(numbers), byteOffsetOf(at), utf8(uri ?? ''));
+  if (ended.code !== 0) throw new LogFault(ended);
+  if (ended.missing !== 0) throw refusal(WORDS[ended.missing]);
+  return new LogOutput(ended);
+}
 
-/** The documents that are open at the end of a log, a line of JSON for each. */
-const replay = (log, options) => run(1, log, options);
+// The commands of lspsync on the bytes of a log. In Node a log is also the path of a file, or the number of one that is open. Options are
+// lspsync's: encoding, maxBody, maxText, maxDocs, maxChanges, lenient.
 
-/** The log with each accepted change as its canonical message; with `squash` each run of changes of one document as one. */
-const normalise = (log, options) => run(2, log, options);
+/** What a server answers to each record of a log, a line for each; with `explain` why, and what is suspicious. */
+const check = (log, { explain = false, ...options } = {}) => run(explain ? 'explain' : 'check', log, options);
+
+/** All that is known of each record of a log, a line of JSON for each, also with `texts` and `bodies`. */
+const trace = (log, options) => run('trace', log, options, ['texts', 'bodies']);
+
+/** The documents that are open at the end of a log, or after the record `at`, a line of JSON for each; with `uri` the text of one. */
+const replay = (log, { at, ...options } = {}) => {
+  if (at !== undefined && byteOffsetOf(at) < 1) throw refusal('OUT_OF_RANGE');
+  return run('replay', log, { at, ...options });
+};
+
+/** The log with each accepted change as its canonical message; with `squash` each run of changes of one document as one, with `documents`
+ * without the records that are neither about the session nor about a text. */
+const normalise = (log, options) => run('normalise', log, options, ['squash', 'documents']);
 
 /** A log of version 1 in version 2, with the replies that a server gives. */
-const convert = (log, options) => run(3, log, options);
+const convert = (log, options) => run('convert', log, options);
 
-/** What the package has, over an addon. There is one for all that is made of it. */
-function over(its) {
-  addon = its;
-  return { TextDocument, Framer, Server, Client, FrameFault, LogFault, check, replay, normalise, convert };
+/** What the package has, over an addon, and what reads a log that isn't bytes. There is one for all that is made of it. */
+function over(its, reading = (log) => log) {
+  [addon, read] = [its, reading];
+  const texts = addon.texts().map((text) => text.split(': '));
+  WORDS = texts.map(([name]) => name);
+  WHY = Object.fromEntries(texts);
+  const number = addon.version();
+  const version = [10000, 100, 1].map((of) => Math.floor(number / of) % 100).join('.');
+  return { version, WHY, TextDocument, Framer, Server, Client, FrameFault, LogFault, check, trace, replay, normalise, convert };
 }
 
-module.exports = { over, Buffer, WORDS };
+module.exports = { over, Buffer };

@@ -21,7 +21,7 @@ export interface TextEdit {
 }
 
 /**
- * What a refused call throws; it changed nothing. A value of another type is a TypeError without a code.
+ * What a refused call throws; it changed nothing. Its message says what the code means, as `WHY` does. A value of another type is a TypeError without a code.
  *
  * - `INSIDE_CHARACTER`: a position or an offset lies inside a surrogate pair; a byte offset also inside a CRLF or past the end.
  * - `REVERSED_RANGE`: a range of a change or a text edit starts after its end.
@@ -30,7 +30,7 @@ export interface TextEdit {
  * - `EMPTY`: the document is closed.
  * - `TOO_LONG`: a text has more than 1,073,741,824 bytes of UTF-8.
  * - `OUT_OF_MEMORY`
- * - `BAD_LIMIT`, `BAD_ENCODING`: of the ends, and of the commands on logs; `TOO_MANY_TURNS`: of those commands.
+ * - `BAD_MAX_BODY` to `BAD_MAX_CHANGES`, `BAD_ENCODING`: of the ends, and of the commands on logs; `TOO_MANY_TURNS`: of those commands.
  * - `WRONG_PHASE`, `ENDED`: of an end that is not, or no more, in the phase for the call; `FAILED`: after a faulty frame.
  * - `NOT_OPEN` to `STALE_VERSION`: of a client's calls on documents.
  */
@@ -43,7 +43,10 @@ export interface Refusal extends RangeError {
     | 'EMPTY'
     | 'TOO_LONG'
     | 'OUT_OF_MEMORY'
-    | 'BAD_LIMIT'
+    | 'BAD_MAX_BODY'
+    | 'BAD_MAX_TEXT'
+    | 'BAD_MAX_DOCS'
+    | 'BAD_MAX_CHANGES'
     | 'BAD_ENCODING'
     | 'TOO_MANY_TURNS'
     | 'WRONG_PHASE'
@@ -122,7 +125,7 @@ export class FrameFault<Event = unknown> extends Error {
   private constructor();
   readonly code: 'BAD_FRAME';
   /** The byte offset in the stream on which the fault was decided. */
-  readonly place: number;
+  readonly offset: number;
   /** 1 to 7, for F1 to F7 of docs/PROTOCOL.md. */
   readonly frame: number;
   readonly events: Event[];
@@ -141,8 +144,52 @@ export class Framer {
 
 export type Encoding = 'utf-8' | 'utf-16' | 'utf-32';
 
-/** What both ends have of their open documents. Each call returns undefined where no document of the URI is open. */
-export interface OpenDocuments {
+/** What an end did with a message: its body, and the document that it opens, changes or closes. `why` says what `reason` means. */
+export interface MessageEvent {
+  body: Uint8Array;
+  readonly uri: string | undefined;
+}
+
+/** What a server did with a message. */
+export type ServerEvent = MessageEvent & (
+  /** `frame` is to be sent. A request that the server doesn't handle has the error -32601: it is yours, and your answer goes in its place. */
+  | { kind: 'replied'; frame: Buffer; error: number }
+  | { kind: 'changed' | 'dropped' | 'ignored' }
+  | { kind: 'refused'; reason: string; why: string }
+  | { kind: 'exited'; status: 0 | 1 }
+);
+
+/** What a client did with a message of the server. */
+export type ClientEvent = MessageEvent & (
+  | { kind: 'send'; frame: Buffer }
+  | { kind: 'noted' | 'ignored' }
+  | { kind: 'bad-server'; reason: 'NOT_AN_ANSWER' | 'ERROR_ANSWER' | 'NO_SYNC' | 'BAD_ENCODING'; why: string }
+);
+
+/** What both ends have. What is asked of open documents is undefined where no document of the URI is open. */
+export interface End<Event> {
+  /**
+   * What the end does with each message that ends in these bytes. Each is handled at its own step: until the next one the documents
+   * are those that a request speaks of. A faulty frame throws FrameFault at its step, with no `events`. A loop that ends early leaves the
+   * rest to the next call.
+   */
+  messages(bytes: Uint8Array): IterableIterator<Event>;
+
+  /**
+   * The same as an array, once all of these messages are handled: a server's documents are then those after the last one. So answer
+   * requests by `messages`. A faulty frame throws FrameFault.
+   */
+  receive(bytes: Uint8Array): Event[];
+
+  /** What the end does with the body of a message. */
+  handle(body: Uint8Array): Event;
+
+  /** Of a server `new`, `ready`, `closed` or `done`. */
+  readonly phase: 'new' | 'asked' | 'ready' | 'closing' | 'closed' | 'done' | 'failed';
+  /** The encoding of positions that was agreed on. */
+  readonly encoding: Encoding | undefined;
+  readonly documentCount: number;
+
   version(uri: string): number | undefined;
   text(uri: string): string | undefined;
 
@@ -160,18 +207,15 @@ export interface OpenDocuments {
 
   /** A position of the session's encoding in another one. In `utf-16` its character is an index in `lineAt(uri, ..)`. */
   positionIn(uri: string, position: Position, encoding: Encoding): Position | undefined;
+
+  /** The canonical batch of what text edits mean on the open document of a URI: the changes of the didChange that reports them. */
+  batchOfEdits(uri: string, edits: TextEdit[]): TextDocumentContentChangeEvent[];
+
+  /** The frame of the one canonical didChange that means the same as these changes of the open document of a URI. */
+  canonicalMessage(uri: string, version: number, changes: TextDocumentContentChangeEvent[]): Buffer;
 }
 
-/** What a server did with a message, whose body it has. */
-export type ServerEvent = { body: Uint8Array } & (
-  /** `frame` is to be sent. A request that the server doesn't handle has the error -32601: it is yours, and your answer goes in its place. */
-  | { kind: 'replied'; frame: Buffer; error: number }
-  | { kind: 'changed' | 'dropped' | 'ignored' }
-  | { kind: 'refused'; reason: string }
-  | { kind: 'exited'; status: 0 | 1 }
-);
-
-export interface Server extends OpenDocuments {}
+export interface Server extends End<ServerEvent> {}
 
 /** A server's end of a session, without input and output of its own. */
 export class Server {
@@ -181,47 +225,13 @@ export class Server {
    * texts.
    */
   constructor(options?: Limits & { encoding?: Encoding; isFixed?: boolean; isFull?: boolean });
-
-  /**
-   * What the server does with each message that ends in these bytes. Each is handled at its own step: until the next one the documents
-   * are those that a request speaks of. A faulty frame throws FrameFault at its step, with no `events`. A loop that ends early leaves the
-   * rest to the next call.
-   */
-  messages(bytes: Uint8Array): IterableIterator<ServerEvent>;
-
-  /**
-   * The same as an array, once all of these messages are handled: the documents are then those after the last one. So answer requests by
-   * `messages`. A faulty frame throws FrameFault.
-   */
-  receive(bytes: Uint8Array): ServerEvent[];
-
-  /** What the server does with the body of a message. */
-  handle(body: Uint8Array): ServerEvent;
-
-  /** The encoding of positions, once `initialize` was answered. */
-  readonly encoding: Encoding | undefined;
-
-  /** The canonical batch of what text edits mean on the open document of a URI: the changes of the didChange that reports them. */
-  batchOfEdits(uri: string, edits: TextEdit[]): TextDocumentContentChangeEvent[];
-
-  /** The frame of the one canonical didChange that means the same as these changes of the open document of a URI. */
-  canonicalMessage(uri: string, version: number, changes: TextDocumentContentChangeEvent[]): Buffer;
-
-  readonly documentCount: number;
 }
 
-/** What a client did with a message of the server, whose body it has. */
-export type ClientEvent = { body: Uint8Array } & (
-  | { kind: 'send'; frame: Buffer }
-  | { kind: 'noted' | 'ignored' }
-  | { kind: 'bad-server'; reason: 'NOT_AN_ANSWER' | 'ERROR_ANSWER' | 'NO_SYNC' | 'BAD_ENCODING' }
-);
-
-export interface Client extends OpenDocuments {}
+export interface Client extends End<ClientEvent> {}
 
 /**
  * A client's end of a session: it keeps an editor's documents, and each call returns the bytes to send. UTF-16 is always offered, after
- * UTF-8 and before UTF-32: an order that LSP reads as a preference.
+ * UTF-8 and before UTF-32: an order that LSP reads as a preference. What it receives changes no document: its own calls do.
  */
 export class Client {
   constructor(options?: Limits & { utf8?: boolean; utf32?: boolean });
@@ -234,35 +244,17 @@ export class Client {
   shutdown(): Buffer;
   exit(): Buffer;
 
-  /**
-   * What the client does with each message that ends in these bytes, once all are handled. They change no document: the client's own calls
-   * do. A faulty frame throws FrameFault.
-   */
-  receive(bytes: Uint8Array): ClientEvent[];
-
-  /** What the client does with the body of a message. */
+  /** The same as `handle`. */
   deliver(body: Uint8Array): ClientEvent;
-
-  readonly phase: 'new' | 'asked' | 'ready' | 'closing' | 'closed' | 'done' | 'failed';
-  /** The encoding that was agreed on. */
-  readonly encoding: Encoding | undefined;
-  readonly documentCount: number;
 }
 
-export interface LogOptions {
-  /** 4,096 to 1,073,741,824 bytes of a message; 16,777,216 where it isn't given. */
-  maxBody?: number;
-  /** Up to 1,073,741,824 bytes of a document; 16,777,216 where it isn't given. */
-  maxText?: number;
-  /** 1 to 65,536 documents; 1,024 where it isn't given. */
-  maxDocs?: number;
-  /** 1 to 1,048,576 changes in a message; 65,536 where it isn't given. */
-  maxChanges?: number;
+export interface LogOptions extends Limits {
   /** What positions of a log of version 1 count; `utf-16` where it isn't given. */
   encoding?: Encoding;
-  /** Whether a change of any version is taken, and an open document may be opened again. */
-  lenient?: boolean;
 }
+
+/** A log: its bytes, or in Node the path or the URL of a file, or the number of one that is open. */
+export type Log = Uint8Array | string | URL | number;
 
 export interface LogOutput {
   output: Buffer;
@@ -270,6 +262,8 @@ export interface LogOutput {
   status: number;
   messages: number;
   refused: number;
+  /** The objects of the lines of JSON that `trace` and `replay` write. */
+  readonly records: any[];
 }
 
 /** A fault of a log. `output` is what was written up to it. */
@@ -277,20 +271,35 @@ export class LogFault extends Error {
   private constructor();
   readonly code: 'CUT' | 'BAD_FRAME' | 'BODY_TOO_LONG' | 'BAD_LOG';
   /** A byte offset in the log. */
-  readonly place: number;
+  readonly offset: number;
   /** `BAD_FRAME`: 1 to 7, for F1 to F7 of docs/PROTOCOL.md; else 0. */
   readonly frame: number;
   readonly output: Buffer;
 }
 
-/** What a server answers to each record of a log, a line for each. */
-export function check(log: Uint8Array, options?: LogOptions): LogOutput;
+/** What a server answers to each record of a log, a line for each; with `explain` why, and what is suspicious. */
+export function check(log: Log, options?: LogOptions & { explain?: boolean }): LogOutput;
 
-/** The documents that are open at the end of a log, a line of JSON for each. */
-export function replay(log: Uint8Array, options?: LogOptions): LogOutput;
+/** All that is known of each record of a log, a line of JSON for each, also with its document's text and its body. */
+export function trace(log: Log, options?: LogOptions & { texts?: boolean; bodies?: boolean }): LogOutput;
 
-/** The log with each accepted change as its canonical message; with `squash` each run of changes of one document as one. */
-export function normalise(log: Uint8Array, options?: LogOptions & { squash?: boolean }): LogOutput;
+/**
+ * The documents that are open at the end of a log, or after the record `at`, a line of JSON for each; with `uri` the text of one. It throws
+ * with the code `OUT_OF_RANGE` where there is no such record, and with `NOT_OPEN` where the document was never open.
+ */
+export function replay(log: Log, options?: LogOptions & { at?: number; uri?: string }): LogOutput;
+
+/**
+ * The log with each accepted change as its canonical message; with `squash` each run of changes of one document as one, with `documents`
+ * without the records that are neither about the session nor about a text.
+ */
+export function normalise(log: Log, options?: LogOptions & { squash?: boolean; documents?: boolean }): LogOutput;
 
 /** A log of version 1 in version 2, with the replies that a server gives. */
-export function convert(log: Uint8Array, options?: LogOptions): LogOutput;
+export function convert(log: Log, options?: LogOptions): LogOutput;
+
+/** What each code means, by its name. */
+export const WHY: Record<string, string>;
+
+/** The version of the library. */
+export const version: string;

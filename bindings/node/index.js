@@ -4,7 +4,7 @@
 const fs = require('fs');
 const path = require('path');
 const { over } = require('./api.js');
-const { addonOf, compiled } = require('./module.js');
+const { addonOf, addonOver, compiled } = require('./module.js');
 
 const MODULE = path.join(__dirname, 'laspidru.wasm');
 
@@ -26,11 +26,14 @@ function loaded() {
   const named = process.env.LASPIDRU_ADDON;
   if (named?.endsWith('.wasm')) return moduleAt(named);
   try {
-    return require(named ? path.resolve(named) : './laspidru.node');
+    return addonOver(require(named ? path.resolve(named) : './laspidru.node'));
   } catch (error) {
     if (!named && fs.existsSync(MODULE)) return moduleAt(MODULE);
     throw Object.assign(new Error(why(error)), { code: error.code, cause: error });
   }
 }
 
-module.exports = over(loaded());
+/** The bytes of a log, or of the file of a path, an URL or a number. */
+const read = (log) => (typeof log === 'string' || typeof log === 'number' || log instanceof URL ? fs.readFileSync(log) : log);
+
+module.exports = over(loaded(), read);

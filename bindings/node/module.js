@@ -1,16 +1,35 @@
 'use strict';
-// The addon over a WebAssembly module of the library: the same functions as addon.c has, with the same arguments. The module imports nothing.
-// It has the layout of 64 bits, also for wasm32: sizes are i64 (BigInt), and a pointer in memory has 8 bytes. malloc and free take a size as
-// long as a pointer.
-const { Buffer, WORDS } = require('./api.js');
+// What calls the library for api.js: over the addon (addon.c), or over a WebAssembly module of the library. A function of the library takes a
+// handle, numbers, positions, and bytes: a place in `room`, where structs are passed too, or an array. The layout is that of 64 bits, also in wasm32.
+const { Buffer } = require('./api.js');
+
+// declared: by tools/declared
+const AT = {
+  handle: { pointer: 0, is_full: 8, size: 16 },
+  position: { line: 0, character: 4, size: 8 },
+  edit: { start: 0, end: 8, len: 16, is_whole: 24, size: 32 },
+  fault: { change: 0, at_end: 8, size: 16 },
+  edits_fault: { edit: 0, other: 8, at_end: 16, size: 24 },
+  line: { start: 0, end: 8, size: 16 },
+  length: { bytes: 0, lines: 8, size: 16 },
+  settings: { max_body: 0, max_text: 8, max_docs: 16, max_changes: 24, encoding: 32, is_fixed: 36, is_full: 37, lenient: 38, size: 40 },
+  answer: { kind: 0, reason: 4, status: 8, error: 12, reply_len: 16, size: 24 },
+  taken: { bytes: 0, body_len: 8, offset: 16, frame: 24, is_whole: 28, size: 32 },
+  client_settings: { max_body: 0, max_text: 8, max_docs: 16, max_changes: 24, utf8: 32, utf32: 33, lenient: 34, size: 40 },
+  state: { phase: 0, reason: 4, encoding: 8, documents: 16, size: 24 },
+  opened: { version: 0, bytes: 8, size: 16 },
+  log_settings: { max_body: 0, max_text: 8, max_docs: 16, max_changes: 24, at: 32, encoding: 40, lenient: 44, squash: 45, documents: 46, texts: 47, bodies: 48, has_uri: 49, size: 56 },
+  ending: { status: 0, frame: 4, missing: 8, messages: 16, refused: 24, offset: 32, output_len: 40, size: 48 },
+};
+// end of declared
 
 const OK = 0;
-const OUT_OF_MEMORY = 2;
-const BAD_FRAME = 21;
 const REPLIED = 0;
-const HANDLE = 16;
-const EDIT = 32;
-const NUMBERS_OF_EDIT = 6;
+const ROOM = 65536;
+const REPORTED_STEP = 65536; // the collector hears of a document's size after changes of so many bytes
+const SERVER = ['encoding', 'is_fixed', 'is_full', 'lenient'];
+const CLIENT = ['utf8', 'utf32', 'lenient'];
+const LOG = ['encoding', 'lenient', 'squash', 'documents', 'texts', 'bodies', 'has_uri'];
 const SIMD = Uint8Array.of(0, 97, 115, 109, 1, 0, 0, 0, 1, 5, 1, 96, 0, 1, 123, 3, 2, 1, 0, 10, 10, 1, 8, 0, 65, 0, 253, 15, 253, 98, 11);
 
 /** The module of these bytes, or an error that says what the engine lacks. */
@@ -28,18 +47,6 @@ function lacking(error) {
   return new Error(`laspidru's module needs WebAssembly with vectors of 128 bits (SIMD), which this engine lacks; it is in ${has}`, { cause: error });
 }
 
-function refusal(code, message = WORDS[code] ?? 'UNKNOWN', more = {}) {
-  return Object.assign(new RangeError(message), { code: WORDS[code] ?? 'UNKNOWN', ...more });
-}
-
-function refuse(code) {
-  throw refusal(code);
-}
-
-function refuseArguments() {
-  throw new TypeError('an argument has another type');
-}
-
 /** Whether a size has 64 bits: malloc then takes no number. */
 function isOf64({ malloc, free }) {
   try {
@@ -50,17 +57,12 @@ function isOf64({ malloc, free }) {
   }
 }
 
-/** A handle of the library: its place in the module's memory. */
-class Held {
-  constructor(at) {
-    this.at = at;
-  }
-}
-
-function addonOf(module_) {
+/** The library in a WebAssembly module, which imports nothing. Sizes are i64 (BigInt); malloc and free take a size as long as a pointer. */
+function inModule(module_) {
   const exported = new WebAssembly.Instance(module_, {}).exports;
   const { memory } = exported;
-  let [bytes, view] = [new Uint8Array(memory.buffer), new DataView(memory.buffer)];
+  const lib = { runOut() { throw new RangeError('out of memory'); } };
+  const look = () => Object.assign(lib, { bytes: new Uint8Array(memory.buffer), view: new DataView(memory.buffer) });
   let trap;
 
   /** A function of the module, after which `bytes` and `view` are of its memory as it then is. After any has trapped none is called again: the
@@ -69,7 +71,7 @@ function addonOf(module_) {
     if (trap === undefined) {
       try {
         const result = call(...given);
-        if (bytes.buffer !== memory.buffer) [bytes, view] = [new Uint8Array(memory.buffer), new DataView(memory.buffer)];
+        if (lib.bytes.buffer !== memory.buffer) look();
         return result;
       } catch (error) {
         trap = error;
@@ -77,25 +79,23 @@ function addonOf(module_) {
     }
     throw new Error("laspidru's module has trapped, as it does where its stack is spent, and is used no more", { cause: trap });
   };
-  // (each by its name without `laspidru_`)
-  const wasm = Object.fromEntries(Object.entries(exported).filter(([, it]) => typeof it === 'function')
-    .map(([name, it]) => [name.replace('laspidru_', ''), guarded(it)]));
+  look();
+  for (const [name, it] of Object.entries(exported)) if (typeof it === 'function') lib[name.replace('laspidru_', '')] = guarded(it);
   // A place in the module's memory is a number here, and as the module has it in its calls.
   const is64 = isOf64(exported);
   const place = is64 ? BigInt : (at) => at;
   const number = is64 ? Number : (at) => at >>> 0;
-
-  function malloc(size) {
-    const at = is64 || size < 2 ** 31 ? number(wasm.malloc(place(size))) : 0;
-    if (at === 0) refuse(OUT_OF_MEMORY);
-    return at;
-  }
-
-  // What a call is passed lies in room that is used again; long bytes have their own for the call.
-  const ROOM = 65536;
-  const room = malloc(ROOM);
+  const allocated = (size) => (is64 || size < 2 ** 31 ? number(lib.malloc(place(size))) : 0) || lib.runOut();
+  const free = (at) => { if (trap === undefined) lib.free(place(at)); };
+  const drop = (handle) => { if (trap === undefined) lib.close(handle); };
+  const finished = new FinalizationRegistry((at) => {
+    drop(place(at));
+    free(at);
+  });
+  const decoder = new TextDecoder('utf-8', { ignoreBOM: true });
+  const room = allocated(ROOM);
   let used = 0;
-  let own = [];
+  const own = []; // what long bytes have for a call
 
   function take(size) {
     const all = size < ROOM ? (size + 15) & ~15 : size;
@@ -103,245 +103,341 @@ function addonOf(module_) {
       used += all;
       return room + used - all;
     }
-    const at = malloc(size);
+    const at = allocated(size);
     own.push(at);
     return at;
   }
 
-  function zeroes(size) {
-    const at = take(size);
-    bytes.fill(0, at, at + size);
+  /** The bytes that a call copies, up to so many. */
+  function copied(length, copy) {
+    const [at, count] = [take(length || 1), take(8)];
+    const code = copy(place(at), BigInt(length), place(count));
+    return code === OK ? lib.bytes.subarray(at, at + lib.view.getUint32(count, true)) : lib.refuse(code);
+  }
+
+  return Object.assign(lib, {
+    place,
+    size: BigInt,
+    /** A position by value: its line in the low half. */
+    position: (line, character) => [BigInt.asIntN(64, (BigInt(character) << 32n) | BigInt(line))],
+    take,
+    array(array, length) {
+      const at = take(length);
+      lib.bytes.set(new Uint8Array(array.buffer, array.byteOffset, length), at);
+      return place(at);
+    },
+    string: (length, copy) => decoder.decode(copied(length, copy)),
+    buffer: (length, copy) => Buffer.from(copied(length, copy)),
+    handle() {
+      const held = { at: allocated(AT.handle.size) };
+      lib.bytes.fill(0, held.at, held.at + AT.handle.size);
+      finished.register(held, held.at);
+      return held;
+    },
+    of: ({ at }) => place(at),
+    isFull: ({ at }) => lib.bytes[at + AT.handle.is_full] !== 0,
+    drop: ({ at }) => drop(place(at)),
+    mark: () => [used, own.length],
+    /** Frees what was taken since. */
+    done([to, count] = [0, 0]) {
+      used = to;
+      own.splice(count).forEach(free);
+    },
+  });
+}
+
+/** The library in the addon. */
+function inAddon(addon) {
+  const bytes = new Uint8Array(ROOM);
+  addon.bind(bytes);
+  const it = (value) => value;
+  let used = 0;
+  return {
+    ...addon,
+    bytes,
+    view: new DataView(bytes.buffer),
+    take(size) {
+      used += (size + 15) & ~15;
+      return used - ((size + 15) & ~15);
+    },
+    place: it,
+    size: it,
+    position: (line, character) => [line, character],
+    array: it,
+    string(length, copy) {
+      const found = copy(null, length, this.take(8)); // (the addon makes a string where it is passed no bytes to write)
+      return typeof found === 'string' ? found : this.refuse(found);
+    },
+    buffer(length, copy) {
+      const out = Buffer.allocUnsafe(length);
+      const code = copy(out, length, this.take(8));
+      return code === OK ? out : this.refuse(code);
+    },
+    of: it,
+    mark: () => [used],
+    done([to] = [0]) { used = to; },
+  };
+}
+
+/** What api.js calls. */
+function over(lib) {
+  const { place, size, take } = lib;
+  const texts = []; // [name, what it means] of each code, by its number
+
+  function refusal(code, where = '', more = {}) {
+    const [name, why] = texts[code] ?? ['UNKNOWN', `code ${code}`];
+    return Object.assign(new RangeError(where + why), { code: name, ...more });
+  }
+
+  function refuse(code) {
+    throw refusal(code);
+  }
+
+  const demand = (code) => code === OK || refuse(code);
+
+  lib.runOut = () => refuse(texts.findIndex(([name]) => name === 'OUT_OF_MEMORY'));
+
+  function zeroes(length) {
+    const at = take(length);
+    lib.bytes.fill(0, at, at + length);
     return at;
   }
 
   /** Makes calls, and frees what they took. */
-  function within(work) {
-    used = 0;
+  const within = (work) => (a, b, c, d, e, f) => {
     try {
-      return work();
+      return work(a, b, c, d, e, f);
     } finally {
-      if (trap === undefined) for (const at of own) wasm.free(place(at));
-      own = [];
+      lib.done();
     }
-  }
+  };
 
-  const u32 = (at) => view.getUint32(at, true);
-  const i32 = (at) => view.getInt32(at, true);
-  const u64 = (at) => Number(view.getBigUint64(at, true));
-  const bool = (at) => bytes[at] !== 0;
-  const decoder = new TextDecoder('utf-8', { ignoreBOM: true });
-  const stringOf = (part) => decoder.decode(part);
+  const u32 = (at) => lib.view.getUint32(at, true);
+  const i32 = (at) => lib.view.getInt32(at, true);
+  const u64 = (at) => u32(at) + 2 ** 32 * u32(at + 4);
+  const bool = (at) => lib.bytes[at] !== 0;
+  const isCode = (code, ...names) => names.includes(texts[code]?.[0]);
 
-  const handleOf = (held) => (held instanceof Held ? place(held.at) : refuseArguments());
-  const bytesOf = (value) => (value instanceof Uint8Array ? value : refuseArguments());
-  const wordsOf = (value, count = value?.length) => (value instanceof Uint32Array && value.length === count ? value : refuseArguments());
-  const numberOf = (value) => (typeof value === 'number' ? value : refuseArguments());
-  const sizeOf = (value) => BigInt(numberOf(value));
-  /** A position by value: its line in the low half. */
-  const positionOf = (line, character) => BigInt.asIntN(64, (BigInt(numberOf(character)) << 32n) | BigInt(numberOf(line)));
+  /** Elements that are passed, and how many, as arguments. */
+  const passed = (array, count = array.length, length = count) => [lib.array(array, length), size(count)];
 
-  /** Bytes that are passed: their place and length, as arguments. */
-  function passed(value) {
-    const array = bytesOf(value);
-    const at = take(array.length);
-    bytes.set(array, at);
-    return [place(at), BigInt(array.length)];
+  /** How many bytes the texts of edits have. Eight numbers of an edit are its struct. */
+  function lengthOf(numbers) {
+    let length = 0;
+    for (let i = 4; i < numbers.length; i += 8) length += numbers[i];
+    return length;
   }
 
   /** Edits and their texts, as arguments. */
-  function editsOf(numbers, texts) {
-    const all = wordsOf(numbers);
-    if (all.length % NUMBERS_OF_EDIT !== 0) refuseArguments();
-    const count = all.length / NUMBERS_OF_EDIT;
-    const at = zeroes(EDIT * count);
-    let length = 0;
-    for (let i = 0; i < count; i++) {
-      const [from, to] = [NUMBERS_OF_EDIT * i, at + EDIT * i];
-      for (let k = 0; k < 5; k++) view.setUint32(to + 4 * k, all[from + k], true);
-      bytes[to + 24] = all[from + 5] !== 0 ? 1 : 0;
-      length += all[from + 4];
-    }
-    return [place(at), BigInt(count), ...passed(bytesOf(texts).subarray(0, length))];
-  }
+  const editsOf = (numbers, texts) => [...passed(numbers, numbers.length / 8, numbers.byteLength), ...passed(texts, lengthOf(numbers))];
 
-  function settingsOf(numbers, count, hasEncoding = true) {
-    const all = wordsOf(numbers, count);
-    const at = zeroes(40);
-    for (let i = 0; i < 4; i++) view.setUint32(at + 8 * i, all[i], true);
-    if (hasEncoding) view.setUint32(at + 32, all[4], true);
-    const [first, to] = hasEncoding ? [5, at + 36] : [4, at + 32];
-    for (let i = first; i < count; i++) bytes[to + i - first] = all[i] !== 0 ? 1 : 0;
-    return place(at);
+  /** The limits, and then these members of a struct. */
+  function settingsOf(numbers, offsets, members) {
+    const at = zeroes(offsets.size);
+    for (let i = 0; i < 4; i++) lib.view.setUint32(at + 8 * i, numbers[i], true);
+    members.forEach((member, i) => { lib.bytes[at + offsets[member]] = numbers[4 + i]; });
+    return at;
   }
 
   /** What `found` has of the bytes that a call writes, so many of them. */
-  function written(size, call, found = () => undefined, refused = refuse) {
-    const at = zeroes(size);
+  function written(length, call, found = () => undefined, refused = refuse) {
+    const at = take(length);
     const code = call(place(at));
     return code === OK ? found(at) : refused(code, at);
   }
 
-  /** The bytes that a call copies, where there are so many. */
-  function copied(length, copy) {
-    const at = take(length || 1);
-    return written(8, (count) => copy(place(at), BigInt(length), count), (count) => bytes.subarray(at, at + u64(count)));
-  }
-  const bufferOf = (length, copy) => Buffer.from(copied(length, copy));
-
-  const finished = new FinalizationRegistry((at) => {
-    if (trap !== undefined) return;
-    wasm.close(place(at));
-    wasm.free(place(at));
-  });
-
   /** A new handle, filled by a call. */
   function made(fill) {
-    const at = malloc(HANDLE);
-    bytes.fill(0, at, at + HANDLE);
-    const code = fill(place(at));
-    if (code !== OK) {
-      wasm.free(place(at));
-      refuse(code);
-    }
-    const held = new Held(at);
-    finished.register(held, at);
-    return held;
+    const held = lib.handle();
+    const code = fill(lib.of(held));
+    return code === OK ? held : refuse(code);
   }
 
+  const spare = lib.handle();
   /** A handle for the time of some work. */
   function during(work) {
-    const handle = place(zeroes(HANDLE));
     try {
-      return work(handle);
+      return work(lib.of(spare));
     } finally {
-      if (trap === undefined) wasm.close(handle);
+      lib.drop(spare);
     }
   }
 
   function refuseChange(code, at) {
-    const word = WORDS[code];
-    if (word !== 'INSIDE_CHARACTER' && word !== 'REVERSED_RANGE') refuse(code);
-    throw refusal(code, `change at index ${u64(at)}: ${word}`, { change: u64(at), atEnd: bool(at + 8) });
+    if (!isCode(code, 'INSIDE_CHARACTER', 'REVERSED_RANGE')) refuse(code);
+    const change = u64(at + AT.fault.change);
+    throw refusal(code, `change at index ${change}: `, { change, atEnd: bool(at + AT.fault.at_end) });
   }
 
   function refuseEdits(code, at) {
-    const [word, edit, other, atEnd] = [WORDS[code], u64(at), u64(at + 8), bool(at + 16)];
-    if (word === 'OVERLAP') throw refusal(code, `edits at the indexes ${edit} and ${other}: ${word}`, { edit, atEnd, other });
-    if (word !== 'INSIDE_CHARACTER' && word !== 'REVERSED_RANGE') refuse(code);
-    throw refusal(code, `edit at index ${edit}: ${word}`, { edit, atEnd });
+    const { edit: one, other: two, at_end: end } = AT.edits_fault;
+    const [edit, other, atEnd] = [u64(at + one), u64(at + two), bool(at + end)];
+    if (isCode(code, 'OVERLAP')) throw refusal(code, `edits at the indexes ${edit} and ${other}: `, { edit, atEnd, other });
+    if (!isCode(code, 'INSIDE_CHARACTER', 'REVERSED_RANGE')) refuse(code);
+    throw refusal(code, `edit at index ${edit}: `, { edit, atEnd });
   }
 
   /** The changes of a batch. */
   function changesOf(batch) {
-    const [out, at] = [[], zeroes(EDIT + 8)];
-    const count = place(at + EDIT);
-    const length = written(8, (to) => wasm.batch_len(batch, to), u64);
-    for (let [index, size, to] = [0, 4096, take(4096)]; index < length;) {
-      const code = wasm.batch_edit(batch, BigInt(index), place(at), place(to), BigInt(size), count);
-      if (code !== OK) refuse(code);
-      if (u64(at + 16) > size) {
-        size = u64(at + 16);
-        to = take(size);
-      } else {
-        out.push([u32(at), u32(at + 4), u32(at + 8), u32(at + 12), bool(at + 24), stringOf(bytes.subarray(to, to + u64(at + 16)))]);
-        index++;
-      }
+    const [out, at] = [[], take(AT.edit.size)];
+    const length = written(8, (to) => lib.batch_len(batch, to), u64);
+    const mark = lib.mark();
+    for (let index = 0; index < length; index++) {
+      const copy = (out, most, count) => lib.batch_edit(batch, size(index), place(at), out, most, count);
+      lib.buffer(0, copy); // (the edit alone, for the length of its text)
+      out.push([u32(at), u32(at + 4), u32(at + 8), u32(at + 12), bool(at + AT.edit.is_whole), lib.string(u64(at + AT.edit.len), copy)]);
+      lib.done(mark);
     }
     return out;
   }
 
-  const batchOf = (call, refused) => during((batch) => written(24, (at) => call(batch, at), () => changesOf(batch), refused));
-  const textOf = (held, start, length) => stringOf(copied(length, (...out) => wasm.document_copy(handleOf(held), BigInt(start), ...out)));
-  const lengthsOf = (held) => written(16, (at) => wasm.document_size(handleOf(held), at), (at) => [u64(at), u64(at + 8)]);
+  const batchOf = (call, refused) => during((batch) => written(AT.edits_fault.size, (at) => call(batch, at), () => changesOf(batch), refused));
+  const textOf = (held, start, length) => lib.string(length, (out, most, count) => lib.document_copy(lib.of(held), size(start), out, most, count));
+  const frameAt = (held, length) => lib.buffer(length, (out, most, count) => lib.frame(lib.of(held), size(0), out, most, count));
+
+  /** Where the length of a document is written. */
+  function lengthsAt(held) {
+    const at = take(AT.length.size);
+    demand(lib.document_size(lib.of(held), place(at)));
+    return at;
+  }
+
+  /** After so many bytes were put in: where that is due, the collector hears how much memory a document has, else a program that drops many
+   * would keep them too long. (That of a module it can't be told.) */
+  function note(document, bytes) {
+    document.putIn += bytes;
+    if (!lib.report || document.putIn < REPORTED_STEP) return;
+    document.putIn = 0;
+    lib.report(document.held, u64(lengthsAt(document.held)));
+  }
+
+  /** Edits of a document by a call. (Without what others have in short, since this is each keystroke.) */
+  const edited = (call, fault, refused) => (document, encoding, numbers, texts) => {
+    const [at, length] = [take(fault.size), lengthOf(numbers)];
+    const [edits, bytes] = [lib.array(numbers, numbers.byteLength), lib.array(texts, length)];
+    const code = call(lib.of(document.held), encoding, edits, size(numbers.length / 8), bytes, size(length), place(at));
+    if (code !== OK) refused(code, at);
+    note(document, length);
+  };
 
   /** The frame of a call of a client, which says how long it is. */
-  const frameOf = (client, call, refused) => written(24, (at) => call(handleOf(client), place(number(at) + 16), at),
-    (at) => bufferOf(u64(at + 16), (...out) => wasm.client_frame(handleOf(client), 0n, ...out)), refused);
+  const frameOf = (client, call, refused) => written(AT.fault.size + 8, (at) => call(lib.of(client), place(Number(at) + AT.fault.size), at),
+    (at) => frameAt(client, u64(at + AT.fault.size)), refused);
 
-  const handled = (end, body, handle, copy) => written(24, (at) => handle(handleOf(end), ...passed(body), at), (at) => {
-    const out = [u32(at), u32(at + 4), u32(at + 8), i32(at + 12)];
-    if (out[0] === REPLIED) out.push(bufferOf(u64(at + 16), (...to) => copy(handleOf(end), 0n, ...to)));
-    return out;
-  });
-
-  /** What a call answers of an open document; undefined where none of the URI is open. */
-  function ofOpen(end, isClient, uri, name, found, ...more) {
-    if (typeof isClient !== 'boolean') refuseArguments();
-    const kind = isClient ? 'client' : 'server';
-    const named = passed(uri);
-    const text = (start, length) => stringOf(copied(length, (...to) => wasm[`${kind}_text`](handleOf(end), ...named, BigInt(start), ...to)));
-    return written(24, (at) => wasm[`${kind}_${name}`](handleOf(end), ...named, ...more, at), (at) => found(at, text),
-      (code) => (WORDS[code] === 'NOT_OPEN' ? undefined : refuse(code)));
+  /** What a call has of an open document, which `found` reads where it was written; undefined where none of the URI is open. */
+  function ofOpen(end, uri, call, found) {
+    const handle = lib.of(end);
+    const name = lib.array(uri, uri.length);
+    const length = size(uri.length);
+    const at = take(16);
+    const code = call(handle, name, length, place(at));
+    if (code !== OK) return isCode(code, 'NOT_OPEN') ? undefined : refuse(code);
+    return found(at, (start, room) => lib.string(room, (out, most, count) => lib.open_text(handle, name, length, size(start), out, most, count)));
   }
 
   const calls = {
-    open: (text) => made((handle) => wasm.document_open(handle, ...passed(text))),
-    close: (held) => void wasm.close(handleOf(held)),
-    change: (held, encoding, ...edits) =>
-      written(16, (at) => wasm.document_change(handleOf(held), numberOf(encoding), ...editsOf(...edits), at), undefined, refuseChange),
-    applyEdits: (held, encoding, ...edits) =>
-      written(24, (at) => wasm.document_apply_edits(handleOf(held), numberOf(encoding), ...editsOf(...edits), at), undefined, refuseEdits),
-    canonical: (held, encoding, ...edits) =>
-      batchOf((...out) => wasm.document_canonical(handleOf(held), numberOf(encoding), ...editsOf(...edits), ...out), refuseChange),
-    batchOfEdits: (held, encoding, ...edits) =>
-      batchOf((...out) => wasm.document_batch_of_edits(handleOf(held), numberOf(encoding), ...editsOf(...edits), ...out), refuseEdits),
-    text: (held) => textOf(held, 0, lengthsOf(held)[0]),
-    lineCount: (held) => lengthsOf(held)[1],
-    line: (held, line) => written(16, (at) => wasm.document_line(handleOf(held), numberOf(line), at),
-      (at) => textOf(held, u64(at), u64(at + 8) - u64(at))),
-    offset: (held, encoding, ...position) =>
-      written(8, (at) => wasm.document_offset(handleOf(held), numberOf(encoding), positionOf(...position), at), u64),
-    position: (held, encoding, offset) =>
-      written(8, (at) => wasm.document_position(handleOf(held), numberOf(encoding), sizeOf(offset), at), (at) => [u32(at), u32(at + 4)]),
-    log(command, log, numbers) {
-      const call = [wasm.log_check, wasm.log_replay, wasm.log_normalise, wasm.log_convert][command] ?? refuseArguments();
+    open(text) {
+      const document = { held: made((handle) => lib.document_open(handle, ...passed(text))), putIn: REPORTED_STEP };
+      note(document, 0);
+      return document;
+    },
+    close({ held }) {
+      lib.drop(held);
+      lib.report?.(held, 0);
+    },
+    change: edited(lib.document_change, AT.fault, refuseChange),
+    applyEdits: edited(lib.document_apply_edits, AT.edits_fault, refuseEdits),
+    canonical: ({ held }, encoding, ...edits) =>
+      batchOf((...out) => lib.document_canonical(lib.of(held), encoding, ...editsOf(...edits), ...out), refuseChange),
+    batchOfEdits: ({ held }, encoding, ...edits) =>
+      batchOf((...out) => lib.document_batch_of_edits(lib.of(held), encoding, ...editsOf(...edits), ...out), refuseEdits),
+    text: ({ held }) => textOf(held, 0, u64(lengthsAt(held))),
+    lineCount: ({ held }) => u64(lengthsAt(held) + AT.length.lines),
+    line({ held }, line) {
+      const at = take(AT.line.size);
+      demand(lib.document_line(lib.of(held), line, place(at)));
+      return textOf(held, u64(at + AT.line.start), u64(at + AT.line.end) - u64(at + AT.line.start));
+    },
+    offset({ held }, encoding, line, character) {
+      const at = take(8);
+      demand(lib.document_offset(lib.of(held), encoding, ...lib.position(line, character), place(at)));
+      return u64(at);
+    },
+    position({ held }, encoding, offset) {
+      const at = take(AT.position.size);
+      demand(lib.document_position(lib.of(held), encoding, size(offset), place(at)));
+      return [u32(at), u32(at + 4)];
+    },
+    log(command, log, numbers, last, uri) {
       return during((output) => {
-        const at = zeroes(48);
-        const code = call(output, settingsOf(numbers, 7), ...passed(log), place(at));
-        if (!bool(number(output) + 8)) refuse(code);
-        const ended = { code: WORDS[code], status: u32(at), messages: u64(at + 8), refused: u64(at + 16), frame: u32(at + 4), place: u64(at + 24) };
-        return { ...ended, output: bufferOf(u64(at + 32), (...out) => wasm.output_copy(output, 0n, ...out)) };
+        const [at, settings, it] = [take(AT.ending.size), settingsOf(numbers, AT.log_settings, LOG), AT.ending];
+        lib.view.setBigUint64(settings + AT.log_settings.at, BigInt(last), true);
+        const code = lib.log_run(output, command, place(settings), ...passed(uri), ...passed(log), place(at));
+        if (!lib.isFull(spare)) refuse(code);
+        const ended = { code, status: u32(at + it.status), missing: u32(at + it.missing), frame: u32(at + it.frame) };
+        const counts = { messages: u64(at + it.messages), refused: u64(at + it.refused), offset: u64(at + it.offset) };
+        return { ...ended, ...counts, output: lib.buffer(u64(at + it.output_len), (...to) => lib.output_copy(output, size(0), ...to)) };
       });
     },
-    newFramer: (maxBody) => made((handle) => wasm.framer_new(handle, sizeOf(maxBody))),
+    newFramer: (maxBody) => made((handle) => lib.framer_new(handle, size(maxBody))),
     feed(framer, piece, start) {
-      if (numberOf(start) > bytesOf(piece).length) refuseArguments();
-      const handle = handleOf(framer);
-      return written(32, (at) => wasm.framer_feed(handle, ...passed(piece.subarray(start)), at), (at) => {
-        if (!bool(at + 28)) return [u64(at)];
-        const body = bufferOf(u64(at + 8), (...to) => wasm.framer_body(handle, 0n, ...to));
-        wasm.framer_next(handle);
-        return [u64(at), body];
-      }, (code, at) => (code === BAD_FRAME ? [-u32(at + 24), u64(at + 16)] : refuse(code)));
+      const [handle, it] = [lib.of(framer), AT.taken];
+      return written(it.size, (at) => lib.framer_feed(handle, ...passed(piece.subarray(start)), at), (at) => {
+        if (!bool(at + it.is_whole)) return [u64(at + it.bytes)];
+        const body = lib.buffer(u64(at + it.body_len), (...to) => lib.body(handle, size(0), ...to));
+        lib.framer_next(handle);
+        return [u64(at + it.bytes), body];
+      }, (code, at) => (isCode(code, 'BAD_FRAME') ? [-u32(at + it.frame), u64(at + it.offset)] : refuse(code)));
     },
-    isAtRest: (framer) => written(8, (at) => wasm.framer_at_rest(handleOf(framer), at), bool),
-    newServer: (numbers) => made((handle) => wasm.server_new(handle, settingsOf(numbers, 8))),
-    newClient: (numbers) => made((handle) => wasm.client_new(handle, settingsOf(numbers, 7, false))),
-    handle: (server, body) => handled(server, body, wasm.server_handle, wasm.server_reply),
-    deliver: (client, body) => handled(client, body, wasm.client_deliver, wasm.client_frame),
-    call: (client, which) => frameOf(client, [wasm.client_start, wasm.client_shutdown, wasm.client_exit][which] ?? refuseArguments()),
+    isAtRest: (framer) => written(8, (at) => lib.framer_at_rest(lib.of(framer), at), bool),
+    newServer: (numbers) => made((handle) => lib.server_new(handle, place(settingsOf(numbers, AT.settings, SERVER)))),
+    newClient: (numbers) => made((handle) => lib.client_new(handle, place(settingsOf(numbers, AT.client_settings, CLIENT)))),
+    deliver: (end, body) => written(AT.answer.size, (at) => lib.deliver(lib.of(end), ...passed(body), at), (at) => {
+      const it = AT.answer;
+      const out = [u32(at + it.kind), u32(at + it.reason), u32(at + it.status), i32(at + it.error)];
+      if (out[0] === REPLIED) out.push(frameAt(end, u64(at + it.reply_len)));
+      return out;
+    }),
+    uri(body) {
+      try {
+        return lib.string(body.length, (...to) => lib.message_uri(...passed(body), size(0), ...to));
+      } catch (error) {
+        if (error.code === 'NO_DOCUMENT') return undefined;
+        throw error;
+      }
+    },
+    texts: () => texts.map(([name, why]) => `${name}: ${why}`),
+    version: () => lib.version(),
+    call: (client, which) => frameOf(client, [lib.client_start, lib.client_shutdown, lib.client_exit][which]),
     openAt: (client, uri, language, version, text) => frameOf(client, (handle, length) =>
-      wasm.client_open(handle, ...passed(uri), ...passed(language), numberOf(version), ...passed(text), length)),
+      lib.client_open(handle, ...passed(uri), ...passed(language), version, ...passed(text), length)),
     edit: (client, uri, version, ...edits) => frameOf(client, (handle, length, fault) =>
-      wasm.client_edit(handle, ...passed(uri), numberOf(version), ...editsOf(...edits), fault, length), refuseChange),
-    closeAt: (client, uri) => frameOf(client, (handle, length) => wasm.client_close(handle, ...passed(uri), length)),
-    state: (client) => written(24, (at) => wasm.client_state(handleOf(client), at), (at) => [u32(at), u32(at + 4), u32(at + 8), u64(at + 16)]),
-    documents: (server) => written(8, (at) => wasm.server_documents(handleOf(server), at), u64),
-    encoding: (server) => written(8, (at) => wasm.server_encoding(handleOf(server), at), u32),
-    document: (end, isClient, uri, withText) =>
-      ofOpen(end, isClient, uri, 'document', (at, text) => (withText ? [i32(at), text(0, u64(at + 8))] : [i32(at)])),
-    offsetAt: (end, isClient, uri, encoding, ...position) => ofOpen(end, isClient, uri, 'offset', u64, numberOf(encoding), positionOf(...position)),
-    positionAt: (end, isClient, uri, encoding, offset) =>
-      ofOpen(end, isClient, uri, 'position', (at) => [u32(at), u32(at + 4)], numberOf(encoding), sizeOf(offset)),
-    lineAt: (end, isClient, uri, line) =>
-      ofOpen(end, isClient, uri, 'line', (at, text) => text(u64(at), u64(at + 8) - u64(at)), numberOf(line)),
-    batchOfEditsAt: (server, uri, encoding, ...edits) => batchOf((...out) =>
-      wasm.server_batch_of_edits(handleOf(server), ...passed(uri), numberOf(encoding), ...editsOf(...edits), ...out), refuseEdits),
-    canonicalMessage: (server, uri, version, encoding, ...edits) => during((output) => written(24, (at) =>
-      wasm.server_canonical_message(handleOf(server), ...passed(uri), numberOf(version), numberOf(encoding), ...editsOf(...edits), output, at,
-        place(number(at) + 16)), (at) => bufferOf(u64(at + 16), (...out) => wasm.output_copy(output, 0n, ...out)), refuseChange)),
+      lib.client_edit(handle, ...passed(uri), version, ...editsOf(...edits), fault, length), refuseChange),
+    closeAt: (client, uri) => frameOf(client, (handle, length) => lib.client_close(handle, ...passed(uri), length)),
+    state: (end) => written(AT.state.size, (at) => lib.session_state(lib.of(end), at),
+      (at) => [u32(at + AT.state.phase), u32(at + AT.state.reason), u32(at + AT.state.encoding), u64(at + AT.state.documents)]),
+    document: (end, uri, withText) => ofOpen(end, uri, lib.open_state, (at, text) =>
+      [i32(at + AT.opened.version), withText ? text(0, u64(at + AT.opened.bytes)) : undefined]),
+    offsetAt: (end, uri, encoding, line, character) =>
+      ofOpen(end, uri, (handle, name, length, at) => lib.open_offset(handle, name, length, encoding, ...lib.position(line, character), at), u64),
+    positionAt: (end, uri, encoding, offset) => ofOpen(end, uri, (handle, name, length, at) =>
+      lib.open_position(handle, name, length, encoding, size(offset), at), (at) => [u32(at + AT.position.line), u32(at + AT.position.character)]),
+    lineAt: (end, uri, line) => ofOpen(end, uri, (handle, name, length, at) => lib.open_line(handle, name, length, line, at),
+      (at, text) => text(u64(at + AT.line.start), u64(at + AT.line.end) - u64(at + AT.line.start))),
+    batchOfEditsAt: (end, uri, encoding, ...edits) => batchOf((...out) =>
+      lib.open_batch_of_edits(lib.of(end), ...passed(uri), encoding, ...editsOf(...edits), ...out), refuseEdits),
+    canonicalMessage: (end, uri, version, encoding, ...edits) => during((output) => written(AT.fault.size + 8, (at) =>
+      lib.open_canonical_message(lib.of(end), ...passed(uri), version, encoding, ...editsOf(...edits), output, at,
+        place(Number(at) + AT.fault.size)), (at) => lib.buffer(u64(at + AT.fault.size), (...to) => lib.output_copy(output, size(0), ...to)), refuseChange)),
   };
-  return Object.fromEntries(Object.entries(calls).map(([name, call]) => [name, (...given) => within(() => call(...given))]));
+  lib.refuse = () => undefined; // (there are no more texts)
+  const textAt = within((code) => lib.string(120, (...to) => lib.text(code, size(0), ...to)));
+  for (let text = textAt(0); text; text = textAt(texts.length)) texts.push(text.split(': '));
+  lib.refuse = refuse;
+  return Object.fromEntries(Object.entries(calls).map(([name, call]) => [name, within(call)]));
 }
 
-module.exports = { addonOf, compiled, lacking };
+const addonOf = (module_) => over(inModule(module_));
+const addonOver = (addon) => over(inAddon(addon));
+
+module.exports = { addonOf, addonOver, compiled, lacking };

@@ -1,14 +1,10 @@
 // Both ends of sessions in Node, as `bindings/sessions` asks for them.
 'use strict';
 const fs = require('fs');
-const { Client, Server } = require('.');
+const { Client, Server, WHY } = require('.');
 
 // The codes of laspidru.h by their names.
-const CODES = Object.fromEntries([
-  ['OUT_OF_MEMORY', 2], ['TOO_LONG', 5], ['INSIDE_CHARACTER', 6], ['REVERSED_RANGE', 7], ['BAD_ENCODING', 8], ['NOT_OPEN', 14],
-  ['ALREADY_OPEN', 15], ['TOO_MANY_DOCUMENTS', 16], ['STALE_VERSION', 17], ['TOO_MANY_CHANGES', 18], ['INVALID_PARAMS', 19],
-  ['WRONG_PHASE', 28], ['NOT_AN_ANSWER', 29], ['ERROR_ANSWER', 30], ['NO_SYNC', 31],
-]);
+const CODES = Object.fromEntries(Object.keys(WHY).map((name, code) => [name, code]));
 const KINDS = { replied: 0, changed: 1, dropped: 2, ignored: 3, refused: 4, exited: 5, send: 0, noted: 6, 'bad-server': 7 };
 const URIS = ['file:///a', 'file:///b', 'file:///c'];
 

@@ -4,7 +4,8 @@ const assert = require('assert');
 const fs = require('fs');
 const path = require('path');
 const { test } = require('node:test');
-const { TextDocument, Framer, Server, Client, FrameFault, LogFault, check, replay, normalise, convert } = require('./index.js');
+const { TextDocument, Framer, Server, Client, FrameFault, LogFault, WHY, version, ...logs } = require('./index.js');
+const { check, trace, replay, normalise, convert } = logs;
 
 const at = (line, character) => ({ line, character });
 const change = (start, end, text) => ({ range: { start, end }, text });
@@ -37,10 +38,10 @@ test('changes', () => {
   assert.strictEqual(document.version, 2);
 
   assert.throws(() => TextDocument.update(document, [change(at(0, 1), at(0, 0), '')], 3),
-    { name: 'RangeError', message: 'change at index 0: REVERSED_RANGE', code: 'REVERSED_RANGE', change: 0, atEnd: false });
+    { name: 'RangeError', message: 'change at index 0: a range is reversed', code: 'REVERSED_RANGE', change: 0, atEnd: false });
   for (const refusing of [TextDocument.update, TextDocument.canonical]) {
     assert.throws(() => refusing(document, [change(at(0, 0), at(0, 0), ''), change(at(1, 0), at(1, 3), '')], 3),
-      { message: 'change at index 1: INSIDE_CHARACTER', code: 'INSIDE_CHARACTER', change: 1, atEnd: true });
+      { message: 'change at index 1: a position lies inside a character', code: 'INSIDE_CHARACTER', change: 1, atEnd: true });
   }
   assert.strictEqual(document.getText(), 'Qa\r\nXY\u{1F600}');
   assert.strictEqual(document.version, 2);
@@ -117,9 +118,9 @@ test('text edits, and their canonical batch', () => {
   assert.strictEqual(TextDocument.applyEdits(formatted, [edit(at(0, 1), at(0, 1), '1'), edit(at(0, 1), at(0, 1), '2')]), 'a12bc');
   for (const refusing of [TextDocument.applyEdits, TextDocument.batchOfEdits]) {
     assert.throws(() => refusing(formatted, [edit(at(0, 1), at(0, 3), ''), edit(at(0, 0), at(0, 2), '')]),
-      { name: 'RangeError', message: 'edits at the indexes 1 and 0: OVERLAP', code: 'OVERLAP', edit: 1, other: 0 });
+      { name: 'RangeError', message: 'edits at the indexes 1 and 0: two edits overlap', code: 'OVERLAP', edit: 1, other: 0 });
     assert.throws(() => refusing(TextDocument.create('file:///d', 'plain', 1, '\u{1F600}'), [edit(at(0, 0), at(0, 1), '')]),
-      { message: 'edit at index 0: INSIDE_CHARACTER', code: 'INSIDE_CHARACTER', edit: 0, atEnd: true });
+      { message: 'edit at index 0: a position lies inside a character', code: 'INSIDE_CHARACTER', edit: 0, atEnd: true });
   }
   const separate = [edit(at(0, 0), at(0, 0), '1'), edit(at(0, 1), at(0, 2), '2\u{1F600}')];
   assert.deepStrictEqual(TextDocument.batchOfEdits(formatted, separate),
@@ -157,8 +158,8 @@ test('the collector closes what nobody closed', () => {
 });
 
 const example = (name) => fs.readFileSync(path.join(__dirname, '..', '..', 'examples', name + '.log'));
-const fault = (code, place, frame, output) => (error) => error instanceof LogFault && error.code === code &&
-  error.place === place && error.frame === frame && error.output.toString() === output;
+const fault = (code, offset, frame, output) => (error) => error instanceof LogFault && error.code === code &&
+  error.offset === offset && error.frame === frame && error.output.toString() === output;
 
 test('commands on logs', () => {
   const stale = check(example('stale-version'));
@@ -177,14 +178,32 @@ test('commands on logs', () => {
   assert.deepStrictEqual(replay(Buffer.alloc(0)).output, Buffer.alloc(0));
 });
 
+test('what lspsync has beside the limits', () => {
+  const file = path.join(__dirname, '..', '..', 'examples', 'stale-version.log');
+  assert.match(check(file, { explain: true }).output.toString(), /^1 reply\n2 changed\n3 refused S5 of /);
+  const records = trace(file, { bodies: true }).records;
+  assert.deepStrictEqual(records.map(({ number, body }) => [number, body !== undefined]), [1, 2, 3, 4, 5].map((it) => [it, true]));
+  assert.deepStrictEqual([trace(file).records[1].text, typeof trace(file, { texts: true }).records[1].text], [undefined, 'string']);
+  const [{ uri, text }] = replay(file).records;
+  assert.strictEqual(replay(file, { uri }).output.toString(), text);
+  assert.notStrictEqual(replay(fs.openSync(file), { at: 2 }).records[0].text, text);
+  assert.throws(() => replay(file, { at: 99 }), { code: 'OUT_OF_RANGE' });
+  assert.throws(() => replay(file, { at: 0 }), { code: 'OUT_OF_RANGE' });
+  assert.throws(() => replay(file, { uri: 'file:///none' }), { code: 'NOT_OPEN' });
+  assert.throws(() => check(file, { texts: true }), TypeError);
+  assert(normalise(example('two-saves'), { documents: true }).output.length <= normalise(example('two-saves')).output.length);
+  assert.strictEqual(version, '0.1.0');
+});
+
 test('faulty logs, and refused options', () => {
   assert.throws(() => check(example('cut-short')), fault('CUT', 505, 0, '1 reply\n2 changed\n'));
   assert.throws(() => normalise(Buffer.from('Content-Length 2')), fault('BAD_FRAME', 14, 1, ''));
   assert.throws(() => convert(Buffer.from('lsp-session-log 2\n')), fault('BAD_LOG', 0, 0, ''));
-  assert.throws(() => check(Buffer.alloc(0), { maxBody: 1 }), { code: 'BAD_LIMIT' });
-  assert.throws(() => check(Buffer.alloc(0), { maxBody: 2 ** 32 + 4096 }), { code: 'BAD_LIMIT' });
+  assert.throws(() => check(Buffer.alloc(0), { maxBody: 1 }), { code: 'BAD_MAX_BODY', message: WHY.BAD_MAX_BODY });
+  assert.throws(() => check(Buffer.alloc(0), { maxBody: 2 ** 32 + 4096 }), { code: 'BAD_MAX_BODY' });
   assert.throws(() => check(Buffer.alloc(0), { encoding: 'utf-7' }), { code: 'BAD_ENCODING' });
-  assert.throws(() => check('text'), TypeError);
+  assert.throws(() => check('no such file'), { code: 'ENOENT' });
+  assert.throws(() => check({}), TypeError);
 });
 
 // Numbers that look random.
@@ -332,10 +351,22 @@ test('a client\'s refused calls', () => {
   assert.throws(() => client.open(1, 'c', 1, ''), TypeError);
   assert.throws(() => client.receive('text'), TypeError);
   assert.deepStrictEqual([client.version('a'), client.text('a'), client.text('b')], [1, '\u00e9', undefined]);
-  const { kind, reason } = client.deliver(Buffer.from('{'));
-  assert.deepStrictEqual([kind, reason, client.phase, client.text('a')], ['bad-server', 'NOT_AN_ANSWER', 'failed', '\u00e9']);
+  const { kind, reason, why, uri } = client.deliver(Buffer.from('{'));
+  assert.deepStrictEqual([kind, reason, why, uri], ['bad-server', 'NOT_AN_ANSWER', WHY.NOT_AN_ANSWER, undefined]);
+  assert.deepStrictEqual([client.phase, client.text('a')], ['failed', '\u00e9']);
   assert.throws(() => client.deliver(Buffer.from('{}')), { code: 'WRONG_PHASE' });
-  assert.throws(() => new Client({ maxDocs: 0 }), { code: 'BAD_LIMIT' });
+  assert.throws(() => new Client({ maxDocs: 0 }), { code: 'BAD_MAX_DOCS', message: 'max_docs is out of its range, 1 to 65,536 documents' });
+});
+
+test('an event names its document, and says why it was refused', () => {
+  const [server, client] = [new Server(), new Client()];
+  client.receive(server.receive(client.start())[0].frame);
+  const events = server.receive(Buffer.concat([client.open('a', 'c', 1, 'x'), client.edit('a', 2, [])]));
+  assert.deepStrictEqual(events.map((event) => [event.kind, event.uri]), [['changed', 'a'], ['changed', 'a']]);
+  const stale = Buffer.from('{"jsonrpc":"2.0","method":"textDocument/didChange","params":{"textDocument":{"uri":"a","version":1},"contentChanges":[]}}');
+  const { kind, uri, reason, why } = server.handle(stale);
+  assert.deepStrictEqual([kind, uri, reason, why], ['refused', 'a', 'STALE_VERSION', 'the version is not greater than the current one']);
+  assert.deepStrictEqual([server.phase, server.documentCount], ['ready', 1]);
 });
 
 test('a server\'s refused calls', () => {
@@ -429,7 +460,7 @@ test('a framer', () => {
   const framer = new Framer({ maxBody: 4096 });
   assert.deepStrictEqual(framer.receive(Buffer.concat([framed('x'), framed(''), Buffer.from('Content-Le')])).map(String), ['x', '']);
   assert.throws(() => framer.receive(Buffer.from('ngth: 1\r\n\r\nyContent-Length 2')), (error) => error instanceof FrameFault &&
-    error.frame === 1 && error.place === 43 + 22 + 14 && error.events.map(String).join() === 'y');
+    error.frame === 1 && error.offset === 43 + 22 + 14 && error.events.map(String).join() === 'y');
   assert.throws(() => framer.receive(Buffer.alloc(0)), { code: 'FAILED' });
   assert(!framer.isAtRest && new Framer().isAtRest);
 });

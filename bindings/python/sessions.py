@@ -2,6 +2,7 @@
 import sys
 
 from laspidru import ENCODINGS, Client, LaspidruError, Server
+from laspidru._library import NUMBERS
 
 NAMES = {number: name for name, number in ENCODINGS.items()}
 KINDS = {"replied": 0, "changed": 1, "dropped": 2, "ignored": 3, "refused": 4, "exited": 5, "send": 0, "noted": 6, "bad-server": 7}
@@ -28,7 +29,7 @@ class Session:
             self.to_server.append(getattr(self.client, word)(*arguments))
             return "sent"
         except LaspidruError as error:
-            return f"refused {error.code}"
+            return f"refused {NUMBERS[error.code]}"
 
     def deliver(self, end, frames, replies):
         """The first message, in two pieces."""
@@ -43,11 +44,11 @@ class Session:
 
     def serve(self):
         event = self.deliver(self.server, self.to_server, self.to_client)
-        return event and f"server {KINDS[event.kind]} {event.reason} {event.status or 0} {event.error}" or "nothing"
+        return event and f"server {KINDS[event.kind]} {NUMBERS.get(event.reason, 0)} {event.status or 0} {event.error}" or "nothing"
 
     def hear(self):
         event = self.deliver(self.client, self.to_client, self.to_server)
-        return event and f"client {KINDS[event.kind]} {event.reason}" or "nothing"
+        return event and f"client {KINDS[event.kind]} {NUMBERS.get(event.reason, 0)}" or "nothing"
 
     def end(self):
         found = [f"waiting {len(self.to_server)} {len(self.to_client)}"]

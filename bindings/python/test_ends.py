@@ -141,23 +141,23 @@ class Tests(unittest.TestCase):
     def test_client(self):
         client = Client()
         self.assertEqual((client.phase, client.encoding), ("new", None))
-        self.refuses(laspidru.WRONG_PHASE, client.open, "a", "c", 1, "")
+        self.refuses("WRONG_PHASE", client.open, "a", "c", 1, "")
         client = self.ready()
         self.assertEqual((client.phase, client.encoding), ("ready", "utf-8"))
-        self.refuses(laspidru.NOT_OPEN, client.edit, "a", 1, [])
+        self.refuses("NOT_OPEN", client.edit, "a", 1, [])
         client.open("a", "c", 1, "\u00e9")
-        self.refuses(laspidru.ALREADY_OPEN, client.open, "a", "c", 1, "")
-        self.refuses(laspidru.STALE_VERSION, client.edit, "a", 1, [])
-        fault = self.refuses(laspidru.INSIDE_CHARACTER, client.edit, "a", 2, [change(at(0, 0), at(0, 1), "")])
+        self.refuses("ALREADY_OPEN", client.open, "a", "c", 1, "")
+        self.refuses("STALE_VERSION", client.edit, "a", 1, [])
+        fault = self.refuses("INSIDE_CHARACTER", client.edit, "a", 2, [change(at(0, 0), at(0, 1), "")])
         self.assertEqual((fault.change, fault.at_end), (0, True))
-        self.refuses(laspidru.OUT_OF_RANGE, client.open, "b", "c", 2 ** 31, "")
-        self.refuses(laspidru.NOT_UTF8, client.open, "b", "c", 1, "\ud800")
+        self.refuses("OUT_OF_RANGE", client.open, "b", "c", 2 ** 31, "")
+        self.refuses("NOT_UTF8", client.open, "b", "c", 1, "\ud800")
         self.assertRaises(TypeError, client.open, b"b", "c", 1, "")
         self.assertRaises(TypeError, client.deliver, "text")
         self.assertEqual((client.version("a"), client.text("a"), client.version("b")), (1, "\u00e9", None))
         event = client.deliver(b"{")
-        self.assertEqual((event.kind, event.reason, client.phase), ("bad-server", laspidru.NOT_AN_ANSWER, "failed"))
-        self.refuses(laspidru.WRONG_PHASE, client.deliver, b"{}")
+        self.assertEqual((event.kind, event.reason, client.phase), ("bad-server", "NOT_AN_ANSWER", "failed"))
+        self.refuses("WRONG_PHASE", client.deliver, b"{}")
         self.assertEqual(client.text("a"), "\u00e9")
         self.assertRaises(LaspidruError, Client, max_body=1)
 
@@ -167,15 +167,15 @@ class Tests(unittest.TestCase):
         self.assertEqual((event.kind, event.error), ("replied", 0))
         event, other = server.receive(frame(b'{"jsonrpc":"2.0","id":2,"method":"a/b"}') + frame(b'{"jsonrpc":"2.0","method":"c"}'))
         self.assertEqual((event.kind, event.error, event.body), ("replied", -32601, b'{"jsonrpc":"2.0","id":2,"method":"a/b"}'))
-        self.assertEqual((other.kind, other.body, other.frame), ("ignored", b'{"jsonrpc":"2.0","method":"c"}', b""))
+        self.assertEqual((other.kind, other.body, other.frame, other.uri), ("ignored", b'{"jsonrpc":"2.0","method":"c"}', b"", None))
         refused = server.handle(b'{"jsonrpc":"2.0","method":"textDocument/didClose","params":{"textDocument":{"uri":"a"}}}')
-        self.assertEqual((refused.kind, refused.reason), ("refused", laspidru.NOT_OPEN))
+        self.assertEqual((refused.kind, refused.reason), ("refused", "NOT_OPEN"))
         exits = frame(b'{"jsonrpc":"2.0","method":"exit"}')
         event, = server.receive(exits + exits)
         self.assertEqual((event.kind, event.status), ("exited", 1))
-        self.refuses(laspidru.ENDED, server.receive, exits)
+        self.refuses("ENDED", server.receive, exits)
         self.assertRaises(TypeError, server.receive, "text")
-        self.refuses(laspidru.BAD_ENCODING, Server, "utf-7")
+        self.refuses("BAD_ENCODING", Server, "utf-7")
 
     def test_messages(self):
         """Each message is handled at its own step."""
@@ -195,11 +195,11 @@ class Tests(unittest.TestCase):
         with self.assertRaises(FrameFault) as raised:
             next(steps)
         self.assertEqual((raised.exception.frame, raised.exception.events), (1, []))
-        self.refuses(laspidru.FAILED, list, server.messages(asks))
+        self.refuses("FAILED", list, server.messages(asks))
         self.assertRaises(TypeError, server.messages, "text")
         server, exits = Server(), frame(b'{"jsonrpc":"2.0","method":"exit"}')
         self.assertEqual([event.kind for event in server.messages(exits + exits)], ["exited"])
-        self.refuses(laspidru.ENDED, list, server.messages(exits))
+        self.refuses("ENDED", list, server.messages(exits))
         self.assertEqual(list(server.messages(b"")), [])
 
     def test_lenient(self):
@@ -216,9 +216,9 @@ class Tests(unittest.TestCase):
         server = opened_server("abc")
         self.assertEqual(server.batch_of_edits("a", [text_edit(0, 0, "1"), text_edit(1, 2, "2")]),
                          [change(at(0, 1), at(0, 2), "2"), change(at(0, 0), at(0, 0), "1")])
-        fault = self.refuses(laspidru.OVERLAP, server.batch_of_edits, "a", [text_edit(0, 2, ""), text_edit(1, 3, "")])
+        fault = self.refuses("OVERLAP", server.batch_of_edits, "a", [text_edit(0, 2, ""), text_edit(1, 3, "")])
         self.assertEqual((fault.edit, fault.other), (0, 1))
-        self.refuses(laspidru.NOT_OPEN, server.batch_of_edits, "b", [])
+        self.refuses("NOT_OPEN", server.batch_of_edits, "b", [])
         self.assertRaises(TypeError, server.batch_of_edits, "a", [{"newText": ""}])
         self.assertEqual((server.version("a"), server.text("a")), (1, "abc"))
 
@@ -243,23 +243,23 @@ class Tests(unittest.TestCase):
         server = opened_server("a\r\nb\U0001F600")
         self.assertEqual(server.byte_offset("a", at(1, 3)), 8)
         self.assertEqual(server.byte_offset("a", at(1, 2), "utf-32"), 8)
-        self.refuses(laspidru.INSIDE_CHARACTER, server.byte_offset, "a", at(1, 2))
-        self.refuses(laspidru.INSIDE_CHARACTER, server.position, "a", 2)
-        self.refuses(laspidru.OUT_OF_RANGE, server.line, "a", 2)
-        self.refuses(laspidru.OUT_OF_RANGE, server.line, "a", -1)
-        self.refuses(laspidru.OUT_OF_RANGE, server.position, "a", -1)
-        self.refuses(laspidru.BAD_ENCODING, server.position, "a", 0, "utf-7")
-        self.refuses(laspidru.BAD_ENCODING, server.position, "a", 0, "")
-        self.refuses(laspidru.NOT_UTF8, server.line, "\ud800", 0)
+        self.refuses("INSIDE_CHARACTER", server.byte_offset, "a", at(1, 2))
+        self.refuses("INSIDE_CHARACTER", server.position, "a", 2)
+        self.refuses("OUT_OF_RANGE", server.line, "a", 2)
+        self.refuses("OUT_OF_RANGE", server.line, "a", -1)
+        self.refuses("OUT_OF_RANGE", server.position, "a", -1)
+        self.refuses("BAD_ENCODING", server.position, "a", 0, "utf-7")
+        self.refuses("BAD_ENCODING", server.position, "a", 0, "")
+        self.refuses("NOT_UTF8", server.line, "\ud800", 0)
         for found in (server.line("b", 0), server.byte_offset("b", at(0, 0)), server.position("b", 0),
                       server.position_in("b", at(0, 0), "utf-8"), Client().line("a", 0), Client().position("a", 0)):
             self.assertIsNone(found)
 
     def test_canonical_message(self):
         server = opened_server("abc")
-        self.refuses(laspidru.NOT_OPEN, server.canonical_message, "b", 2, [])
-        self.refuses(laspidru.STALE_VERSION, server.canonical_message, "a", 1, [])
-        fault = self.refuses(laspidru.REVERSED_RANGE, server.canonical_message, "a", 2, [change(at(0, 1), at(0, 0), "")])
+        self.refuses("NOT_OPEN", server.canonical_message, "b", 2, [])
+        self.refuses("STALE_VERSION", server.canonical_message, "a", 1, [])
+        fault = self.refuses("REVERSED_RANGE", server.canonical_message, "a", 2, [change(at(0, 1), at(0, 0), "")])
         self.assertEqual((fault.change, fault.at_end), (0, False))
         message = server.canonical_message("a", 2, [change(at(0, 0), at(0, 1), "x"), change(at(0, 1), at(0, 1), "y")])
         params = {"contentChanges": [change(at(0, 0), at(0, 1), "xy")], "textDocument": {"uri": "a", "version": 2}}
@@ -268,18 +268,21 @@ class Tests(unittest.TestCase):
         self.assertEqual(server.text("a"), "abc")
         event, = server.receive(message)
         self.assertEqual((event.kind, event.body, server.version("a"), server.text("a")), ("changed", body, 2, "xybc"))
+        self.assertEqual((event.uri, event.reason, event.why), ("a", None, None))
+        refused, = server.receive(message)
+        self.assertEqual((refused.uri, refused.reason, refused.why), ("a", "STALE_VERSION", laspidru.WHY["STALE_VERSION"]))
 
     def test_encoding(self):
         server = Server("utf-8")
-        self.assertIsNone(server.encoding)
+        self.assertEqual((server.encoding, server.phase), (None, "new"))
         client = Client(utf8=True)
         server.receive(client.start())
-        self.assertEqual(server.encoding, "utf-8")
+        self.assertEqual((server.encoding, server.phase), ("utf-8", "ready"))
 
     def test_an_end_takes_no_more(self):
         server = Server()
         self.assertEqual(server.receive(frame(b'{"jsonrpc":"2.0","method":"exit"}') + b"Content-Length: 0\r")[0].status, 1)
-        self.refuses(laspidru.ENDED, server.receive, b"\n\r\n")
+        self.refuses("ENDED", server.receive, b"\n\r\n")
         self.assertEqual(server.receive(b""), [])
         with self.assertRaises(laspidru.FrameFault) as caught:
             Server().receive(b"Content-Length 2")
@@ -291,10 +294,10 @@ class Tests(unittest.TestCase):
         with self.assertRaises(FrameFault) as raised:
             framer.receive(memoryview(b"ngth: 1\r\n\r\nyContent-Length 2"))
         fault = raised.exception
-        self.assertEqual((fault.events, fault.frame, fault.place), ([b"y"], 1, 43 + 22 + 14))
+        self.assertEqual((fault.events, fault.frame, fault.offset), ([b"y"], 1, 43 + 22 + 14))
         self.assertEqual(str(fault), "the header of a frame is faulty: F1 at 79")
-        self.refuses(laspidru.FAILED, framer.receive, b"")
-        self.refuses(laspidru.BAD_LIMIT, Framer, 1)
+        self.refuses("FAILED", framer.receive, b"")
+        self.refuses("BAD_MAX_BODY", Framer, 1)
         self.assertTrue(Framer().at_rest)
 
     def test_threads(self):

@@ -88,11 +88,11 @@ class ExtensionTest(unittest.TestCase):
         reversed_ = {"start": {"line": 1, "character": 1}, "end": {"line": 1, "character": 0}}
         with self.assertRaises(LaspidruError) as raised:
             document.change([{"text": "b\nc"}, {"range": reversed_, "text": ""}, {"text": "d"}])
-        self.assertEqual((document.text, raised.exception.code, raised.exception.change), ("a\nX\n", laspidru.REVERSED_RANGE, 1))
+        self.assertEqual((document.text, raised.exception.code, raised.exception.change), ("a\nX\n", "REVERSED_RANGE", 1))
         document.close()
         with self.assertRaises(LaspidruError) as raised:
             document.change([{"text": "b"}])
-        self.assertEqual(raised.exception.code, laspidru.EMPTY)
+        self.assertEqual(raised.exception.code, "EMPTY")
 
     def test_wrong_arguments(self):
         for arguments in ((), (1,), (1, 16, b"", "text"), ("1", 16, b"", b"")):

@@ -9,7 +9,7 @@ import unittest
 import urllib.parse
 
 import laspidru
-from laspidru import Document, EditsFault, LaspidruError, LogFault, TextDocument, check, convert, normalise, replay
+from laspidru import Document, EditsFault, LaspidruError, LogFault, TextDocument, check, convert, normalise, replay, trace
 from test_choices import each_of
 
 BATCHES = int(os.environ.get("LASPIDRU_BATCHES", "2000"))
@@ -161,14 +161,14 @@ class Tests(unittest.TestCase):
         document = Document("\U0001F600")
         with self.assertRaises(LaspidruError) as raised:
             document.change([change(at(0, 0), at(0, 0), "Z"), change(at(0, 1), at(0, 2), "")])
-        self.assertEqual((raised.exception.code, raised.exception.change, raised.exception.at_end), (6, 1, True))
+        self.assertEqual((raised.exception.code, raised.exception.change, raised.exception.at_end), ("INSIDE_CHARACTER", 1, True))
         self.assertEqual(document.text, "\U0001F600")
 
     def test_line(self):
         document = Document("a\r\nb\U0001F600\u2028\n")
         self.assertEqual([document.line(number) for number in range(3)], ["a", "b\U0001F600\u2028", ""])
         for number in (-1, 3, 2 ** 32):
-            self.refuses(11, document.line, number)
+            self.refuses("OUT_OF_RANGE", document.line, number)
 
     def refuses(self, code, call, *arguments, **named):
         with self.assertRaises(LaspidruError) as raised:
@@ -181,15 +181,15 @@ class Tests(unittest.TestCase):
         document = Document("ab\ncd")
         for number in (-1, 2 ** 32, 2 ** 64 + 5):
             for place in (at(number, 0), at(0, number)):
-                self.refuses(11, document.byte_offset, place)
+                self.refuses("OUT_OF_RANGE", document.byte_offset, place)
                 for refusing, make in ((document.change, change), (document.canonical, change),
                                        (document.apply_edits, edit), (document.batch_of_edits, edit)):
                     for start, end in ((place, at(0, 0)), (at(0, 0), place)):
-                        fault = self.refuses(11, refusing, [make(at(0, 0), at(0, 0), ""), make(start, end, "")])
-                        self.assertEqual((fault.change, str(fault)), (1, "change at index 1: out of range"))
+                        fault = self.refuses("OUT_OF_RANGE", refusing, [make(at(0, 0), at(0, 0), ""), make(start, end, "")])
+                        self.assertEqual((fault.change, str(fault)), (1, "change at index 1: a number is out of its range"))
         for number in (-1, 2 ** 64, 2 ** 64 + 5):
-            self.refuses(11, document.position, number)
-            self.refuses(12, check, b"", max_body=number)
+            self.refuses("OUT_OF_RANGE", document.position, number)
+            self.refuses("BAD_MAX_BODY", check, b"", max_body=number)
         for other in (0.0, "0", None):
             for refused in (lambda: document.line(other), lambda: document.position(other), lambda: document.byte_offset(at(0, other)),
                             lambda: document.change([change(at(other, 0), at(0, 0), "")]), lambda: check(b"", max_text=other)):
@@ -198,15 +198,15 @@ class Tests(unittest.TestCase):
 
     def test_texts(self):
         document = Document("ab")
-        self.refuses(1, Document, "a\ud83d")
-        fault = self.refuses(1, document.change, [{"text": ""}, change(at(0, 0), at(0, 0), "\ude00")])
+        self.refuses("NOT_UTF8", Document, "a\ud83d")
+        fault = self.refuses("NOT_UTF8", document.change, [{"text": ""}, change(at(0, 0), at(0, 0), "\ude00")])
         self.assertEqual((fault.change, str(fault)), (1, "change at index 1: the text is not UTF-8"))
-        self.refuses(1, document.apply_edits, [edit(at(0, 0), at(0, 0), "\ude00")])
-        for refused in (lambda: Document(b"a"), lambda: document.change([{"text": None}]), lambda: check("text"),
+        self.refuses("NOT_UTF8", document.apply_edits, [edit(at(0, 0), at(0, 0), "\ude00")])
+        for refused in (lambda: Document(b"a"), lambda: document.change([{"text": None}]), lambda: check(1),
                         lambda: document.apply_edits([{"newText": "all"}]), lambda: document.batch_of_edits([{"newText": ""}])):
             self.assertRaises(TypeError, refused)
-        self.refuses(8, Document, "a", "utf-7")
-        self.refuses(8, check, b"", encoding="utf-7")
+        self.refuses("BAD_ENCODING", Document, "a", "utf-7")
+        self.refuses("BAD_ENCODING", check, b"", encoding="utf-7")
         self.assertEqual(document.text, "ab")
 
     def test_closed(self):
@@ -231,7 +231,7 @@ class Tests(unittest.TestCase):
             with self.assertRaises(EditsFault) as raised:
                 overlapping([edit(at(0, 1), at(0, 3), ""), edit(at(0, 0), at(0, 2), "")])
             fault = raised.exception
-            self.assertEqual((fault.code, fault.edit, fault.other), (laspidru.OVERLAP, 1, 0))
+            self.assertEqual((fault.code, fault.edit, fault.other), ("OVERLAP", 1, 0))
             self.assertEqual(str(fault), "edits at the indexes 1 and 0: two edits overlap")
         self.assertEqual(document.text, "1a2c")
 
@@ -302,8 +302,8 @@ class Tests(unittest.TestCase):
         self.assertEqual(document.position_in(at(1, 1), "utf-8"), at(1, 2))
         self.assertEqual(document.byte_offset(at(0, 1), "utf-32"), 4)
         self.assertEqual(document.position(4, "utf-8"), at(0, 4))
-        self.refuses(8, document.position_in, at(0, 0), "utf-7")
-        self.refuses(6, document.position_in, at(0, 1), "utf-32")
+        self.refuses("BAD_ENCODING", document.position_in, at(0, 0), "utf-7")
+        self.refuses("INSIDE_CHARACTER", document.position_in, at(0, 1), "utf-32")
 
     def test_position_codec(self):
         codec = types.SimpleNamespace(encoding="utf-32")
@@ -357,7 +357,7 @@ class Tests(unittest.TestCase):
     def has_offset(self, document, text, place, encoding):
         index = denoted(text, place, encoding)
         if index is None:
-            self.refuses(6, document.byte_offset, place)
+            self.refuses("INSIDE_CHARACTER", document.byte_offset, place)
         else:
             self.assertEqual(document.byte_offset(place), len(text[:index].encode()))
 
@@ -370,7 +370,7 @@ class Tests(unittest.TestCase):
                 self.assertEqual(document.position(offset), wanted[offset])
                 self.assertEqual(document.byte_offset(wanted[offset]), offset)
             else:
-                self.refuses(6, document.position, offset)
+                self.refuses("INSIDE_CHARACTER", document.position, offset)
 
     def test_random_edits(self):
         """Random text edits against the plain program, in three encodings; as many as LASPIDRU_BATCHES says."""
@@ -406,22 +406,50 @@ class Tests(unittest.TestCase):
         self.assertLess(check(squashed).messages, check(once).messages)
         self.assertEqual({replay(log).output for log in (once, squashed)}, {replay(saves).output})
 
+    def test_log_options(self):
+        """What lspsync has beside the limits, on bytes, files and streams."""
+        path = os.path.join(EXAMPLES, "stale-version.log")
+        explained, lines = check(path, explain=True).output, check(path).output.splitlines()
+        self.assertEqual((explained.startswith(b"1 reply\n2 changed\n3 refused S5 "), len(explained.splitlines()) > len(lines)), (True, True))
+        with open(path, "rb") as stream:
+            records = trace(stream, bodies=True).records
+        self.assertEqual([(it["number"], "body" in it) for it in records], [(number, True) for number in range(1, 6)])
+        self.assertEqual(trace(path).records[1].get("text"), None)
+        self.assertIsNotNone(trace(path, texts=True).records[1].get("text"))
+        whole, = replay(path).records
+        self.assertEqual(replay(path, uri=whole["uri"]).output.decode(), whole["text"])
+        self.assertNotEqual(replay(path, at=2).records[0]["text"], whole["text"])
+        self.refuses("OUT_OF_RANGE", replay, path, at=99)
+        self.refuses("OUT_OF_RANGE", replay, path, at=0)
+        self.refuses("NOT_OPEN", replay, path, uri="file:///none")
+        self.assertLessEqual(len(normalise(example("two-saves"), documents=True).output), len(normalise(example("two-saves")).output))
+        self.assertRaises(TypeError, check, path, texts=True, no_such=True)
+        self.assertRaises(TypeError, check, 7)
+
+    def test_version_and_texts(self):
+        self.assertEqual(laspidru.__version__, "0.1.0")
+        self.assertEqual(laspidru.WHY["STALE_VERSION"], "the version is not greater than the current one")
+        with self.assertRaises(LaspidruError) as raised:
+            laspidru.Server(max_docs=0)
+        self.assertEqual(str(raised.exception), "max_docs is out of its range, 1 to 65,536 documents")
+        self.assertRaises(TypeError, Document("a").change, [{"range": None}])
+
     def test_log_faults(self):
         cut = example("cut-short")
         with self.assertRaises(LogFault) as raised:
             check(cut)
         fault = raised.exception
-        self.assertEqual((fault.code, fault.place, fault.frame, fault.output), (laspidru.CUT, 505, 0, b"1 reply\n2 changed\n"))
+        self.assertEqual((fault.code, fault.offset, fault.frame, fault.output), ("CUT", 505, 0, b"1 reply\n2 changed\n"))
         self.assertEqual(str(fault), "the log ends inside a record at 505")
         with self.assertRaises(LogFault) as raised:
             normalise(b"Content-Length 2")
-        self.assertEqual((raised.exception.code, raised.exception.frame, raised.exception.place), (laspidru.BAD_FRAME, 1, 14))
+        self.assertEqual((raised.exception.code, raised.exception.frame, raised.exception.offset), ("BAD_FRAME", 1, 14))
         with self.assertRaises(LogFault) as raised:
             convert(b"lsp-session-log 2\n")
-        self.assertEqual((raised.exception.code, raised.exception.place, raised.exception.output), (laspidru.BAD_LOG, 0, b""))
+        self.assertEqual((raised.exception.code, raised.exception.offset, raised.exception.output), ("BAD_LOG", 0, b""))
         with self.assertRaises(LaspidruError) as raised:
             check(b"", max_body=1)
-        self.assertEqual(raised.exception.code, 12)
+        self.assertEqual((raised.exception.code, str(raised.exception)), ("BAD_MAX_BODY", laspidru.WHY["BAD_MAX_BODY"]))
         self.assertEqual(replay(b"").output, b"")
 
 

@@ -62,7 +62,7 @@ static emacs_value body_of(emacs_env *env, client *it, laspidru_u32 code, laspid
     if (!frame)
         return refuse(env, LASPIDRU_OUT_OF_MEMORY);
     laspidru_size copied, start = 0;
-    code = laspidru_client_frame(&it->handle, 0, frame, frame_len, &copied);
+    code = laspidru_frame(&it->handle, 0, frame, frame_len, &copied);
     while (!code && start + 4 <= copied && memcmp(frame + start, "\r\n\r\n", 4))
         start++;
     emacs_value body = code ? refuse(env, code) : env->make_string(env, (char *)frame + start + 4, copied - start - 4);
@@ -93,9 +93,9 @@ static emacs_value make_client(emacs_env *env, ptrdiff_t count, emacs_value *giv
     if (!code)
         code = laspidru_client_start(&it->handle, &frame_len);
     if (!code)
-        code = laspidru_client_deliver(&it->handle, response.at, response.len, &answer);
+        code = laspidru_deliver(&it->handle, response.at, response.len, &answer);
     if (!code)
-        code = answer.kind == LASPIDRU_BAD_SERVER ? answer.reason : laspidru_client_state(&it->handle, &state);
+        code = answer.kind == LASPIDRU_BAD_SERVER ? answer.reason : laspidru_session_state(&it->handle, &state);
     free(response.at);
     it->encoding = state.encoding;
     if (!code)
@@ -127,17 +127,17 @@ static emacs_value open_document(emacs_env *env, ptrdiff_t count, emacs_value *g
 static bytes text_of(emacs_env *env, client *it, bytes uri) {
     laspidru_opened opened;
     bytes text = {0, 0};
-    laspidru_u32 code = laspidru_client_document(&it->handle, uri.at, uri.len, &opened);
+    laspidru_u32 code = laspidru_open_state(&it->handle, uri.at, uri.len, &opened);
     if (code)
         refuse(env, code);
     else if ((text.at = allocated(env, opened.bytes)))
-        laspidru_client_text(&it->handle, uri.at, uri.len, 0, text.at, opened.bytes, &text.len);
+        laspidru_open_text(&it->handle, uri.at, uri.len, 0, text.at, opened.bytes, &text.len);
     return text;
 }
 
 /* Whether a position of the document is at this byte offset. */
 static int is_border(client *it, bytes uri, size_t offset, laspidru_position *position) {
-    return laspidru_client_position(&it->handle, uri.at, uri.len, it->encoding, offset, position) == LASPIDRU_OK;
+    return laspidru_open_position(&it->handle, uri.at, uri.len, it->encoding, offset, position) == LASPIDRU_OK;
 }
 
 /* One message for what differs between a document and a text, in the smallest range whose ends are positions. */

@@ -50,7 +50,7 @@ def rows_of(path):
         output, fault = laspidru.check(log).output, None
     except laspidru.LogFault as found:
         output = found.output
-        fault = {laspidru.CUT: "cut", laspidru.BAD_FRAME: f"frame fault F{found.frame}"}.get(found.code, "bad log")
+        fault = {"CUT": "cut", "BAD_FRAME": f"frame fault F{found.frame}"}.get(found.code, "bad log")
     lines = [line.split(" ", 1) for line in output.decode().splitlines()]
     codes = collections.defaultdict(list)
     for number, word in lines:

@@ -77,7 +77,7 @@ class Editor:
         if event.kind == "send":
             self.send(event.frame)
         elif event.kind == "bad-server":
-            sys.exit(f"the server can't be used: code {event.reason}")
+            sys.exit(f"the server can't be used: {event.why}")
         # "noted" is the response to `shutdown`
 
     def ask(self, method, params):

@@ -45,7 +45,7 @@ class Texts:
         if self.ours is not None:
             event = self.ours.handle(body)
             if event.kind == "refused":
-                self.faults[message["params"]["textDocument"]["uri"]] = "refused by code %d" % event.reason
+                self.faults[message["params"]["textDocument"]["uri"]] = "refused: " + event.why
         method, params = message.get("method"), message.get("params")
         if method not in DOCUMENTS:
             return

@@ -121,7 +121,7 @@ end
 
 function CASES.a_bad_limit()
     local client = start({}, { max_body = 1 })
-    heard("keeps vim.lsp's own synchronisation: BAD_LIMIT")
+    heard("keeps vim.lsp's own synchronisation: max_body is out of its range")
     set("one")
     has(client, "one\n")
 end

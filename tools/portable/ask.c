@@ -7,8 +7,7 @@
 #include "laspidru.h"
 
 enum { FAULT = 2 };
-static laspidru_u32 (*const COMMANDS[])(laspidru_handle *, const laspidru_log_settings *, const unsigned char *, laspidru_size, laspidru_ending *) = {
-    laspidru_log_check, laspidru_log_replay, laspidru_log_normalise, laspidru_log_convert};
+static const laspidru_u32 COMMANDS[] = {LASPIDRU_CHECK, LASPIDRU_REPLAY, LASPIDRU_NORMALISE, LASPIDRU_CONVERT};
 
 static unsigned char *owned(size_t len) {
     unsigned char *at = malloc(len + 1);
@@ -28,7 +27,7 @@ int main(void) {
         settings.encoding = asked[1];
         if (fread(log, 1, asked[2], stdin) != asked[2])
             return 5;
-        laspidru_u32 code = COMMANDS[asked[0]](&output, &settings, log, asked[2], &ending);
+        laspidru_u32 code = laspidru_log_run(&output, COMMANDS[asked[0]], &settings, log, 0, log, asked[2], &ending);
         unsigned char *text = owned((size_t)ending.output_len);
         if (laspidru_output_copy(&output, 0, text, ending.output_len, &copied) != LASPIDRU_OK || copied != ending.output_len)
             return 6;

@@ -6,7 +6,9 @@ of a line. It states the form that it takes, and a line of the same kind in anot
 leave the meaning of each instruction as it is.
 
 `narrowed` is for wasm32, whose pointers have 32 bits. The layout of memory stays that of 64 bits: sizes are i64, and each pointer in memory
-keeps its 8 bytes, of which the high 4 are 0."""
+keeps its 8 bytes, of which the high 4 are 0.
+
+But for wasm32 the kit could make this needless: by calls by which a library for wasm64 takes memory, and a flag that keeps the module."""
 import itertools
 import re
 

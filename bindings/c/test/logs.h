@@ -1,11 +1,6 @@
 /* The test of the commands on logs. test.c includes it. */
 
-typedef laspidru_u32 command(laspidru_handle *output, const laspidru_log_settings *settings, const unsigned char *log,
-                             laspidru_size log_len, laspidru_ending *ending);
-
-static const laspidru_log_settings log_settings = {4096, 64, 2, 4, LASPIDRU_UTF8, 0, 0};
-static const laspidru_log_settings squashing = {4096, 64, 2, 4, LASPIDRU_UTF8, 1, 0};
-static const laspidru_log_settings lenient = {4096, 64, 2, 4, LASPIDRU_UTF8, 0, 1};
+static const laspidru_log_settings log_settings = {.max_body = 4096, .max_text = 64, .max_docs = 2, .max_changes = 4, .encoding = LASPIDRU_UTF8};
 static const char change_b[] = "{\"jsonrpc\":\"2.0\",\"method\":\"textDocument/didChange\",\"params\":{\"textDocument\":"
                                "{\"uri\":\"file:///a\",\"version\":8},\"contentChanges\":[{\"range\":{\"start\":"
                                "{\"line\":0,\"character\":0},\"end\":{\"line\":0,\"character\":0}},\"text\":\"!\"}]}}";
@@ -61,12 +56,16 @@ static part text_part(const char *text) {
     return it;
 }
 
+static laspidru_u32 run_log(laspidru_handle *output, laspidru_u32 command, const laspidru_log_settings *how, part log, laspidru_ending *ending) {
+    return laspidru_log_run(output, command, how, bytes(uri_a), how->has_uri ? 9 : 0, log.bytes, log.len, ending);
+}
+
 /* Runs a command, and whether it returns this code and writes these bytes. */
-static int writes(command *run, const laspidru_log_settings *how, part log, laspidru_u32 code, part wanted, laspidru_ending *ending) {
+static int writes(laspidru_u32 command, const laspidru_log_settings *how, part log, laspidru_u32 code, part wanted, laspidru_ending *ending) {
     static unsigned char out[8192];
     laspidru_handle output = {0};
     laspidru_size copied = 99;
-    int is_right = run(&output, how, log.bytes, log.len, ending) == code && output.is_full && ending->output_len == wanted.len &&
+    int is_right = run_log(&output, command, how, log, ending) == code && output.is_full && ending->output_len == wanted.len &&
                    laspidru_output_copy(&output, 0, out, sizeof out, &copied) == LASPIDRU_OK && copied == wanted.len &&
                    memcmp(out, wanted.bytes, copied) == 0;
     laspidru_close(&output);
@@ -74,11 +73,11 @@ static int writes(command *run, const laspidru_log_settings *how, part log, lasp
 }
 
 static int is_outcome(laspidru_ending it, laspidru_u32 status, laspidru_u64 messages, laspidru_u64 refused) {
-    return it.status == status && it.messages == messages && it.refused == refused && it.frame == 0 && it.place == 0;
+    return it.status == status && it.messages == messages && it.refused == refused && it.frame == 0 && it.offset == 0 && it.missing == 0;
 }
 
-static int is_fault(laspidru_ending it, laspidru_u32 frame, laspidru_u64 place) {
-    return it.status == 0 && it.messages == 0 && it.refused == 0 && it.frame == frame && it.place == place;
+static int is_fault(laspidru_ending it, laspidru_u32 frame, laspidru_u64 offset) {
+    return it.status == 0 && it.messages == 0 && it.refused == 0 && it.frame == frame && it.offset == offset && it.missing == 0;
 }
 
 static void test_logs(void) {
@@ -87,51 +86,98 @@ static void test_logs(void) {
     static const char *const normal[] = {initialize, open_a, canonical_a, canonical_b, 0};
     static const char *const squashed[] = {initialize, open_a, canonical_both, 0};
     part log = log_of(session), wanted = text_part("lsp-session-log 2\n");
-    laspidru_ending ending = {9, 9, 9, 9, 9, 9};
-    CHECK(writes(laspidru_log_check, &log_settings, log, LASPIDRU_OK, text_part("1 reply\n2 changed\n3 changed\n4 changed\n"), &ending));
+    laspidru_log_settings squashing = log_settings, lenient = log_settings;
+    laspidru_ending ending = {9, 9, 9, 9, 9, 9, 9};
+    squashing.squash = lenient.lenient = 1;
+    CHECK(writes(LASPIDRU_CHECK, &log_settings, log, LASPIDRU_OK, text_part("1 reply\n2 changed\n3 changed\n4 changed\n"), &ending));
     CHECK(is_outcome(ending, 0, 4, 0));
-    CHECK(writes(laspidru_log_check, &log_settings, log_of(stale), LASPIDRU_OK,
+    CHECK(writes(LASPIDRU_CHECK, &log_settings, log_of(stale), LASPIDRU_OK,
                  text_part("1 reply\n2 changed\n3 changed\n4 refused S5\n"), &ending));
     CHECK(is_outcome(ending, 1, 4, 1));
-    CHECK(writes(laspidru_log_check, &lenient, log_of(stale), LASPIDRU_OK,
+    CHECK(writes(LASPIDRU_CHECK, &lenient, log_of(stale), LASPIDRU_OK,
                  text_part("1 reply\n2 changed\n3 changed\n4 changed\n"), &ending));
-    CHECK(writes(laspidru_log_replay, &log_settings, log, LASPIDRU_OK,
+    CHECK(writes(LASPIDRU_REPLAY, &log_settings, log, LASPIDRU_OK,
                  text_part("{\"languageId\":\"c\",\"text\":\"!ab\\nXYd\",\"uri\":\"file:///a\",\"version\":8}\n"), &ending));
     CHECK(is_outcome(ending, 0, 4, 0));
-    CHECK(writes(laspidru_log_normalise, &log_settings, log, LASPIDRU_OK, log_of(normal), &ending) && is_outcome(ending, 0, 4, 0));
-    CHECK(writes(laspidru_log_normalise, &squashing, log, LASPIDRU_OK, log_of(squashed), &ending) && is_outcome(ending, 0, 4, 0));
+    CHECK(writes(LASPIDRU_NORMALISE, &log_settings, log, LASPIDRU_OK, log_of(normal), &ending) && is_outcome(ending, 0, 4, 0));
+    CHECK(writes(LASPIDRU_NORMALISE, &squashing, log, LASPIDRU_OK, log_of(squashed), &ending) && is_outcome(ending, 0, 4, 0));
     add_frame(&wanted, ">", initialize);
     add_frame(&wanted, "<", capabilities);
     add_frame(&wanted, ">", open_a);
     add_frame(&wanted, ">", change_a);
     add_frame(&wanted, ">", change_b);
-    CHECK(writes(laspidru_log_convert, &log_settings, log, LASPIDRU_OK, wanted, &ending) && is_outcome(ending, 0, 4, 0));
-    CHECK(writes(laspidru_log_check, &log_settings, text_part(""), LASPIDRU_OK, text_part(""), &ending) && is_outcome(ending, 0, 0, 0));
+    CHECK(writes(LASPIDRU_CONVERT, &log_settings, log, LASPIDRU_OK, wanted, &ending) && is_outcome(ending, 0, 4, 0));
+    CHECK(writes(LASPIDRU_CHECK, &log_settings, text_part(""), LASPIDRU_OK, text_part(""), &ending) && is_outcome(ending, 0, 0, 0));
+}
+
+/* What single commands have beside the limits. */
+static void test_log_options(void) {
+    static const char save[] = "{\"jsonrpc\":\"2.0\",\"method\":\"a/b\"}";
+    static const char *const session[] = {initialize, open_a, save, change_a, change_b, 0};
+    static const char *const kept[] = {initialize, open_a, canonical_a, canonical_b, 0};
+    static const char *const stale[] = {initialize, open_a, change_a, change_a, 0};
+    part log = log_of(session), out = {{0}, 0};
+    laspidru_log_settings part_of = log_settings, documents = log_settings, texts = log_settings, bodies = log_settings;
+    laspidru_ending ending = {9, 9, 9, 9, 9, 9, 9};
+    laspidru_handle output = {0};
+    laspidru_size plain, with_texts, copied = 0;
+    documents.documents = texts.texts = bodies.bodies = part_of.has_uri = 1;
+    CHECK(writes(LASPIDRU_NORMALISE, &documents, log, LASPIDRU_OK, log_of(kept), &ending) && is_outcome(ending, 0, 4, 0));
+    part_of.at = 4;
+    CHECK(writes(LASPIDRU_REPLAY, &part_of, log, LASPIDRU_OK, text_part("ab\nXYd"), &ending) && is_outcome(ending, 0, 4, 0));
+    part_of.at = 0;
+    CHECK(writes(LASPIDRU_REPLAY, &part_of, log, LASPIDRU_OK, text_part("!ab\nXYd"), &ending) && is_outcome(ending, 0, 5, 0));
+    part_of.has_uri = 0;
+    part_of.at = 2;
+    CHECK(writes(LASPIDRU_REPLAY, &part_of, log, LASPIDRU_OK,
+                 text_part("{\"languageId\":\"c\",\"text\":\"ab\\ncd\",\"uri\":\"file:///a\",\"version\":1}\n"), &ending));
+    part_of.at = 9;
+    CHECK(writes(LASPIDRU_REPLAY, &part_of, log, LASPIDRU_OK, text_part(""), &ending) && ending.status == 1 && ending.missing == LASPIDRU_OUT_OF_RANGE);
+    part_of.at = 0;
+    part_of.has_uri = 1;
+    CHECK(laspidru_log_run(&output, LASPIDRU_REPLAY, &part_of, bytes("b"), 1, log.bytes, log.len, &ending) == LASPIDRU_OK);
+    CHECK(ending.status == 1 && ending.missing == LASPIDRU_NOT_OPEN && ending.output_len == 0);
+    laspidru_close(&output);
+    /* A line for each record; with texts and bodies longer ones. */
+    CHECK(run_log(&output, LASPIDRU_TRACE, &log_settings, log, &ending) == LASPIDRU_OK && is_outcome(ending, 0, 5, 0));
+    plain = ending.output_len;
+    CHECK(laspidru_output_copy(&output, 0, out.bytes, sizeof out.bytes, &copied) == LASPIDRU_OK && copied == plain && out.bytes[0] == '{');
+    laspidru_close(&output);
+    CHECK(run_log(&output, LASPIDRU_TRACE, &texts, log, &ending) == LASPIDRU_OK && ending.output_len > plain);
+    with_texts = ending.output_len;
+    laspidru_close(&output);
+    CHECK(run_log(&output, LASPIDRU_TRACE, &bodies, log, &ending) == LASPIDRU_OK && ending.output_len > with_texts);
+    laspidru_close(&output);
+    CHECK(run_log(&output, LASPIDRU_EXPLAIN, &log_settings, log_of(stale), &ending) == LASPIDRU_OK && is_outcome(ending, 1, 4, 1));
+    CHECK(laspidru_output_copy(&output, 0, out.bytes, 40, &copied) == LASPIDRU_OK && memcmp(out.bytes, "1 reply\n2 changed\n", 18) == 0);
+    CHECK(ending.output_len > 40);
+    laspidru_close(&output);
 }
 
 static void test_log_faults(void) {
     static const char *const session[] = {initialize, open_a, 0};
     static const char lines[] = "1 reply\n2 changed\n";
-    static const laspidru_log_settings long_texts = {4096, 8192, 2, 4, LASPIDRU_UTF8, 0, 0};
+    laspidru_log_settings long_texts = log_settings;
     static char long_change[4097];
     part log = log_of(session), cut = log;
-    laspidru_ending ending = {9, 9, 9, 9, 9, 9};
-    laspidru_size place = log.len, at;
+    laspidru_ending ending = {9, 9, 9, 9, 9, 9, 9};
+    laspidru_size offset = log.len, at;
+    long_texts.max_text = 8192;
     add(&cut, "Content-Length: 5\r\n\r\nabcd");
-    CHECK(writes(laspidru_log_check, &log_settings, cut, LASPIDRU_CUT, text_part(lines), &ending) && is_fault(ending, 0, cut.len));
-    CHECK(writes(laspidru_log_replay, &log_settings, cut, LASPIDRU_CUT, text_part(""), &ending) && is_fault(ending, 0, cut.len));
-    CHECK(writes(laspidru_log_normalise, &log_settings, cut, LASPIDRU_CUT, log, &ending) && is_fault(ending, 0, cut.len));
+    CHECK(writes(LASPIDRU_CHECK, &log_settings, cut, LASPIDRU_CUT, text_part(lines), &ending) && is_fault(ending, 0, cut.len));
+    CHECK(writes(LASPIDRU_REPLAY, &log_settings, cut, LASPIDRU_CUT, text_part(""), &ending) && is_fault(ending, 0, cut.len));
+    CHECK(writes(LASPIDRU_NORMALISE, &log_settings, cut, LASPIDRU_CUT, log, &ending) && is_fault(ending, 0, cut.len));
     cut = log;
     add(&cut, "Content-Length 2");
-    CHECK(writes(laspidru_log_check, &log_settings, cut, LASPIDRU_BAD_FRAME, text_part(lines), &ending) && is_fault(ending, 1, place + 14));
+    CHECK(writes(LASPIDRU_CHECK, &log_settings, cut, LASPIDRU_BAD_FRAME, text_part(lines), &ending) && is_fault(ending, 1, offset + 14));
     cut = log;
     add(&cut, "Content-Length: 4097\r\n\r\n");
-    CHECK(writes(laspidru_log_check, &log_settings, cut, LASPIDRU_BAD_FRAME, text_part(lines), &ending) && ending.frame == 6);
+    CHECK(writes(LASPIDRU_CHECK, &log_settings, cut, LASPIDRU_BAD_FRAME, text_part(lines), &ending) && ending.frame == 6);
     cut = text_part("lsp-session-log 2\n");
-    CHECK(writes(laspidru_log_convert, &log_settings, cut, LASPIDRU_BAD_LOG, text_part(""), &ending) && is_fault(ending, 0, 0));
-    CHECK(writes(laspidru_log_normalise, &log_settings, cut, LASPIDRU_OK, cut, &ending) && is_outcome(ending, 0, 0, 0));
+    CHECK(writes(LASPIDRU_CONVERT, &log_settings, cut, LASPIDRU_BAD_LOG, text_part(""), &ending) && is_fault(ending, 0, 0));
+    CHECK(writes(LASPIDRU_NORMALISE, &log_settings, cut, LASPIDRU_OK, cut, &ending) && is_outcome(ending, 0, 0, 0));
     add(&cut, "?");
-    CHECK(writes(laspidru_log_check, &log_settings, cut, LASPIDRU_BAD_LOG, text_part(""), &ending) && is_fault(ending, 0, 18));
+    CHECK(writes(LASPIDRU_CHECK, &log_settings, cut, LASPIDRU_BAD_LOG, text_part(""), &ending) && is_fault(ending, 0, 18));
     /* A whole text: with its range the canonical body is longer than 4,096 bytes. */
     cut = text_part("{\"jsonrpc\":\"2.0\",\"method\":\"textDocument/didChange\",\"params\":{\"textDocument\":"
                     "{\"uri\":\"file:///a\",\"version\":7},\"contentChanges\":[{\"text\":\"");
@@ -142,36 +188,5 @@ static void test_log_faults(void) {
         long_change[at] = (char)cut.bytes[at];
     cut = log;
     add_frame(&cut, "", long_change);
-    CHECK(writes(laspidru_log_normalise, &long_texts, cut, LASPIDRU_BODY_TOO_LONG, log, &ending) && is_fault(ending, 0, place));
-}
-
-static void test_log_refusals(void) {
-    static command *const commands[] = {laspidru_log_check, laspidru_log_replay, laspidru_log_normalise, laspidru_log_convert};
-    static const char *const session[] = {initialize, 0};
-    part log = log_of(session);
-    laspidru_handle output = {0}, document = {0};
-    unsigned char out[8] = "-------";
-    laspidru_size copied = 9, i;
-    laspidru_ending ending = {9, 9, 9, 9, 9, 9};
-    CHECK(open_text(&document, "a") == LASPIDRU_OK);
-    CHECK(laspidru_output_copy(&output, 0, out, 7, &copied) == LASPIDRU_EMPTY && copied == 9);
-    CHECK(laspidru_output_copy(&document, 0, out, 7, &copied) == LASPIDRU_OTHER_KIND && copied == 9);
-    for (i = 0; i < sizeof commands / sizeof commands[0]; i++) {
-        laspidru_log_settings bad = log_settings;
-        bad.max_changes = 0;
-        CHECK(commands[i](&output, &bad, log.bytes, log.len, &ending) == LASPIDRU_BAD_LIMIT && !output.is_full);
-        bad.encoding = 9;
-        CHECK(commands[i](&output, &bad, log.bytes, log.len, &ending) == LASPIDRU_BAD_ENCODING && !output.is_full);
-        CHECK(commands[i](&document, &bad, log.bytes, log.len, &ending) == LASPIDRU_IN_USE && has_text(&document, "a"));
-        CHECK(ending.status == 9 && ending.output_len == 9);
-    }
-    CHECK(laspidru_log_check(&output, &log_settings, log.bytes, log.len, &ending) == LASPIDRU_OK && ending.output_len == 8);
-    CHECK(laspidru_output_copy(&output, 9, out, 7, &copied) == LASPIDRU_OUT_OF_RANGE && copied == 9 && out[0] == '-');
-    CHECK(laspidru_output_copy(&output, 8, out, 7, &copied) == LASPIDRU_OK && copied == 0);
-    CHECK(laspidru_output_copy(&output, 2, out, 3, &copied) == LASPIDRU_OK && copied == 3 && memcmp(out, "rep----", 7) == 0);
-    CHECK(laspidru_document_copy(&output, 0, out, 7, &copied) == LASPIDRU_OTHER_KIND && copied == 3);
-    CHECK(laspidru_log_check(&output, &log_settings, log.bytes, log.len, &ending) == LASPIDRU_IN_USE);
-    laspidru_close(&output);
-    CHECK(!output.is_full);
-    laspidru_close(&document);
+    CHECK(writes(LASPIDRU_NORMALISE, &long_texts, cut, LASPIDRU_BODY_TOO_LONG, log, &ending) && is_fault(ending, 0, offset));
 }

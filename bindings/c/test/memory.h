@@ -49,8 +49,9 @@ static int run_refused_server(void) {
     static const char *const bodies[] = {initialize, open_a, change_a, shutdown, exits};
     laspidru_handle server = {0};
     laspidru_answer answer = {9, 9, 9, 9, 9};
+    laspidru_state state;
     laspidru_u32 code;
-    laspidru_size len, i;
+    laspidru_size i;
     int refusals = 0;
     while ((code = laspidru_server_new(&server, &settings)) == LASPIDRU_OUT_OF_MEMORY) {
         CHECK(!server.is_full);
@@ -61,7 +62,7 @@ static int run_refused_server(void) {
         laspidru_answer before = answer;
         while ((code = hand(&server, bodies[i], &answer)) == LASPIDRU_OUT_OF_MEMORY) {
             CHECK(answer.kind == before.kind && answer.reply_len == before.reply_len);
-            CHECK(laspidru_server_documents(&server, &len) == LASPIDRU_OK && len == (i > 1));
+            CHECK(laspidru_session_state(&server, &state) == LASPIDRU_OK && state.documents == (i > 1));
             CHECK(i != 2 || holds(&server, 1, "ab\ncd"));
             refusals++;
         }
@@ -73,24 +74,26 @@ static int run_refused_server(void) {
     return refusals;
 }
 
-/* The four commands with a request refused. A call that is refused leaves what was, and the same call then succeeds. */
+static const laspidru_log_settings all_settings = {
+    .max_body = 4096, .max_text = 64, .max_docs = 2, .max_changes = 4, .encoding = LASPIDRU_UTF8,
+    .at = 4, .squash = 1, .documents = 1, .texts = 1, .bodies = 1, .has_uri = 1};
+
+/* The commands with a request refused. A call that is refused leaves what was, and the same call then succeeds. */
 static int run_refused_logs(void) {
-    static command *const commands[] = {laspidru_log_check, laspidru_log_replay, laspidru_log_normalise, laspidru_log_convert};
     static const char *const session[] = {initialize, open_a, change_a, change_b, 0};
     static part log;
     laspidru_handle output = {0};
-    laspidru_ending ending = {9, 9, 9, 9, 9, 9};
-    laspidru_u32 code;
-    laspidru_size i;
+    laspidru_ending ending = {9, 9, 9, 9, 9, 9, 9};
+    laspidru_u32 code, command;
     int refusals = 0;
     log = log_of(session);
-    for (i = 0; i < sizeof commands / sizeof commands[0]; i++) {
+    for (command = LASPIDRU_CHECK; command <= LASPIDRU_CONVERT; command++) {
         laspidru_ending before = ending;
-        while ((code = commands[i](&output, &squashing, log.bytes, log.len, &ending)) == LASPIDRU_OUT_OF_MEMORY) {
+        while ((code = run_log(&output, command, &all_settings, log, &ending)) == LASPIDRU_OUT_OF_MEMORY) {
             CHECK(!output.is_full && ending.status == before.status && ending.output_len == before.output_len);
             refusals++;
         }
-        CHECK(code == LASPIDRU_OK && is_outcome(ending, 0, 4, 0));
+        CHECK(code == LASPIDRU_OK && ending.status == 0 && ending.missing == 0);
         laspidru_close(&output);
     }
     CHECK(heap_blocks() == 0);
@@ -137,14 +140,14 @@ static int run_refused_client(void) {
         refusals++;
     }
     AGAIN(laspidru_client_start(&client, &len), LASPIDRU_PHASE_NEW, 0);
-    AGAIN(deliver(&client, capabilities, &answer), LASPIDRU_PHASE_ASKED, 0);
+    AGAIN(hand(&client, capabilities, &answer), LASPIDRU_PHASE_ASKED, 0);
     AGAIN(client_open(&client, uri_a, 1, "ab\ncd", &len), LASPIDRU_PHASE_READY, 0);
-    CHECK(keeps(&client, 1, "ab\ncd"));
+    CHECK(holds(&client, 1, "ab\ncd"));
     AGAIN(client_edit(&client, 2, edits, 2, "\r\nlonger", &fault, &len), LASPIDRU_PHASE_READY, 1);
-    CHECK(keeps(&client, 2, "a\r\nlonger\ncd") && fault.change == 9);
+    CHECK(holds(&client, 2, "a\r\nlonger\ncd") && fault.change == 9);
     AGAIN(laspidru_client_close(&client, bytes(uri_a), 9, &len), LASPIDRU_PHASE_READY, 1);
     AGAIN(laspidru_client_shutdown(&client, &len), LASPIDRU_PHASE_READY, 0);
-    AGAIN(deliver(&client, answered, &answer), LASPIDRU_PHASE_CLOSING, 0);
+    AGAIN(hand(&client, answered, &answer), LASPIDRU_PHASE_CLOSING, 0);
     AGAIN(laspidru_client_exit(&client, &len), LASPIDRU_PHASE_CLOSED, 0);
 #undef AGAIN
     CHECK(is_state(&client, LASPIDRU_PHASE_DONE, 0, LASPIDRU_UTF8, 0));
@@ -154,7 +157,7 @@ static int run_refused_client(void) {
 }
 
 /* Takes a message, by the same call again where memory is refused: what was taken isn't passed again. */
-static int take_again(taking take, laspidru_handle *end, const char *const *bodies, laspidru_answer *answer) {
+static int take_again(laspidru_handle *end, const char *const *bodies, laspidru_answer *answer) {
     static char stream[STREAM_ROOM];
     laspidru_size len = stream_of(stream, bodies), at = 0;
     laspidru_taken taken = {9, 9, 9, 9, 1};
@@ -162,7 +165,7 @@ static int take_again(taking take, laspidru_handle *end, const char *const *bodi
     int refusals = 0;
     do {
         laspidru_answer before = *answer;
-        code = take(end, bytes(stream) + at, len - at, &taken, answer);
+        code = laspidru_take(end, bytes(stream) + at, len - at, &taken, answer);
         at += taken.bytes;
         CHECK(code == LASPIDRU_OK || code == LASPIDRU_OUT_OF_MEMORY);
         if (code == LASPIDRU_OUT_OF_MEMORY) {
@@ -185,8 +188,8 @@ static int run_refused_take(void) {
         refusals++;
     for (i = 0; i < sizeof bodies / sizeof bodies[0]; i++) {
         const char *const one[] = {bodies[i], 0};
-        refusals += take_again(laspidru_server_take, &server, one, &answer);
-        CHECK(answer.kind != LASPIDRU_REFUSED && answer.kind != LASPIDRU_DROPPED && copies(laspidru_server_body, &server, bodies[i]));
+        refusals += take_again(&server, one, &answer);
+        CHECK(answer.kind != LASPIDRU_REFUSED && answer.kind != LASPIDRU_DROPPED && copies(&server, bodies[i]));
     }
     CHECK(holds(&server, 7, "ab\nXYd"));
     laspidru_close(&server);
@@ -194,7 +197,7 @@ static int run_refused_take(void) {
         refusals++;
     while (laspidru_client_start(&client, &len) == LASPIDRU_OUT_OF_MEMORY)
         refusals++;
-    refusals += take_again(laspidru_client_take, &client, from_server, &answer);
+    refusals += take_again(&client, from_server, &answer);
     CHECK(is_state(&client, LASPIDRU_PHASE_READY, 0, LASPIDRU_UTF8, 0));
     laspidru_close(&client);
     CHECK(heap_blocks() == 0);

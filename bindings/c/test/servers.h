@@ -1,6 +1,6 @@
 /* The test of servers, and the messages of a session. test.c includes it. */
 
-static const laspidru_settings settings = {4096, 64, 2, 4, LASPIDRU_UTF8, 0, 0, 0};
+static const laspidru_settings settings = {.max_body = 4096, .max_text = 64, .max_docs = 2, .max_changes = 4, .encoding = LASPIDRU_UTF8};
 static const char initialize[] = "{\"jsonrpc\":\"2.0\",\"id\":1,\"method\":\"initialize\",\"params\":{\"capabilities\":"
                                  "{\"general\":{\"positionEncodings\":[\"utf-8\",\"utf-16\"]}}}}";
 static const char open_a[] = "{\"jsonrpc\":\"2.0\",\"method\":\"textDocument/didOpen\",\"params\":{\"textDocument\":"
@@ -15,7 +15,7 @@ static const char exits[] = "{\"jsonrpc\":\"2.0\",\"method\":\"exit\"}";
 static const char uri_a[] = "file:///a";
 
 static laspidru_u32 hand(laspidru_handle *server, const char *body, laspidru_answer *answer) {
-    return laspidru_server_handle(server, bytes(body), strlen(body), answer);
+    return laspidru_deliver(server, bytes(body), strlen(body), answer);
 }
 
 static int is_kind(laspidru_answer answer, laspidru_u32 kind, laspidru_u32 reason, laspidru_i32 error) {
@@ -23,35 +23,21 @@ static int is_kind(laspidru_answer answer, laspidru_u32 kind, laspidru_u32 reaso
            (kind == LASPIDRU_REPLIED ? answer.reply_len > 0 : answer.reply_len == 0);
 }
 
+static int is_state(laspidru_handle *end, laspidru_u32 phase, laspidru_u32 reason, laspidru_u32 encoding, laspidru_size documents) {
+    laspidru_state state = {9, 9, 9, 9};
+    return laspidru_session_state(end, &state) == LASPIDRU_OK && state.phase == phase && state.reason == reason &&
+           state.encoding == encoding && state.documents == documents;
+}
+
+/* Whether an end has this version and text of the document. */
 static int holds(laspidru_handle *server, laspidru_i32 version, const char *text) {
     unsigned char out[64];
     laspidru_size copied = 99;
     laspidru_opened opened = {99, 99};
-    return laspidru_server_document(server, bytes(uri_a), 9, &opened) == LASPIDRU_OK && opened.version == version &&
+    return laspidru_open_state(server, bytes(uri_a), 9, &opened) == LASPIDRU_OK && opened.version == version &&
            opened.bytes == strlen(text) &&
-           laspidru_server_text(server, bytes(uri_a), 9, 0, out, sizeof out, &copied) == LASPIDRU_OK &&
+           laspidru_open_text(server, bytes(uri_a), 9, 0, out, sizeof out, &copied) == LASPIDRU_OK &&
            copied == opened.bytes && memcmp(out, text, copied) == 0;
-}
-
-static void test_server_new(void) {
-    laspidru_handle server = {0}, document = {0};
-    laspidru_settings bad = settings;
-    bad.encoding = 9;
-    CHECK(laspidru_server_new(&server, &bad) == LASPIDRU_BAD_ENCODING && !server.is_full);
-    bad = settings;
-    bad.max_body = 4095;
-    CHECK(laspidru_server_new(&server, &bad) == LASPIDRU_BAD_LIMIT && !server.is_full);
-    bad = settings;
-    bad.max_docs = 0;
-    CHECK(laspidru_server_new(&server, &bad) == LASPIDRU_BAD_LIMIT);
-    bad.encoding = 9;
-    CHECK(laspidru_server_new(&server, &bad) == LASPIDRU_BAD_ENCODING);
-    CHECK(open_text(&document, "a") == LASPIDRU_OK);
-    CHECK(laspidru_server_new(&document, &bad) == LASPIDRU_IN_USE && has_text(&document, "a"));
-    CHECK(laspidru_server_new(&server, &settings) == LASPIDRU_OK && server.is_full);
-    laspidru_close(&server);
-    CHECK(!server.is_full);
-    laspidru_close(&document);
 }
 
 static void test_server(void) {
@@ -60,56 +46,30 @@ static void test_server(void) {
     laspidru_answer answer = {9, 9, 9, 9, 9};
     laspidru_opened opened = {9, 9};
     unsigned char out[80];
-    laspidru_size copied = 9, len = 9;
+    laspidru_size copied = 9;
     CHECK(hand(&server, shutdown, &answer) == LASPIDRU_EMPTY && answer.kind == 9);
-    CHECK(laspidru_server_new(&server, &settings) == LASPIDRU_OK);
-    CHECK(laspidru_server_reply(&server, 0, out, sizeof out, &copied) == LASPIDRU_OK && copied == 0);
+    CHECK(laspidru_server_new(&server, &settings) == LASPIDRU_OK && is_state(&server, LASPIDRU_PHASE_NEW, 0, 0, 0));
+    CHECK(laspidru_frame(&server, 0, out, sizeof out, &copied) == LASPIDRU_OK && copied == 0);
     CHECK(hand(&server, open_a, &answer) == LASPIDRU_OK && is_kind(answer, LASPIDRU_DROPPED, 0, 0));
     CHECK(hand(&server, shutdown, &answer) == LASPIDRU_OK && is_kind(answer, LASPIDRU_REPLIED, 0, -32002));
-    CHECK(hand(&server, "{", &answer) == LASPIDRU_OK && is_kind(answer, LASPIDRU_REPLIED, 0, -32700));
     CHECK(hand(&server, initialize, &answer) == LASPIDRU_OK && is_kind(answer, LASPIDRU_REPLIED, 0, 0));
     CHECK(hand(&server, open_a, &answer) == LASPIDRU_OK && is_kind(answer, LASPIDRU_CHANGED, 0, 0));
-    CHECK(laspidru_server_reply(&server, 0, out, sizeof out, &copied) == LASPIDRU_OK && copied == 0);
+    CHECK(laspidru_frame(&server, 0, out, sizeof out, &copied) == LASPIDRU_OK && copied == 0);
     CHECK(hand(&server, open_a, &answer) == LASPIDRU_OK && is_kind(answer, LASPIDRU_REFUSED, LASPIDRU_ALREADY_OPEN, 0));
-    CHECK(laspidru_server_documents(&server, &len) == LASPIDRU_OK && len == 1 && holds(&server, 1, "ab\ncd"));
+    CHECK(is_state(&server, LASPIDRU_PHASE_READY, 0, LASPIDRU_UTF8, 1) && holds(&server, 1, "ab\ncd"));
     CHECK(hand(&server, change_a, &answer) == LASPIDRU_OK && is_kind(answer, LASPIDRU_CHANGED, 0, 0));
     CHECK(holds(&server, 7, "ab\nXYd"));
     CHECK(hand(&server, change_a, &answer) == LASPIDRU_OK && is_kind(answer, LASPIDRU_REFUSED, LASPIDRU_STALE_VERSION, 0));
-    CHECK(laspidru_server_text(&server, bytes(uri_a), 9, 4, out, 1, &copied) == LASPIDRU_OK && copied == 1 && out[0] == 'Y');
-    CHECK(laspidru_server_text(&server, bytes(uri_a), 9, 7, out, 1, &copied) == LASPIDRU_OUT_OF_RANGE && copied == 1);
-    CHECK(laspidru_server_text(&server, bytes(uri_a), 8, 0, out, 1, &copied) == LASPIDRU_NOT_OPEN);
-    CHECK(laspidru_server_document(&server, bytes("\xff"), 1, &opened) == LASPIDRU_NOT_UTF8 && opened.version == 9);
-    CHECK(laspidru_document_copy(&server, 0, out, 1, &copied) == LASPIDRU_OTHER_KIND);
+    CHECK(laspidru_open_text(&server, bytes(uri_a), 9, 4, out, 1, &copied) == LASPIDRU_OK && copied == 1 && out[0] == 'Y');
     CHECK(hand(&server, close_a, &answer) == LASPIDRU_OK && is_kind(answer, LASPIDRU_CHANGED, 0, 0));
-    CHECK(laspidru_server_document(&server, bytes(uri_a), 9, &opened) == LASPIDRU_NOT_OPEN && opened.version == 9);
-    CHECK(hand(&server, close_a, &answer) == LASPIDRU_OK && is_kind(answer, LASPIDRU_REFUSED, LASPIDRU_NOT_OPEN, 0));
+    CHECK(laspidru_open_state(&server, bytes(uri_a), 9, &opened) == LASPIDRU_NOT_OPEN && opened.version == 9);
     CHECK(hand(&server, shutdown, &answer) == LASPIDRU_OK && is_kind(answer, LASPIDRU_REPLIED, 0, 0));
-    CHECK(answer.reply_len == strlen(wanted) && laspidru_server_reply(&server, 0, out, sizeof out, &copied) == LASPIDRU_OK);
+    CHECK(answer.reply_len == strlen(wanted) && laspidru_frame(&server, 0, out, sizeof out, &copied) == LASPIDRU_OK);
     CHECK(copied == strlen(wanted) && memcmp(out, wanted, copied) == 0);
-    CHECK(laspidru_server_reply(&server, 59, out, 3, &copied) == LASPIDRU_OK && copied == 1 && out[0] == '}');
-    CHECK(laspidru_server_reply(&server, 61, out, 3, &copied) == LASPIDRU_OUT_OF_RANGE && copied == 1);
+    CHECK(laspidru_frame(&server, 59, out, 3, &copied) == LASPIDRU_OK && copied == 1 && out[0] == '}');
+    CHECK(is_state(&server, LASPIDRU_PHASE_CLOSED, 0, LASPIDRU_UTF8, 0));
     CHECK(hand(&server, exits, &answer) == LASPIDRU_OK && answer.kind == LASPIDRU_EXITED && answer.status == 0);
+    CHECK(is_state(&server, LASPIDRU_PHASE_DONE, 0, LASPIDRU_UTF8, 0));
     CHECK(hand(&server, exits, &answer) == LASPIDRU_ENDED && answer.kind == LASPIDRU_EXITED);
     laspidru_close(&server);
-    CHECK(laspidru_server_new(&server, &settings) == LASPIDRU_OK);
-    CHECK(hand(&server, exits, &answer) == LASPIDRU_OK && answer.kind == LASPIDRU_EXITED && answer.status == 1);
-    laspidru_close(&server);
-}
-
-static void test_other_kinds(void) {
-    laspidru_handle document = {0};
-    laspidru_answer answer = {9, 9, 9, 9, 9};
-    laspidru_opened opened = {9, 9};
-    unsigned char out[1];
-    laspidru_size copied = 9, len = 9;
-    laspidru_u32 encoding = 9;
-    CHECK(open_text(&document, "a") == LASPIDRU_OK);
-    CHECK(hand(&document, shutdown, &answer) == LASPIDRU_OTHER_KIND && answer.kind == 9 && answer.reply_len == 9);
-    CHECK(laspidru_server_reply(&document, 0, out, 1, &copied) == LASPIDRU_OTHER_KIND && copied == 9);
-    CHECK(laspidru_server_documents(&document, &len) == LASPIDRU_OTHER_KIND && len == 9);
-    CHECK(laspidru_server_encoding(&document, &encoding) == LASPIDRU_OTHER_KIND && encoding == 9);
-    CHECK(laspidru_server_document(&document, bytes(uri_a), 9, &opened) == LASPIDRU_OTHER_KIND && opened.bytes == 9);
-    CHECK(laspidru_server_text(&document, bytes(uri_a), 9, 0, out, 1, &copied) == LASPIDRU_OTHER_KIND && copied == 9);
-    CHECK(has_text(&document, "a"));
-    laspidru_close(&document);
 }

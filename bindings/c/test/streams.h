@@ -10,33 +10,29 @@ static laspidru_size stream_of(char *out, const char *const *bodies) {
     return len;
 }
 
-typedef laspidru_u32 (*taking)(laspidru_handle *, const unsigned char *, laspidru_size, laspidru_taken *, laspidru_answer *);
-typedef laspidru_u32 (*copying)(laspidru_handle *, laspidru_size, unsigned char *, laspidru_size, laspidru_size *);
-
-/* Whether a call copies exactly this text, in two parts. */
-static int copies(copying copy, laspidru_handle *handle, const char *text) {
+/* Whether the body that was taken last is this text, which is copied in two parts. */
+static int copies(laspidru_handle *handle, const char *text) {
     static unsigned char out[STREAM_ROOM];
     laspidru_size first = 99, rest = 99, half = strlen(text) / 2;
-    return copy(handle, 0, out, half, &first) == LASPIDRU_OK && copy(handle, first, out + first, sizeof out - first, &rest) == LASPIDRU_OK &&
+    return laspidru_body(handle, 0, out, half, &first) == LASPIDRU_OK && laspidru_body(handle, first, out + first, sizeof out - first, &rest) == LASPIDRU_OK &&
            first == half && first + rest == strlen(text) && memcmp(out, text, strlen(text)) == 0;
 }
 
 /* Takes a stream in pieces of at most `most` bytes. Each message is whole in its turn, with this body and this kind of answer. */
-static void take_all(taking take, copying body, laspidru_handle *end, const char *const *bodies, const laspidru_u32 *kinds,
-                     laspidru_size most) {
+static void take_all(laspidru_handle *end, const char *const *bodies, const laspidru_u32 *kinds, laspidru_size most) {
     static char stream[STREAM_ROOM];
     laspidru_size len = stream_of(stream, bodies), at = 0, count = 0;
     laspidru_taken taken = {9, 9, 9, 9, 0};
     laspidru_answer answer = {9, 9, 9, 9, 9};
     while (at < len) {
         laspidru_size piece = len - at < most ? len - at : most;
-        CHECK(take(end, bytes(stream) + at, piece, &taken, &answer) == LASPIDRU_OK && taken.bytes <= piece);
+        CHECK(laspidru_take(end, bytes(stream) + at, piece, &taken, &answer) == LASPIDRU_OK && taken.bytes <= piece);
         at += taken.bytes;
         CHECK(taken.is_whole || taken.bytes == piece);
-        CHECK(taken.place == 0 && taken.frame == 0);
+        CHECK(taken.offset == 0 && taken.frame == 0);
         if (!taken.is_whole)
             continue;
-        CHECK(taken.body_len == strlen(bodies[count]) && copies(body, end, bodies[count]) && answer.kind == kinds[count]);
+        CHECK(taken.body_len == strlen(bodies[count]) && copies(end, bodies[count]) && answer.kind == kinds[count]);
         count++;
     }
     CHECK(bodies[count] == 0);
@@ -56,21 +52,21 @@ static void test_server_take(void) {
     laspidru_size i, copied = 9;
     for (i = 0; i < 4; i++) {
         laspidru_handle server = {0};
-        CHECK(laspidru_server_take(&server, bytes("C"), 1, &taken, &answer) == LASPIDRU_EMPTY && taken.bytes == 9 && answer.kind == 9);
-        CHECK(laspidru_server_body(&server, 0, out, 3, &copied) == LASPIDRU_EMPTY && copied == 9);
+        CHECK(laspidru_take(&server, bytes("C"), 1, &taken, &answer) == LASPIDRU_EMPTY && taken.bytes == 9 && answer.kind == 9);
+        CHECK(laspidru_body(&server, 0, out, 3, &copied) == LASPIDRU_EMPTY && copied == 9);
         CHECK(laspidru_server_new(&server, &settings) == LASPIDRU_OK);
-        CHECK(laspidru_server_body(&server, 0, out, 3, &copied) == LASPIDRU_NO_MESSAGE && copied == 9);
-        take_all(laspidru_server_take, laspidru_server_body, &server, session, kinds, most[i]);
+        CHECK(laspidru_body(&server, 0, out, 3, &copied) == LASPIDRU_NO_MESSAGE && copied == 9);
+        take_all(&server, session, kinds, most[i]);
         CHECK(holds(&server, 7, "ab\nXYd"));
-        CHECK(laspidru_server_body(&server, 1, out, 3, &copied) == LASPIDRU_OK && copied == 3 && memcmp(out, "\"js", 3) == 0);
-        CHECK(laspidru_server_body(&server, 1000, out, 3, &copied) == LASPIDRU_OUT_OF_RANGE && copied == 3);
+        CHECK(laspidru_body(&server, 1, out, 3, &copied) == LASPIDRU_OK && copied == 3 && memcmp(out, "\"js", 3) == 0);
+        CHECK(laspidru_body(&server, 1000, out, 3, &copied) == LASPIDRU_OUT_OF_RANGE && copied == 3);
         /* No byte follows: the body is released, and the answer stays as it is. */
-        CHECK(laspidru_server_take(&server, bytes(""), 0, &taken, &answer) == LASPIDRU_OK && taken.bytes == 0 && !taken.is_whole && answer.kind == 9);
-        CHECK(laspidru_server_body(&server, 0, out, 3, &copied) == LASPIDRU_NO_MESSAGE);
+        CHECK(laspidru_take(&server, bytes(""), 0, &taken, &answer) == LASPIDRU_OK && taken.bytes == 0 && !taken.is_whole && answer.kind == 9);
+        CHECK(laspidru_body(&server, 0, out, 3, &copied) == LASPIDRU_NO_MESSAGE);
         copied = 9;
-        take_all(laspidru_server_take, laspidru_server_body, &server, last, end, most[i]);
-        CHECK(laspidru_server_take(&server, bytes("C"), 1, &taken, &answer) == LASPIDRU_ENDED && taken.bytes == 0 && answer.kind == 9);
-        CHECK(copies(laspidru_server_body, &server, exits));
+        take_all(&server, last, end, most[i]);
+        CHECK(laspidru_take(&server, bytes("C"), 1, &taken, &answer) == LASPIDRU_ENDED && taken.bytes == 0 && answer.kind == 9);
+        CHECK(copies(&server, exits));
         taken = (laspidru_taken){9, 9, 9, 9, 1};
         laspidru_close(&server);
     }
@@ -88,32 +84,13 @@ static void test_server_take_in_order(void) {
     int asked = 0;
     CHECK(laspidru_server_new(&server, &settings) == LASPIDRU_OK);
     for (; at < len; at += taken.bytes) {
-        CHECK(laspidru_server_take(&server, bytes(stream) + at, len - at, &taken, &answer) == LASPIDRU_OK && taken.is_whole);
+        CHECK(laspidru_take(&server, bytes(stream) + at, len - at, &taken, &answer) == LASPIDRU_OK && taken.is_whole);
         if (answer.error != -32601)
             continue;
         CHECK(asked == 0 ? holds(&server, 1, "ab\ncd") : holds(&server, 7, "ab\nXYd"));
         asked++;
     }
     CHECK(asked == 2);
-    laspidru_close(&server);
-}
-
-static void test_server_take_faults(void) {
-    static const char *const session[] = {initialize, open_a, 0};
-    static char stream[STREAM_ROOM];
-    laspidru_size len = stream_of(stream, session), at = 0;
-    laspidru_handle server = {0};
-    laspidru_taken taken = {9, 9, 9, 9, 1};
-    laspidru_answer answer = {9, 9, 9, 9, 9};
-    CHECK(laspidru_server_new(&server, &settings) == LASPIDRU_OK);
-    for (; at < len; at += taken.bytes)
-        CHECK(laspidru_server_take(&server, bytes(stream) + at, len - at, &taken, &answer) == LASPIDRU_OK && taken.is_whole);
-    answer.kind = 9;
-    CHECK(laspidru_server_take(&server, bytes("Content-Length 3"), 16, &taken, &answer) == LASPIDRU_BAD_FRAME);
-    CHECK(taken.place == len + 14 && taken.frame == 1 && taken.bytes == 0 && !taken.is_whole && answer.kind == 9);
-    CHECK(laspidru_server_take(&server, bytes("C"), 1, &taken, &answer) == LASPIDRU_FAILED && taken.bytes == 0 && taken.place == 0);
-    /* The documents stay, and bodies are handled as before. */
-    CHECK(holds(&server, 1, "ab\ncd") && hand(&server, change_a, &answer) == LASPIDRU_OK && holds(&server, 7, "ab\nXYd"));
     laspidru_close(&server);
 }
 
@@ -131,35 +108,18 @@ static void test_client_take(void) {
     unsigned char out[4] = "---";
     for (i = 0; i < 4; i++) {
         laspidru_handle client = {0};
-        CHECK(laspidru_client_take(&client, bytes("C"), 1, &taken, &answer) == LASPIDRU_EMPTY && taken.bytes == 9 && answer.kind == 9);
-        CHECK(laspidru_client_body(&client, 0, out, 3, &copied) == LASPIDRU_EMPTY && copied == 9);
+        CHECK(laspidru_take(&client, bytes("C"), 1, &taken, &answer) == LASPIDRU_EMPTY && taken.bytes == 9 && answer.kind == 9);
+        CHECK(laspidru_body(&client, 0, out, 3, &copied) == LASPIDRU_EMPTY && copied == 9);
         CHECK(laspidru_client_new(&client, &client_settings) == LASPIDRU_OK);
-        CHECK(laspidru_client_take(&client, bytes("C"), 1, &taken, &answer) == LASPIDRU_WRONG_PHASE && taken.bytes == 9 && answer.kind == 9);
-        CHECK(laspidru_client_body(&client, 0, out, 3, &copied) == LASPIDRU_NO_MESSAGE && copied == 9);
+        CHECK(laspidru_take(&client, bytes("C"), 1, &taken, &answer) == LASPIDRU_WRONG_PHASE && taken.bytes == 9 && answer.kind == 9);
+        CHECK(laspidru_body(&client, 0, out, 3, &copied) == LASPIDRU_NO_MESSAGE && copied == 9);
         CHECK(laspidru_client_start(&client, &len) == LASPIDRU_OK);
-        take_all(laspidru_client_take, laspidru_client_body, &client, session, kinds, most[i]);
+        take_all(&client, session, kinds, most[i]);
         CHECK(is_state(&client, LASPIDRU_PHASE_READY, 0, LASPIDRU_UTF8, 0));
-        CHECK(laspidru_client_body(&client, 1000, out, 3, &copied) == LASPIDRU_OUT_OF_RANGE && copied == 9);
-        take_all(laspidru_client_take, laspidru_client_body, &client, bad, end, most[i]);
+        CHECK(laspidru_body(&client, 1000, out, 3, &copied) == LASPIDRU_OUT_OF_RANGE && copied == 9);
+        take_all(&client, bad, end, most[i]);
         CHECK(is_state(&client, LASPIDRU_PHASE_FAILED, LASPIDRU_NOT_AN_ANSWER, LASPIDRU_UTF8, 0));
-        CHECK(laspidru_client_take(&client, bytes("C"), 1, &taken, &answer) == LASPIDRU_WRONG_PHASE && answer.kind == 9);
+        CHECK(laspidru_take(&client, bytes("C"), 1, &taken, &answer) == LASPIDRU_WRONG_PHASE && answer.kind == 9);
         laspidru_close(&client);
     }
-}
-
-static void test_take_of_other_kinds(void) {
-    laspidru_handle document = {0}, client = {0};
-    laspidru_taken taken = {9, 9, 9, 9, 1};
-    laspidru_answer answer = {9, 9, 9, 9, 9};
-    laspidru_size copied = 9;
-    unsigned char out[1] = {'-'};
-    CHECK(open_text(&document, "a") == LASPIDRU_OK && laspidru_client_new(&client, &client_settings) == LASPIDRU_OK);
-    CHECK(laspidru_server_take(&document, bytes("C"), 1, &taken, &answer) == LASPIDRU_OTHER_KIND && taken.bytes == 9 && answer.kind == 9);
-    CHECK(laspidru_client_take(&document, bytes("C"), 1, &taken, &answer) == LASPIDRU_OTHER_KIND && taken.bytes == 9 && answer.kind == 9);
-    CHECK(laspidru_server_take(&client, bytes("C"), 1, &taken, &answer) == LASPIDRU_OTHER_KIND && taken.bytes == 9 && answer.kind == 9);
-    CHECK(laspidru_server_body(&client, 0, out, 1, &copied) == LASPIDRU_OTHER_KIND && copied == 9 && out[0] == '-');
-    CHECK(laspidru_client_body(&document, 0, out, 1, &copied) == LASPIDRU_OTHER_KIND && copied == 9 && out[0] == '-');
-    CHECK(has_text(&document, "a"));
-    laspidru_close(&document);
-    laspidru_close(&client);
 }

@@ -1,4 +1,4 @@
-"""The functions of the shared library, as laspidru.h declares them, and what each of its codes raises."""
+"""The shared library: how it is found and called, and what each of its codes raises."""
 from __future__ import annotations
 
 import ctypes
@@ -7,90 +7,30 @@ import os
 import platform
 import re
 import struct
-from ctypes import POINTER, byref, c_bool, c_char_p, c_int32, c_size_t, c_uint32, c_uint64, c_void_p, create_string_buffer
-from typing import Any, Dict, List, Optional, Sequence, Tuple
+from ctypes import byref, c_size_t, c_void_p, create_string_buffer
+from typing import Any, Dict, Iterator, List, Optional, Sequence, Tuple
 
-UTF8, UTF16, UTF32 = 8, 16, 32
-ENCODINGS = {"utf-8": UTF8, "utf-16": UTF16, "utf-32": UTF32}
-OK, NOT_UTF8, OUT_OF_MEMORY, EMPTY, TOO_LONG, INSIDE_CHARACTER, REVERSED_RANGE, BAD_ENCODING = 0, 1, 2, 4, 5, 6, 7, 8
-OUT_OF_RANGE, BAD_LIMIT, ENDED, NOT_OPEN, ALREADY_OPEN, TOO_MANY_DOCUMENTS, STALE_VERSION = 11, 12, 13, 14, 15, 16, 17
-TOO_MANY_CHANGES, INVALID_PARAMS, CUT, BAD_FRAME, BODY_TOO_LONG, BAD_LOG, OVERLAP = 18, 19, 20, 21, 22, 23, 25
-FAILED, WRONG_PHASE, NOT_AN_ANSWER, ERROR_ANSWER, NO_SYNC = 26, 28, 29, 30, 31
-WHY = {1: "the text is not UTF-8", 2: "out of memory", 3: "the handle is in use", 4: "the document is closed",
-       5: "the text is too long", 6: "a position lies inside a character", 7: "a range is reversed",
-       8: "unknown encoding", 9: "the lengths of the edits exceed their texts", 10: "an object of another kind",
-       11: "out of range", 12: "a limit is out of its range", 13: "the session has ended",
-       14: "no document of this URI is open", 15: "a document of this URI is open already",
-       16: "too many documents are open", 17: "the version is not greater than the current one",
-       18: "too many changes", 19: "the params are not those of the notification", 20: "the log ends inside a record",
-       21: "the header of a frame is faulty", 22: "a canonical message is too long", 23: "what is there belongs in no log",
-       24: "too many reads and writes", 25: "two edits overlap", 26: "a frame was faulty before",
-       28: "not in this phase of the session", 29: "the server sent no answer to a request",
-       30: "the server answered by an error", 31: "the server doesn't want to be notified of changes"}
+from ._declared import DECLARED, NUMBERS
+
+UTF16 = NUMBERS["UTF16"]
+ENCODINGS = {"utf-8": NUMBERS["UTF8"], "utf-16": UTF16, "utf-32": NUMBERS["UTF32"]}
+OK, OUT_OF_MEMORY = NUMBERS["OK"], NUMBERS["OUT_OF_MEMORY"]
+_KINDS: Dict[str, Any] = {"size_t": c_size_t, "uint64_t": ctypes.c_uint64, "uint32_t": ctypes.c_uint32, "int32_t": ctypes.c_int32,
+                          "bool": ctypes.c_bool, "void": None}
 
 
-class Handle(ctypes.Structure):
-    _fields_ = [("pointer", c_void_p), ("is_full", c_bool)]
+def _structures() -> Iterator[Any]:
+    """A class for each struct of laspidru.h, in its order."""
+    for body, name in re.findall(r"typedef struct {(.*?)} (\w+);", DECLARED, re.S):
+        fields: List[Any] = []
+        for kind, members in (it.split(None, 1) for it in body.split(";")[:-1]):
+            fields += [(it.strip(" *"), c_void_p if "*" in it else _KINDS[kind]) for it in members.replace("\n", "").split(", ")]
+        _KINDS[name] = type(name, (ctypes.Structure,), {"_fields_": fields})
+        yield _KINDS[name]
 
 
-class Place(ctypes.Structure):
-    _fields_ = [("line", c_uint32), ("character", c_uint32)]
-
-
-class Edit(ctypes.Structure):
-    _fields_ = [("start", Place), ("end", Place), ("len", c_size_t), ("is_whole", c_bool)]
-
-
-class Fault(ctypes.Structure):
-    _fields_ = [("change", c_size_t), ("at_end", c_bool)]
-
-
-class TextEditsFault(ctypes.Structure):
-    _fields_ = [("edit", c_size_t), ("other", c_size_t), ("at_end", c_bool)]
-
-
-class Line(ctypes.Structure):
-    _fields_ = [("start", c_size_t), ("end", c_size_t)]
-
-
-class Length(ctypes.Structure):
-    _fields_ = [("bytes", c_size_t), ("lines", c_size_t)]
-
-
-class Settings(ctypes.Structure):
-    _fields_ = [("max_body", c_size_t), ("max_text", c_size_t), ("max_docs", c_size_t), ("max_changes", c_size_t),
-                ("encoding", c_uint32), ("is_fixed", c_bool), ("is_full", c_bool), ("lenient", c_bool)]
-
-
-class ClientSettings(ctypes.Structure):
-    _fields_ = [("max_body", c_size_t), ("max_text", c_size_t), ("max_docs", c_size_t), ("max_changes", c_size_t),
-                ("utf8", c_bool), ("utf32", c_bool), ("lenient", c_bool)]
-
-
-class Answer(ctypes.Structure):
-    _fields_ = [("kind", c_uint32), ("reason", c_uint32), ("status", c_uint32), ("error", c_int32), ("reply_len", c_size_t)]
-
-
-class State(ctypes.Structure):
-    _fields_ = [("phase", c_uint32), ("reason", c_uint32), ("encoding", c_uint32), ("documents", c_size_t)]
-
-
-class Opened(ctypes.Structure):
-    _fields_ = [("version", c_int32), ("bytes", c_size_t)]
-
-
-class Taken(ctypes.Structure):
-    _fields_ = [("bytes", c_size_t), ("body_len", c_size_t), ("place", c_uint64), ("frame", c_uint32), ("is_whole", c_bool)]
-
-
-class LogSettings(ctypes.Structure):
-    _fields_ = [("max_body", c_size_t), ("max_text", c_size_t), ("max_docs", c_size_t), ("max_changes", c_size_t),
-                ("encoding", c_uint32), ("squash", c_bool), ("lenient", c_bool)]
-
-
-class Ending(ctypes.Structure):
-    _fields_ = [("status", c_uint32), ("frame", c_uint32), ("messages", c_uint64), ("refused", c_uint64),
-                ("place", c_uint64), ("output_len", c_size_t)]
+(Handle, Place, Edit, Fault, TextEditsFault, Line, Length, Settings, Answer, Taken, ClientSettings, State, Opened, LogSettings,
+ Ending) = _structures()
 
 
 NAME = {"Windows": "laspidru.dll", "Darwin": "liblaspidru.dylib"}.get(platform.system(), "liblaspidru.so.0")
@@ -123,75 +63,35 @@ def _library() -> ctypes.CDLL:
         library = ctypes.CDLL(_path())
     except OSError as error:
         raise ImportError(_why(str(error))) from error
-    handle, size, text = POINTER(Handle), POINTER(c_size_t), [c_char_p, c_size_t]
-    log = [handle, POINTER(LogSettings)] + text + [POINTER(Ending)]
-    copied = [c_size_t, c_void_p, c_size_t, size]
-    piece = [handle, c_void_p, c_size_t, POINTER(Taken)]
-    edits = [c_uint32, c_void_p, c_size_t] + text
-    batch = [handle] + edits
-    arguments = {
-        "document_open": [handle] + text,
-        "document_change": batch + [POINTER(Fault)],
-        "document_size": [handle, POINTER(Length)],
-        "document_line": [handle, c_uint32, POINTER(Line)],
-        "document_copy": [handle] + copied,
-        "document_offset": [handle, c_uint32, Place, size],
-        "document_position": [handle, c_uint32, c_size_t, POINTER(Place)],
-        "document_canonical": batch + [handle, POINTER(Fault)],
-        "document_apply_edits": batch + [POINTER(TextEditsFault)],
-        "document_batch_of_edits": batch + [handle, POINTER(TextEditsFault)],
-        "batch_len": [handle, size],
-        "batch_edit": [handle, c_size_t, POINTER(Edit), c_void_p, c_size_t, size],
-        "framer_new": [handle, c_size_t],
-        "framer_feed": piece,
-        "framer_body": [handle] + copied,
-        "framer_next": [handle],
-        "framer_at_rest": [handle, POINTER(c_bool)],
-        "server_new": [handle, POINTER(Settings)],
-        "server_handle": [handle] + text + [POINTER(Answer)],
-        "server_reply": [handle] + copied,
-        "server_take": piece + [POINTER(Answer)],
-        "server_body": [handle] + copied,
-        "server_batch_of_edits": [handle] + text + edits + [handle, POINTER(TextEditsFault)],
-        "server_canonical_message": [handle] + text + [c_int32] + edits + [handle, POINTER(Fault), size],
-        "server_encoding": [handle, POINTER(c_uint32)],
-        "server_documents": [handle, size],
-        "server_document": [handle] + text + [POINTER(Opened)],
-        "server_text": [handle] + text + copied,
-        "server_offset": [handle] + text + [c_uint32, Place, size],
-        "server_position": [handle] + text + [c_uint32, c_size_t, POINTER(Place)],
-        "server_line": [handle] + text + [c_uint32, POINTER(Line)],
-        "client_new": [handle, POINTER(ClientSettings)],
-        "client_start": [handle, size],
-        "client_open": [handle] + text + text + [c_int32] + text + [size],
-        "client_edit": [handle] + text + [c_int32, c_void_p, c_size_t] + text + [POINTER(Fault), size],
-        "client_close": [handle] + text + [size],
-        "client_shutdown": [handle, size],
-        "client_exit": [handle, size],
-        "client_take": piece + [POINTER(Answer)],
-        "client_body": [handle] + copied,
-        "client_deliver": [handle] + text + [POINTER(Answer)],
-        "client_frame": [handle] + copied,
-        "client_state": [handle, POINTER(State)],
-        "client_document": [handle] + text + [POINTER(Opened)],
-        "client_text": [handle] + text + copied,
-        "client_offset": [handle] + text + [c_uint32, Place, size],
-        "client_position": [handle] + text + [c_uint32, c_size_t, POINTER(Place)],
-        "client_line": [handle] + text + [c_uint32, POINTER(Line)],
-        "log_check": log,
-        "log_replay": log,
-        "log_normalise": log,
-        "log_convert": log,
-        "output_copy": [handle] + copied,
-    }
-    for name, types in arguments.items():
-        function = getattr(library, "laspidru_" + name)
-        function.argtypes, function.restype = types, c_uint32
-    library.laspidru_close.argtypes, library.laspidru_close.restype = [handle], None
+    for result, name, given in re.findall(r"^(\w+) (laspidru_\w+)\((.*?)\);", DECLARED, re.S | re.M):
+        function, passed = getattr(library, name), [it.split() for it in given.split(",") if it != "void"]
+        function.argtypes = [c_void_p if "*" in it[-1] else _KINDS[it[0]] for it in passed]
+        function.restype = _KINDS[result]
     return library
 
 
 LIBRARY = _library()
+
+
+def copy_out(function: Any, room: int, *arguments: Any) -> bytes:
+    """What one of the functions that copy has from 0 on, whose last arguments are the start, the room, its length and the count."""
+    out, copied = create_string_buffer(max(room, 1)), c_size_t()
+    demand(function(*arguments, 0, out, room, byref(copied)))
+    return ctypes.string_at(out, copied.value)
+
+
+def _texts() -> Iterator[List[str]]:
+    """The name of each code, and what it means, as the library says it."""
+    out, copied = create_string_buffer(120), c_size_t()
+    for code in range(256):
+        if LIBRARY.laspidru_text(code, 0, out, 120, byref(copied)) != OK:
+            return
+        yield out.raw[:copied.value].decode().split(": ", 1)
+
+
+NAMES, _WHYS = zip(*_texts())
+WHY = dict(zip(NAMES, _WHYS))
+VERSION = "{}.{}.{}".format(*(LIBRARY.laspidru_version() // of % 100 for of in (10000, 100, 1)))
 
 
 def _fast() -> Any:
@@ -204,22 +104,18 @@ def _fast() -> Any:
     return fast
 
 
-FAST = _fast()
-
-
 class LaspidruError(ValueError):
-    """A refused call, which changed nothing: its code, and for a faulty change its index and which end is faulty."""
+    """A refused call, which changed nothing: the name of its code, and for a faulty change its index and which end is faulty."""
 
-    def __init__(self, code: int, change: Optional[int] = None, at_end: Optional[bool] = None) -> None:
-        where = "" if change is None else f"change at index {change}: "
-        super().__init__(where + WHY.get(code, f"code {code}"))
+    def __init__(self, code: str, change: Optional[int] = None, at_end: Optional[bool] = None) -> None:
+        super().__init__(("" if change is None else f"change at index {change}: ") + WHY[code])
         self.code, self.change, self.at_end = code, change, at_end
 
 
 class EditsFault(LaspidruError):
     """A fault of text edits: its code, the index of the faulty edit, which end is faulty, and for two that overlap the other's."""
 
-    def __init__(self, code: int, edit: int, other: Optional[int], at_end: bool) -> None:
+    def __init__(self, code: str, edit: int, other: Optional[int], at_end: bool) -> None:
         super().__init__(code)
         self.edit, self.other, self.at_end = edit, other, at_end
 
@@ -231,46 +127,49 @@ class EditsFault(LaspidruError):
 class LogFault(LaspidruError):
     """A fault of a log: its code, its byte offset, which of F1 to F7 a faulty frame has, else 0, and the output up to it."""
 
-    def __init__(self, code: int, place: int, frame: int, output: bytes) -> None:
+    def __init__(self, code: str, offset: int, frame: int, output: bytes) -> None:
         super().__init__(code)
-        self.place, self.frame, self.output = place, frame, output
+        self.offset, self.frame, self.output = offset, frame, output
 
     def __str__(self) -> str:
-        return f"{super().__str__()} at {self.place}"
+        return f"{super().__str__()} at {self.offset}"
 
 
 class FrameFault(LaspidruError):
     """A fault of a stream: which of F1 to F7, and the byte offset in the stream on which it was decided. No more of the stream is
     taken. `events` has what `receive` had before it: a framer's bodies, or the events of an end."""
 
-    def __init__(self, place: int, frame: int, events: List[Any]) -> None:
-        super().__init__(BAD_FRAME)
-        self.place, self.frame, self.events = place, frame, events
+    def __init__(self, offset: int, frame: int, events: List[Any]) -> None:
+        super().__init__("BAD_FRAME")
+        self.offset, self.frame, self.events = offset, frame, events
 
     def __str__(self) -> str:
-        return f"{super().__str__()}: F{self.frame} at {self.place}"
+        return f"{super().__str__()}: F{self.frame} at {self.offset}"
 
 
 def demand(code: int) -> None:
     if code == OUT_OF_MEMORY:
         raise MemoryError
     if code:
-        raise LaspidruError(code)
+        raise LaspidruError(NAMES[code])
 
 
-def demand_change(code: int, fault: Fault) -> None:
-    if code in (INSIDE_CHARACTER, REVERSED_RANGE):
-        raise LaspidruError(code, fault.change, fault.at_end)
+def demand_change(code: int, fault: Any) -> None:
+    if NAMES[code] in ("INSIDE_CHARACTER", "REVERSED_RANGE"):
+        raise LaspidruError(NAMES[code], fault.change, fault.at_end)
     demand(code)
 
 
-def demand_edits(code: int, fault: TextEditsFault) -> None:
-    if code in (INSIDE_CHARACTER, REVERSED_RANGE, OVERLAP):
-        raise EditsFault(code, fault.edit, fault.other if code == OVERLAP else None, fault.at_end)
+def demand_edits(code: int, fault: Any) -> None:
+    if NAMES[code] in ("INSIDE_CHARACTER", "REVERSED_RANGE", "OVERLAP"):
+        raise EditsFault(NAMES[code], fault.edit, fault.other if NAMES[code] == "OVERLAP" else None, fault.at_end)
     demand(code)
 
 
-def number(value: Any, bits: int, code: int = OUT_OF_RANGE) -> int:
+FAST = _fast()
+
+
+def number(value: Any, bits: int, code: str = "OUT_OF_RANGE") -> int:
     """An integer of at least 0 that has so many bits. ctypes would take any, and drop bits."""
     value = operator.index(value)
     if not 0 <= value < 1 << bits:
@@ -282,7 +181,7 @@ def version_number(value: Any) -> int:
     """A version of a document, which has 32 bits and a sign."""
     value = operator.index(value)
     if not -(1 << 31) <= value < 1 << 31:
-        raise LaspidruError(OUT_OF_RANGE)
+        raise LaspidruError("OUT_OF_RANGE")
     return value
 
 
@@ -293,7 +192,7 @@ def utf8(text: Any) -> bytes:
     try:
         return text.encode()
     except UnicodeEncodeError as error:
-        raise LaspidruError(NOT_UTF8) from error
+        raise LaspidruError("NOT_UTF8") from error
 
 
 def some_bytes(data: Any, what: str) -> bytes:
@@ -304,19 +203,20 @@ def some_bytes(data: Any, what: str) -> bytes:
 
 def encoding_number(name: Any) -> int:
     if name not in ENCODINGS:
-        raise LaspidruError(BAD_ENCODING)
+        raise LaspidruError("BAD_ENCODING")
     return ENCODINGS[name]
 
 
 def encoding_name(code: int) -> Optional[str]:
-    return {8: "utf-8", 16: "utf-16", 32: "utf-32"}.get(code)
+    return next((name for name, it in ENCODINGS.items() if it == code), None)
 
 
 def limits(max_body: Any, max_text: Any, max_docs: Any, max_changes: Any) -> Tuple[int, ...]:
-    return tuple(number(limit, 64, BAD_LIMIT) for limit in (max_body, max_text, max_docs, max_changes))
+    given = {"BODY": max_body, "TEXT": max_text, "DOCS": max_docs, "CHANGES": max_changes}
+    return tuple(number(limit, 64, f"BAD_MAX_{name}") for name, limit in given.items())
 
 
-def place_of(position: Any) -> Place:
+def place_of(position: Any) -> Any:
     """A position as LSP writes it, or as an object with its members."""
     if isinstance(position, dict):
         line, character = position["line"], position["character"]
@@ -328,11 +228,15 @@ def place_of(position: Any) -> Place:
 def _parts(change: Any) -> Tuple[Any, Any]:
     """The range of a change or a text edit, if it has one, and its text."""
     if isinstance(change, dict):
-        return change.get("range"), change["newText"] if "newText" in change else change["text"]
-    return getattr(change, "range", None), change.new_text if hasattr(change, "new_text") else change.text
+        range_, text = change.get("range"), change.get("newText", change.get("text"))
+    else:
+        range_, text = getattr(change, "range", None), getattr(change, "new_text", getattr(change, "text", None))
+    if text is None:
+        raise TypeError("a change has no text")
+    return range_, text
 
 
-def _ends(range_: Any) -> Tuple[Place, Place]:
+def _ends(range_: Any) -> Tuple[Any, Any]:
     if isinstance(range_, dict):
         return place_of(range_["start"]), place_of(range_["end"])
     return place_of(range_.start), place_of(range_.end)
@@ -367,14 +271,7 @@ def batch_of_edits(edits: Sequence[Any]) -> Passed:
     return batch(edits)
 
 
-def copy_out(function: Any, room: int, *arguments: Any) -> bytes:
-    """What one of the functions that copy has from 0 on, whose last arguments are the start, the room, its length and the count."""
-    out, copied = create_string_buffer(max(room, 1)), c_size_t()
-    demand(function(*arguments, 0, out, room, byref(copied)))
-    return ctypes.string_at(out, copied.value)
-
-
-def changes_of(batch_: Handle) -> List[Dict[str, Any]]:
+def changes_of(batch_: Any) -> List[Dict[str, Any]]:
     """The changes of a batch, which is closed."""
     count = c_size_t()
     try:
@@ -384,7 +281,7 @@ def changes_of(batch_: Handle) -> List[Dict[str, Any]]:
         LIBRARY.laspidru_close(byref(batch_))
 
 
-def _change_at(batch_: Handle, index: int) -> Dict[str, Any]:
+def _change_at(batch_: Any, index: int) -> Dict[str, Any]:
     edit, copied = Edit(), c_size_t()
     demand(LIBRARY.laspidru_batch_edit(byref(batch_), index, byref(edit), create_string_buffer(1), 0, byref(copied)))
     out = create_string_buffer(max(edit.len, 1))

@@ -111,7 +111,7 @@ class Document:
                 self.__changed()
         return code
 
-    def __batch(self, function: Any, passed: Passed, fault: Any) -> Tuple[int, Handle]:
+    def __batch(self, function: Any, passed: Passed, fault: Any) -> Tuple[int, Any]:
         """The batch that a function of the library has of changes or text edits."""
         (edits, count, texts), found = passed, Handle()
         with self.__lock:

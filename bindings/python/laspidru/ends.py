@@ -1,20 +1,18 @@
-"""Both ends of a session, without input and output of their own: bytes that were read go in by `receive`, or by a server's `messages`,
-which return what happened, and each call returns the bytes to send."""
+"""Both ends of a session, without input and output of their own: bytes that were read go in by `receive`, or by `messages`, which
+return what happened, and each call returns the bytes to send."""
 from __future__ import annotations
 
 import ctypes
 import threading
-from ctypes import byref, c_bool, c_size_t, c_uint32, create_string_buffer
+from ctypes import byref, c_bool, c_size_t, create_string_buffer
 from typing import Any, Dict, Iterator, List, NamedTuple, Optional, Sequence, Tuple
 
-from ._library import (BAD_FRAME, BAD_LIMIT, ENDED, LIBRARY, NOT_OPEN, OK, OUT_OF_MEMORY, UTF16, WRONG_PHASE, Answer,
-                       ClientSettings, Fault, FrameFault, Handle, LaspidruError, Line, Opened, Place, Settings, State, Taken,
-                       TextEditsFault, batch, batch_of_edits, changes_of, copy_out, demand, demand_change, demand_edits, encoding_name,
-                       encoding_number, limits, number, place_of, some_bytes, utf8, version_number)
+from ._library import (LIBRARY, NAMES, NUMBERS, OK, OUT_OF_MEMORY, UTF16, WHY, Answer, ClientSettings, Fault, FrameFault, Handle,
+                       LaspidruError, Line, Opened, Place, Settings, State, Taken, TextEditsFault, batch, batch_of_edits, changes_of,
+                       copy_out, demand, demand_change, demand_edits, encoding_name, encoding_number, limits, number, place_of,
+                       some_bytes, utf8, version_number)
 
 PHASES = ("new", "asked", "ready", "closing", "closed", "done", "failed")
-_SERVER_KINDS = ("replied", "changed", "dropped", "ignored", "refused", "exited")
-_CLIENT_KINDS = {0: "send", 3: "ignored", 6: "noted", 7: "bad-server"}
 
 
 class _Received:
@@ -39,8 +37,8 @@ class _Received:
         if code not in (OK, OUT_OF_MEMORY):
             # No more of this stream is taken.
             self._data, self._at = b"", 0
-        if code == BAD_FRAME:
-            raise FrameFault(taken.place, taken.frame, [])
+        if code == NUMBERS["BAD_FRAME"]:
+            raise FrameFault(taken.offset, taken.frame, [])
         demand(code)
         return taken.body_len if taken.is_whole else None
 
@@ -50,7 +48,7 @@ class Framer:
 
     def __init__(self, max_body: int = 16777216) -> None:
         self.__handle, self.__lock, self.__received = Handle(), threading.Lock(), _Received()
-        demand(LIBRARY.laspidru_framer_new(byref(self.__handle), number(max_body, 64, BAD_LIMIT)))
+        demand(LIBRARY.laspidru_framer_new(byref(self.__handle), number(max_body, 64, "BAD_MAX_BODY")))
 
     def __del__(self) -> None:
         if hasattr(self, "_Framer__lock"):
@@ -89,68 +87,107 @@ class Framer:
         length = self.__received.take(LIBRARY.laspidru_framer_feed, handle)
         if length is None:
             return None
-        body = copy_out(LIBRARY.laspidru_framer_body, length, handle)
+        body = copy_out(LIBRARY.laspidru_body, length, handle)
         demand(LIBRARY.laspidru_framer_next(handle))
         return body
 
 
 def _is_open(code: int) -> bool:
     """Whether a call found its document open. Another refusal raises."""
-    if code != NOT_OPEN:
+    if code != NUMBERS["NOT_OPEN"]:
         demand(code)
-    return code != NOT_OPEN
+    return code != NUMBERS["NOT_OPEN"]
+
+
+class Event(NamedTuple):
+    """What an end did with a message.
+
+    `kind` is of a server "replied", "changed", "dropped", "ignored", "refused" or "exited", and of a client "send", "noted", for the
+    response to `shutdown`, "ignored", for a notification, or "bad-server", where the session can't continue. `body` is the message.
+    `frame` is what is to be sent where it replied or sends, and `error` is then the number of an error reply, or 0. A request that
+    the server doesn't handle has -32601: it is yours, and your answer goes in place of `frame`. `reason` is the name of the code for
+    why a notification was refused, or the session can't continue, and `why` says it; `status` is what the process is to end with."""
+    kind: str
+    body: bytes
+    frame: bytes = b""
+    error: int = 0
+    reason: Optional[str] = None
+    status: Optional[int] = None
+
+    @property
+    def why(self) -> Optional[str]:
+        return None if self.reason is None else WHY[self.reason]
+
+    @property
+    def uri(self) -> Optional[str]:
+        """The document that the message opens, changes or closes, where it does one of these and its params are valid."""
+        room, copied = len(self.body), c_size_t()
+        out = create_string_buffer(max(room, 1))
+        code = LIBRARY.laspidru_message_uri(self.body, room, 0, out, room, byref(copied))
+        if code == NUMBERS["NO_DOCUMENT"]:
+            return None
+        demand(code)
+        return out.raw[:copied.value].decode()
 
 
 class _End:
     """What both ends have: open documents, and a stream of messages."""
 
-    _names = ""
+    _kinds: Dict[int, str] = {}
 
     def __init__(self) -> None:
         # (`_receive` takes the lock around steps that take it too)
         self._handle, self._lock, self._received = Handle(), threading.RLock(), _Received()
         # The answer to a message that isn't reported yet, and how many bytes its body has.
-        self._answered: Optional[Tuple[Answer, int]] = None
+        self._answered: Optional[Tuple[Any, int]] = None
 
     def __del__(self) -> None:
         if hasattr(self, "_lock"):
             LIBRARY.laspidru_close(byref(self._handle))
 
-    def _function(self, name: str) -> Any:
-        return getattr(LIBRARY, f"laspidru_{self._names}_{name}")
-
-    def _event(self, answer: Answer, body: bytes) -> Any:
+    def _event(self, answer: Any, body: bytes) -> Event:
         """What is reported of an answer to a message."""
-        raise NotImplementedError
+        kind = self._kinds[answer.kind]
+        return Event(kind, body, self._frame(answer.reply_len) if answer.kind == NUMBERS["REPLIED"] else b"", answer.error,
+                     NAMES[answer.reason] if answer.reason else None, answer.status if kind == "exited" else None)
+
+    def _frame(self, length: int) -> bytes:
+        return copy_out(LIBRARY.laspidru_frame, length, byref(self._handle))
 
     def _next_event(self) -> Any:
         """What the end did with the next message that is whole; None where the rest of it is to come."""
         handle = byref(self._handle)
         if self._answered is None:
             answer = Answer()
-            length = self._received.take(self._function("take"), handle, byref(answer))
+            length = self._received.take(LIBRARY.laspidru_take, handle, byref(answer))
             if length is None:
                 return None
             self._answered = answer, length
         answer, length = self._answered
-        event = self._event(answer, copy_out(self._function("body"), length, handle))
+        event = self._event(answer, copy_out(LIBRARY.laspidru_body, length, handle))
         self._answered = None
         return event
 
-    def _messages(self, data: bytes) -> Iterator[Any]:
+    def _handle_body(self, body: bytes) -> Event:
+        data, answer = some_bytes(body, "a body"), Answer()
+        with self._lock:
+            demand(LIBRARY.laspidru_deliver(byref(self._handle), data, len(data), byref(answer)))
+            return self._event(answer, data)
+
+    def _messages(self, data: bytes) -> Iterator[Event]:
         """Takes bytes at once. Each step then handles one of the messages that end in them."""
         with self._lock:
             self._received.add(data)
             return self._steps(self._received.is_empty())
 
-    def _steps(self, may_have_ended: bool) -> Iterator[Any]:
+    def _steps(self, may_have_ended: bool) -> Iterator[Event]:
         while True:
             try:
                 with self._lock:
                     event = self._next_event()
             except LaspidruError as error:
                 # An end that listens no more has no use for what follows.
-                if may_have_ended and error.code in (ENDED, WRONG_PHASE):
+                if may_have_ended and error.code in ("ENDED", "WRONG_PHASE"):
                     return
                 raise
             if event is None:
@@ -158,8 +195,8 @@ class _End:
             may_have_ended = True
             yield event
 
-    def _receive(self, data: bytes) -> List[Any]:
-        events: List[Any] = []
+    def _receive(self, data: bytes) -> List[Event]:
+        events: List[Event] = []
         with self._lock:
             try:
                 for event in self._messages(data):
@@ -172,9 +209,9 @@ class _End:
                 raise
         return events
 
-    def _opened(self, uri: str) -> Optional[Opened]:
+    def _opened(self, uri: str) -> Optional[Any]:
         data, opened = utf8(uri), Opened()
-        code = self._function("document")(byref(self._handle), data, len(data), byref(opened))
+        code = LIBRARY.laspidru_open_state(byref(self._handle), data, len(data), byref(opened))
         return opened if _is_open(code) else None
 
     def version(self, uri: str) -> Optional[int]:
@@ -190,23 +227,39 @@ class _End:
             if opened is None:
                 return None
             data = utf8(uri)
-            return copy_out(self._function("text"), opened.bytes, byref(self._handle), data, len(data)).decode()
+            return copy_out(LIBRARY.laspidru_open_text, opened.bytes, byref(self._handle), data, len(data)).decode()
+
+    def _state(self) -> Any:
+        state = State()
+        with self._lock:
+            demand(LIBRARY.laspidru_session_state(byref(self._handle), byref(state)))
+        return state
+
+    @property
+    def phase(self) -> str:
+        """The phase of the session: "new", "asked", "ready", "closing", "closed", "done" or "failed"; of a server "new", "ready", "closed"
+        or "done"."""
+        return PHASES[self._state().phase]
 
     @property
     def encoding(self) -> Optional[str]:
-        """The encoding of positions that both ends agreed on."""
-        raise NotImplementedError
+        """The encoding of positions that both ends agreed on; None before."""
+        return encoding_name(self._state().encoding)
+
+    @property
+    def document_count(self) -> int:
+        return int(self._state().documents)
 
     def _units(self, encoding: Optional[str]) -> int:
         """The number of an encoding, or else of the session's; of UTF-16 before one is agreed on."""
-        return encoding_number(encoding if encoding is not None else self.encoding or "utf-16")
+        return encoding_number(encoding) if encoding is not None else self._state().encoding or UTF16
 
     def byte_offset(self, uri: str, position: Any, encoding: Optional[str] = None) -> Optional[int]:
         """The byte offset of a position in the open document of a URI; None where none is open. A position after the line's end is
         the line's end. Positions count units of the session's encoding, or of this one."""
         name, place, units, offset = utf8(uri), place_of(position), self._units(encoding), c_size_t()
         with self._lock:
-            code = self._function("offset")(byref(self._handle), name, len(name), units, place, byref(offset))
+            code = LIBRARY.laspidru_open_offset(byref(self._handle), name, len(name), units, place, byref(offset))
         return offset.value if _is_open(code) else None
 
     def position(self, uri: str, byte_offset: int, encoding: Optional[str] = None) -> Optional[Dict[str, int]]:
@@ -215,7 +268,7 @@ class _End:
         name, units, place = utf8(uri), self._units(encoding), Place()
         byte_offset = number(byte_offset, 64)
         with self._lock:
-            code = self._function("position")(byref(self._handle), name, len(name), units, byte_offset, byref(place))
+            code = LIBRARY.laspidru_open_position(byref(self._handle), name, len(name), units, byte_offset, byref(place))
         return {"line": place.line, "character": place.character} if _is_open(code) else None
 
     def position_in(self, uri: str, position: Any, encoding: str) -> Optional[Dict[str, int]]:
@@ -229,80 +282,12 @@ class _End:
         is not read."""
         name, count, found, copied = utf8(uri), number(line, 32), Line(), c_size_t()
         with self._lock:
-            if not _is_open(self._function("line")(byref(self._handle), name, len(name), count, byref(found))):
+            if not _is_open(LIBRARY.laspidru_open_line(byref(self._handle), name, len(name), count, byref(found))):
                 return None
             room = found.end - found.start
             out = create_string_buffer(max(room, 1))
-            demand(self._function("text")(byref(self._handle), name, len(name), found.start, out, room, byref(copied)))
+            demand(LIBRARY.laspidru_open_text(byref(self._handle), name, len(name), found.start, out, room, byref(copied)))
         return out.raw[:copied.value].decode()
-
-
-class ServerEvent(NamedTuple):
-    """What a server did with a message.
-
-    `kind` is "replied", "changed", "dropped", "ignored", "refused" or "exited". `body` is the message. `frame` is what is to be sent
-    where it replied, and `error` is then the number of an error reply, or 0. A request that the server doesn't handle has -32601: it
-    is yours, and your answer goes in place of `frame`. `reason` is the code for why a notification was refused, and `status` what
-    the process is to end with."""
-    kind: str
-    body: bytes
-    frame: bytes = b""
-    error: int = 0
-    reason: int = 0
-    status: Optional[int] = None
-
-
-class Server(_End):
-    """A server's end of a session: bytes or bodies go in, and it keeps the open documents. The defaults are those of
-    `lspsync serve`. `encoding` is taken where the client offers it, else UTF-16; with `is_fixed` it is taken whatever is offered. LSP
-    3.17 allows one that was offered, or UTF-16: fix another only for logs, or where you write the editor too. `is_full` asks for
-    whole texts. With `lenient` a change of any version is taken, and an open document may be opened again."""
-
-    _names = "server"
-
-    def __init__(self, encoding: str = "utf-16", *, is_fixed: bool = False, is_full: bool = False, max_body: int = 16777216,
-                 max_text: int = 16777216, max_docs: int = 1024, max_changes: int = 65536, lenient: bool = False) -> None:
-        numbers = limits(max_body, max_text, max_docs, max_changes)
-        settings = Settings(*numbers, encoding_number(encoding), is_fixed, is_full, lenient)
-        super().__init__()
-        demand(LIBRARY.laspidru_server_new(byref(self._handle), byref(settings)))
-
-    def messages(self, data: bytes) -> Iterator[ServerEvent]:
-        """What the server does with each message that ends in these bytes. Each is handled at its own step: until the next one the
-        documents are those that a request speaks of. A faulty frame raises FrameFault at its step, with no `events`; out of memory
-        raises MemoryError, and `messages(b"")` continues. A loop that ends early leaves the rest to the next call. After `exit`
-        nothing more is handled."""
-        return self._messages(data)
-
-    def receive(self, data: bytes) -> List[ServerEvent]:
-        """The same as a list, once all of these messages are handled: the documents are then those after the last one. So answer
-        requests by `messages`. A faulty frame raises FrameFault, whose `events` came before it. Where memory runs out after some
-        events they are returned, else MemoryError is raised; `receive(b"")` continues."""
-        return self._receive(data)
-
-    def handle(self, body: bytes) -> ServerEvent:
-        """What the server does with the body of a message: the bytes after its header."""
-        data, answer = some_bytes(body, "a body"), Answer()
-        with self._lock:
-            demand(LIBRARY.laspidru_server_handle(byref(self._handle), data, len(data), byref(answer)))
-            return self._event(answer, data)
-
-    def _event(self, answer: Answer, body: bytes) -> ServerEvent:
-        kind, frame = _SERVER_KINDS[answer.kind], b""
-        if kind == "replied":
-            frame = copy_out(LIBRARY.laspidru_server_reply, answer.reply_len, byref(self._handle))
-        return ServerEvent(kind, body, frame, answer.error, answer.reason, answer.status if kind == "exited" else None)
-
-    def __encoding(self) -> int:
-        found = c_uint32()
-        demand(LIBRARY.laspidru_server_encoding(byref(self._handle), byref(found)))
-        return found.value
-
-    @property
-    def encoding(self) -> Optional[str]:
-        """The encoding of positions, once `initialize` was answered."""
-        with self._lock:
-            return encoding_name(self.__encoding())
 
     def batch_of_edits(self, uri: str, edits: Sequence[Any]) -> List[Dict[str, Any]]:
         """The canonical batch of what text edits mean on the open document of a URI: the changes of the didChange that reports
@@ -310,7 +295,7 @@ class Server(_End):
         name, (passed, count, texts) = utf8(uri), batch_of_edits(edits)
         found, fault = Handle(), TextEditsFault()
         with self._lock:
-            code = LIBRARY.laspidru_server_batch_of_edits(byref(self._handle), name, len(name), self.__encoding() or UTF16, passed, count,
+            code = LIBRARY.laspidru_open_batch_of_edits(byref(self._handle), name, len(name), self._units(None), passed, count,
                                                           texts, len(texts), byref(found), byref(fault))
         demand_edits(code, fault)
         return changes_of(found)
@@ -321,8 +306,8 @@ class Server(_End):
         name, (edits, count, texts) = utf8(uri), batch(changes)
         output, fault, length = Handle(), Fault(), c_size_t()
         with self._lock:
-            code = LIBRARY.laspidru_server_canonical_message(
-                byref(self._handle), name, len(name), version_number(version), self.__encoding() or UTF16, edits, count, texts,
+            code = LIBRARY.laspidru_open_canonical_message(
+                byref(self._handle), name, len(name), version_number(version), self._units(None), edits, count, texts,
                 len(texts), byref(output), byref(fault), byref(length))
         demand_change(code, fault)
         try:
@@ -330,30 +315,45 @@ class Server(_End):
         finally:
             LIBRARY.laspidru_close(byref(output))
 
-    @property
-    def document_count(self) -> int:
-        count = c_size_t()
-        with self._lock:
-            demand(LIBRARY.laspidru_server_documents(byref(self._handle), byref(count)))
-        return count.value
 
+class Server(_End):
+    """A server's end of a session: bytes or bodies go in, and it keeps the open documents. The defaults are those of
+    `lspsync serve`. `encoding` is taken where the client offers it, else UTF-16; with `is_fixed` it is taken whatever is offered. LSP
+    3.17 allows one that was offered, or UTF-16: fix another only for logs, or where you write the editor too. `is_full` asks for
+    whole texts. With `lenient` a change of any version is taken, and an open document may be opened again."""
 
-class ClientEvent(NamedTuple):
-    """What a client did with a message of the server.
+    _kinds = {NUMBERS[it.upper()]: it for it in ("replied", "changed", "dropped", "ignored", "refused", "exited")}
 
-    `kind` is "send", where `frame` is to be sent; "noted", for the response to `shutdown`; "ignored", for a notification; or
-    "bad-server", where the session can't continue, by the code `reason`. `body` is the message."""
-    kind: str
-    body: bytes
-    frame: bytes = b""
-    reason: int = 0
+    def __init__(self, encoding: str = "utf-16", *, is_fixed: bool = False, is_full: bool = False, max_body: int = 16777216,
+                 max_text: int = 16777216, max_docs: int = 1024, max_changes: int = 65536, lenient: bool = False) -> None:
+        numbers = limits(max_body, max_text, max_docs, max_changes)
+        settings = Settings(*numbers, encoding_number(encoding), is_fixed, is_full, lenient)
+        super().__init__()
+        demand(LIBRARY.laspidru_server_new(byref(self._handle), byref(settings)))
+
+    def messages(self, data: bytes) -> Iterator[Event]:
+        """What the server does with each message that ends in these bytes. Each is handled at its own step: until the next one the
+        documents are those that a request speaks of. A faulty frame raises FrameFault at its step, with no `events`; out of memory
+        raises MemoryError, and `messages(b"")` continues. A loop that ends early leaves the rest to the next call. After `exit`
+        nothing more is handled."""
+        return self._messages(data)
+
+    def receive(self, data: bytes) -> List[Event]:
+        """The same as a list, once all of these messages are handled: the documents are then those after the last one. So answer
+        requests by `messages`. A faulty frame raises FrameFault, whose `events` came before it. Where memory runs out after some
+        events they are returned, else MemoryError is raised; `receive(b"")` continues."""
+        return self._receive(data)
+
+    def handle(self, body: bytes) -> Event:
+        """What the server does with the body of a message: the bytes after its header."""
+        return self._handle_body(body)
 
 
 class Client(_End):
     """A client's end of a session: it keeps an editor's documents, and each call returns the bytes to send. UTF-16 is always
     offered, after UTF-8 and before UTF-32, an order that LSP reads as a preference. `lenient` is as for a Server."""
 
-    _names = "client"
+    _kinds = {NUMBERS["REPLIED"]: "send", NUMBERS["IGNORED"]: "ignored", NUMBERS["NOTED"]: "noted", NUMBERS["BAD_SERVER"]: "bad-server"}
 
     def __init__(self, *, utf8: bool = False, utf32: bool = False, max_body: int = 16777216, max_text: int = 16777216,
                  max_docs: int = 1024, max_changes: int = 65536, lenient: bool = False) -> None:
@@ -361,14 +361,11 @@ class Client(_End):
         super().__init__()
         demand(LIBRARY.laspidru_client_new(byref(self._handle), byref(settings)))
 
-    def __frame(self, length: int) -> bytes:
-        return copy_out(LIBRARY.laspidru_client_frame, length, byref(self._handle))
-
     def __call(self, name: str, *arguments: Any) -> bytes:
         length = c_size_t()
         with self._lock:
-            demand(self._function(name)(byref(self._handle), *arguments, byref(length)))
-            return self.__frame(length.value)
+            demand(getattr(LIBRARY, f"laspidru_client_{name}")(byref(self._handle), *arguments, byref(length)))
+            return self._frame(length.value)
 
     def start(self) -> bytes:
         """Begins the session: `initialize`."""
@@ -388,7 +385,7 @@ class Client(_End):
             code = LIBRARY.laspidru_client_edit(byref(self._handle), name, len(name), version_number(version), edits, count,
                                                 texts, len(texts), byref(fault), byref(length))
             demand_change(code, fault)
-            return self.__frame(length.value)
+            return self._frame(length.value)
 
     def close(self, uri: str) -> bytes:
         """Closes a document: `textDocument/didClose`."""
@@ -403,39 +400,12 @@ class Client(_End):
         """Ends the session, once the response to `shutdown` came."""
         return self.__call("exit")
 
-    def receive(self, data: bytes) -> List[ClientEvent]:
+    def receive(self, data: bytes) -> List[Event]:
         """What the client does with the messages that end in these bytes, once all are handled. They change no document: the client's
         own calls do. A faulty frame raises FrameFault, whose `events` came before it. Where memory runs out after some events they
         are returned, else MemoryError is raised; `receive(b"")` continues."""
         return self._receive(data)
 
-    def deliver(self, body: bytes) -> ClientEvent:
+    def deliver(self, body: bytes) -> Event:
         """What the client does with the body of a message: the bytes after its header."""
-        data, answer = some_bytes(body, "a body"), Answer()
-        with self._lock:
-            demand(LIBRARY.laspidru_client_deliver(byref(self._handle), data, len(data), byref(answer)))
-            return self._event(answer, data)
-
-    def _event(self, answer: Answer, body: bytes) -> ClientEvent:
-        kind = _CLIENT_KINDS[answer.kind]
-        return ClientEvent(kind, body, self.__frame(answer.reply_len) if kind == "send" else b"", answer.reason)
-
-    def __state(self) -> State:
-        state = State()
-        with self._lock:
-            demand(LIBRARY.laspidru_client_state(byref(self._handle), byref(state)))
-        return state
-
-    @property
-    def phase(self) -> str:
-        """The phase of the session: "new", "asked", "ready", "closing", "closed", "done" or "failed"."""
-        return PHASES[self.__state().phase]
-
-    @property
-    def encoding(self) -> Optional[str]:
-        """The encoding that was agreed on; None before phase "ready"."""
-        return encoding_name(self.__state().encoding)
-
-    @property
-    def document_count(self) -> int:
-        return self.__state().documents
+        return self._handle_body(body)

@@ -1,8 +1,8 @@
 //! Both ends of sessions in Rust, as `bindings/sessions` asks for them.
 
-use laspidru::client::{self, Client, ClientError, Delivered, Reason};
+use laspidru::client::{self, Client, Delivered, Reason};
 use laspidru::server::{self, Answer, ChangeForm, EncodingChoice, Refusal, Server};
-use laspidru::{Change, Encoding, Position, Range};
+use laspidru::{Change, Encoding, Limits, Position, Range};
 use std::collections::VecDeque;
 use std::error::Error;
 use std::io::Write;
@@ -43,16 +43,16 @@ fn code(refusal: Refusal) -> u32 {
     }
 }
 
-fn sent(found: Result<Vec<u8>, ClientError>, to_server: &mut Frames) -> String {
+fn sent(found: Result<Vec<u8>, laspidru::Error>, to_server: &mut Frames) -> String {
     let refused = match found {
         Ok(frame) => {
             to_server.push_back(frame);
             return "sent".into();
         }
-        Err(ClientError::WrongPhase) => 28,
-        Err(ClientError::Refused(refusal)) => code(refusal),
-        Err(ClientError::InsideCharacter { .. }) => 6,
-        Err(ClientError::ReversedRange { .. }) => 7,
+        Err(laspidru::Error::WrongPhase) => 28,
+        Err(laspidru::Error::Refused(refusal)) => code(refusal),
+        Err(laspidru::Error::InsideCharacter { .. }) => 6,
+        Err(laspidru::Error::ReversedRange { .. }) => 7,
         Err(error) => panic!("{error:?}"),
     };
     format!("refused {refused}")
@@ -69,11 +69,11 @@ impl Session {
             16 => Encoding::Utf16,
             _ => Encoding::Utf32,
         };
-        let offers =
-            client::Settings { max_text, max_docs, max_changes, utf8: utf8 > 0, utf32: utf32 > 0, ..Default::default() };
+        let limits = Limits { max_text, max_docs, max_changes, ..Default::default() };
+        let offers = client::Settings { limits, utf8: utf8 > 0, utf32: utf32 > 0 };
         let choice = EncodingChoice::Negotiated { prefer: encoding };
         let sync = if full > 0 { ChangeForm::Full } else { ChangeForm::Incremental };
-        let settings = server::Settings { max_text, max_docs, max_changes, choice, sync, ..Default::default() };
+        let settings = server::Settings { limits, choice, sync };
         let (client, server) = (Client::new(&offers)?, Server::new(&settings)?);
         Ok(Session { client, server, to_server: Frames::new(), to_client: Frames::new() })
     }

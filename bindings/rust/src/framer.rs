@@ -1,7 +1,7 @@
 //! Takes a stream apart into its messages.
 
-use crate::ffi;
-use crate::received::{NotTaken, Received};
+use crate::received::Received;
+use crate::{demand, ffi, Error};
 use std::fmt;
 
 /// Takes a stream apart into the bodies of its messages, in whatever pieces it comes (LSP 3.17, Base Protocol).
@@ -15,58 +15,22 @@ use std::fmt;
 /// for body in framer.bodies() {
 ///     assert_eq!(body?, b"[1]");
 /// }
-/// # Ok::<(), laspidru::framer::FrameError>(())
+/// # Ok::<(), laspidru::Error>(())
 /// ```
 pub struct Framer {
     handle: ffi::Handle,
     received: Received,
 }
 
-/// Why there is no framer, or no message.
-#[derive(Clone, Copy, Debug, PartialEq, Eq)]
-#[non_exhaustive]
-pub enum FrameError {
-    /// The same call can be made again.
-    OutOfMemory,
-    /// The limit is out of its range.
-    BadLimit,
-    /// The stream is faulty: the number of F1 to F7, and the byte offset on which it was decided. No more is taken.
-    Fault {
-        /// The fault's number, from 1 to 7.
-        number: u32,
-        /// The offset in the stream.
-        offset: u64,
-    },
-    /// There was such a fault before.
-    Failed,
-}
-
-impl fmt::Display for FrameError {
-    fn fmt(&self, f: &mut fmt::Formatter<'_>) -> fmt::Result {
-        match self {
-            FrameError::OutOfMemory => write!(f, "out of memory"),
-            FrameError::BadLimit => write!(f, "a limit is out of its range"),
-            FrameError::Fault { number, offset } => write!(f, "frame fault F{number} at byte offset {offset}"),
-            FrameError::Failed => write!(f, "the stream was faulty before"),
-        }
-    }
-}
-
-impl std::error::Error for FrameError {}
-
 impl Framer {
     /// Returns a framer at the start of a stream, for bodies of at most so many bytes: 4,096 to 1,073,741,824.
     ///
     /// # Errors
-    /// [`FrameError::BadLimit`] if the number isn't between these, else [`FrameError::OutOfMemory`].
-    pub fn new(max_body: usize) -> Result<Self, FrameError> {
+    /// [`Error::BadLimit`] if the number isn't between these, else [`Error::OutOfMemory`].
+    pub fn new(max_body: usize) -> Result<Self, Error> {
         let handle = ffi::Handle::empty();
-        match handle.framer_new(max_body) {
-            ffi::OK => Ok(Framer { handle, received: Received::default() }),
-            ffi::BAD_LIMIT => Err(FrameError::BadLimit),
-            ffi::OUT_OF_MEMORY => Err(FrameError::OutOfMemory),
-            code => unreachable!("code {code} of an empty handle"),
-        }
+        demand(handle.framer_new(max_body))?;
+        Ok(Framer { handle, received: Received::default() })
     }
 
     /// Takes bytes that were read.
@@ -77,26 +41,19 @@ impl Framer {
     /// Returns the body of the next message that is whole, or `None` if the rest of it is to come.
     ///
     /// # Errors
-    /// [`FrameError::Fault`] if the stream is faulty, and [`FrameError::Failed`] at each later call. After
-    /// [`FrameError::OutOfMemory`] the same call continues.
-    pub fn next_body(&mut self) -> Result<Option<Vec<u8>>, FrameError> {
-        match self.received.take(|piece, taken| self.handle.framer_feed(piece, taken)) {
-            Ok(None) => Ok(None),
-            Ok(Some(len)) => {
-                let body = self.handle.framer_body(len);
-                assert_eq!(self.handle.framer_next(), ffi::OK, "the handle of a framer is full");
-                Ok(Some(body))
-            }
-            Err(NotTaken::Stream(fault)) => Err(fault),
-            Err(NotTaken::Code(ffi::OUT_OF_MEMORY)) => Err(FrameError::OutOfMemory),
-            Err(NotTaken::Code(code)) => unreachable!("code {code} of the handle of a framer"),
-        }
+    /// [`Error::Frame`] if the stream is faulty, and [`Error::Failed`] at each later call. After
+    /// [`Error::OutOfMemory`] the same call continues.
+    pub fn next_body(&mut self) -> Result<Option<Vec<u8>>, Error> {
+        let Some(len) = self.received.take(|piece, taken| self.handle.framer_feed(piece, taken))? else { return Ok(None) };
+        let body = self.handle.body(len);
+        assert_eq!(self.handle.framer_next(), ffi::OK, "the handle of a framer is full");
+        Ok(Some(body))
     }
 
     /// Returns the bodies of the messages that are whole, up to a fault. Receive more, and call it again.
-    pub fn bodies(&mut self) -> impl Iterator<Item = Result<Vec<u8>, FrameError>> + '_ {
+    pub fn bodies(&mut self) -> impl Iterator<Item = Result<Vec<u8>, Error>> + '_ {
         std::iter::from_fn(|| match self.next_body() {
-            Err(FrameError::Failed) => None,
+            Err(Error::Failed) => None,
             found => found.transpose(),
         })
     }

@@ -35,28 +35,67 @@ use std::cell::OnceCell;
 use std::fmt;
 
 pub mod client;
+mod codes;
 #[allow(unsafe_code)]
 mod ffi;
-pub mod framer;
+mod framer;
 pub mod log;
 #[cfg(feature = "lsp-types")]
 mod lsp;
 mod received;
 pub mod server;
+mod session;
 
 pub use client::Client;
+pub use codes::BadLimit;
 pub use framer::Framer;
-pub use server::Server;
+pub use server::{Refusal, Server};
 
-/// The limits that `lspsync` has by default: max_body, max_text, max_docs and max_changes.
-const DEFAULT_LIMITS: [usize; 4] = [16_777_216, 16_777_216, 1_024, 65_536];
+use server::refusal;
+
+/// Returns the version of the library that is linked, as `0.1.0`.
+pub fn version() -> String {
+    let number = ffi::version();
+    format!("{}.{}.{}", number / 10_000, number / 100 % 100, number % 100)
+}
+
+/// Returns the URI of the document that a message opens, changes or closes, or `None` if it does none of these or its parameters
+/// can't be read. The body is that of [`Server::next_message`].
+///
+/// # Errors
+/// [`Error::OutOfMemory`].
+pub fn message_uri(body: &[u8]) -> Result<Option<String>, Error> {
+    ffi::message_uri(body)
+}
+
+/// The limits of a server, a client or a command on a log. The default is that of `lspsync`.
+#[derive(Clone, Copy, Debug, PartialEq, Eq)]
+pub struct Limits {
+    /// 4,096 to 1,073,741,824 bytes of a message of the stream, or of a log.
+    pub max_body: usize,
+    /// Up to 1,073,741,824 bytes of a document.
+    pub max_text: usize,
+    /// 1 to 65,536 open documents.
+    pub max_docs: usize,
+    /// 1 to 1,048,576 changes in one message.
+    pub max_changes: usize,
+    /// Whether a change of any version is taken, and an open document may be opened again.
+    pub lenient: bool,
+}
+
+impl Default for Limits {
+    fn default() -> Self {
+        Limits { max_body: 16_777_216, max_text: 16_777_216, max_docs: 1_024, max_changes: 65_536, lenient: false }
+    }
+}
 
 /// What a position's character counts.
-#[derive(Clone, Copy, Debug, PartialEq, Eq, Hash)]
+#[derive(Clone, Copy, Debug, Default, PartialEq, Eq, Hash)]
 pub enum Encoding {
     /// Bytes.
     Utf8 = 8,
     /// Code units of 16 bits: what both ends count unless they agree otherwise.
+    #[default]
     Utf16 = 16,
     /// Whole characters.
     Utf32 = 32,
@@ -106,14 +145,13 @@ pub struct TextEdit {
     pub new_text: String,
 }
 
-/// Why a call was refused. It changed nothing. Changes and text edits are named by their index in the list, counted from 0.
+/// Why a call was refused. It changed nothing, but that no more is taken of a faulty stream. Changes and text edits are named by their
+/// index in the list, counted from 0.
 #[derive(Clone, Copy, Debug, PartialEq, Eq)]
 #[non_exhaustive]
 pub enum Error {
     /// The same call can be made again.
     OutOfMemory,
-    /// A text has more than 1,073,741,824 bytes.
-    TooLong,
     /// An end of the range of the change at this index lies inside a character.
     InsideCharacter {
         /// The change's index.
@@ -147,14 +185,45 @@ pub enum Error {
     },
     /// A position or an offset lies inside a character, or an offset inside a CRLF or past the end.
     NoPosition,
+    /// The documents refuse it, or its message would be too long.
+    Refused(Refusal),
+    /// A client's call isn't allowed in this phase of the session.
+    WrongPhase,
+    /// The session of a server ended by `exit`.
+    Ended,
+    /// A limit is out of its range.
+    BadLimit(BadLimit),
+    /// The stream is faulty: the number of F1 to F7, and the byte offset on which it was decided. No more is taken.
+    Frame {
+        /// The fault's number, from 1 to 7.
+        number: u32,
+        /// The offset in the stream.
+        offset: u64,
+    },
+    /// The stream was faulty before.
+    Failed,
+}
+
+impl Error {
+    /// The error of a code, and of the change that it is about.
+    fn of(code: u32, fault: &ffi::Fault) -> Self {
+        match code {
+            ffi::OUT_OF_MEMORY => Error::OutOfMemory,
+            ffi::INSIDE_CHARACTER => Error::InsideCharacter { change: fault.change, at_end: fault.at_end },
+            ffi::REVERSED_RANGE => Error::ReversedRange { change: fault.change },
+            ffi::WRONG_PHASE => Error::WrongPhase,
+            ffi::ENDED => Error::Ended,
+            ffi::FAILED => Error::Failed,
+            code => BadLimit::of(code).map_or_else(|| Error::Refused(refusal(code)), Error::BadLimit),
+        }
+    }
 }
 
 impl fmt::Display for Error {
     fn fmt(&self, f: &mut fmt::Formatter<'_>) -> fmt::Result {
         let side = |at_end| if at_end { "end" } else { "start" };
         match *self {
-            Error::OutOfMemory => write!(f, "out of memory"),
-            Error::TooLong => write!(f, "the text is too long"),
+            Error::OutOfMemory => f.write_str(&codes::why(ffi::OUT_OF_MEMORY)),
             Error::InsideCharacter { change, at_end } => {
                 write!(f, "change at index {change}: the {} of its range lies inside a character", side(at_end))
             }
@@ -165,6 +234,12 @@ impl fmt::Display for Error {
             Error::EditReversedRange { edit } => write!(f, "edit at index {edit}: the range is reversed"),
             Error::Overlap { first, second } => write!(f, "edits at the indexes {first} and {second} overlap"),
             Error::NoPosition => write!(f, "the position or offset is inside a character, inside a CRLF or past the end"),
+            Error::Refused(refusal) => write!(f, "{refusal}"),
+            Error::WrongPhase => f.write_str(&codes::why(ffi::WRONG_PHASE)),
+            Error::Ended => f.write_str(&codes::why(ffi::ENDED)),
+            Error::BadLimit(limit) => write!(f, "{limit}"),
+            Error::Frame { number, offset } => write!(f, "frame fault F{number} at byte offset {offset}"),
+            Error::Failed => f.write_str(&codes::why(ffi::FAILED)),
         }
     }
 }
@@ -183,10 +258,10 @@ impl Document {
     /// Returns a document of a text. Positions count units of `encoding`.
     ///
     /// # Errors
-    /// [`Error::TooLong`] if the text has more than 1,073,741,824 bytes, else [`Error::OutOfMemory`].
+    /// [`Refusal::TooLong`] if the text has more than 1,073,741,824 bytes, else [`Error::OutOfMemory`].
     pub fn new(text: &str, encoding: Encoding) -> Result<Self, Error> {
         let handle = ffi::Handle::empty();
-        demand(handle.document_open(text), &ffi::Fault::default())?;
+        demand(handle.document_open(text))?;
         Ok(Document { handle, text: OnceCell::new(), encoding })
     }
 
@@ -214,13 +289,13 @@ impl Document {
     /// Makes the changes of a `didChange`, in order, or none of them.
     ///
     /// # Errors
-    /// [`Error::InsideCharacter`] or [`Error::ReversedRange`] of the first change that has no result, [`Error::TooLong`] if the text
+    /// [`Error::InsideCharacter`] or [`Error::ReversedRange`] of the first change that has no result, [`Refusal::TooLong`] if the text
     /// would have, or the changes have, more than 1,073,741,824 bytes; or [`Error::OutOfMemory`].
     pub fn change(&mut self, changes: &[Change]) -> Result<(), Error> {
         let (edits, texts) = batch(changes);
         let mut fault = ffi::Fault::default();
         let code = self.handle.document_change(self.encoding as u32, &edits, &texts, &mut fault);
-        demand(code, &fault)?;
+        demand_change(code, &fault)?;
         self.text.take();
         Ok(())
     }
@@ -234,14 +309,14 @@ impl Document {
         let mut fault = ffi::Fault::default();
         let found = ffi::Handle::empty();
         let code = self.handle.document_canonical(self.encoding as u32, &edits, &texts, &found, &mut fault);
-        demand(code, &fault)?;
+        demand_change(code, &fault)?;
         Ok(changes_of(&found))
     }
 
     /// Makes text edits, or none of them. All their ranges count in the text as it is.
     ///
     /// # Errors
-    /// [`Error::EditInsideCharacter`], [`Error::EditReversedRange`] or [`Error::Overlap`] of faulty edits, [`Error::TooLong`] if the
+    /// [`Error::EditInsideCharacter`], [`Error::EditReversedRange`] or [`Error::Overlap`] of faulty edits, [`Refusal::TooLong`] if the
     /// text would have, or the edits have, more than 1,073,741,824 bytes; or [`Error::OutOfMemory`].
     pub fn apply_edits(&mut self, edits: &[TextEdit]) -> Result<(), Error> {
         let (passed, texts) = passed_edits(edits);
@@ -361,17 +436,17 @@ fn demand_edits(code: u32, fault: &ffi::EditsFault) -> Result<(), Error> {
         ffi::INSIDE_CHARACTER => Err(Error::EditInsideCharacter { edit: fault.edit, at_end: fault.at_end }),
         ffi::REVERSED_RANGE => Err(Error::EditReversedRange { edit: fault.edit }),
         ffi::OVERLAP => Err(Error::Overlap { first: fault.edit, second: fault.other }),
-        code => demand(code, &ffi::Fault::default()),
+        code => demand(code),
     }
 }
 
-fn demand(code: u32, fault: &ffi::Fault) -> Result<(), Error> {
+fn demand(code: u32) -> Result<(), Error> {
+    demand_change(code, &ffi::Fault::default())
+}
+
+fn demand_change(code: u32, fault: &ffi::Fault) -> Result<(), Error> {
     match code {
         ffi::OK => Ok(()),
-        ffi::OUT_OF_MEMORY => Err(Error::OutOfMemory),
-        ffi::TOO_LONG => Err(Error::TooLong),
-        ffi::INSIDE_CHARACTER => Err(Error::InsideCharacter { change: fault.change, at_end: fault.at_end }),
-        ffi::REVERSED_RANGE => Err(Error::ReversedRange { change: fault.change }),
-        code => unreachable!("code {code} of a full handle and valid arguments"),
+        code => Err(Error::of(code, fault)),
     }
 }

@@ -1,33 +1,33 @@
 //! The commands of `lspsync` on the bytes of a log.
 
-use crate::framer::FrameError;
-use crate::{ffi, Encoding, DEFAULT_LIMITS};
+use crate::codes::BadLimit;
+use crate::{ffi, Encoding, Error, Limits};
 use std::fmt;
 
-/// How a log is read. The default is that of `lspsync`.
-#[derive(Clone, Copy, Debug, PartialEq, Eq)]
+/// How a log is read, and what of it is written. The default is that of `lspsync`.
+#[derive(Clone, Copy, Debug, Default, PartialEq, Eq)]
 pub struct Settings {
-    /// 4,096 to 1,073,741,824 bytes of a message.
-    pub max_body: usize,
-    /// Up to 1,073,741,824 bytes of a document.
-    pub max_text: usize,
-    /// 1 to 65,536 open documents.
-    pub max_docs: usize,
-    /// 1 to 1,048,576 changes in one message.
-    pub max_changes: usize,
+    /// The limits.
+    pub limits: Limits,
     /// What positions count in a log of version 1. A log of version 2 names it itself.
     pub encoding: Encoding,
     /// Whether [`normalise`] writes changes of one document that follow each other as one message.
     pub squash: bool,
-    /// Whether a change of any version is taken, and an open document may be opened again.
-    pub lenient: bool,
+    /// Whether [`normalise`] leaves out the records that are neither about the session nor about a text.
+    pub documents: bool,
+    /// Whether [`trace`] writes the document's text, where it was opened or changed.
+    pub texts: bool,
+    /// Whether [`trace`] writes each body.
+    pub bodies: bool,
 }
 
-impl Default for Settings {
-    fn default() -> Self {
-        let [max_body, max_text, max_docs, max_changes] = DEFAULT_LIMITS;
-        Settings { max_body, max_text, max_docs, max_changes, encoding: Encoding::Utf16, squash: false, lenient: false }
-    }
+/// The part of a log that [`replay_part`] reads, and what it writes.
+#[derive(Clone, Debug, Default, PartialEq, Eq)]
+pub struct Part<'a> {
+    /// The number of the last record that is read, from 1; all without one.
+    pub at: Option<u64>,
+    /// The document whose text is written; without one each open document has a line.
+    pub uri: Option<&'a str>,
 }
 
 /// What a command wrote.
@@ -48,7 +48,11 @@ pub enum LogError {
     /// The same call can be made again.
     OutOfMemory,
     /// A limit is out of its range.
-    BadLimit,
+    BadLimit(BadLimit),
+    /// The log has no record of this number.
+    NoRecord,
+    /// The document was never open.
+    NotOpen,
     /// More than 2^64 - 1 reads and writes would be needed.
     TooManyTurns,
     /// The log has a fault at a byte offset; `output` is what was written up to it.
@@ -80,11 +84,13 @@ impl fmt::Display for LogError {
     fn fmt(&self, f: &mut fmt::Formatter<'_>) -> fmt::Result {
         match self {
             LogError::OutOfMemory => write!(f, "out of memory"),
-            LogError::BadLimit => write!(f, "a limit is out of its range"),
+            LogError::BadLimit(limit) => write!(f, "{limit}"),
+            LogError::NoRecord => write!(f, "the log has no record of this number"),
+            LogError::NotOpen => write!(f, "the document was never open"),
             LogError::TooManyTurns => write!(f, "too many reads and writes"),
             LogError::Fault { fault: LogFault::Cut, offset, .. } => write!(f, "truncated at byte offset {offset}"),
             LogError::Fault { fault: LogFault::BadFrame(number), offset, .. } => {
-                write!(f, "{}", FrameError::Fault { number: *number, offset: *offset })
+                write!(f, "{}", Error::Frame { number: *number, offset: *offset })
             }
             LogError::Fault { fault: LogFault::BodyTooLong, offset, .. } => write!(f, "body too long at byte offset {offset}"),
             LogError::Fault { fault: LogFault::BadLog, offset, .. } => write!(f, "bad log at byte offset {offset}"),
@@ -100,7 +106,23 @@ impl std::error::Error for LogError {}
 /// [`LogError::Fault`] if the log is faulty, with the output up to there; else a limit is out of its range, memory ran out, or more
 /// than 2^64 - 1 reads and writes would be needed.
 pub fn check(log: &[u8], settings: &Settings) -> Result<Output, LogError> {
-    run(ffi::Command::Check, log, settings)
+    run(ffi::CHECK, log, settings, &Part::default())
+}
+
+/// Writes the same, with reasons and what is suspicious, as `lspsync check --explain` does.
+///
+/// # Errors
+/// As those of [`check`].
+pub fn explain(log: &[u8], settings: &Settings) -> Result<Output, LogError> {
+    run(ffi::EXPLAIN, log, settings, &Part::default())
+}
+
+/// Writes all that is known of each record of a log, a line of JSON for each.
+///
+/// # Errors
+/// As those of [`check`].
+pub fn trace(log: &[u8], settings: &Settings) -> Result<Output, LogError> {
+    run(ffi::TRACE, log, settings, &Part::default())
 }
 
 /// Writes the documents that are open at the end of a log, a line of JSON for each.
@@ -108,7 +130,18 @@ pub fn check(log: &[u8], settings: &Settings) -> Result<Output, LogError> {
 /// # Errors
 /// As those of [`check`].
 pub fn replay(log: &[u8], settings: &Settings) -> Result<Output, LogError> {
-    run(ffi::Command::Replay, log, settings)
+    replay_part(log, settings, &Part::default())
+}
+
+/// Writes the documents that are open after a record, or the text of one document, byte for byte.
+///
+/// # Errors
+/// As those of [`check`]; and [`LogError::NoRecord`] or [`LogError::NotOpen`] if the log lacks what is asked for.
+pub fn replay_part(log: &[u8], settings: &Settings, part: &Part<'_>) -> Result<Output, LogError> {
+    if part.at == Some(0) {
+        return Err(LogError::NoRecord);
+    }
+    run(ffi::REPLAY, log, settings, part)
 }
 
 /// Writes the log with each accepted change as its canonical message.
@@ -116,7 +149,7 @@ pub fn replay(log: &[u8], settings: &Settings) -> Result<Output, LogError> {
 /// # Errors
 /// As those of [`check`].
 pub fn normalise(log: &[u8], settings: &Settings) -> Result<Output, LogError> {
-    run(ffi::Command::Normalise, log, settings)
+    run(ffi::NORMALISE, log, settings, &Part::default())
 }
 
 /// Writes a log of version 1 in version 2, with the replies that a server gives.
@@ -124,33 +157,43 @@ pub fn normalise(log: &[u8], settings: &Settings) -> Result<Output, LogError> {
 /// # Errors
 /// As those of [`check`]. A log of version 2 is [`LogFault::BadLog`].
 pub fn convert(log: &[u8], settings: &Settings) -> Result<Output, LogError> {
-    run(ffi::Command::Convert, log, settings)
+    run(ffi::CONVERT, log, settings, &Part::default())
 }
 
-fn run(command: ffi::Command, log: &[u8], settings: &Settings) -> Result<Output, LogError> {
+fn run(command: u32, log: &[u8], settings: &Settings, part: &Part<'_>) -> Result<Output, LogError> {
     let settings = ffi::LogSettings {
-        max_body: settings.max_body,
-        max_text: settings.max_text,
-        max_docs: settings.max_docs,
-        max_changes: settings.max_changes,
+        max_body: settings.limits.max_body,
+        max_text: settings.limits.max_text,
+        max_docs: settings.limits.max_docs,
+        max_changes: settings.limits.max_changes,
+        at: part.at.unwrap_or(0),
         encoding: settings.encoding as u32,
+        lenient: settings.limits.lenient,
         squash: settings.squash,
-        lenient: settings.lenient,
+        documents: settings.documents,
+        texts: settings.texts,
+        bodies: settings.bodies,
+        has_uri: part.uri.is_some(),
     };
     let (output, mut ending) = (ffi::Handle::empty(), ffi::Ending::default());
-    let fault = match output.log_run(command, &settings, log, &mut ending) {
-        ffi::OK => {
-            let bytes = output.output_copy(ending.output_len);
-            return Ok(Output { bytes, messages: ending.messages, refused: ending.refused });
-        }
-        ffi::OUT_OF_MEMORY => return Err(LogError::OutOfMemory),
-        ffi::BAD_LIMIT => return Err(LogError::BadLimit),
-        ffi::TOO_MANY_TURNS => return Err(LogError::TooManyTurns),
-        ffi::CUT => LogFault::Cut,
-        ffi::BAD_FRAME => LogFault::BadFrame(ending.frame),
-        ffi::BODY_TOO_LONG => LogFault::BodyTooLong,
-        ffi::BAD_LOG => LogFault::BadLog,
-        code => unreachable!("code {code} of an empty handle and valid arguments"),
+    let code = output.log_run(command, &settings, part.uri.unwrap_or_default(), log, &mut ending);
+    if !output.is_full() {
+        return Err(match code {
+            ffi::OUT_OF_MEMORY => LogError::OutOfMemory,
+            ffi::TOO_MANY_TURNS => LogError::TooManyTurns,
+            code => LogError::BadLimit(BadLimit::of(code).expect("an empty handle and valid arguments")),
+        });
+    }
+    let bytes = output.output_copy(ending.output_len);
+    let fault = match (code, ending.missing) {
+        (ffi::OK, ffi::OK) => return Ok(Output { bytes, messages: ending.messages, refused: ending.refused }),
+        (ffi::OK, ffi::OUT_OF_RANGE) => return Err(LogError::NoRecord),
+        (ffi::OK, _) => return Err(LogError::NotOpen),
+        (ffi::CUT, _) => LogFault::Cut,
+        (ffi::BAD_FRAME, _) => LogFault::BadFrame(ending.frame),
+        (ffi::BODY_TOO_LONG, _) => LogFault::BodyTooLong,
+        (ffi::BAD_LOG, _) => LogFault::BadLog,
+        (code, _) => unreachable!("code {code} of an empty handle and valid arguments"),
     };
-    Err(LogError::Fault { fault, offset: ending.place, output: output.output_copy(ending.output_len) })
+    Err(LogError::Fault { fault, offset: ending.offset, output: bytes })
 }

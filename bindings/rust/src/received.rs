@@ -1,7 +1,6 @@
 //! What was received of a stream and isn't taken yet.
 
-use crate::ffi;
-use crate::framer::FrameError;
+use crate::{ffi, Error};
 
 #[derive(Default)]
 pub(crate) struct Received {
@@ -10,14 +9,6 @@ pub(crate) struct Received {
     at: usize,
     // Were bytes taken of a message that isn't done, or is the stream faulty?
     is_inside: bool,
-}
-
-/// Why the library took nothing.
-pub(crate) enum NotTaken {
-    /// The stream is faulty.
-    Stream(FrameError),
-    /// Another code of laspidru.h.
-    Code(u32),
 }
 
 impl Received {
@@ -34,7 +25,7 @@ impl Received {
 
     /// Hands what is left to a call that takes bytes up to the end of one message: how many bytes its body has, once it is
     /// whole.
-    pub fn take(&mut self, call: impl FnOnce(&[u8], &mut ffi::Taken) -> u32) -> Result<Option<usize>, NotTaken> {
+    pub fn take(&mut self, call: impl FnOnce(&[u8], &mut ffi::Taken) -> u32) -> Result<Option<usize>, Error> {
         let mut taken = ffi::Taken::default();
         let is_empty = self.at == self.bytes.len();
         let code = call(&self.bytes[self.at..], &mut taken);
@@ -52,19 +43,18 @@ impl Received {
             }
             ffi::BAD_FRAME => {
                 self.is_inside = true;
-                Err(NotTaken::Stream(FrameError::Fault { number: taken.frame, offset: taken.place }))
+                Err(Error::Frame { number: taken.frame, offset: taken.offset })
             }
-            ffi::FAILED => Err(NotTaken::Stream(FrameError::Failed)),
             // (an end that takes no more is asked for nothing)
             ffi::ENDED | ffi::WRONG_PHASE if is_empty => Ok(None),
-            code => Err(NotTaken::Code(code)),
+            code => Err(Error::of(code, &ffi::Fault::default())),
         }
     }
 
     /// Hands what is left to an end of a session: the body of the message that ends there, and the end's answer.
-    pub fn take_by(&mut self, handle: &ffi::Handle, end: ffi::End) -> Result<Option<(Vec<u8>, ffi::Answer)>, NotTaken> {
+    pub fn take_by(&mut self, handle: &ffi::Handle) -> Result<Option<(Vec<u8>, ffi::Answer)>, Error> {
         let mut answer = ffi::Answer::default();
-        let len = self.take(|piece, taken| handle.take(end, piece, taken, &mut answer))?;
-        Ok(len.map(|len| (handle.body(end, len), answer)))
+        let len = self.take(|piece, taken| handle.take(piece, taken, &mut answer))?;
+        Ok(len.map(|len| (handle.body(len), answer)))
     }
 }

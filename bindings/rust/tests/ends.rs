@@ -1,11 +1,9 @@
 //! A client and a server that talk.
 
-use laspidru::client::{Client, ClientError, Delivered, Phase, Reason};
-use laspidru::framer::{FrameError, Framer};
-use laspidru::server::{Answer, ChangeForm, EncodingChoice, MessageError, Refusal, Server, ServerError};
-use laspidru::{client, server, Change, Document, Encoding, Error, Position, Range};
+use laspidru::client::{Client, Delivered, Phase, Reason};
+use laspidru::server::{Answer, ChangeForm, EncodingChoice, Server};
+use laspidru::{client, server, BadLimit, Change, Document, Encoding, Error, Framer, Limits, Position, Range, Refusal};
 use std::collections::VecDeque;
-use std::error::Error as _;
 
 /// Numbers that look random.
 struct Chance(u64);
@@ -207,26 +205,26 @@ fn positions_that_there_are_not() {
 #[test]
 fn refused_calls_say_why() {
     let mut client = Client::new(&client::Settings::default()).unwrap();
-    assert_eq!(client.open("a", "c", 1, ""), Err(ClientError::WrongPhase));
+    assert_eq!(client.open("a", "c", 1, ""), Err(Error::WrongPhase));
     assert_eq!((client.phase(), client.encoding()), (Phase::New, None));
     let mut client = ready();
     assert_eq!((client.phase(), client.encoding()), (Phase::Ready, Some(Encoding::Utf8)));
-    assert_eq!(client.edit("a", 1, &[]), Err(ClientError::Refused(Refusal::NotOpen)));
+    assert_eq!(client.edit("a", 1, &[]), Err(Error::Refused(Refusal::NotOpen)));
     client.open("a", "c", 1, "\u{e9}").unwrap();
-    assert_eq!(client.open("a", "c", 1, ""), Err(ClientError::Refused(Refusal::AlreadyOpen)));
-    assert_eq!(client.edit("a", 1, &[]), Err(ClientError::Refused(Refusal::StaleVersion)));
+    assert_eq!(client.open("a", "c", 1, ""), Err(Error::Refused(Refusal::AlreadyOpen)));
+    assert_eq!(client.edit("a", 1, &[]), Err(Error::Refused(Refusal::StaleVersion)));
     let range = |start, end| Range { start: Position { line: 0, character: start }, end: Position { line: 0, character: end } };
     let inside = Change { range: Some(range(0, 1)), text: String::new() };
     let reversed = Change { range: Some(range(2, 0)), text: String::new() };
-    assert_eq!(client.edit("a", 2, &[inside]), Err(ClientError::InsideCharacter { change: 0, at_end: true }));
-    assert_eq!(client.edit("a", 2, &[reversed]), Err(ClientError::ReversedRange { change: 0 }));
+    assert_eq!(client.edit("a", 2, &[inside]), Err(Error::InsideCharacter { change: 0, at_end: true }));
+    assert_eq!(client.edit("a", 2, &[reversed]), Err(Error::ReversedRange { change: 0 }));
     assert_eq!((client.version("a"), client.text("a").as_deref()), (Some(1), Some("\u{e9}")));
     assert_eq!(client.deliver(b"{"), Ok(Delivered::BadServer(Reason::NotAnAnswer)));
     assert_eq!(client.phase(), Phase::Failed(Reason::NotAnAnswer));
-    assert_eq!(client.deliver(b"{}"), Err(ClientError::WrongPhase));
+    assert_eq!(client.deliver(b"{}"), Err(Error::WrongPhase));
     assert_eq!(client.text("a").as_deref(), Some("\u{e9}"));
-    let bad = client::Settings { max_body: 1, ..Default::default() };
-    assert_eq!(Client::new(&bad).err(), Some(ClientError::BadLimit));
+    let bad = client::Settings { limits: Limits { max_body: 1, ..Default::default() }, ..Default::default() };
+    assert_eq!(Client::new(&bad).err(), Some(Error::BadLimit(BadLimit::MaxBody)));
 }
 
 #[test]
@@ -247,18 +245,18 @@ fn phases_in_order() {
 }
 
 #[test]
-fn errors_have_a_source() {
-    let (fault, refusal) = (FrameError::Fault { number: 5, offset: 20 }, Refusal::NotOpen);
-    let with_source =
-        |error: &dyn std::error::Error| (error.to_string(), error.source().map(ToString::to_string).unwrap_or_default());
-    let faulty = ("the stream is faulty".into(), "frame fault F5 at byte offset 20".into());
-    assert_eq!([with_source(&ServerError::Frame(fault)), with_source(&ClientError::Frame(fault))], [faulty.clone(), faulty]);
-    let refused = ("the call was refused".into(), "the document is not open".into());
-    assert_eq!(
-        [with_source(&ClientError::Refused(refusal)), with_source(&MessageError::Refused(refusal))],
-        [refused.clone(), refused]
-    );
-    assert!(ServerError::Ended.source().is_none() && ClientError::WrongPhase.source().is_none() && refusal.source().is_none());
+fn errors_have_words() {
+    let words = [Error::OutOfMemory, Error::Refused(Refusal::NotOpen), Error::WrongPhase, Error::Ended, Error::Failed]
+        .map(|it| it.to_string());
+    let wanted = [
+        "out of memory",
+        "no document of this URI is open",
+        "not in this phase of the session",
+        "the session has ended",
+        "a frame was faulty before",
+    ];
+    assert_eq!(words, wanted);
+    assert_eq!(Error::Frame { number: 5, offset: 20 }.to_string(), "frame fault F5 at byte offset 20");
 }
 
 #[test]
@@ -271,13 +269,13 @@ fn streams() {
     assert_eq!(framer.bodies().collect::<Result<Vec<_>, _>>(), Ok(vec![b"y".to_vec()]));
     assert!(framer.is_at_rest());
     framer.receive(b"Content-Length 2");
-    let fault = FrameError::Fault { number: 1, offset: 43 + 22 + 14 };
-    assert_eq!((framer.next_body(), framer.next_body()), (Err(fault), Err(FrameError::Failed)));
+    let fault = Error::Frame { number: 1, offset: 43 + 22 + 14 };
+    assert_eq!((framer.next_body(), framer.next_body()), (Err(fault), Err(Error::Failed)));
     assert!(framer.bodies().next().is_none());
-    assert_eq!(Framer::new(4095).err(), Some(FrameError::BadLimit));
+    assert_eq!(Framer::new(4095).err(), Some(Error::BadLimit(BadLimit::MaxBody)));
     let mut server = Server::new(&server::Settings::default()).unwrap();
     server.receive(b"Content-Length: x\r\n\r\n");
-    assert_eq!(server.next_message(), Err(ServerError::Frame(FrameError::Fault { number: 5, offset: 20 })));
+    assert_eq!(server.next_message(), Err(Error::Frame { number: 5, offset: 20 }));
 }
 
 #[test]

@@ -1,5 +1,5 @@
-use laspidru::server::{Answer, EncodingChoice, MessageError, Refusal, Server, ServerError, Settings};
-use laspidru::{Change, Encoding, Error, Position, Range, TextEdit};
+use laspidru::server::{Answer, EncodingChoice, Server, Settings};
+use laspidru::{message_uri, version, BadLimit, Change, Encoding, Error, Limits, Position, Range, Refusal, TextEdit};
 
 const URI: &str = "file:///a";
 
@@ -22,14 +22,14 @@ fn change(version: i32, text: &str) -> String {
 }
 
 /// Has the server answered by a frame, with this error code?
-fn replies(server: &mut Server, body: &str, wanted: Option<i32>) -> Result<bool, ServerError> {
+fn replies(server: &mut Server, body: &str, wanted: Option<i32>) -> Result<bool, Error> {
     Ok(match server.handle(body.as_bytes())? {
         Answer::Reply { frame, code } => frame.starts_with(b"Content-Length: ") && code == wanted,
         _ => false,
     })
 }
 
-fn initialized() -> Result<Server, ServerError> {
+fn initialized() -> Result<Server, Error> {
     let mut server = Server::new(&Settings::default())?;
     assert!(replies(&mut server, &request(1, "initialize", r#"{"capabilities":{}}"#), None)?);
     assert_eq!(server.handle(notification("initialized", "{}").as_bytes())?, Answer::Ignored);
@@ -37,7 +37,7 @@ fn initialized() -> Result<Server, ServerError> {
 }
 
 #[test]
-fn a_session() -> Result<(), ServerError> {
+fn a_session() -> Result<(), Error> {
     let mut server = initialized()?;
     assert_eq!(server.handle(open("one").as_bytes())?, Answer::Changed);
     assert_eq!(server.document_count(), 1);
@@ -48,12 +48,12 @@ fn a_session() -> Result<(), ServerError> {
     assert!(replies(&mut server, &request(2, "textDocument/hover", "{}"), Some(-32601))?);
     assert!(replies(&mut server, &request(3, "shutdown", "null"), None)?);
     assert_eq!(server.handle(notification("exit", "null").as_bytes())?, Answer::Exit(0));
-    assert_eq!(server.handle(open("one").as_bytes()), Err(ServerError::Ended));
+    assert_eq!(server.handle(open("one").as_bytes()), Err(Error::Ended));
     Ok(())
 }
 
 #[test]
-fn refused_notifications_leave_the_documents() -> Result<(), ServerError> {
+fn refused_notifications_leave_the_documents() -> Result<(), Error> {
     let mut server = initialized()?;
     assert_eq!(server.handle(change(2, "two").as_bytes())?, Answer::Refused(Refusal::NotOpen));
     assert_eq!(server.handle(open("").as_bytes())?, Answer::Changed);
@@ -65,9 +65,10 @@ fn refused_notifications_leave_the_documents() -> Result<(), ServerError> {
 }
 
 #[test]
-fn each_refusal_has_its_name() -> Result<(), ServerError> {
+fn each_refusal_has_its_name() -> Result<(), Error> {
     let choice = EncodingChoice::Fixed(Encoding::Utf16);
-    let settings = Settings { max_text: 8, max_docs: 1, max_changes: 1, choice, ..Settings::default() };
+    let limits = Limits { max_text: 8, max_docs: 1, max_changes: 1, ..Limits::default() };
+    let settings = Settings { limits, choice, ..Settings::default() };
     let mut server = Server::new(&settings)?;
     assert_eq!(server.handle(open("").as_bytes())?, Answer::Dropped);
     assert!(replies(&mut server, &request(1, "initialize", r#"{"capabilities":{}}"#), None)?);
@@ -94,9 +95,19 @@ fn each_refusal_has_its_name() -> Result<(), ServerError> {
 }
 
 #[test]
-fn settings() -> Result<(), ServerError> {
-    let bad = Settings { max_body: 1, ..Settings::default() };
-    assert_eq!(Server::new(&bad).map(drop), Err(ServerError::BadLimit));
+fn a_message_names_its_document() -> Result<(), Error> {
+    let close = notification("textDocument/didClose", r#"{"textDocument":{"uri":"file:///a"}}"#);
+    assert_eq!(message_uri(close.as_bytes())?.as_deref(), Some(URI));
+    assert_eq!(message_uri(request(1, "shutdown", "null").as_bytes())?, None);
+    Ok(())
+}
+
+#[test]
+fn settings() -> Result<(), Error> {
+    let bad = Settings { limits: Limits { max_body: 1, ..Limits::default() }, ..Settings::default() };
+    assert_eq!(Server::new(&bad).map(drop), Err(Error::BadLimit(BadLimit::MaxBody)));
+    assert_eq!(BadLimit::MaxBody.to_string(), "max_body is out of its range, 4,096 to 1,073,741,824 bytes");
+    assert_eq!((version(), Refusal::StaleVersion.name()), ("0.1.0".into(), "STALE_VERSION".into()));
     let fixed = Settings { choice: EncodingChoice::Fixed(Encoding::Utf8), ..Settings::default() };
     let mut server = Server::new(&fixed)?;
     let body = request(1, "initialize", r#"{"capabilities":{}}"#);
@@ -130,12 +141,12 @@ fn text_edits_on_an_open_document() -> Result<(), Box<dyn std::error::Error>> {
 fn the_canonical_message_of_changes() -> Result<(), Box<dyn std::error::Error>> {
     let mut server = initialized()?;
     let change = |start, end, text: &str| Change { range: Some(range(start, end)), text: text.into() };
-    let refused = |refusal| Err(MessageError::Refused(refusal));
+    let refused = |refusal| Err(Error::Refused(refusal));
     assert_eq!(server.canonical_message(URI, 2, &[]), refused(Refusal::NotOpen));
     server.handle(open("abc").as_bytes())?;
     assert_eq!(server.canonical_message(URI, 1, &[]), refused(Refusal::StaleVersion));
     let reversed = server.canonical_message(URI, 2, &[change(1, 0, "")]);
-    assert_eq!(reversed, Err(MessageError::ReversedRange { change: 0 }));
+    assert_eq!(reversed, Err(Error::ReversedRange { change: 0 }));
     let frame = server.canonical_message(URI, 2, &[change(0, 1, "x"), change(1, 1, "y")])?;
     let body = concat!(
         r#"{"jsonrpc":"2.0","method":"textDocument/didChange","params":{"contentChanges":[{"range":{"end":"#,
@@ -151,7 +162,7 @@ fn the_canonical_message_of_changes() -> Result<(), Box<dyn std::error::Error>> 
 }
 
 #[test]
-fn a_request_between_two_changes() -> Result<(), ServerError> {
+fn a_request_between_two_changes() -> Result<(), Error> {
     let mut server = initialized()?;
     let asks = request(2, "textDocument/hover", "{}");
     for body in [&open("one"), &asks, &change(2, "two"), &asks] {
@@ -168,7 +179,7 @@ fn a_request_between_two_changes() -> Result<(), ServerError> {
 }
 
 #[test]
-fn the_encoding_is_known_once_it_is_chosen() -> Result<(), ServerError> {
+fn the_encoding_is_known_once_it_is_chosen() -> Result<(), Error> {
     let mut server =
         Server::new(&Settings { choice: EncodingChoice::Negotiated { prefer: Encoding::Utf8 }, ..Settings::default() })?;
     assert_eq!(server.encoding(), None);
@@ -179,7 +190,7 @@ fn the_encoding_is_known_once_it_is_chosen() -> Result<(), ServerError> {
 }
 
 #[test]
-fn goes_to_another_thread() -> Result<(), ServerError> {
+fn goes_to_another_thread() -> Result<(), Error> {
     let server = initialized()?;
     assert_eq!(std::thread::spawn(move || server.document_count()).join().unwrap(), 0);
     Ok(())

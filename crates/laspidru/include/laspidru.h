@@ -1,14 +1,14 @@
 /* Copyright (c) 2026 The Laspidru authors. SPDX-License-Identifier: MIT OR Apache-2.0 */
 
-/* Laspidru: texts that are kept as LSP 3.17 says, by a library that is proved. docs/c.md has examples, and
-   CODES.md beside this file each function's codes.
+/* Laspidru: texts that are kept as LSP 3.17 says, by a library that is proved. docs/c.md has examples,
+   CODES.md beside this file what the codes mean, and the end of this file those of each function.
 
-   Each function but laspidru_close tests the bytes, numbers and handles that it is passed, and returns a code. Pointers,
-   lengths and bools are yours (CODES.md). Where the code isn't LASPIDRU_OK nothing has changed; only after
-   the four faults of a log, 20 to 23, the output up to the fault is kept, after LASPIDRU_BAD_FRAME no more of a stream is
-   taken, and laspidru_server_take and laspidru_client_take may have taken a message that they couldn't handle yet.
+   Each function but laspidru_close and laspidru_version tests the bytes, numbers and handles that it is passed, and
+   returns a code. Pointers, lengths and bools are yours (CODES.md). Where the code isn't LASPIDRU_OK nothing has changed;
+   only after the four faults of a log, 20 to 23, the output up to the fault is kept, after LASPIDRU_BAD_FRAME no more of a
+   stream is taken, and laspidru_take releases the message of before, and may have taken one that it couldn't handle yet.
    Memory is taken last: LASPIDRU_OUT_OF_MEMORY is returned only where the arguments are not refused. A client's calls on
-   documents, and laspidru_server_canonical_message, take memory earlier: they may return it also where the documents would
+   documents, and laspidru_open_canonical_message, take memory earlier: they may return it also where the documents would
    refuse the call.
    A handle of zeroes is empty. It is given to one call at a time, and never copied while it is full; it may be used
    by any thread. What a handle holds is freed by laspidru_close. Pointers are never null, also where a length is 0. */
@@ -27,7 +27,11 @@ typedef __UINT32_TYPE__ laspidru_u32;
 typedef __INT32_TYPE__ laspidru_i32;
 typedef __UINT64_TYPE__ laspidru_u64;
 
-/* Codes. */
+/* The version of this header, as three numbers of two digits and as a text. */
+#define LASPIDRU_VERSION_NUMBER 100
+#define LASPIDRU_VERSION "0.1.0"
+
+/* Codes. laspidru_text says what each means. */
 enum {
     LASPIDRU_OK = 0,
     LASPIDRU_NOT_UTF8 = 1,
@@ -40,8 +44,8 @@ enum {
     LASPIDRU_BAD_ENCODING = 8,     /* not one of the encodings */
     LASPIDRU_BAD_LENGTH = 9,       /* the lengths of the edits exceed their texts */
     LASPIDRU_OTHER_KIND = 10,      /* the handle holds an object of another kind */
-    LASPIDRU_OUT_OF_RANGE = 11,    /* no such line, offset or edit */
-    LASPIDRU_BAD_LIMIT = 12,       /* a limit is out of its range */
+    LASPIDRU_OUT_OF_RANGE = 11,    /* no such line, offset, edit, record, command or code */
+    LASPIDRU_BAD_MAX_BODY = 12,    /* max_body isn't 4,096 to 1,073,741,824 */
     LASPIDRU_ENDED = 13,           /* the session has ended */
     LASPIDRU_NOT_OPEN = 14,        /* no document of this URI is open */
 
@@ -52,11 +56,11 @@ enum {
     LASPIDRU_TOO_MANY_CHANGES = 18,   /* too many changes, or too long ones */
     LASPIDRU_INVALID_PARAMS = 19,     /* only as a reason: the params are not those of the notification */
 
-    /* Faults of a log, with their place. The handle holds the output up to the fault. */
+    /* Faults of a log, with their byte offset. The handle holds the output up to the fault. */
     LASPIDRU_CUT = 20,           /* the log ends inside a record */
     LASPIDRU_BAD_FRAME = 21,     /* the header of a frame is faulty: of a log, or of a stream that is taken */
     LASPIDRU_BODY_TOO_LONG = 22, /* the canonical message of a change has a longer body than max_body */
-    LASPIDRU_BAD_LOG = 23,       /* what is there belongs in no log, or for laspidru_log_convert in none of version 1 */
+    LASPIDRU_BAD_LOG = 23,       /* what is there belongs in no log, or for LASPIDRU_CONVERT in none of version 1 */
 
     LASPIDRU_TOO_MANY_TURNS = 24, /* as many reads and writes as are allowed, 2^64 - 1; nothing has changed */
     LASPIDRU_OVERLAP = 25,        /* two text edits overlap */
@@ -67,7 +71,12 @@ enum {
     /* Only as the reason of LASPIDRU_BAD_SERVER, as is 8: an encoding that wasn't offered. */
     LASPIDRU_NOT_AN_ANSWER = 29,  /* no message, a response to no request of the client, or one that can't be read */
     LASPIDRU_ERROR_ANSWER = 30,   /* an error response to initialize or shutdown */
-    LASPIDRU_NO_SYNC = 31         /* the server doesn't want to be notified of documents, or of changes */
+    LASPIDRU_NO_SYNC = 31,        /* the server doesn't want to be notified of documents, or of changes */
+
+    LASPIDRU_BAD_MAX_TEXT = 32,    /* max_text is more than 1,073,741,824 */
+    LASPIDRU_BAD_MAX_DOCS = 33,    /* max_docs isn't 1 to 65,536 */
+    LASPIDRU_BAD_MAX_CHANGES = 34, /* max_changes isn't 1 to 1,048,576 */
+    LASPIDRU_NO_DOCUMENT = 35      /* the message opens, changes and closes no document */
 };
 
 /* Kinds of a server's answer, and of a client's: REPLIED, IGNORED, NOTED or BAD_SERVER. */
@@ -82,15 +91,25 @@ enum {
     LASPIDRU_BAD_SERVER = 7 /* the session can't continue; the documents stay */
 };
 
-/* Phases of a client's session. */
+/* Phases of a session. A server's are NEW, READY, CLOSED and DONE. */
 enum {
-    LASPIDRU_PHASE_NEW = 0,     /* nothing was sent */
+    LASPIDRU_PHASE_NEW = 0,     /* before initialize */
     LASPIDRU_PHASE_ASKED = 1,   /* initialize was sent */
     LASPIDRU_PHASE_READY = 2,   /* documents are opened, edited and closed */
     LASPIDRU_PHASE_CLOSING = 3, /* shutdown was sent */
     LASPIDRU_PHASE_CLOSED = 4,  /* shutdown was answered; only exit is left */
-    LASPIDRU_PHASE_DONE = 5,    /* exit was sent */
+    LASPIDRU_PHASE_DONE = 5,    /* exit was sent, or came */
     LASPIDRU_PHASE_FAILED = 6   /* the server sent what no session can continue with */
+};
+
+/* Commands on logs, each as lspsync's of the same name. */
+enum {
+    LASPIDRU_CHECK = 0,     /* what a server answers to each record */
+    LASPIDRU_EXPLAIN = 1,   /* the same, with reasons and what is suspicious: lspsync check --explain */
+    LASPIDRU_TRACE = 2,     /* all that is known of each record, a line of JSON for each */
+    LASPIDRU_REPLAY = 3,    /* the documents that are open at the end, a line of JSON for each; or one document's text */
+    LASPIDRU_NORMALISE = 4, /* the log with each accepted change as its canonical message */
+    LASPIDRU_CONVERT = 5    /* a log of version 1 in version 2, with the replies that a server gives */
 };
 
 /* Encodings: what a position's character counts. */
@@ -147,7 +166,7 @@ typedef struct laspidru_length {
    `is_fixed`, the one that it takes whatever is offered. LSP 3.17 allows one that was offered, or UTF-16: fix another only for
    logs, or where you write the editor too. Where `is_full` it asks for whole texts, else for ranges. */
 typedef struct laspidru_settings {
-    laspidru_size max_body;    /* 4,096 to 1,073,741,824 bytes of a message of its stream; laspidru_server_handle takes any body */
+    laspidru_size max_body;    /* 4,096 to 1,073,741,824 bytes of a message of its stream; laspidru_deliver takes any body */
     laspidru_size max_text;    /* up to 1,073,741,824 bytes */
     laspidru_size max_docs;    /* 1 to 65,536 */
     laspidru_size max_changes; /* 1 to 1,048,576 in a message */
@@ -166,14 +185,14 @@ typedef struct laspidru_answer {
     laspidru_u32 reason;     /* REFUSED, BAD_SERVER: the code that says why */
     laspidru_u32 status;     /* EXITED: 0 after shutdown, else 1 */
     laspidru_i32 error;      /* REPLIED: the number of an error reply (LSP 3.17, ErrorCodes), 0 of a result */
-    laspidru_size reply_len; /* REPLIED: how many bytes laspidru_server_reply, or laspidru_client_frame, copies */
+    laspidru_size reply_len; /* REPLIED: how many bytes laspidru_frame copies */
 } laspidru_answer;
 
 /* What was taken of a piece of a stream, or where the stream is faulty. A member that isn't of the code is 0. */
 typedef struct laspidru_taken {
     laspidru_size bytes;    /* how many bytes of the piece */
     laspidru_size body_len; /* how many bytes the body has, once the message is whole */
-    laspidru_u64 place;     /* BAD_FRAME: the byte offset in the stream on which the fault was decided */
+    laspidru_u64 offset;    /* BAD_FRAME: the byte offset in the stream on which the fault was decided */
     laspidru_u32 frame;     /* BAD_FRAME: 1 to 7, for F1 to F7 of docs/PROTOCOL.md */
     laspidru_bool is_whole; /* whether the message is whole */
 } laspidru_taken;
@@ -191,11 +210,11 @@ typedef struct laspidru_client_settings {
 
 #define LASPIDRU_CLIENT_SETTINGS_DEFAULT {16777216, 16777216, 1024, 65536, 0, 0, 0}
 
-/* The state of a client's session. */
+/* The state of an end's session. */
 typedef struct laspidru_state {
     laspidru_u32 phase;      /* LASPIDRU_PHASE_NEW .. LASPIDRU_PHASE_FAILED */
     laspidru_u32 reason;     /* PHASE_FAILED: the code that says why; else 0 */
-    laspidru_u32 encoding;   /* the encoding that was agreed on; 0 before */
+    laspidru_u32 encoding;   /* the encoding of positions that was agreed on; 0 before */
     laspidru_size documents; /* how many are open */
 } laspidru_state;
 
@@ -205,28 +224,42 @@ typedef struct laspidru_opened {
     laspidru_size bytes;
 } laspidru_opened;
 
-/* How a log is read (docs/LOGS.md). */
+/* How a log is read (docs/LOGS.md), and what of it is written. A command ignores the members of others. */
 typedef struct laspidru_log_settings {
     laspidru_size max_body;    /* 4,096 to 1,073,741,824 bytes of a message */
     laspidru_size max_text;    /* up to 1,073,741,824 bytes */
     laspidru_size max_docs;    /* 1 to 65,536 */
     laspidru_size max_changes; /* 1 to 1,048,576 in a message */
-    laspidru_u32 encoding;     /* what positions count */
-    laspidru_bool squash;      /* laspidru_log_normalise: changes of one document that follow each other as one message */
+    laspidru_u64 at;           /* REPLAY: the number of the last record that is read, from 1; 0 for all */
+    laspidru_u32 encoding;     /* what positions count in a log of version 1; one of version 2 says its own */
     laspidru_bool lenient;     /* as in laspidru_settings */
+    laspidru_bool squash;      /* NORMALISE: changes of one document that follow each other as one message */
+    laspidru_bool documents;   /* NORMALISE: without the records that are neither about the session nor about a text */
+    laspidru_bool texts;       /* TRACE: the document's text, where it was opened or changed */
+    laspidru_bool bodies;      /* TRACE: each body */
+    laspidru_bool has_uri;     /* REPLAY: the text of the document of `uri`, byte for byte; else `uri` is ignored */
 } laspidru_log_settings;
 
-#define LASPIDRU_LOG_SETTINGS_DEFAULT {16777216, 16777216, 1024, 65536, LASPIDRU_UTF16, 0, 0}
+#define LASPIDRU_LOG_SETTINGS_DEFAULT {16777216, 16777216, 1024, 65536, 0, LASPIDRU_UTF16, 0, 0, 0, 0, 0, 0}
 
 /* How a command on a log ended. A member that isn't of the code is 0. */
 typedef struct laspidru_ending {
-    laspidru_u32 status;     /* OK: 1 where something was refused, else 0 */
+    laspidru_u32 status;     /* OK: 1 where something was refused or is missing, else 0 */
     laspidru_u32 frame;      /* BAD_FRAME: 1 to 7, for F1 to F7 of docs/PROTOCOL.md */
+    laspidru_u32 missing;    /* OK: OUT_OF_RANGE where there is no record `at`, NOT_OPEN where `uri` was never open, else 0 */
     laspidru_u64 messages;   /* OK: how many messages were handled */
     laspidru_u64 refused;    /* OK: how many of them were refused */
-    laspidru_u64 place;      /* CUT, BAD_FRAME, BODY_TOO_LONG, BAD_LOG: a byte offset in the log */
+    laspidru_u64 offset;     /* CUT, BAD_FRAME, BODY_TOO_LONG, BAD_LOG: a byte offset in the log */
     laspidru_size output_len; /* how many bytes laspidru_output_copy copies */
 } laspidru_ending;
+
+/* The version of the library: LASPIDRU_VERSION_NUMBER of its own header. */
+laspidru_u32 laspidru_version(void);
+
+/* Copies what a code means from `start` on, as many bytes as `out` holds, and says how many: its name, a colon, a blank and a
+   sentence, as "EMPTY: the handle is empty". It has at most 120 bytes, and no byte 0 at its end. */
+laspidru_u32 laspidru_text(laspidru_u32 code, laspidru_size start, unsigned char *out, laspidru_size out_len,
+    laspidru_size *copied);
 
 /* Opens a document in an empty handle, by a copy of the text. */
 laspidru_u32 laspidru_document_open(laspidru_handle *document, const unsigned char *text, laspidru_size text_len);
@@ -286,77 +319,7 @@ laspidru_u32 laspidru_batch_len(laspidru_handle *batch, laspidru_size *len);
 laspidru_u32 laspidru_batch_edit(laspidru_handle *batch, laspidru_size index, laspidru_edit *edit,
     unsigned char *out, laspidru_size out_len, laspidru_size *copied);
 
-/* Makes a server in an empty handle, at the start of a session. */
-laspidru_u32 laspidru_server_new(laspidru_handle *server, const laspidru_settings *settings);
-
-/* Takes bytes of the next piece of the client's stream: all of them, or those up to the end of one message, which it handles.
-   `taken` says how many. Once the message is whole, `answer` is what laspidru_server_handle answers, and the body can be
-   copied until the next call; before, it stays as it is. With LASPIDRU_FAILED and LASPIDRU_BAD_FRAME no byte was taken. With
-   LASPIDRU_OUT_OF_MEMORY `taken->bytes` may be more than 0: a message is whole then, and the next call handles it first, also
-   with a `piece_len` of 0. With LASPIDRU_EMPTY, LASPIDRU_OTHER_KIND and LASPIDRU_ENDED (of a client LASPIDRU_WRONG_PHASE)
-   nothing is written. */
-laspidru_u32 laspidru_server_take(laspidru_handle *server, const unsigned char *piece, laspidru_size piece_len,
-    laspidru_taken *taken, laspidru_answer *answer);
-
-/* Copies the bytes of the body that laspidru_server_take took last from `start` on, as many as `out` holds, and says how many.
-   A message whose answer is IGNORED is yours, and so is a request whose reply has the error -32601. */
-laspidru_u32 laspidru_server_body(laspidru_handle *server, laspidru_size start,
-    unsigned char *out, laspidru_size out_len, laspidru_size *copied);
-
-/* Hands the body of a message to a server: the bytes after its header. It is for who takes the stream apart. The reply, if
-   there is one, stays with the server until the next message that it answers. After LASPIDRU_OUT_OF_MEMORY the same body
-   can be handed in again. */
-laspidru_u32 laspidru_server_handle(laspidru_handle *server, const unsigned char *body, laspidru_size body_len,
-    laspidru_answer *answer);
-
-/* Copies the bytes of the last reply from `start` on, as many as `out` holds, and says how many. A reply is whole, with
-   its header, to be sent as it is. Where the last message had none it has no bytes. */
-laspidru_u32 laspidru_server_reply(laspidru_handle *server, laspidru_size start,
-    unsigned char *out, laspidru_size out_len, laspidru_size *copied);
-
-/* The encoding of positions that was chosen at initialize, of which the reply tells the client; 0 before. */
-laspidru_u32 laspidru_server_encoding(laspidru_handle *server, laspidru_u32 *encoding);
-
-/* How many documents are open. */
-laspidru_u32 laspidru_server_documents(laspidru_handle *server, laspidru_size *len);
-
-/* The version and the length of the open document of a URI, which is compared byte for byte. */
-laspidru_u32 laspidru_server_document(laspidru_handle *server, const unsigned char *uri, laspidru_size uri_len,
-    laspidru_opened *document);
-
-/* Copies the bytes of an open document's text from `start` on, as many as `out` holds, and says how many. */
-laspidru_u32 laspidru_server_text(laspidru_handle *server, const unsigned char *uri, laspidru_size uri_len,
-    laspidru_size start, unsigned char *out, laspidru_size out_len, laspidru_size *copied);
-
-/* The byte offset of a position in the open document of a URI, as laspidru_document_offset has it. So a request's position is
-   resolved, as that of textDocument/hover: its `encoding` is the one of laspidru_server_encoding. */
-laspidru_u32 laspidru_server_offset(laspidru_handle *server, const unsigned char *uri, laspidru_size uri_len,
-    laspidru_u32 encoding, laspidru_position position, laspidru_size *offset);
-
-/* The exact position of a byte offset in an open document. */
-laspidru_u32 laspidru_server_position(laspidru_handle *server, const unsigned char *uri, laspidru_size uri_len,
-    laspidru_u32 encoding, laspidru_size offset, laspidru_position *position);
-
-/* Where a line of an open document, counted from 0, starts, and where it ends without its line end. */
-laspidru_u32 laspidru_server_line(laspidru_handle *server, const unsigned char *uri, laspidru_size uri_len,
-    laspidru_u32 line, laspidru_line *range);
-
-/* As laspidru_document_batch_of_edits, on the open document of a URI, for a formatter's or a code action's text edits. The
-   document stays as it is until the client reports them. */
-laspidru_u32 laspidru_server_batch_of_edits(laspidru_handle *server, const unsigned char *uri, laspidru_size uri_len,
-    laspidru_u32 encoding, const laspidru_edit *edits, laspidru_size edits_len, const unsigned char *texts,
-    laspidru_size texts_len, laspidru_handle *batch, laspidru_edits_fault *fault);
-
-/* Puts the one canonical didChange that means the same as these changes of an open document, under a version greater than
-   its own (with lenient limits under any), into the empty handle `output`. laspidru_output_copy copies it: `frame_len`
-   bytes, with its header. The document stays as it is. With INSIDE_CHARACTER and REVERSED_RANGE `fault` says which change
-   is faulty. */
-laspidru_u32 laspidru_server_canonical_message(laspidru_handle *server, const unsigned char *uri, laspidru_size uri_len,
-    laspidru_i32 version, laspidru_u32 encoding, const laspidru_edit *edits, laspidru_size edits_len,
-    const unsigned char *texts, laspidru_size texts_len, laspidru_handle *output, laspidru_fault *fault,
-    laspidru_size *frame_len);
-
-/* ---- A framer takes a stream apart: feed, then body and next for each message, until all of the piece was taken.
+/* ---- A framer takes a stream apart: feed, then laspidru_body and next for each message, until all of the piece was taken.
 
    Makes a framer in an empty handle, at the start of a stream. A body may have 4,096 to 1,073,741,824 bytes. */
 laspidru_u32 laspidru_framer_new(laspidru_handle *framer, laspidru_size max_body);
@@ -366,20 +329,19 @@ laspidru_u32 laspidru_framer_new(laspidru_handle *framer, laspidru_size max_body
 laspidru_u32 laspidru_framer_feed(laspidru_handle *framer, const unsigned char *piece, laspidru_size piece_len,
     laspidru_taken *taken);
 
-/* Copies the bytes of the body of the whole message from `start` on, as many as `out` holds, and says how many. */
-laspidru_u32 laspidru_framer_body(laspidru_handle *framer, laspidru_size start,
-    unsigned char *out, laspidru_size out_len, laspidru_size *copied);
-
 /* Releases the whole message, so that the next one is taken. Where none is whole it does nothing. */
 laspidru_u32 laspidru_framer_next(laspidru_handle *framer);
 
 /* Whether the stream may end here: no byte of a message is buffered, and there was no fault. */
 laspidru_u32 laspidru_framer_at_rest(laspidru_handle *framer, laspidru_bool *at_rest);
 
-/* ---- A client keeps an editor's documents and says what to send. Each call that is done leaves a frame in it, which
-   laspidru_client_frame copies: `frame_len` bytes with their header, until the next call or delivery that is done.
+/* ---- Ends of sessions: servers and clients.
 
-   Makes a client in an empty handle, at the start of a session. */
+   Makes a server in an empty handle, at the start of a session. */
+laspidru_u32 laspidru_server_new(laspidru_handle *server, const laspidru_settings *settings);
+
+/* Makes a client in an empty handle, at the start of a session. It keeps an editor's documents and says what to send: each of
+   its calls that is done leaves a frame in it, which laspidru_frame copies, `frame_len` bytes. */
 laspidru_u32 laspidru_client_new(laspidru_handle *client, const laspidru_client_settings *settings);
 
 /* initialize, in phase NEW, which becomes ASKED. */
@@ -407,65 +369,132 @@ laspidru_u32 laspidru_client_shutdown(laspidru_handle *client, laspidru_size *fr
 /* exit, in phase CLOSED, which becomes DONE. */
 laspidru_u32 laspidru_client_exit(laspidru_handle *client, laspidru_size *frame_len);
 
-/* Takes bytes of the next piece of the server's stream, as laspidru_server_take does of the client's. Once a message is whole,
-   `answer` is that of laspidru_client_deliver. */
-laspidru_u32 laspidru_client_take(laspidru_handle *client, const unsigned char *piece, laspidru_size piece_len,
+/* ---- Either end, a server or a client.
+
+   Takes bytes of the next piece of the other end's stream: all of them, or those up to the end of one message, which it
+   handles. `taken` says how many. Once the message is whole, `answer` is what laspidru_deliver answers, and the body can be
+   copied until the next call; before, it stays as it is. With LASPIDRU_FAILED and LASPIDRU_BAD_FRAME no byte was taken. With
+   LASPIDRU_OUT_OF_MEMORY `taken->bytes` may be more than 0: a message is whole then, and the next call handles it first, also
+   with a `piece_len` of 0. With LASPIDRU_EMPTY, LASPIDRU_OTHER_KIND, LASPIDRU_ENDED of a server and LASPIDRU_WRONG_PHASE of a
+   client nothing is written. */
+laspidru_u32 laspidru_take(laspidru_handle *end, const unsigned char *piece, laspidru_size piece_len,
     laspidru_taken *taken, laspidru_answer *answer);
 
-/* Copies the bytes of the body that laspidru_client_take took last from `start` on, as many as `out` holds, and says how many.
-   A notification, which is IGNORED, is yours, and so is a request, to which the frame is an error reply. */
-laspidru_u32 laspidru_client_body(laspidru_handle *client, laspidru_size start,
+/* Copies the bytes of the body that laspidru_take took last, or that a framer has buffered, from `start` on, as many as `out`
+   holds, and says how many. To a server a message is yours whose answer is IGNORED, and so is a request whose reply has the
+   error -32601. To a client a notification is, which is IGNORED, and so is a request, to which the frame is an error reply. */
+laspidru_u32 laspidru_body(laspidru_handle *end_or_framer, laspidru_size start,
     unsigned char *out, laspidru_size out_len, laspidru_size *copied);
 
-/* Hands the body of a message of the server to a client that listens, from ASKED to CLOSED. REPLIED says that there is a frame
-   to send, `reply_len` bytes: initialized after the response to initialize, else an error reply to a request. */
-laspidru_u32 laspidru_client_deliver(laspidru_handle *client, const unsigned char *body, laspidru_size body_len,
-    laspidru_answer *answer);
+/* Hands the body of a message to an end: the bytes after its header. It is for who takes the stream apart. A client listens
+   from ASKED to CLOSED. REPLIED says that there is a frame to send, `reply_len` bytes: a server's reply; of a client
+   initialized after the response to initialize, else an error reply to a request. After LASPIDRU_OUT_OF_MEMORY the same body
+   can be handed in again. */
+laspidru_u32 laspidru_deliver(laspidru_handle *end, const unsigned char *body, laspidru_size body_len, laspidru_answer *answer);
 
-/* Copies the bytes of the frame to send from `start` on, as many as `out` holds, and says how many. */
-laspidru_u32 laspidru_client_frame(laspidru_handle *client, laspidru_size start,
+/* Copies the bytes of the frame to send from `start` on, as many as `out` holds, and says how many. It is whole, with its
+   header, and stays until the next call or message that is done. Where that sent none it has no bytes. */
+laspidru_u32 laspidru_frame(laspidru_handle *end, laspidru_size start,
     unsigned char *out, laspidru_size out_len, laspidru_size *copied);
 
 /* The phase, the encoding, and how many documents are open. */
-laspidru_u32 laspidru_client_state(laspidru_handle *client, laspidru_state *state);
+laspidru_u32 laspidru_session_state(laspidru_handle *end, laspidru_state *state);
 
-/* The version and the length of the open document of a URI, which is compared byte for byte. */
-laspidru_u32 laspidru_client_document(laspidru_handle *client, const unsigned char *uri, laspidru_size uri_len,
+/* Copies the URI of the document that a body opens, changes or closes: a client's notification. NO_DOCUMENT says that it does
+   none of these. */
+laspidru_u32 laspidru_message_uri(const unsigned char *body, laspidru_size body_len, laspidru_size start,
+    unsigned char *out, laspidru_size out_len, laspidru_size *copied);
+
+/* ---- An end's open documents. URIs are compared byte for byte.
+
+   The version and the length of the open document of a URI. */
+laspidru_u32 laspidru_open_state(laspidru_handle *end, const unsigned char *uri, laspidru_size uri_len,
     laspidru_opened *document);
 
 /* Copies the bytes of an open document's text from `start` on, as many as `out` holds, and says how many. */
-laspidru_u32 laspidru_client_text(laspidru_handle *client, const unsigned char *uri, laspidru_size uri_len,
+laspidru_u32 laspidru_open_text(laspidru_handle *end, const unsigned char *uri, laspidru_size uri_len,
     laspidru_size start, unsigned char *out, laspidru_size out_len, laspidru_size *copied);
 
-/* The byte offset of a position in an open document, the exact position of a byte offset, and where a line starts and ends: as
-   laspidru_server_offset, laspidru_server_position and laspidru_server_line. */
-laspidru_u32 laspidru_client_offset(laspidru_handle *client, const unsigned char *uri, laspidru_size uri_len,
+/* The byte offset of a position in an open document, as laspidru_document_offset has it. So a request's position is resolved,
+   as that of textDocument/hover: its `encoding` is that of laspidru_session_state. */
+laspidru_u32 laspidru_open_offset(laspidru_handle *end, const unsigned char *uri, laspidru_size uri_len,
     laspidru_u32 encoding, laspidru_position position, laspidru_size *offset);
-laspidru_u32 laspidru_client_position(laspidru_handle *client, const unsigned char *uri, laspidru_size uri_len,
+
+/* The exact position of a byte offset in an open document. */
+laspidru_u32 laspidru_open_position(laspidru_handle *end, const unsigned char *uri, laspidru_size uri_len,
     laspidru_u32 encoding, laspidru_size offset, laspidru_position *position);
-laspidru_u32 laspidru_client_line(laspidru_handle *client, const unsigned char *uri, laspidru_size uri_len,
+
+/* Where a line of an open document, counted from 0, starts, and where it ends without its line end. */
+laspidru_u32 laspidru_open_line(laspidru_handle *end, const unsigned char *uri, laspidru_size uri_len,
     laspidru_u32 line, laspidru_line *range);
 
-/* Four commands on the bytes of a log, each as lspsync's of the same name. The output goes into the empty handle `output`:
-   what a server answers to each record, */
-laspidru_u32 laspidru_log_check(laspidru_handle *output, const laspidru_log_settings *settings,
-    const unsigned char *log, laspidru_size log_len, laspidru_ending *ending);
+/* As laspidru_document_batch_of_edits, on an open document, for a formatter's or a code action's text edits. The document
+   stays as it is until they are reported. */
+laspidru_u32 laspidru_open_batch_of_edits(laspidru_handle *end, const unsigned char *uri, laspidru_size uri_len,
+    laspidru_u32 encoding, const laspidru_edit *edits, laspidru_size edits_len, const unsigned char *texts,
+    laspidru_size texts_len, laspidru_handle *batch, laspidru_edits_fault *fault);
 
-/* the documents that are open at the end, a line of JSON for each, */
-laspidru_u32 laspidru_log_replay(laspidru_handle *output, const laspidru_log_settings *settings,
-    const unsigned char *log, laspidru_size log_len, laspidru_ending *ending);
+/* Puts the one canonical didChange that means the same as these changes of an open document, under a version greater than
+   its own (with lenient limits under any), into the empty handle `output`. laspidru_output_copy copies it: `frame_len`
+   bytes, with its header. The document stays as it is. With INSIDE_CHARACTER and REVERSED_RANGE `fault` says which change
+   is faulty. */
+laspidru_u32 laspidru_open_canonical_message(laspidru_handle *end, const unsigned char *uri, laspidru_size uri_len,
+    laspidru_i32 version, laspidru_u32 encoding, const laspidru_edit *edits, laspidru_size edits_len,
+    const unsigned char *texts, laspidru_size texts_len, laspidru_handle *output, laspidru_fault *fault,
+    laspidru_size *frame_len);
 
-/* the log with each accepted change as its canonical message, */
-laspidru_u32 laspidru_log_normalise(laspidru_handle *output, const laspidru_log_settings *settings,
-    const unsigned char *log, laspidru_size log_len, laspidru_ending *ending);
+/* ---- Logs.
 
-/* and a log of version 1 in version 2, with the replies that a server gives. */
-laspidru_u32 laspidru_log_convert(laspidru_handle *output, const laspidru_log_settings *settings,
-    const unsigned char *log, laspidru_size log_len, laspidru_ending *ending);
+   Runs a command, LASPIDRU_CHECK to LASPIDRU_CONVERT, on the bytes of a log. Its output goes into the empty handle `output`.
+   `uri` is that of the one document that REPLAY is to write; without `has_uri` it may have no bytes. */
+laspidru_u32 laspidru_log_run(laspidru_handle *output, laspidru_u32 command, const laspidru_log_settings *settings,
+    const unsigned char *uri, laspidru_size uri_len, const unsigned char *log, laspidru_size log_len,
+    laspidru_ending *ending);
 
 /* Copies the bytes of the output from `start` on, as many as `out` holds, and says how many. */
 laspidru_u32 laspidru_output_copy(laspidru_handle *output, laspidru_size start,
     unsigned char *out, laspidru_size out_len, laspidru_size *copied);
+
+/* ---- Codes of each call.
+   They come in this order. A call on a full handle begins with those of what it is passed: NOT_UTF8 of the URI; BAD_ENCODING;
+   BAD_LENGTH or NOT_UTF8 of the first such edit; IN_USE of the handle that is to be filled; EMPTY, OTHER_KIND. Then come:
+
+   batch_edit, document_copy, document_line, frame, output_copy, text: OUT_OF_RANGE
+   body: NO_MESSAGE, OUT_OF_RANGE
+   client_close: WRONG_PHASE; OUT_OF_MEMORY, or NOT_OPEN, or TOO_LONG of the message
+   client_edit: WRONG_PHASE; OUT_OF_MEMORY, or NOT_OPEN, STALE_VERSION, TOO_MANY_CHANGES, INSIDE_CHARACTER,
+      REVERSED_RANGE, TOO_LONG, also of a message that is too long
+   client_exit, client_shutdown, client_start: WRONG_PHASE; OUT_OF_MEMORY
+   client_new: IN_USE, BAD_MAX_BODY, BAD_MAX_TEXT, BAD_MAX_DOCS, BAD_MAX_CHANGES; OUT_OF_MEMORY
+   client_open: WRONG_PHASE; OUT_OF_MEMORY, or ALREADY_OPEN, TOO_MANY_DOCUMENTS, TOO_LONG, also of a message that is too
+      long
+   deliver: ENDED of a server, WRONG_PHASE of a client; OUT_OF_MEMORY, after which the body may be passed again
+   document_apply_edits: those of document_batch_of_edits without IN_USE, and TOO_LONG where the text that would be left
+      is too long
+   document_batch_of_edits: TOO_LONG; OUT_OF_MEMORY, or the fault; that is INSIDE_CHARACTER or REVERSED_RANGE of the
+      first such edit, else OVERLAP
+   document_canonical: those of document_change, with IN_USE of batch before EMPTY
+   document_change: TOO_LONG; OUT_OF_MEMORY, or INSIDE_CHARACTER, REVERSED_RANGE or TOO_LONG if there is no text after
+      the batch
+   document_offset: INSIDE_CHARACTER
+   document_open: IN_USE, TOO_LONG, NOT_UTF8; OUT_OF_MEMORY
+   document_position: INSIDE_CHARACTER, also for an offset between CR and LF or past the end
+   framer_feed: FAILED; OUT_OF_MEMORY, or BAD_FRAME
+   framer_new: IN_USE, BAD_MAX_BODY; OUT_OF_MEMORY
+   log_run: IN_USE; OUT_OF_RANGE of the command; NOT_UTF8 of the URI; BAD_ENCODING, BAD_MAX_BODY, BAD_MAX_TEXT,
+      BAD_MAX_DOCS, BAD_MAX_CHANGES; OUT_OF_MEMORY, or the fault: CUT, BAD_FRAME, BAD_LOG, of normalise also
+      BODY_TOO_LONG; TOO_MANY_TURNS is for more than 2^64-1 reads and writes
+   message_uri: OUT_OF_MEMORY; NO_DOCUMENT of any other body, OUT_OF_RANGE
+   open_batch_of_edits: NOT_OPEN, TOO_LONG; OUT_OF_MEMORY, or the fault, as of document_batch_of_edits
+   open_canonical_message: OUT_OF_MEMORY, or NOT_OPEN, STALE_VERSION, TOO_MANY_CHANGES, INSIDE_CHARACTER,
+      REVERSED_RANGE, TOO_LONG, also of a message that is too long
+   open_line, open_text: NOT_OPEN, OUT_OF_RANGE
+   open_offset: NOT_OPEN, INSIDE_CHARACTER
+   open_position: NOT_OPEN; INSIDE_CHARACTER, also for an offset between CR and LF or past the end
+   open_state: NOT_OPEN
+   server_new: IN_USE, BAD_ENCODING, BAD_MAX_BODY, BAD_MAX_TEXT, BAD_MAX_DOCS, BAD_MAX_CHANGES; OUT_OF_MEMORY
+   take: ENDED of a server, WRONG_PHASE of a client; FAILED; OUT_OF_MEMORY, or BAD_FRAME
+*/
 
 #ifdef __cplusplus
 }

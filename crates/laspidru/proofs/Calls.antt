@@ -1,30 +1,29 @@
 -- What a call of a client sends, and the code of its refusal, by the tables of its steps.
-use Rattle.std.proofs.Common.{◌≡◌, ℕ, List, length, true, Option, Some, Result, Ok, Err, inl, inr, ap, subst, ◌∙◌}
-use Rattle.std.specs.Prelude.{if◌then◌else◌}
-use Rattle.lsp_message.specs.Message.{Reading}
+use Rattle.std.proofs.Common.{◌≡◌, ℕ, List, length, Option, Some, Result, Ok, Err, inl, inr, ap, subst, ◌∙◌}
 use Rattle.lsp_client.specs.declared.fault.ClientFault.{ClientFault}
 use Rattle.lsp_client.specs.declared.fault.ClientFault.TheVariants as client
-use Rattle.lsp_client.specs.Seen.{IsSent, IsFaultOf, IsDelivered}
-use Rattle.lsp_client.specs.Step.{ClientData, Sending, Delivery, DeliveredData, delivery_of, delivery_result, is_listening}
-use Rattle.laspidru.specs.declared.answers.Answer.{Answer}
+use Rattle.lsp_client.specs.Seen.{IsSent, IsFaultOf}
+use Rattle.lsp_client.specs.Step.{ClientData, Sending}
 use Rattle.laspidru.specs.declared.codes.TheConstants.{OK}
 use Rattle.laspidru.specs.declared.object.Object.{Object}
-use Rattle.laspidru.specs.declared.object.Object.TheVariants.{Client}
+use Rattle.laspidru.specs.declared.object.Object.TheVariants.{End}
+use Rattle.laspidru.specs.declared.party.Party.TheVariants.{Client}
 use Rattle.laspidru.specs.declared.structs.FaultAt.{FaultAt}
 use Rattle.laspidru.specs.Streams.{StreamData}
 use Rattle.laspidru.specs.inside.Clients.{IsCallReport, call_code}
-use Rattle.laspidru.specs.Clients.{IsCalled, IsDeliveredTo, IsRefusedCall, IsTakenIn, IsWritten, delivered_out, sent_frame}
+use Rattle.laspidru.specs.Clients.{IsCalled, IsRefusedCall, IsWritten}
 
 -- A call that sends a frame is accepted.
 pub accepted : (stream : StreamData) (r : Result Sending ClientFault) (bytes : List ℕ) (new : ClientData) (code len : ℕ)
     (stored : Option Object)
-    → IsSent r bytes new → code ≡ OK → stored ≡ Some (Client (record { client = new; frame = bytes; stream = stream }))
+    → IsSent r bytes new → code ≡ OK
+    → stored ≡ Some (End (record { party = Client new; frame = bytes; stream = stream }))
     → len ≡ length bytes
     → IsCalled stream r code stored len
 accepted stream (Ok sending) bytes new code len stored sent done held counted =
     inr (record {
       done = done;
-      client = held ∙ (λ i. Some (Client (record { client = sent.1 i; frame = sent.0 i; stream = stream })));
+      client = held ∙ (λ i. Some (End (record { party = Client (sent.1 i); frame = sent.0 i; stream = stream })));
       frame_len = counted ∙ ap length sent.0;
     })
 accepted stream (Err refusal) bytes new code len stored sent done held counted = absurd sent
@@ -36,13 +35,6 @@ code_is (client.WrongPhase phase) fault code why is = is ∙ ap call_code why
 code_is (client.Store refusal) fault code (inl none) is = inl (is ∙ ap call_code none)
 code_is (client.Store refusal) fault code (inr why) is = inr (is ∙ ap call_code why)
 code_is client.NoMemory fault code why is = is ∙ ap call_code why
-
-delivery_code_is : (refusal : ClientFault) (fault : ClientFault) (code : ℕ) → IsFaultOf {A = Delivery} (Err refusal)
-    fault → code ≡ call_code fault → IsRefusedCall refusal code
-delivery_code_is (client.WrongPhase phase) fault code why is = is ∙ ap call_code why
-delivery_code_is (client.Store refusal) fault code (inl none) is = inl (is ∙ ap call_code none)
-delivery_code_is (client.Store refusal) fault code (inr why) is = inr (is ∙ ap call_code why)
-delivery_code_is client.NoMemory fault code why is = is ∙ ap call_code why
 
 -- A call with a fault is refused, or out of memory.
 pub call_refused : (stream : StreamData) (r : Result Sending ClientFault) (fault : ClientFault) (code len : ℕ)
@@ -66,42 +58,3 @@ pub none_written : (r : Result Sending ClientFault) (bytes : List ℕ) (new : Cl
     → IsSent r bytes new → IsWritten r code out
 none_written (Ok sending) bytes new code out sent = tt
 none_written (Err refusal) bytes new code out sent = absurd sent
-
--- A body that a client takes.
-pub delivered : (stream : StreamData) (r : Result Delivery ClientFault) (given : DeliveredData (List ℕ))
-    (new : ClientData) (code : ℕ) (stored : Option Object) (out : Answer)
-    → IsDelivered r given new → code ≡ OK
-    → stored ≡ Some (Client (record { client = new; frame = sent_frame given; stream = stream }))
-    → out ≡ delivered_out given
-    → IsDeliveredTo stream r code stored out
-delivered stream (Ok delivery) given new code stored out is done held answered =
-    inr (record {
-      done = done;
-      client = held ∙ (λ i. Some (Client (record { client = is.1 i; frame = sent_frame (is.0 i); stream = stream })));
-      answer = answered ∙ ap delivered_out is.0;
-    })
-delivered stream (Err refusal) given new code stored out is done held answered = absurd is
-
--- A body that a client refuses.
-pub delivery_refused : (stream : StreamData) (r : Result Delivery ClientFault) (fault : ClientFault) (code : ℕ)
-    (stored : Option Object) (out : Answer)
-    → IsFaultOf r fault → code ≡ call_code fault → IsDeliveredTo stream r code stored out
-delivery_refused stream (Ok delivery) fault code stored out why is = inl (is ∙ ap call_code why)
-delivery_refused stream (Err refusal) fault code stored out why is = delivery_code_is refusal fault code why is
-
--- A body that a listening client takes.
-pub heard : (stream : StreamData) (s : ClientData) (body : Reading) (given : DeliveredData (List ℕ)) (new : ClientData)
-    (code : ℕ) (stored : Option Object) (out : Answer)
-    → is_listening s.phase ≡ true → IsDelivered (delivery_result s body) given new → code ≡ OK
-    → stored ≡ Some (Client (record { client = new; frame = sent_frame given; stream = stream }))
-    → out ≡ delivered_out given
-    → IsTakenIn stream (delivery_of s body) code stored out
-heard stream s body given new code stored out listens is done held answered =
-    let d : IsDelivered (Ok (delivery_of s body)) given new =
-    subst (λ b. IsDelivered (if b then Ok (delivery_of s body) else Err (client.WrongPhase s.phase)) given new) listens
-    is in
-    record {
-      done = done;
-      client = held ∙ (λ i. Some (Client (record { client = d.1 i; frame = sent_frame (d.0 i); stream = stream })));
-      answer = answered ∙ ap delivered_out d.0;
-    }

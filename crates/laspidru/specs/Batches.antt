@@ -79,18 +79,18 @@ text_left_by asked =
     let means = meaning (units_in asked.encoding) (chars asked.text) asked.edits in
     text_within MAX_OLD_TEXT asked.text means
 
--- The end of a range that a fault is about.
-abbrev pub side_at : Bool → Side
-side_at true = Stop
-side_at false = Start
+-- Is it the end of a range that a fault is about?
+abbrev pub is_end : Side → Bool
+is_end Stop = true
+is_end Start = false
 
 -- A fault is reported by its code. If it is one of a change, `out` has the number of the change and
 -- the end of its range.
 abbrev pub IsReport : BatchFault → ℕ → FaultAt → Type 0
 IsReport (EditOf (edit.InsideCharacter change side)) code out =
-    (code ≡ INSIDE_CHARACTER) × (out.change ≡ change) × (side_at out.at_end ≡ side)
+    (code ≡ INSIDE_CHARACTER) × (out ≡ record { change = change; at_end = is_end side })
 IsReport (EditOf (edit.ReversedRange change)) code out =
-    (code ≡ REVERSED_RANGE) × (out.change ≡ change) × (out.at_end ≡ false)
+    (code ≡ REVERSED_RANGE) × (out ≡ record { change = change; at_end = false })
 IsReport (EditOf edit.NoMemory) code out = code ≡ OUT_OF_MEMORY
 IsReport TooLong code out = code ≡ TOO_LONG
 IsReport NoMemory code out = code ≡ OUT_OF_MEMORY

@@ -1,38 +1,34 @@
 -- A client that C asks for, the calls on it, and what C gets of them.
-use Rattle.std.specs.Prelude.{ℕ, ℤ, ◌≡◌, ◌⊎◌, false, List, [], length, option_map, Option, Some, None, Result, Ok, Err}
-use Rattle.std.specs.Option.{ok_or}
+use Rattle.std.specs.Prelude.{ℕ, ℤ, ◌≡◌, ◌⊎◌, false, List, [], length, Option, Some, None, Result, Ok, Err}
 use Rattle.lsp_frame.specs.Frame.{frame}
 use Rattle.lsp_frame.specs.Limits.{LimitsData}
-use Rattle.lsp_text.specs.declared.encoding.Encoding.{Encoding}
-use Rattle.lsp_text.specs.declared.encoding.Encoding.TheVariants.{Utf8, Utf16, Utf32}
 use Rattle.lsp_edit.specs.declared.fault.EditFault.TheVariants as edit
 use Rattle.lsp_message.specs.Outgoing.{body_of}
-use Rattle.lsp_message.specs.Params.{DocumentItem}
 use Rattle.lsp_store.specs.declared.fault.StoreFault.{StoreFault}
 use Rattle.lsp_store.specs.declared.fault.StoreFault.TheVariants as faults
-use Rattle.lsp_store.specs.Table.{entry_at}
 use Rattle.lsp_client.specs.declared.fault.ClientFault.{ClientFault}
 use Rattle.lsp_client.specs.declared.fault.ClientFault.TheVariants as client
 use Rattle.lsp_client.specs.declared.phase.Phase.{Phase}
 use Rattle.lsp_client.specs.declared.phase.Phase.TheVariants.{New, Asked, Ready, Closing, Closed, Done, Failed}
 use Rattle.lsp_client.specs.declared.phase.Reason.{Reason}
 use Rattle.lsp_client.specs.declared.phase.Reason.TheVariants.{NotAnAnswer, ErrorAnswer, NoSync, BadEncoding}
-use Rattle.lsp_client.specs.Seen.{as_frame}
-use Rattle.lsp_client.specs.Step.{Call, starts, shuts_down, exits, opens, edits, Order, Sending, Delivery, DeliveredData, sends, noted, ignored, bad_server, new_client}
+use Rattle.lsp_client.specs.Step.{Call, ClientData, starts, shuts_down, exits, opens, edits, Order, Sending, DeliveredData, sends, noted, ignored, bad_server, new_client}
 use Rattle.laspidru.specs.declared.answers.Answer.{Answer}
 use Rattle.laspidru.specs.declared.reports.Call.{Call as Lifecycle}
 use Rattle.laspidru.specs.declared.reports.Call.TheVariants.{Start, Shutdown, Exit}
 use Rattle.laspidru.specs.declared.reports.ClientSettings.{ClientSettings}
-use Rattle.laspidru.specs.declared.reports.ClientState.{ClientState}
-use Rattle.laspidru.specs.declared.codes.TheConstants.{BAD_ENCODING, BAD_SERVER, EMPTY, ERROR_ANSWER, IGNORED, NO_SYNC, NOT_AN_ANSWER, NOT_OPEN, NOTED, OK, OTHER_KIND, OUT_OF_MEMORY, REPLIED, WRONG_PHASE}
+use Rattle.laspidru.specs.declared.codes.TheConstants.{BAD_ENCODING, BAD_SERVER, EMPTY, ERROR_ANSWER, IGNORED, NO_SYNC, NOT_AN_ANSWER, NOTED, OK, OTHER_KIND, OUT_OF_MEMORY, REPLIED, WRONG_PHASE}
 use Rattle.laspidru.specs.declared.object.Object.{Object}
-use Rattle.laspidru.specs.declared.object.Object.TheVariants.{Client}
+use Rattle.laspidru.specs.declared.object.Object.TheVariants.{End}
+use Rattle.laspidru.specs.declared.party.Party.{Party}
+use Rattle.laspidru.specs.declared.party.Party.TheVariants.{Server, Client}
 use Rattle.laspidru.specs.declared.structs.Edit.{Edit}
 use Rattle.laspidru.specs.declared.structs.FaultAt.{FaultAt}
 use Rattle.laspidru.specs.Codes.{and_then}
-use Rattle.laspidru.specs.Batches.{edits_of, side_at}
-use Rattle.laspidru.specs.HeldClients.{HeldClientData}
-use Rattle.laspidru.specs.Servers.{limits_asked, plain_out, store_code, uri_asked}
+use Rattle.laspidru.specs.Batches.{edits_of, is_end}
+use Rattle.laspidru.specs.HeldEnds.{EndData}
+use Rattle.laspidru.specs.Objects.{uri_asked}
+use Rattle.laspidru.specs.Servers.{limits_asked, plain_out, store_code}
 use Rattle.laspidru.specs.Streams.{StreamData, stream_of}
 
 -- ---- how a client is set up
@@ -48,20 +44,30 @@ client_bounds settings = record {
 }
 
 -- A client at the start of a session, if each limit is in its range. It has sent nothing.
-abbrev pub client_asked : ClientSettings → Result HeldClientData ℕ
+abbrev pub client_asked : ClientSettings → Result EndData ℕ
 client_asked settings = and_then (limits_asked (client_bounds settings)) (λ limits. Ok (record {
-  client = new_client limits (record { utf8 = settings.utf8; utf32 = settings.utf32 });
+  party = Client (new_client limits (record { utf8 = settings.utf8; utf32 = settings.utf32 }));
   frame = [];
   stream = stream_of limits;
 }))
 
--- The client of an object, with its last frame.
-abbrev pub as_client : Object → Result HeldClientData ℕ
-as_client (Client editor) = Ok editor
+-- A client, and the stream of its end.
+pub record ClientEnd : Type 0 where
+  pub client : ClientData
+  pub stream : StreamData
+
+-- The client of an end.
+abbrev pub client_in : Party → StreamData → Result ClientEnd ℕ
+client_in (Client client) stream = Ok (record { client = client; stream = stream })
+client_in (Server server) stream = Err OTHER_KIND
+
+-- The client of an object.
+abbrev pub as_client : Object → Result ClientEnd ℕ
+as_client (End held) = client_in held.party held.stream
 as_client other = Err OTHER_KIND
 
 -- The client in a handle.
-abbrev pub stored_client : Option Object → Result HeldClientData ℕ
+abbrev pub stored_client : Option Object → Result ClientEnd ℕ
 stored_client (Some object) = as_client object
 stored_client None = Err EMPTY
 
@@ -85,9 +91,9 @@ edit_asked uri version batch texts = edits uri version (edits_of batch texts)
 -- A faulty change is written, with the end of its range.
 abbrev pub IsStoreReport : StoreFault → FaultAt → Type 0
 IsStoreReport (faults.Edit (edit.InsideCharacter change side)) out =
-    (out.change ≡ change) × (side_at out.at_end ≡ side)
+    out ≡ record { change = change; at_end = is_end side }
 IsStoreReport (faults.Edit (edit.ReversedRange change)) out =
-    (out.change ≡ change) × (out.at_end ≡ false)
+    out ≡ record { change = change; at_end = false }
 IsStoreReport other out = Unit {0}
 
 -- A call is refused with this code. One in a wrong phase takes no memory.
@@ -100,8 +106,8 @@ IsRefusedCall client.NoMemory code = code ≡ OUT_OF_MEMORY
 pub record IsAccepted (stream : StreamData) (sending : Sending) (code : ℕ) (stored : Option Object)
     (len : ℕ) : Type 0 where
   pub done : code ≡ OK
-  pub client : stored ≡ Some (Client (record {
-    client = sending.state;
+  pub client : stored ≡ Some (End (record {
+    party = Client sending.state;
     frame = frame (body_of sending.message);
     stream = stream;
   }))
@@ -154,25 +160,7 @@ abbrev pub sent_frame : DeliveredData (List ℕ) → List ℕ
 sent_frame (sends frame) = frame
 sent_frame other = []
 
--- The handle has the client after a delivery, and C gets its result.
-pub record IsTakenIn (stream : StreamData) (delivery : Delivery) (code : ℕ)
-    (stored : Option Object) (out : Answer) : Type 0 where
-  pub done : code ≡ OK
-  pub client : stored ≡ Some (Client (record {
-    client = delivery.state;
-    frame = sent_frame (as_frame delivery.delivered);
-    stream = stream;
-  }))
-  pub answer : out ≡ delivered_out (as_frame delivery.delivered)
-
--- A body is handled or out of memory, or refused.
-abbrev pub IsDeliveredTo : StreamData → Result Delivery ClientFault → ℕ → Option Object → Answer →
-    Type 0
-IsDeliveredTo stream (Ok delivery) code stored out =
-    (code ≡ OUT_OF_MEMORY) ⊎ IsTakenIn stream delivery code stored out
-IsDeliveredTo stream (Err refusal) code stored out = IsRefusedCall refusal code
-
--- ---- what is asked of a client
+-- ---- its phase
 
 -- The number of a phase.
 abbrev pub phase_number : Phase → ℕ
@@ -188,31 +176,3 @@ phase_number (Failed reason) = 6
 abbrev pub phase_reason : Phase → ℕ
 phase_reason (Failed reason) = reason_number reason
 phase_reason other = 0
-
--- The number of an encoding; 0 of none.
-abbrev pub encoding_number : Option Encoding → ℕ
-encoding_number None = 0
-encoding_number (Some Utf8) = 8
-encoding_number (Some Utf16) = 16
-encoding_number (Some Utf32) = 32
-
--- The state of a client.
-pub record IsState (out : ClientState) (editor : HeldClientData) : Type 0 where
-  pub phase : out.phase ≡ phase_number editor.client.phase
-  pub reason : out.reason ≡ phase_reason editor.client.phase
-  pub encoding : out.encoding
-      ≡ encoding_number (option_map (λ agreed. agreed.encoding) editor.client.agreed)
-  pub documents : out.documents ≡ length editor.client.table
-
--- The last frame of a client.
-abbrev pub frame_asked : Result HeldClientData ℕ → Result (List ℕ) ℕ
-frame_asked client = and_then client (λ editor. Ok editor.frame)
-
--- The open document of a URI.
-abbrev pub document_at : List ℕ → HeldClientData → Result DocumentItem ℕ
-document_at uri editor = ok_or (entry_at editor.client.table uri) NOT_OPEN
-
--- The same, with the codes of the URI and of the handle before it.
-abbrev pub document_asked : List ℕ → Result HeldClientData ℕ → Result DocumentItem ℕ
-document_asked uri client =
-    and_then (uri_asked uri) (λ named. and_then client (λ editor. document_at named editor))

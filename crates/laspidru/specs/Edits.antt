@@ -22,7 +22,7 @@ use Rattle.laspidru.specs.declared.object.Object.TheVariants.{Document}
 use Rattle.laspidru.specs.declared.structs.CPosition.{CPosition}
 use Rattle.laspidru.specs.declared.structs.Edit.{Edit}
 use Rattle.laspidru.specs.declared.structs.EditsFault.{EditsFault}
-use Rattle.laspidru.specs.Batches.{len_of, refused_edit, side_at}
+use Rattle.laspidru.specs.Batches.{is_end, len_of, refused_edit}
 use Rattle.laspidru.specs.Codes.{and_then, unless}
 use Rattle.laspidru.specs.Objects.{encoding_at, position_at, stored_batch}
 
@@ -80,11 +80,11 @@ edits_asked number edits texts document = and_then (encoding_at number) (λ enco
 -- A fault of text edits is reported by its code, with the numbers of the edits that it is about.
 abbrev pub IsEditsReport : TextEditFault → ℕ → EditsFault → Type 0
 IsEditsReport (InsideCharacter edit side) code out =
-    (code ≡ INSIDE_CHARACTER) × (out.edit ≡ edit) × (side_at out.at_end ≡ side)
+    (code ≡ INSIDE_CHARACTER) × (out ≡ record { edit = edit; other = 0; at_end = is_end side })
 IsEditsReport (ReversedRange edit) code out =
-    (code ≡ REVERSED_RANGE) × (out.edit ≡ edit) × (out.at_end ≡ false)
+    (code ≡ REVERSED_RANGE) × (out ≡ record { edit = edit; other = 0; at_end = false })
 IsEditsReport (Overlap first second) code out =
-    (code ≡ OVERLAP) × (out.edit ≡ first) × (out.other ≡ second)
+    (code ≡ OVERLAP) × (out ≡ record { edit = first; other = second; at_end = false })
 IsEditsReport NoMemory code out = code ≡ OUT_OF_MEMORY
 
 -- The edits mean nothing on the text, and this is reported of them.

@@ -42,12 +42,13 @@ HasBody framing false len = (len ≡ 0) × (framing.failed ≡ false → (body :
 
 -- Bytes of a piece were taken: all of them, or those up to the end of one message.
 pub record HasTaken (old new : FramerData) (piece : List ℕ) (out : Taken) : Type 0 where
+  pub sound : old.failed ≡ false
   pub within : out.bytes ≤ length piece
   pub buffered : new ≡ record old { buffered = old.buffered ++ take out.bytes piece }
   pub stops : out.bytes < length piece → IsFrame new.limits.max_body new.buffered
   pub one : HoldsOne new.limits.max_body new.buffered
   pub body : HasBody new out.is_whole out.body_len
-  pub none : (out.place ≡ 0) × (out.frame ≡ 0)
+  pub none : (out.offset ≡ 0) × (out.frame ≡ 0)
 
 -- The code of a fault of a stream.
 abbrev pub frame_code : FrameFault → ℕ
@@ -57,11 +58,11 @@ frame_code fault = BAD_FRAME
 
 -- What is written where no byte was taken.
 abbrev pub nothing_taken : Taken
-nothing_taken = record { bytes = 0; body_len = 0; place = 0; frame = 0; is_whole = false }
+nothing_taken = record { bytes = 0; body_len = 0; offset = 0; frame = 0; is_whole = false }
 
 -- What is written of a fault: its number and its byte offset in the stream.
 abbrev pub taken_fault : ℕ → ℕ → Taken
-taken_fault number place = record nothing_taken { place = place; frame = number }
+taken_fault number offset = record nothing_taken { offset = offset; frame = number }
 
 -- A fault is written, if it is one of F1 to F7.
 abbrev pub IsFrameReport : FrameFault → Taken → Type 0
@@ -119,14 +120,15 @@ abbrev pub IsNext : Bool → FramerData → FramerData → Type 0
 IsNext true old new = IsReleased old new
 IsNext false old new = new ≡ old
 
--- A piece was fed to a stream. With another code than OK no byte of it was taken.
+-- A piece was fed to a stream. With another code than OK no byte of it was taken, and only a fault
+-- of F1 to F7 is written.
 pub record IsFedTo (old : StreamData) (piece : List ℕ) (code : ℕ) (new : StreamData)
     (out : Taken) : Type 0 where
   pub at : FramerData
   pub next : IsNext old.is_handled old.framing at
   pub fed : IsPieceFed at piece code new.framing out
   pub unhandled : new.is_handled ≡ false
-  pub none : code ≢ OK → (out.bytes ≡ 0) × (out.is_whole ≡ false)
+  pub none : code ≢ OK → code ≢ BAD_FRAME → out ≡ nothing_taken
 
 -- The body of the message that is buffered.
 abbrev pub IsBodyOf : FramerData → List ℕ → Type 0

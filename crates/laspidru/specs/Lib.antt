@@ -1,6 +1,5 @@
 pub mod Streams
-pub mod HeldServers
-pub mod HeldClients
+pub mod HeldEnds
 pub mod Codes
 pub mod Objects
 pub mod Batches
@@ -8,8 +7,10 @@ pub mod Edits
 pub mod Servers
 pub mod Framers
 pub mod Clients
+pub mod Ends
 pub mod Taking
 pub mod Logs
 pub mod Messages
+pub mod Texts
 pub mod laws
 pub mod inside

@@ -1,28 +1,34 @@
 -- A command on a log that C asks for, and the result that C gets.
-use Rattle.std.specs.Prelude.{ℕ, ◌≡◌, ◌≢◌, Bool, true, false, List, [], length, Option, Some, None, Result, Ok, Err, IfOk}
+use Rattle.std.specs.Option.{ok_or}
+use Rattle.std.specs.Prelude.{ℕ, ◌≡◌, ◌≢◌, ◌||◌, not, nat_eq, if◌then◌else◌, Bool, true, false, List, [], length, option_map, string_bytes, Option, Some, None, Result, Ok, Err}
 use Rattle.lsp_frame.specs.Limits.{LimitsData}
 use Rattle.lsp_frame.specs.declared.fault.FrameFault.{FrameFault}
 use Rattle.lsp_frame.specs.declared.fault.FrameFault.TheVariants as frame
 use Rattle.lsp_stream.specs.declared.fault.EngineFault.{EngineFault}
-use Rattle.lsp_stream.specs.declared.fault.EngineFault.TheVariants.{Read, Frame, Truncated, BodyTooLong, TooManyTurns, BadLog}
-use Rattle.lsp_log.specs.Log.{LogRules, Record}
+use Rattle.lsp_stream.specs.declared.fault.EngineFault.TheVariants.{Frame, Truncated, BodyTooLong, TooManyTurns, BadLog}
+use Rattle.lsp_stream.specs.Ports.{Ports}
 use Rattle.lsp_replay.specs.declared.commands.Settings.{Settings}
+use Rattle.lsp_replay.specs.declared.commands.parts.Part.{Part}
+use Rattle.lsp_replay.specs.declared.outcome.Missing.{Missing}
+use Rattle.lsp_replay.specs.declared.outcome.Missing.TheVariants as missing
 use Rattle.lsp_replay.specs.declared.outcome.Outcome.{Outcome}
-use Rattle.lsp_replay.specs.RunOutput.{RunOutput}
-use Rattle.lsp_replay.specs.Engine.{state_of}
-use Rattle.lsp_replay.specs.Commands.{as_converted, as_log, converted, report, verdicts}
-use Rattle.lsp_replay.specs.laws.Written.{IsConverted, IsCanonicalLog, IsSquashed, Wrote}
-use Rattle.lsp_replay.specs.Squashed.{normalised}
-use Rattle.lsp_replay.specs.AllRecords.{RanOver}
-use Rattle.laspidru.specs.declared.codes.TheConstants.{BAD_FRAME, BAD_LOG, BODY_TOO_LONG, CUT, EMPTY, OK, OTHER_KIND, OUT_OF_MEMORY, TOO_MANY_TURNS}
+use Rattle.lsp_replay.specs.Documents.{WritesDocuments, documents_engine}
+use Rattle.lsp_replay.specs.Explained.{explain_engine}
+use Rattle.lsp_replay.specs.Parts.{part_engine}
+use Rattle.lsp_replay.specs.Run.{Engine, IsEngineRun, WritesLog, check_engine, convert_engine, normalise_engine, replay_engine}
+use Rattle.lsp_replay.specs.Trace.{trace_engine}
+use Rattle.lsp_replay.specs.laws.Written.{IsConverted, IsCanonicalLog, IsSquashed}
+use Rattle.laspidru.specs.declared.codes.TheConstants.{BAD_FRAME, BAD_LOG, BODY_TOO_LONG, CUT, EMPTY, NOT_OPEN, OK, OTHER_KIND, OUT_OF_MEMORY, OUT_OF_RANGE, TOO_MANY_TURNS}
 use Rattle.laspidru.specs.declared.command.Command.{Command}
-use Rattle.laspidru.specs.declared.command.Command.TheVariants.{Check, Replay, Normalise, Convert}
+use Rattle.laspidru.specs.declared.command.Command.TheVariants as command
+use Rattle.laspidru.specs.declared.command.CommandName.{CommandName}
+use Rattle.laspidru.specs.declared.command.CommandName.TheVariants.{Check, Explain, Trace, Replay, Normalise, Convert}
 use Rattle.laspidru.specs.declared.endings.Ending.{Ending}
 use Rattle.laspidru.specs.declared.endings.LogSettings.{LogSettings}
 use Rattle.laspidru.specs.declared.object.Object.{Object}
 use Rattle.laspidru.specs.declared.object.Object.TheVariants.{Output}
 use Rattle.laspidru.specs.Codes.{and_then}
-use Rattle.laspidru.specs.Objects.{encoding_at}
+use Rattle.laspidru.specs.Objects.{encoding_at, uri_asked}
 use Rattle.laspidru.specs.Servers.{limits_asked}
 
 -- ---- how a log is read
@@ -46,67 +52,148 @@ log_asked settings = and_then (encoding_at settings.encoding) (λ encoding.
       squash = settings.squash;
     })))
 
--- ---- the output of a command
+-- ---- which command
 
--- How a command reads a log: `convert` refuses version 2.
-abbrev pub reading_of : Command → Settings → LogRules
-reading_of Convert settings = as_converted settings
-reading_of command settings = as_log settings
+-- The command of a number.
+abbrev pub name_numbered : ℕ → Option CommandName
+name_numbered number =
+    if nat_eq number 0 then Some Check
+    else if nat_eq number 1 then Some Explain
+    else if nat_eq number 2 then Some Trace
+    else if nat_eq number 3 then Some Replay
+    else if nat_eq number 4 then Some Normalise
+    else if nat_eq number 5 then Some Convert
+    else None
 
--- The output of a command for the records of a log.
-abbrev pub command_output : Command → Settings → List Record → RunOutput
-command_output Check settings = verdicts settings
-command_output Replay settings = report settings
-command_output Normalise settings = normalised settings
-command_output Convert settings = converted settings
+-- A command that C asks for: its name, the URI, and how the log is read.
+pub record RunAsked : Type 0 where
+  pub name : CommandName
+  pub uri : List ℕ
+  pub settings : Settings
+
+-- The same as C passes it, or the code of its refusal.
+abbrev pub run_asked : ℕ → LogSettings → List ℕ → Result RunAsked ℕ
+run_asked number settings uri =
+    and_then (ok_or (name_numbered number) OUT_OF_RANGE) (λ name. and_then (uri_asked uri)
+    (λ named. and_then (log_asked settings) (λ taken.
+    Ok (record { name = name; uri = named; settings = taken }))))
+
+-- The number of the last record that is read; none for all.
+abbrev pub asked_record : ℕ → Option ℕ
+asked_record at = if nat_eq at 0 then None else Some at
+
+-- The URI of the one document that is written, if there is one.
+abbrev pub uri_if : Bool → List ℕ → Option (List ℕ)
+uri_if true uri = Some uri
+uri_if false uri = None
+
+-- The part of a log that is replayed.
+pub record IsAskedPart (settings : LogSettings) (uri : List ℕ) (part : Part) : Type 0 where
+  pub at : part.at ≡ asked_record settings.at
+  pub uri_of : option_map string_bytes part.uri ≡ uri_if settings.has_uri uri
+
+-- `replay` is of the whole log, or of a part of it.
+abbrev pub IsReplay : LogSettings → List ℕ → Command → Type 0
+IsReplay settings uri command.Replay = (settings.at ≡ 0) × (settings.has_uri ≡ false)
+IsReplay settings uri (command.ReplayPart part) =
+    ((not (nat_eq settings.at 0) || settings.has_uri) ≡ true) × IsAskedPart settings uri part
+IsReplay settings uri other = ⊥
+
+-- `normalise` is of all records, or of those about the session and the documents' texts.
+abbrev pub normalise_if : Bool → Command
+normalise_if true = command.NormaliseDocuments
+normalise_if false = command.Normalise
+
+-- The command of a name, with what the settings have of it.
+abbrev pub IsCommand : CommandName → LogSettings → List ℕ → Command → Type 0
+IsCommand Check settings uri it = it ≡ command.Check
+IsCommand Explain settings uri it = it ≡ command.Explain
+IsCommand Trace settings uri it =
+    it ≡ command.Trace (record { texts = settings.texts; bodies = settings.bodies })
+IsCommand Replay settings uri it = IsReplay settings uri it
+IsCommand Normalise settings uri it = it ≡ normalise_if settings.documents
+IsCommand Convert settings uri it = it ≡ command.Convert
+
+-- ---- what a command does
+
+-- The engine of a command.
+abbrev pub command_engine : Command → Settings → Engine
+command_engine command.Check settings = check_engine settings
+command_engine command.Explain settings = explain_engine settings
+command_engine (command.Trace details) settings = trace_engine settings details
+command_engine command.Replay settings = replay_engine settings
+command_engine (command.ReplayPart part) settings = part_engine settings part
+command_engine command.Normalise settings = normalise_engine settings
+command_engine command.NormaliseDocuments settings = documents_engine settings
+command_engine command.Convert settings = convert_engine settings
 
 -- What `normalise` and `convert` write of a log is a log again, of which `replay` reports the same.
-abbrev pub IsLawful : Command → Settings →
-    (left_old left_new received_old received_new : Option (List ℕ)) → Result Outcome EngineFault →
-    Type 0
-IsLawful Normalise settings left_old left_new received_old received_new answer =
-    (settings.squash ≡ false →
-    IfOk answer (Wrote settings (IsCanonicalLog settings) left_old left_new received_old
-    received_new))
-    × (settings.squash ≡ true →
-    IfOk answer (Wrote settings (IsSquashed settings) left_old left_new received_old
-    received_new))
-IsLawful Convert settings left_old left_new received_old received_new answer =
-    IfOk answer (Wrote settings (IsConverted settings) left_old left_new received_old received_new)
-IsLawful command settings left_old left_new received_old received_new answer = Unit {0}
+abbrev pub IsLawful : Command → Settings → Ports → Ports → Result Outcome EngineFault → Type 0
+IsLawful command.Normalise settings before after answer =
+    (settings.squash ≡ false → WritesLog settings (IsCanonicalLog settings) before after answer)
+    × (settings.squash ≡ true → WritesLog settings (IsSquashed settings) before after answer)
+IsLawful command.NormaliseDocuments settings before after answer =
+    WritesDocuments settings before after answer
+IsLawful command.Convert settings before after answer =
+    WritesLog settings (IsConverted settings) before after answer
+IsLawful other settings before after answer = Unit {0}
 
--- A command ran over the bytes of a log, with this output and this result. It read the bytes in
--- order, up to those that are left.
-pub record RanOn (command : Command) (settings : Settings) (log output : List ℕ)
+-- How many reads and writes a command may make: more aren't counted.
+abbrev pub command_turns : ℕ
+command_turns = 18446744073709551615
+
+-- A log in memory, of which no read fails, and its output in memory.
+abbrev pub log_ports : (left : List ℕ) (reads : ℕ) (ended : Bool) (written : List ℕ)
+    (failed : Bool) (writes : ℕ) (flushed : Bool) → Ports
+log_ports left reads ended written failed writes flushed = record {
+  reader = record { left = Some left; failed = false; calls = reads; ended = ended };
+  writer = record { written = Some written; failed = failed; calls = writes; flushed = flushed };
+}
+
+-- A command ran from the first byte of a log, with this output and this result.
+pub record RanOn (it : Command) (settings : Settings) (log output : List ℕ)
     (answer : Result Outcome EngineFault) : Type 0 where
   pub left : List ℕ
+  pub reads : ℕ
   -- Did it come to the end of the log?
   pub ended : Bool
-  pub all_read : answer ≢ Err TooManyTurns → ended ≡ true → left ≡ []
-  -- by all records that are whole in what it read
-  pub ran : RanOver (reading_of command settings) (command_output command settings)
-      (state_of false ended false) (Some log) (Some left) (Some []) (Some output) answer
-  pub lawful : IsLawful command settings (Some log) (Some left) (Some []) (Some output) answer
-  -- No read fails.
-  pub no_read_fault : answer ≢ Err Read
+  pub failed : Bool
+  pub writes : ℕ
+  pub flushed : Bool
+  pub ran : IsEngineRun (command_engine it settings) command_turns
+      (log_ports log 0 false [] false 0 true)
+      (log_ports left reads ended output failed writes flushed) answer
+  pub lawful : IsLawful it settings (log_ports log 0 false [] false 0 true)
+      (log_ports left reads ended output failed writes flushed) answer
 
 -- ---- the result that C gets
 
--- The ending of a command that came to an outcome, with so many bytes of output.
-abbrev pub outcome_out : ℕ → Outcome → Ending
-outcome_out len outcome = record {
-  status = outcome.status;
-  frame = 0;
-  messages = outcome.messages;
-  refused = outcome.refused;
-  place = 0;
-  output_len = len;
-}
+-- What the log lacks of what was asked for, as a code; 0 if nothing is missing.
+abbrev pub missing_code : Option Missing → ℕ
+missing_code None = 0
+missing_code (Some missing.Record) = OUT_OF_RANGE
+missing_code (Some missing.Document) = NOT_OPEN
 
 -- The ending of a command at a fault, with the fault's byte offset.
 abbrev pub fault_out : ℕ → ℕ → Ending
-fault_out len place =
-    record { status = 0; frame = 0; messages = 0; refused = 0; place = place; output_len = len }
+fault_out len offset = record {
+  status = 0;
+  frame = 0;
+  missing = 0;
+  messages = 0;
+  refused = 0;
+  offset = offset;
+  output_len = len;
+}
+
+-- The ending of a command that came to an outcome, with so many bytes of output.
+abbrev pub outcome_out : ℕ → Outcome → Ending
+outcome_out len outcome = record (fault_out len 0) {
+  status = outcome.status;
+  missing = missing_code outcome.missing;
+  messages = outcome.messages;
+  refused = outcome.refused;
+}
 
 -- The ending of a command at a faulty frame. F1 to F7 have a byte offset; F8 and F9 aren't faults
 -- of a log.
@@ -158,9 +245,11 @@ IsEnded output answer code stored out
     = IsKept (ending_out (length output) answer) output code stored out
 
 -- A command ran over a log: C gets its result, and the handle has its output.
-pub record IsCommandRun (command : Command) (settings : Settings) (log : List ℕ) (code : ℕ)
+pub record IsCommandRun (asked : RunAsked) (settings : LogSettings) (log : List ℕ) (code : ℕ)
     (stored : Option Object) (out : Ending) : Type 0 where
+  pub it : Command
+  pub is : IsCommand asked.name settings asked.uri it
   pub output : List ℕ
   pub answer : Result Outcome EngineFault
-  pub ran : RanOn command settings log output answer
+  pub ran : RanOn it asked.settings log output answer
   pub ended : IsEnded output answer code stored out

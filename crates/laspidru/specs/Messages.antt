@@ -1,9 +1,10 @@
--- What edits mean on a server's documents: text edits, and the canonical message of a batch.
+-- What edits mean on an end's open documents: text edits, and the canonical message of a batch.
 use Rattle.std.specs.Prelude.{ℕ, ℤ, ◌≡◌, List, length, Option, Some, None, Result, Ok, Err}
 use Rattle.lsp_text.specs.declared.encoding.Encoding.{Encoding}
 use Rattle.lsp_text.specs.Units.{units_in}
 use Rattle.lsp_edit.specs.Batch as batch
 use Rattle.lsp_store.specs.Faults as documents
+use Rattle.lsp_store.specs.Opened.{StoreData}
 use Rattle.lsp_store.specs.Message.{canonical_frame, message_refusal}
 use Rattle.lsp_store.specs.Table.{Refusal}
 use Rattle.laspidru.specs.declared.codes.TheConstants.{OK}
@@ -14,32 +15,32 @@ use Rattle.laspidru.specs.Batches.{edits_of, refused_edit}
 use Rattle.laspidru.specs.Clients.{IsStoreReport}
 use Rattle.laspidru.specs.Codes.{and_then, unless}
 use Rattle.laspidru.specs.Edits.{EditsAsked, edits_asked}
+use Rattle.laspidru.specs.Ends.{entry_in, entry_text, store_in}
+use Rattle.laspidru.specs.HeldEnds.{EndData}
 use Rattle.laspidru.specs.Logs.{stored_output}
-use Rattle.laspidru.specs.Objects.{encoding_at}
-use Rattle.laspidru.specs.Servers.{entry_in, entry_text, store_code, uri_asked}
-use Rattle.laspidru.specs.HeldServers.{HeldServerData}
+use Rattle.laspidru.specs.Objects.{encoding_at, uri_asked}
+use Rattle.laspidru.specs.Servers.{store_code}
 
 -- Text edits as C passes them, on the open document of a URI.
-abbrev pub edits_named : List ℕ → ℕ → List Edit → List ℕ → Result HeldServerData ℕ →
-    Result EditsAsked ℕ
-edits_named uri number edits texts server = and_then (uri_asked uri) (λ named.
-    edits_asked number edits texts (entry_text (and_then server (entry_in named))))
+abbrev pub edits_named : List ℕ → ℕ → List Edit → List ℕ → Result EndData ℕ → Result EditsAsked ℕ
+edits_named uri number edits texts held = and_then (uri_asked uri) (λ named.
+    edits_asked number edits texts (entry_text (and_then held (entry_in named))))
 
 -- A batch on the open document of a URI, under a version.
 pub record MessageAsked : Type 0 where
-  pub session : HeldServerData
+  pub store : StoreData
   pub uri : List ℕ
   pub version : ℤ
   pub encoding : Encoding
   pub edits : List batch.ContentChange
 
 -- The same as C passes it, or the code of its refusal.
-abbrev pub message_asked : List ℕ → ℤ → ℕ → List Edit → List ℕ → Result HeldServerData ℕ →
+abbrev pub message_asked : List ℕ → ℤ → ℕ → List Edit → List ℕ → Result EndData ℕ →
     Result MessageAsked ℕ
-message_asked uri version number edits texts server = and_then (uri_asked uri) (λ named.
+message_asked uri version number edits texts held = and_then (uri_asked uri) (λ named.
     and_then (encoding_at number) (λ encoding. unless (refused_edit edits texts) (
-    and_then server (λ session. Ok (record {
-      session = session;
+    and_then held (λ it. Ok (record {
+      store = store_in it.party;
       uri = named;
       version = version;
       encoding = encoding;
@@ -55,10 +56,9 @@ frame_unless None frame = Ok frame
 abbrev pub canonical_message_of : MessageAsked → Result (List ℕ) Refusal
 canonical_message_of asked =
     let units = units_in asked.encoding in
-    let server = asked.session.server in
     frame_unless
-    (message_refusal server.config.limits units server.table asked.uri asked.version asked.edits)
-    (canonical_frame units server.table asked.uri asked.version asked.edits)
+    (message_refusal asked.store.limits units asked.store.table asked.uri asked.version asked.edits)
+    (canonical_frame units asked.store.table asked.uri asked.version asked.edits)
 
 -- The handle has the frame, or its refusal is reported.
 abbrev pub IsMessageLeft : Result (List ℕ) Refusal → ℕ → Option Object → ℕ → FaultAt → Type 0

@@ -34,6 +34,10 @@ text_asked text =
     else if is_utf8 text then Ok text
     else Err NOT_UTF8
 
+-- A URI or another text, if it is UTF-8.
+abbrev pub uri_asked : List ℕ → Result (List ℕ) ℕ
+uri_asked uri = if is_utf8 uri then Ok uri else Err NOT_UTF8
+
 -- The text of a document.
 abbrev pub as_document : Object → Result (List ℕ) ℕ
 as_document (Document text) = Ok text

@@ -1,17 +1,11 @@
--- What a server and a client take of a stream, and what they do with a message that is whole then.
-use Rattle.std.specs.Prelude.{ℕ, ◌≡◌, ◌⊎◌, if◌then◌else◌, true, List, Some, Result, Ok, Err}
-use Rattle.lsp_message.specs.Message.{reading}
-use Rattle.lsp_client.specs.Step.{delivery_of, is_listening}
+-- What an end takes of its stream, and what it does with a message that is whole then.
+use Rattle.std.specs.Prelude.{ℕ, ◌≡◌, ◌⊎◌, true, List}
 use Rattle.laspidru.specs.declared.answers.Answer.{Answer}
-use Rattle.laspidru.specs.declared.codes.TheConstants.{OK, OUT_OF_MEMORY, WRONG_PHASE}
-use Rattle.laspidru.specs.declared.object.Object.TheVariants.{Server, Client}
+use Rattle.laspidru.specs.declared.codes.TheConstants.{OK, OUT_OF_MEMORY}
 use Rattle.laspidru.specs.declared.taken.Taken.{Taken}
-use Rattle.laspidru.specs.Clients.{IsTakenIn}
-use Rattle.laspidru.specs.Codes.{and_then}
-use Rattle.laspidru.specs.HeldClients.{HeldClientData}
+use Rattle.laspidru.specs.Ends.{handling_by}
 use Rattle.laspidru.specs.Framers.{HasNoBody, IsBodyOf, IsFedTo}
-use Rattle.laspidru.specs.Servers.{IsHandled}
-use Rattle.laspidru.specs.HeldServers.{HeldServerData}
+use Rattle.laspidru.specs.HeldEnds.{EndData}
 use Rattle.laspidru.specs.Streams.{StreamData}
 
 -- A piece was fed, and no message is whole; or there is a fault.
@@ -41,43 +35,23 @@ pub record IsUnanswered (old : StreamData) (piece : List ℕ) (code : ℕ) (new 
 abbrev pub as_handled : StreamData → StreamData
 as_handled stream = record stream { is_handled = true }
 
--- ---- a server
-
 -- A message is whole, and was handled.
-pub record IsOneServed (old : HeldServerData) (piece : List ℕ) (code : ℕ) (new : HeldServerData)
+pub record IsOneTaken (old : EndData) (piece : List ℕ) (code : ℕ) (new : EndData)
     (taken : Taken) (after : Answer) : Type 0 where
   pub stream : StreamData
   pub body : List ℕ
   pub message : HasMessage old.stream piece stream taken body
-  pub handled : IsHandled (record old { stream = as_handled stream }) body code (Some (Server new))
-      after
+  pub done : code ≡ OK
+  pub end_after : new ≡ record {
+    party = (handling_by old.party body).party;
+    frame = (handling_by old.party body).frame;
+    stream = as_handled stream;
+  }
+  pub answer : after ≡ (handling_by old.party body).answer
 
--- A server took a piece. Of the session only the stream changed, or a message was handled.
-abbrev pub IsServed : HeldServerData → List ℕ → ℕ → HeldServerData → Taken → Answer → Answer → Type 0
-IsServed old piece code new taken before after =
+-- An end took a piece. Of the end only the stream changed, or a message was handled.
+abbrev pub IsTaken : EndData → List ℕ → ℕ → EndData → Taken → Answer → Answer → Type 0
+IsTaken old piece code new taken before after =
     ((new ≡ record old { stream = new.stream })
     × IsUnanswered old.stream piece code new.stream taken before after)
-    ⊎ IsOneServed old piece code new taken after
-
--- ---- a client
-
--- The client of a session in which it listens.
-abbrev pub listening_asked : Result HeldClientData ℕ → Result HeldClientData ℕ
-listening_asked client = and_then client (λ editor.
-    if is_listening editor.client.phase then Ok editor else Err WRONG_PHASE)
-
--- A message is whole, and was handled.
-pub record IsOneHeard (old : HeldClientData) (piece : List ℕ) (code : ℕ) (new : HeldClientData)
-    (taken : Taken) (after : Answer) : Type 0 where
-  pub stream : StreamData
-  pub body : List ℕ
-  pub message : HasMessage old.stream piece stream taken body
-  pub delivered : IsTakenIn (as_handled stream) (delivery_of old.client (reading body)) code
-      (Some (Client new)) after
-
--- A client took a piece. Of the client only the stream changed, or a message was handled.
-abbrev pub IsHeard : HeldClientData → List ℕ → ℕ → HeldClientData → Taken → Answer → Answer → Type 0
-IsHeard old piece code new taken before after =
-    ((new ≡ record old { stream = new.stream })
-    × IsUnanswered old.stream piece code new.stream taken before after)
-    ⊎ IsOneHeard old piece code new taken after
+    ⊎ IsOneTaken old piece code new taken after

@@ -1,4 +1,3 @@
 -- Definitions that only private contracts speak of.
 pub mod Clients
-pub mod Logs
 pub mod Stored

@@ -1,22 +1,24 @@
-//! The settings that C passes to a server, and the answer that it gets of a server or a client.
+//! The settings that C passes to a server, and what it gets of a server or a client.
 
 ghost use Rattle.std.specs.Prelude.{◌≡◌, Err, IfErr, IfOk, Ok};
 ghost use Rattle.lsp_frame.specs.Limits.{LimitsData};
 ghost use Rattle.lsp_server.specs.Seen.{answer_view};
-ghost use Rattle.laspidru.specs.Servers.{answer_out, config_asked, error_number, limits_asked};
-ghost use Rattle.laspidru.specs.Servers.{plain_out, refusal_code, store_code};
+ghost use Rattle.laspidru.specs.Servers.{answer_out, config_asked, error_number, limit_code};
+ghost use Rattle.laspidru.specs.Servers.{limits_asked, plain_out, refusal_code, reply_out};
+ghost use Rattle.laspidru.specs.Servers.{store_code};
 
 use crate::changes::encoding_of;
 use crate::codes::{
-    ALREADY_OPEN, BAD_ENCODING, BAD_LIMIT, CHANGED, DROPPED, EXITED, IGNORED, INSIDE_CHARACTER,
-    INVALID_PARAMS, NOT_OPEN, OUT_OF_MEMORY, REFUSED, REPLIED, REVERSED_RANGE, STALE_VERSION,
-    TOO_LONG, TOO_MANY_CHANGES, TOO_MANY_DOCUMENTS,
+    ALREADY_OPEN, BAD_ENCODING, BAD_MAX_BODY, BAD_MAX_CHANGES, BAD_MAX_DOCS, BAD_MAX_TEXT, CHANGED,
+    DROPPED, EXITED, IGNORED, INSIDE_CHARACTER, INVALID_PARAMS, NOT_OPEN, OUT_OF_MEMORY, REFUSED,
+    REPLIED, REVERSED_RANGE, STALE_VERSION, TOO_LONG, TOO_MANY_CHANGES, TOO_MANY_DOCUMENTS,
 };
 use lsp_edit::EditFault;
 use lsp_frame::Limits;
 use lsp_message::ErrorCode;
 use lsp_server::{ChangeForm, Config, EncodingChoice, Refusal};
 use lsp_store::StoreFault;
+use std::alloc::Global;
 
 /// The set-up of a server: its limits, the number of its encoding, and its kind of synchronisation.
 /// With `is_fixed` the server insists on the encoding, else it prefers it. With `is_full` it asks
@@ -59,7 +61,33 @@ pub struct Opened {
     pub bytes: usize,
 }
 
-/// Returns the limits, or BAD_LIMIT if one is out of its range.
+/// The state of an end's session.
+#[repr(C)]
+#[derive(Clone, Copy, Debug, PartialEq, Eq)]
+pub struct State {
+    /// The number of the phase, from 0 for New to 6 for Failed.
+    pub phase: u32,
+    /// The code for why the session failed; 0 if it didn't.
+    pub reason: u32,
+    /// The number of the encoding that was agreed on; 0 before.
+    pub encoding: u32,
+    /// How many documents are open.
+    pub documents: usize,
+}
+
+/// Returns the code of a limit that is out of its range, by its number from 1.
+fn limit_code_of(which: u8) -> u32
+    ensures { result ≡ limit_code which }
+{
+    match which {
+        1 => BAD_MAX_BODY,
+        2 => BAD_MAX_TEXT,
+        3 => BAD_MAX_DOCS,
+        _ => BAD_MAX_CHANGES,
+    }
+}
+
+/// Returns the limits, or the code of the first that is out of its range.
 pub(crate) fn limits_of(
     max_body: usize,
     max_text: usize,
@@ -78,7 +106,7 @@ pub(crate) fn limits_of(
     match Limits::new(max_body, max_text, max_docs, max_changes) {
         Ok(limits) if lenient => Ok(limits.lenient()),
         Ok(limits) => Ok(limits),
-        Err(_) => Err(BAD_LIMIT),
+        Err(bad) => Err(limit_code_of(bad.which)),
     }
 }
 
@@ -185,5 +213,15 @@ pub(crate) fn answer_of(answer: &lsp_server::Answer) -> Answer
             status: u32::from(*status),
             ..plain(EXITED)
         },
+    }
+}
+
+/// Returns the bytes of a reply; none of another answer.
+pub(crate) fn reply_of(alloc: Global, answer: lsp_server::Answer) -> Vec<u8>
+    ensures { result.items ≡ reply_out (answer_view answer) }
+{
+    match answer {
+        lsp_server::Answer::Reply { frame, .. } => frame,
+        _ => Vec::new(alloc),
     }
 }

@@ -6,7 +6,8 @@ ghost use Rattle.std.specs.Str.{is_utf8};
 ghost use Rattle.lsp_edit.specs.declared.indexed.fault.BatchFault.TheVariants.{Edit as EditOf};
 ghost use Rattle.lsp_edit.specs.Edited.{content_change};
 ghost use Rattle.laspidru.specs.Objects.{encoding_numbered, position_at};
-ghost use Rattle.laspidru.specs.Batches.{IsReport, edit_with, edits_of, len_of, refused_edit};
+ghost use Rattle.laspidru.specs.Batches.{IsReport, edit_with, edits_of, is_end, len_of};
+ghost use Rattle.laspidru.specs.Batches.{refused_edit};
 
 use crate::bytes::utf8_text;
 use crate::codes::{
@@ -111,6 +112,16 @@ pub(crate) fn changes_of(
     Ok(changes)
 }
 
+/// Returns whether it is the end of a range.
+pub(crate) fn is_end(side: Side) -> bool
+    ensures { result ≡ is_end side }
+{
+    match side {
+        Side::Start => false,
+        Side::Stop => true,
+    }
+}
+
 /// Returns the code of a fault of a change. It is written to `out`; out of memory leaves `out`
 /// as it is.
 pub(crate) fn report_change(fault: EditFault, out: &mut FaultAt) -> u32
@@ -121,7 +132,7 @@ pub(crate) fn report_change(fault: EditFault, out: &mut FaultAt) -> u32
         EditFault::InsideCharacter { change, side } => {
             *out = FaultAt {
                 change,
-                at_end: side == Side::Stop,
+                at_end: is_end(side),
             };
             INSIDE_CHARACTER
         }

@@ -25,10 +25,10 @@ pub const BAD_ENCODING: u32 = 8;
 pub const BAD_LENGTH: u32 = 9;
 /// The handle holds an object of another kind.
 pub const OTHER_KIND: u32 = 10;
-/// There is no such line, offset or edit.
+/// There is no such line, offset, edit, record, command or code.
 pub const OUT_OF_RANGE: u32 = 11;
-/// A limit is out of its range.
-pub const BAD_LIMIT: u32 = 12;
+/// `max_body` is out of its range.
+pub const BAD_MAX_BODY: u32 = 12;
 /// The session has ended.
 pub const ENDED: u32 = 13;
 /// No document of this URI is open.
@@ -50,7 +50,7 @@ pub const CUT: u32 = 20;
 pub const BAD_FRAME: u32 = 21;
 /// The canonical message of a change has a longer body than `max_body`.
 pub const BODY_TOO_LONG: u32 = 22;
-/// What is there belongs in no log, or for `laspidru_log_convert` in none of version 1.
+/// What is there belongs in no log, or for the command `convert` in none of version 1.
 pub const BAD_LOG: u32 = 23;
 /// As many reads and writes were made as are allowed, 2^64 - 1. Nothing has changed.
 pub const TOO_MANY_TURNS: u32 = 24;
@@ -69,6 +69,14 @@ pub const NOT_AN_ANSWER: u32 = 29;
 pub const ERROR_ANSWER: u32 = 30;
 /// The server doesn't want to be notified of documents, or of changes. Only as a reason.
 pub const NO_SYNC: u32 = 31;
+/// `max_text` is out of its range.
+pub const BAD_MAX_TEXT: u32 = 32;
+/// `max_docs` is out of its range.
+pub const BAD_MAX_DOCS: u32 = 33;
+/// `max_changes` is out of its range.
+pub const BAD_MAX_CHANGES: u32 = 34;
+/// A message opens, changes and closes no document.
+pub const NO_DOCUMENT: u32 = 35;
 
 /// There is a frame to send.
 pub const REPLIED: u32 = 0;

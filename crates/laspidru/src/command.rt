@@ -1,27 +1,117 @@
 //! The commands on logs, over bytes in memory.
 
-ghost use Rattle.std.specs.Prelude.{◌≡◌, ◌≢◌, Err, Some, [], false, true};
-ghost use Rattle.lsp_replay.specs.Engine.{Called, state_of};
-ghost use Rattle.lsp_replay.specs.AllRecords.{RanOver};
-ghost use Rattle.lsp_stream.specs.declared.fault.EngineFault.TheVariants.{Read, TooManyTurns};
-ghost use Rattle.laspidru.specs.Logs.{IsLawful, RanOn, command_output, reading_of};
-ghost use Rattle.laspidru.specs.inside.Logs.{command_turns};
+ghost use Rattle.std.specs.Prelude.{◌≡◌, IfOk};
+ghost use Rattle.lsp_replay.specs.Run.{IsEngineRun};
+ghost use Rattle.laspidru.specs.Logs.{IsAskedPart, IsCommand, IsLawful, IsReplay, RanOn};
+ghost use Rattle.laspidru.specs.Logs.{asked_record, command_engine, command_turns, log_ports};
+ghost use Rattle.laspidru.specs.Logs.{name_numbered};
 
+use crate::endings::LogSettings;
 use crate::log_reader::LogReader;
-use lsp_replay::{EngineFault, Outcome, Settings, Told, check, convert, normalise, replay};
-use std::alloc::Global;
+use lsp_replay::{
+    Details, EngineFault, Outcome, Part, Settings, Told, check, convert, explain, normalise,
+    normalise_documents, replay, replay_part, trace,
+};
+use std::alloc::{AllocError, Global};
 
-/// A command on a log.
+/// The name of a command, as C passes it by its number.
 #[derive(Clone, Copy, Debug, PartialEq, Eq)]
+pub enum CommandName {
+    Check,
+    Explain,
+    Trace,
+    Replay,
+    Normalise,
+    Convert,
+}
+
+/// A command on a log, with what it has beside the settings.
+#[derive(Debug, PartialEq, Eq, Drop)]
 pub enum Command {
     /// What a server answers to each record.
     Check,
+    /// The same, with reasons and what is suspicious.
+    Explain,
+    /// All that is known of each record.
+    Trace(Details),
     /// The documents that are open at the end.
     Replay,
+    /// Those that are open after a record, or the text of one.
+    ReplayPart(Part),
     /// Each accepted change as its canonical message.
     Normalise,
+    /// The same, of the records that are about the session and the documents' texts.
+    NormaliseDocuments,
     /// The log with the server's replies.
     Convert,
+}
+
+/// Returns the command of a number.
+pub(crate) fn command_named(number: u32) -> Option<CommandName>
+    ensures { result ≡ name_numbered number }
+{
+    match number {
+        0 => Some(CommandName::Check),
+        1 => Some(CommandName::Explain),
+        2 => Some(CommandName::Trace),
+        3 => Some(CommandName::Replay),
+        4 => Some(CommandName::Normalise),
+        5 => Some(CommandName::Convert),
+        _ => None,
+    }
+}
+
+/// Returns the number of the last record that is to be read; none for all.
+fn last_record(at: u64) -> Option<u64>
+    ensures { result ≡ asked_record at }
+{
+    if at == 0 { None } else { Some(at) }
+}
+
+/// Returns the part of a log that is asked for.
+fn part_of(alloc: Global, settings: &LogSettings, uri: &str) -> Result<Part, AllocError>
+    ensures { IfOk result (IsAskedPart settings.now uri.now) }
+{
+    let uri = if settings.has_uri {
+        Some(uri.to_string(alloc)?)
+    } else {
+        None
+    };
+    let at = last_record(settings.at);
+    Ok(Part { at, uri })
+}
+
+/// Returns `replay`, of a part of the log if one is asked for.
+fn replay_of(alloc: Global, settings: &LogSettings, uri: &str) -> Result<Command, AllocError>
+    ensures { IfOk result (IsReplay settings.now uri.now) }
+{
+    if settings.at == 0 && !settings.has_uri {
+        return Ok(Command::Replay);
+    }
+    Ok(Command::ReplayPart(part_of(alloc, settings, uri)?))
+}
+
+/// Returns a command with what the settings have of it.
+pub(crate) fn command_of(
+    alloc: Global,
+    name: CommandName,
+    settings: &LogSettings,
+    uri: &str,
+) -> Result<Command, AllocError>
+    ensures { IfOk result (IsCommand name settings.now uri.now) }
+{
+    match name {
+        CommandName::Check => Ok(Command::Check),
+        CommandName::Explain => Ok(Command::Explain),
+        CommandName::Trace => Ok(Command::Trace(Details {
+            texts: settings.texts,
+            bodies: settings.bodies,
+        })),
+        CommandName::Replay => replay_of(alloc, settings, uri),
+        CommandName::Normalise if settings.documents => Ok(Command::NormaliseDocuments),
+        CommandName::Normalise => Ok(Command::Normalise),
+        CommandName::Convert => Ok(Command::Convert),
+    }
 }
 
 /// The result of a command, and its output.
@@ -39,23 +129,27 @@ fn run_between(
     reader: &mut LogReader,
     writer: &mut Told<Vec<u8>>,
 ) -> Result<Outcome, EngineFault>
-    ensures ran { RanOver (reading_of command settings) (command_output command settings)
-        (state_of reader.old.ended reader.new.ended false)
-        (Some reader.old.rest.now) (Some reader.new.rest.now)
-        (Some writer.old.inner.items) (Some writer.new.inner.items) result }
+    ensures ran { IsEngineRun (command_engine command settings) command_turns
+        (log_ports reader.old.rest.now reader.old.calls reader.old.ended writer.old.inner.items
+        writer.old.failed writer.old.calls writer.old.flushed)
+        (log_ports reader.new.rest.now reader.new.calls reader.new.ended writer.new.inner.items
+        writer.new.failed writer.new.calls writer.new.flushed) result }
     ensures lawful { IsLawful command settings
-        (Some reader.old.rest.now) (Some reader.new.rest.now)
-        (Some writer.old.inner.items) (Some writer.new.inner.items) result }
-    ensures all_read { result ≢ Err TooManyTurns → reader.new.ended ≡ true
-        → reader.new.rest.now ≡ [] }
-    ensures no_read_fault { result ≢ Err Read }
-    ensures called { Called reader.old.calls reader.new.calls writer.old.calls writer.new.calls
-        command_turns false writer.new.failed reader.new.ended (Some reader.new.rest.now) result }
+        (log_ports reader.old.rest.now reader.old.calls reader.old.ended writer.old.inner.items
+        writer.old.failed writer.old.calls writer.old.flushed)
+        (log_ports reader.new.rest.now reader.new.calls reader.new.ended writer.new.inner.items
+        writer.new.failed writer.new.calls writer.new.flushed) result }
 {
     match command {
         Command::Check => check(alloc, reader, writer, settings, u64::MAX),
+        Command::Explain => explain(alloc, reader, writer, settings, u64::MAX),
+        Command::Trace(details) => trace(alloc, reader, writer, settings, details, u64::MAX),
         Command::Replay => replay(alloc, reader, writer, settings, u64::MAX),
+        Command::ReplayPart(part) => replay_part(alloc, reader, writer, settings, part, u64::MAX),
         Command::Normalise => normalise(alloc, reader, writer, settings, u64::MAX),
+        Command::NormaliseDocuments => {
+            normalise_documents(alloc, reader, writer, settings, u64::MAX)
+        }
         Command::Convert => convert(alloc, reader, writer, settings, u64::MAX),
     }
 }

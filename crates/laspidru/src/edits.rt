@@ -11,7 +11,7 @@ ghost use Rattle.laspidru.specs.Edits.{edits_on, fitting_edits, range_or, replac
 ghost use Rattle.laspidru.specs.Edits.{replacement_with, replacements_of, text_left};
 ghost use Rattle.laspidru.specs.Objects.{as_document, in_use, stored_document};
 
-use crate::changes::{encoding_of, fits, position_of, refusal_of};
+use crate::changes::{encoding_of, fits, is_end, position_of, refusal_of};
 use crate::codes::{
     BAD_ENCODING, EMPTY, IN_USE, INSIDE_CHARACTER, OK, OTHER_KIND, OUT_OF_MEMORY, OVERLAP,
     REVERSED_RANGE, TOO_LONG,
@@ -19,7 +19,7 @@ use crate::codes::{
 use crate::handle::Handle;
 use crate::object::Object;
 use crate::structs::{CPosition, Edit, EditsFault};
-use lsp_edit::{BatchFault, Change, IndexedText, MAX_OLD_TEXT, Side, TextEdit, TextEditFault};
+use lsp_edit::{BatchFault, Change, IndexedText, MAX_OLD_TEXT, TextEdit, TextEditFault};
 use lsp_text::{Encoding, Range};
 use std::alloc::{AllocError, Global};
 
@@ -84,7 +84,7 @@ pub(crate) fn report_edits(fault: TextEditFault, out: &mut EditsFault) -> u32
 {
     let (code, edit, other, at_end) = match fault {
         TextEditFault::InsideCharacter { edit, side } => {
-            (INSIDE_CHARACTER, edit, 0, side == Side::Stop)
+            (INSIDE_CHARACTER, edit, 0, is_end(side))
         }
         TextEditFault::ReversedRange { edit } => (REVERSED_RANGE, edit, 0, false),
         TextEditFault::Overlap { first, second } => (OVERLAP, first, second, false),

@@ -2,19 +2,19 @@
 
 ghost use Rattle.std.specs.Prelude.{◌≡◌, Err, IfErr, IfOk, Ok};
 ghost use Rattle.laspidru.specs.Logs.{IsUnlessEnded, ending_out, fault_out, frame_fault_out};
-ghost use Rattle.laspidru.specs.Logs.{log_asked, outcome_out};
+ghost use Rattle.laspidru.specs.Logs.{log_asked, missing_code, outcome_out};
 
 use crate::answers::limits_of;
 use crate::changes::encoding_of;
 use crate::codes::{
-    BAD_ENCODING, BAD_FRAME, BAD_LOG, BODY_TOO_LONG, CUT, OK, OUT_OF_MEMORY, TOO_MANY_TURNS,
+    BAD_ENCODING, BAD_FRAME, BAD_LOG, BODY_TOO_LONG, CUT, NOT_OPEN, OK, OUT_OF_MEMORY,
+    OUT_OF_RANGE, TOO_MANY_TURNS,
 };
 use lsp_frame::FrameFault;
-use lsp_replay::{EngineFault, Outcome, Settings};
+use lsp_replay::{EngineFault, Missing, Outcome, Settings};
 
-/// How a log is read: the limits, and the number of the encoding of its positions. With `squash`
-/// changes of one document that follow each other are normalised to one message. With `lenient` the
-/// limits are lenient.
+/// How a log is read, and what of it is written: the limits, the number of the encoding of its
+/// positions, and what single commands have beside them. A command ignores the members of others.
 #[repr(C)]
 #[derive(Clone, Copy, Debug, PartialEq, Eq)]
 pub struct LogSettings {
@@ -22,25 +22,39 @@ pub struct LogSettings {
     pub max_text: usize,
     pub max_docs: usize,
     pub max_changes: usize,
+    /// `replay`: the number of the last record that is read, from 1; 0 for all.
+    pub at: u64,
     pub encoding: u32,
-    pub squash: bool,
+    /// Whether the limits are lenient.
     pub lenient: bool,
+    /// `normalise`: whether changes of one document that follow each other become one message.
+    pub squash: bool,
+    /// `normalise`: whether records are left out that are neither about the session nor a text.
+    pub documents: bool,
+    /// `trace`: whether the document's text is written, where it was opened or changed.
+    pub texts: bool,
+    /// `trace`: whether each body is written.
+    pub bodies: bool,
+    /// `replay`: whether the text of one document is written, that of the URI.
+    pub has_uri: bool,
 }
 
 /// The ending of a command on a log. A member that isn't of the code is 0.
 #[repr(C)]
 #[derive(Clone, Copy, Debug, PartialEq, Eq)]
 pub struct Ending {
-    /// OK: 1 if something was refused, else 0.
+    /// OK: 1 if something was refused or is missing, else 0.
     pub status: u32,
     /// BAD_FRAME: the number of the fault, 1 to 7 for F1 to F7.
     pub frame: u32,
+    /// OK: OUT_OF_RANGE if the record `at` is missing, NOT_OPEN if the document is; else 0.
+    pub missing: u32,
     /// OK: how many messages were handled.
     pub messages: u64,
     /// OK: how many of them were refused.
     pub refused: u64,
     /// CUT, BAD_FRAME, BODY_TOO_LONG and BAD_LOG: the fault's byte offset in the log.
-    pub place: u64,
+    pub offset: u64,
     /// How many bytes the output has.
     pub output_len: usize,
 }
@@ -67,30 +81,41 @@ pub(crate) fn log_settings_of(settings: &LogSettings) -> Result<Settings, u32>
     })
 }
 
+/// Returns the code for what the log lacks of what was asked for; 0 if nothing is missing.
+fn missing_code_of(missing: Option<Missing>) -> u32
+    ensures { result ≡ missing_code missing }
+{
+    match missing {
+        None => 0,
+        Some(Missing::Record) => OUT_OF_RANGE,
+        Some(Missing::Document) => NOT_OPEN,
+    }
+}
+
 /// Returns the ending of a command that came to an outcome.
 fn outcome_ending(output_len: usize, outcome: Outcome) -> Ending
     ensures { result ≡ outcome_out output_len outcome }
 {
     Ending {
         status: u32::from(outcome.status),
-        frame: 0,
+        missing: missing_code_of(outcome.missing),
         messages: outcome.messages,
         refused: outcome.refused,
-        place: 0,
-        output_len,
+        ..fault_ending(output_len, 0)
     }
 }
 
 /// Returns the ending of a command at a fault.
-fn fault_ending(output_len: usize, place: u64) -> Ending
-    ensures { result ≡ fault_out output_len place }
+fn fault_ending(output_len: usize, offset: u64) -> Ending
+    ensures { result ≡ fault_out output_len offset }
 {
     Ending {
         status: 0,
         frame: 0,
+        missing: 0,
         messages: 0,
         refused: 0,
-        place,
+        offset,
         output_len,
     }
 }
@@ -99,7 +124,7 @@ fn fault_ending(output_len: usize, place: u64) -> Ending
 fn frame_ending(output_len: usize, fault: FrameFault) -> Ending
     ensures { result ≡ frame_fault_out output_len fault }
 {
-    let (frame, place) = match fault {
+    let (frame, offset) = match fault {
         FrameFault::BadHeader { place } => (1, place),
         FrameFault::HeaderTooLong { place } => (2, place),
         FrameFault::MissingLength { place } => (3, place),
@@ -112,7 +137,7 @@ fn frame_ending(output_len: usize, fault: FrameFault) -> Ending
     };
     Ending {
         frame,
-        ..fault_ending(output_len, place)
+        ..fault_ending(output_len, offset)
     }
 }
 

@@ -18,7 +18,7 @@ use lsp_frame::{Framer, Limits};
 use std::alloc::Global;
 
 /// Makes a framer in an empty handle, at the start of a stream. `max_body` is the greatest length
-/// of a body, in bytes. Codes, in this order: IN_USE, BAD_LIMIT; OUT_OF_MEMORY.
+/// of a body, in bytes. Codes, in this order: IN_USE, BAD_MAX_BODY; OUT_OF_MEMORY.
 #[unsafe(no_mangle)]
 pub extern "C" fn laspidru_framer_new(alloc: Global, handle: &mut Handle, max_body: usize) -> u32
     ensures answer { let asked = unless (in_use handle.old.value) (framer_limits max_body) in
@@ -95,42 +95,6 @@ pub(crate) fn copy_body(framer: &Framer, start: usize, out: &mut [u8], copied: &
         return NO_MESSAGE;
     };
     copy_from(body, start, out, copied)
-}
-
-/// Copies the body that an object's framer has buffered.
-fn object_body(object: &Object, start: usize, out: &mut [u8], copied: &mut usize) -> u32
-    ensures answer { IsRefusedOr (as_framer object.now) result
-        (λ framing. IsBodyAnswer framing start result out.old out.new copied.new) }
-    ensures unchanged { result ≢ OK → (out.new ≡ out.old) × (copied.new ≡ copied.old) }
-{
-    let Object::Framer(framer) = object else {
-        return OTHER_KIND;
-    };
-    copy_body(framer, start, out, copied)
-}
-
-/// Copies the bytes of the body of the buffered message from `start` on, as many as `out` has room
-/// for, and returns how many. Codes, in this order: EMPTY, OTHER_KIND, NO_MESSAGE, OUT_OF_RANGE.
-/// Costs the copy.
-#[unsafe(no_mangle)]
-pub extern "C" fn laspidru_framer_body(
-    alloc: Global,
-    handle: &mut Handle,
-    start: usize,
-    out: &mut [u8],
-    copied: &mut usize,
-) -> u32
-    ensures answer { IsRefusedOr (stored_framer handle.old.value) result
-        (λ framing. IsBodyAnswer framing start result out.old out.new copied.new) }
-    ensures handle { handle.new.value ≡ handle.old.value }
-    ensures unchanged { result ≢ OK → (out.new ≡ out.old) × (copied.new ≡ copied.old) }
-{
-    let Some(object) = handle.take(alloc) else {
-        return EMPTY;
-    };
-    let code = object_body(&object, start, out, copied);
-    handle.put(object);
-    code
 }
 
 /// Releases the message that an object's framer has buffered.

@@ -1,19 +1,18 @@
 //! The functions on logs.
 
 ghost use Rattle.std.specs.Prelude.{◌≡◌, ◌≢◌, ◌⊎◌, None};
-ghost use Rattle.laspidru.specs.declared.command.Command.TheVariants.{Check, Convert, Normalise};
-ghost use Rattle.laspidru.specs.declared.command.Command.TheVariants.{Replay};
 ghost use Rattle.laspidru.specs.Codes.{IsAnswer, IsAnswerOrNoMemory, unless};
-ghost use Rattle.laspidru.specs.Logs.{IsCommandRun, IsEnded, IsUnlessEnded, as_output, log_asked};
-ghost use Rattle.laspidru.specs.Logs.{stored_output};
+ghost use Rattle.laspidru.specs.Logs.{IsCommandRun, IsEnded, IsUnlessEnded, RunAsked, as_output};
+ghost use Rattle.laspidru.specs.Logs.{run_asked, stored_output};
 ghost use Rattle.laspidru.specs.Objects.{IsCopy, in_use, rest_asked};
 
-use crate::bytes::copy_from;
-use crate::codes::{EMPTY, IN_USE, OK, OTHER_KIND, OUT_OF_MEMORY};
-use crate::command::{Command, CommandRun, run_command};
+use crate::bytes::{copy_from, utf8_text};
+use crate::codes::{EMPTY, IN_USE, NOT_UTF8, OK, OTHER_KIND, OUT_OF_MEMORY, OUT_OF_RANGE};
+use crate::command::{CommandName, CommandRun, command_named, command_of, run_command};
 use crate::endings::{Ending, LogSettings, ending_of, log_settings_of};
 use crate::handle::Handle;
 use crate::object::Object;
+use lsp_replay::Settings;
 use std::alloc::Global;
 
 /// Puts the output of a run into an empty handle. After a fault that isn't the log's the output
@@ -38,115 +37,73 @@ fn keep(alloc: Global, handle: &mut Handle, run: CommandRun, out: &mut Ending) -
     code
 }
 
-/// Runs a command over a log, and puts its output into an empty handle.
-fn run_log(
+/// Runs a command by its name, and puts its output into an empty handle.
+#[tactic(auto, using(crate::proofs::Runs::command_ran))]
+fn run_into(
     alloc: Global,
-    command: Command,
     handle: &mut Handle,
+    name: CommandName,
+    taken: Settings,
     settings: &LogSettings,
+    uri: &str,
     log: &[u8],
     out: &mut Ending,
 ) -> u32
-    ensures answer { let asked = unless (in_use handle.old.value) (log_asked settings.now) in
-        IsAnswerOrNoMemory asked result
-        (λ settings. IsCommandRun command settings log.now result handle.new.value out.new) }
+    requires { handle.old.value ≡ None }
+    ensures answer { let asked : RunAsked =
+        record { name = name; uri = uri.now; settings = taken } in
+        (result ≡ OUT_OF_MEMORY)
+        ⊎ IsCommandRun asked settings.now log.now result handle.new.value out.new }
+    ensures unchanged { IsUnlessEnded result
+        ((handle.new.value ≡ handle.old.value) × (out.new ≡ out.old)) }
+{
+    let Ok(command) = command_of(alloc, name, settings, uri) else {
+        return OUT_OF_MEMORY;
+    };
+    let run = run_command(alloc, command, taken, log);
+    keep(alloc, handle, run, out)
+}
+
+/// Runs a command over the bytes of a log, and puts its output into an empty handle: of
+/// [`lsp_replay::check`], [`lsp_replay::explain`], [`lsp_replay::trace`], [`lsp_replay::replay`] or
+/// [`lsp_replay::replay_part`], [`lsp_replay::normalise`] or [`lsp_replay::normalise_documents`],
+/// or [`lsp_replay::convert`]. After a fault of the log that is the output up to the fault.
+///
+/// Codes, in this order: IN_USE; OUT_OF_RANGE of the command; NOT_UTF8 of the URI; BAD_ENCODING,
+/// BAD_MAX_BODY, BAD_MAX_TEXT, BAD_MAX_DOCS, BAD_MAX_CHANGES; OUT_OF_MEMORY, or the fault: CUT,
+/// BAD_FRAME, BAD_LOG, of `normalise` also BODY_TOO_LONG. TOO_MANY_TURNS is for more than 2^64 - 1
+/// reads and writes. Costs that call, and keeps the output in memory.
+#[unsafe(no_mangle)]
+pub extern "C" fn laspidru_log_run(
+    alloc: Global,
+    handle: &mut Handle,
+    command: u32,
+    settings: &LogSettings,
+    uri: &[u8],
+    log: &[u8],
+    out: &mut Ending,
+) -> u32
+    ensures answer { let asked =
+        unless (in_use handle.old.value) (run_asked command settings.now uri.now) in
+        IsAnswerOrNoMemory asked result (λ asked.
+        IsCommandRun asked settings.now log.now result handle.new.value out.new) }
     ensures unchanged { IsUnlessEnded result
         ((handle.new.value ≡ handle.old.value) × (out.new ≡ out.old)) }
 {
     if handle.is_full(alloc) {
         return IN_USE;
     }
-    let settings = match log_settings_of(settings) {
-        Ok(settings) => settings,
+    let Some(name) = command_named(command) else {
+        return OUT_OF_RANGE;
+    };
+    let Some(uri) = utf8_text(uri) else {
+        return NOT_UTF8;
+    };
+    let taken = match log_settings_of(settings) {
+        Ok(taken) => taken,
         Err(code) => return code,
     };
-    let run = run_command(alloc, command, settings, log);
-    keep(alloc, handle, run, out)
-}
-
-/// Runs [`lsp_replay::check`] over a log: writes a line for each record, with its number and what a
-/// server answers. The output is put into the empty handle, after a fault of the log up to the
-/// fault.
-///
-/// Codes, in this order: IN_USE, BAD_ENCODING, BAD_LIMIT; OUT_OF_MEMORY, or the fault: CUT,
-/// BAD_FRAME, BAD_LOG. TOO_MANY_TURNS is for more than 2^64 - 1 reads and writes. Costs
-/// [`lsp_replay::check`], and keeps the output in memory.
-#[unsafe(no_mangle)]
-pub extern "C" fn laspidru_log_check(
-    alloc: Global,
-    handle: &mut Handle,
-    settings: &LogSettings,
-    log: &[u8],
-    out: &mut Ending,
-) -> u32
-    ensures answer { let asked = unless (in_use handle.old.value) (log_asked settings.now) in
-        IsAnswerOrNoMemory asked result
-        (λ settings. IsCommandRun Check settings log.now result handle.new.value out.new) }
-    ensures unchanged { IsUnlessEnded result
-        ((handle.new.value ≡ handle.old.value) × (out.new ≡ out.old)) }
-{
-    run_log(alloc, Command::Check, handle, settings, log, out)
-}
-
-/// Runs [`lsp_replay::replay`] over a log: writes a line of JSON for each document that is open at
-/// the end. Codes are those of `laspidru_log_check`. After a fault of the log the output has no
-/// bytes. Costs [`lsp_replay::replay`], and keeps the output in memory.
-#[unsafe(no_mangle)]
-pub extern "C" fn laspidru_log_replay(
-    alloc: Global,
-    handle: &mut Handle,
-    settings: &LogSettings,
-    log: &[u8],
-    out: &mut Ending,
-) -> u32
-    ensures answer { let asked = unless (in_use handle.old.value) (log_asked settings.now) in
-        IsAnswerOrNoMemory asked result
-        (λ settings. IsCommandRun Replay settings log.now result handle.new.value out.new) }
-    ensures unchanged { IsUnlessEnded result
-        ((handle.new.value ≡ handle.old.value) × (out.new ≡ out.old)) }
-{
-    run_log(alloc, Command::Replay, handle, settings, log, out)
-}
-
-/// Runs [`lsp_replay::normalise`] over a log: writes each accepted change as its canonical message,
-/// with `squash` each run of changes of one document as one. Codes are those of
-/// `laspidru_log_check`, and the fault BODY_TOO_LONG. Costs [`lsp_replay::normalise`], and keeps
-/// the output in memory.
-#[unsafe(no_mangle)]
-pub extern "C" fn laspidru_log_normalise(
-    alloc: Global,
-    handle: &mut Handle,
-    settings: &LogSettings,
-    log: &[u8],
-    out: &mut Ending,
-) -> u32
-    ensures answer { let asked = unless (in_use handle.old.value) (log_asked settings.now) in
-        IsAnswerOrNoMemory asked result
-        (λ settings. IsCommandRun Normalise settings log.now result handle.new.value out.new) }
-    ensures unchanged { IsUnlessEnded result
-        ((handle.new.value ≡ handle.old.value) × (out.new ≡ out.old)) }
-{
-    run_log(alloc, Command::Normalise, handle, settings, log, out)
-}
-
-/// Runs [`lsp_replay::convert`] over a log of version 1: writes the log in version 2, with the
-/// server's replies. Codes are those of `laspidru_log_check`. A log of version 2 is BAD_LOG. Costs
-/// [`lsp_replay::convert`], and keeps the output in memory.
-#[unsafe(no_mangle)]
-pub extern "C" fn laspidru_log_convert(
-    alloc: Global,
-    handle: &mut Handle,
-    settings: &LogSettings,
-    log: &[u8],
-    out: &mut Ending,
-) -> u32
-    ensures answer { let asked = unless (in_use handle.old.value) (log_asked settings.now) in
-        IsAnswerOrNoMemory asked result
-        (λ settings. IsCommandRun Convert settings log.now result handle.new.value out.new) }
-    ensures unchanged { IsUnlessEnded result
-        ((handle.new.value ≡ handle.old.value) × (out.new ≡ out.old)) }
-{
-    run_log(alloc, Command::Convert, handle, settings, log, out)
+    run_into(alloc, handle, name, taken, settings, uri, log, out)
 }
 
 /// Copies an object's output.
@@ -161,8 +118,9 @@ fn object_output(object: &Object, start: usize, out: &mut [u8], copied: &mut usi
     copy_from(output, start, out, copied)
 }
 
-/// Copies the bytes of a command's output from `start` on, as many as `out` has room for, and
-/// returns how many. Codes, in this order: EMPTY, OTHER_KIND, OUT_OF_RANGE. Costs the copy.
+/// Copies the bytes of a command's output, or of a canonical message's frame, from `start` on, as
+/// many as `out` has room for, and returns how many. Codes, in this order: EMPTY, OTHER_KIND,
+/// OUT_OF_RANGE. Costs the copy.
 #[unsafe(no_mangle)]
 pub extern "C" fn laspidru_output_copy(
     alloc: Global,

@@ -17,6 +17,7 @@ impl<'a> LogReader<'a> {
     /// Starts at the first byte of a log.
     pub(crate) fn new(log: &'a [u8]) -> LogReader<'a>
         ensures rest { result.rest.now ≡ log.now }
+        ensures calls { result.calls ≡ 0 }
         ensures ended { result.ended ≡ false }
     {
         LogReader {

@@ -1,7 +1,6 @@
 //! The object in a handle.
 
-use crate::held_client::HeldClient;
-use crate::held_server::HeldServer;
+use crate::end::End;
 use lsp_edit::{Change, IndexedText};
 use lsp_frame::Framer;
 
@@ -12,12 +11,10 @@ pub enum Object {
     Document(IndexedText),
     /// The changes of a canonical batch.
     Batch(Vec<Change>),
-    /// A server, with its last reply.
-    Server(HeldServer),
-    /// The output of a command on a log.
+    /// The output of a command on a log, or the frame of a canonical message.
     Output(Vec<u8>),
     /// A framer of a stream.
     Framer(Framer),
-    /// A client, with its last frame.
-    Client(HeldClient),
+    /// An end of a session.
+    End(End),
 }

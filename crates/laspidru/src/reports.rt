@@ -1,10 +1,11 @@
-//! The settings that C passes to a client, and what it gets of one.
+//! The settings that C passes to a client, and what it gets of one; numbers of phases.
 
 ghost use Rattle.std.specs.Prelude.{◌≡◌, ◌≢◌, Err, IfErr, IfOk, Ok, OnErr, length};
 ghost use Rattle.lsp_client.specs.Seen.{delivered_view};
 ghost use Rattle.laspidru.specs.Servers.{store_code};
-ghost use Rattle.laspidru.specs.Clients.{IsStoreReport, delivered_out, encoding_number};
-ghost use Rattle.laspidru.specs.Clients.{phase_number, phase_reason, reason_number, sent_frame};
+ghost use Rattle.laspidru.specs.Clients.{IsStoreReport, delivered_out, phase_number};
+ghost use Rattle.laspidru.specs.Clients.{phase_reason, reason_number, sent_frame};
+ghost use Rattle.laspidru.specs.Ends.{encoding_number, server_phase};
 ghost use Rattle.laspidru.specs.inside.Clients.{IsCallReport, call_code};
 
 use crate::answers::{Answer, plain, store_code_of};
@@ -15,6 +16,7 @@ use crate::codes::{
 };
 use crate::structs::FaultAt;
 use lsp_client::{ClientFault, Delivered, Phase, Reason};
+use lsp_server::Phase as ServerPhase;
 use lsp_store::StoreFault;
 use lsp_text::Encoding;
 use std::alloc::Global;
@@ -31,20 +33,6 @@ pub struct ClientSettings {
     pub utf8: bool,
     pub utf32: bool,
     pub lenient: bool,
-}
-
-/// The state of a client's session.
-#[repr(C)]
-#[derive(Clone, Copy, Debug, PartialEq, Eq)]
-pub struct ClientState {
-    /// The number of the phase, from 0 for New to 6 for Failed.
-    pub phase: u32,
-    /// The code for why the session failed; 0 if it didn't.
-    pub reason: u32,
-    /// The number of the encoding that was agreed on; 0 before.
-    pub encoding: u32,
-    /// How many documents are open.
-    pub documents: usize,
 }
 
 /// A call of the session's lifecycle.
@@ -165,6 +153,18 @@ pub(crate) fn phase_of(phase: Phase) -> (u32, u32)
         Phase::Closed => (4, 0),
         Phase::Done => (5, 0),
         Phase::Failed(reason) => (6, reason_code(reason)),
+    }
+}
+
+/// Returns the number of a server's phase, as a client in that phase has it.
+pub(crate) fn server_phase_of(phase: ServerPhase) -> u32
+    ensures { result ≡ server_phase phase }
+{
+    match phase {
+        ServerPhase::New => 0,
+        ServerPhase::Running => 2,
+        ServerPhase::Down => 4,
+        ServerPhase::Ended => 5,
     }
 }
 

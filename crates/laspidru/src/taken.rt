@@ -12,13 +12,13 @@ use lsp_frame::{FrameFault, Framer};
 #[repr(C)]
 #[derive(Clone, Copy, Debug, PartialEq, Eq)]
 pub struct Taken {
-    /// OK, or OUT_OF_MEMORY of the two `take` calls, where a message is whole and waits: how many
+    /// OK, or OUT_OF_MEMORY of `laspidru_take`, where a message is whole and waits: how many
     /// bytes of the piece were taken.
     pub bytes: usize,
     /// The same codes: how many bytes the body has, once the message is whole.
     pub body_len: usize,
     /// BAD_FRAME: the byte offset in the stream on which the fault was decided.
-    pub place: u64,
+    pub offset: u64,
     /// BAD_FRAME: the number of the fault, 1 to 7 for F1 to F7.
     pub frame: u32,
     /// The same codes: whether the message is whole.
@@ -32,7 +32,7 @@ pub(crate) fn nothing() -> Taken
     Taken {
         bytes: 0,
         body_len: 0,
-        place: 0,
+        offset: 0,
         frame: 0,
         is_whole: false,
     }
@@ -54,7 +54,7 @@ fn report_frame(fault: FrameFault, out: &mut Taken) -> u32
     ensures code { result ≡ frame_code fault }
     ensures unchanged { result ≢ BAD_FRAME → out.new ≡ out.old }
 {
-    let (frame, place) = match fault {
+    let (frame, offset) = match fault {
         FrameFault::BadHeader { place } => (1, place),
         FrameFault::HeaderTooLong { place } => (2, place),
         FrameFault::MissingLength { place } => (3, place),
@@ -66,7 +66,7 @@ fn report_frame(fault: FrameFault, out: &mut Taken) -> u32
         FrameFault::NoMemory => return OUT_OF_MEMORY,
     };
     *out = Taken {
-        place,
+        offset,
         frame,
         ..nothing()
     };

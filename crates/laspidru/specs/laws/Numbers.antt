@@ -1,6 +1,6 @@
 -- The numbers of the codes for C, and of the kinds of an answer, as include/laspidru.h has them.
 use Rattle.std.specs.Prelude.{ℕ, ◌≡◌, ◌<◌, List, [], ◌∷◌}
-use Rattle.laspidru.specs.declared.codes.TheConstants.{ALREADY_OPEN, BAD_ENCODING, BAD_FRAME, BAD_LENGTH, BAD_LIMIT, BAD_LOG, BAD_SERVER, BODY_TOO_LONG, CHANGED, CUT, DROPPED, EMPTY, ENDED, ERROR_ANSWER, EXITED, FAILED, IGNORED, INSIDE_CHARACTER, INVALID_PARAMS, IN_USE, NOTED, NOT_AN_ANSWER, NOT_OPEN, NOT_UTF8, NO_MESSAGE, NO_SYNC, OK, OTHER_KIND, OUT_OF_MEMORY, OUT_OF_RANGE, OVERLAP, REFUSED, REPLIED, REVERSED_RANGE, STALE_VERSION, TOO_LONG, TOO_MANY_CHANGES, TOO_MANY_DOCUMENTS, TOO_MANY_TURNS, WRONG_PHASE}
+use Rattle.laspidru.specs.declared.codes.TheConstants.{ALREADY_OPEN, BAD_ENCODING, BAD_FRAME, BAD_LENGTH, BAD_LOG, BAD_MAX_BODY, BAD_MAX_CHANGES, BAD_MAX_DOCS, BAD_MAX_TEXT, BAD_SERVER, BODY_TOO_LONG, CHANGED, CUT, DROPPED, EMPTY, ENDED, ERROR_ANSWER, EXITED, FAILED, IGNORED, INSIDE_CHARACTER, INVALID_PARAMS, IN_USE, NOTED, NOT_AN_ANSWER, NOT_OPEN, NOT_UTF8, NO_DOCUMENT, NO_MESSAGE, NO_SYNC, OK, OTHER_KIND, OUT_OF_MEMORY, OUT_OF_RANGE, OVERLAP, REFUSED, REPLIED, REVERSED_RANGE, STALE_VERSION, TOO_LONG, TOO_MANY_CHANGES, TOO_MANY_DOCUMENTS, TOO_MANY_TURNS, WRONG_PHASE}
 
 -- The number of each code.
 pub record HaveNumbers : Type 0 where
@@ -16,7 +16,7 @@ pub record HaveNumbers : Type 0 where
   pub bad_length : BAD_LENGTH ≡ 9
   pub other_kind : OTHER_KIND ≡ 10
   pub out_of_range : OUT_OF_RANGE ≡ 11
-  pub bad_limit : BAD_LIMIT ≡ 12
+  pub bad_max_body : BAD_MAX_BODY ≡ 12
   pub ended : ENDED ≡ 13
   pub not_open : NOT_OPEN ≡ 14
   pub already_open : ALREADY_OPEN ≡ 15
@@ -36,6 +36,10 @@ pub record HaveNumbers : Type 0 where
   pub not_an_answer : NOT_AN_ANSWER ≡ 29
   pub error_answer : ERROR_ANSWER ≡ 30
   pub no_sync : NO_SYNC ≡ 31
+  pub bad_max_text : BAD_MAX_TEXT ≡ 32
+  pub bad_max_docs : BAD_MAX_DOCS ≡ 33
+  pub bad_max_changes : BAD_MAX_CHANGES ≡ 34
+  pub no_document : NO_DOCUMENT ≡ 35
 
 -- The number of each kind of an answer.
 pub record HaveKinds : Type 0 where
@@ -52,10 +56,11 @@ pub record HaveKinds : Type 0 where
 abbrev pub codes : List ℕ
 codes =
     OK ∷ NOT_UTF8 ∷ OUT_OF_MEMORY ∷ IN_USE ∷ EMPTY ∷ TOO_LONG ∷ INSIDE_CHARACTER ∷
-    REVERSED_RANGE ∷ BAD_ENCODING ∷ BAD_LENGTH ∷ OTHER_KIND ∷ OUT_OF_RANGE ∷ BAD_LIMIT ∷ ENDED ∷
+    REVERSED_RANGE ∷ BAD_ENCODING ∷ BAD_LENGTH ∷ OTHER_KIND ∷ OUT_OF_RANGE ∷ BAD_MAX_BODY ∷ ENDED ∷
     NOT_OPEN ∷ ALREADY_OPEN ∷ TOO_MANY_DOCUMENTS ∷ STALE_VERSION ∷ TOO_MANY_CHANGES ∷
     INVALID_PARAMS ∷ CUT ∷ BAD_FRAME ∷ BODY_TOO_LONG ∷ BAD_LOG ∷ TOO_MANY_TURNS ∷ OVERLAP ∷
-    FAILED ∷ NO_MESSAGE ∷ WRONG_PHASE ∷ NOT_AN_ANSWER ∷ ERROR_ANSWER ∷ NO_SYNC ∷ []
+    FAILED ∷ NO_MESSAGE ∷ WRONG_PHASE ∷ NOT_AN_ANSWER ∷ ERROR_ANSWER ∷ NO_SYNC ∷
+    BAD_MAX_TEXT ∷ BAD_MAX_DOCS ∷ BAD_MAX_CHANGES ∷ NO_DOCUMENT ∷ []
 
 -- All kinds, in the order of their numbers.
 abbrev pub kinds : List ℕ

@@ -8,13 +8,14 @@ ghost use Rattle.laspidru.specs.Batches.{refused_edit};
 ghost use Rattle.laspidru.specs.Clients.{IsCalled, IsWritten, as_client, edit_asked, open_asked};
 ghost use Rattle.laspidru.specs.Clients.{opening_asked, stored_client};
 ghost use Rattle.laspidru.specs.Codes.{IsRefusedOr, both, unless};
-ghost use Rattle.laspidru.specs.Servers.{uri_asked};
+ghost use Rattle.laspidru.specs.Objects.{uri_asked};
 
 use crate::bytes::utf8_text;
 use crate::changes::{changes_of, refusal_of};
 use crate::codes::{EMPTY, INSIDE_CHARACTER, NOT_UTF8, OK, OTHER_KIND, REVERSED_RANGE};
 use crate::handle::Handle;
 use crate::object::Object;
+use crate::party::Party;
 use crate::reports::{keep_frame, report_call};
 use crate::structs::{Edit, FaultAt};
 use lsp_client::{Client, ClientFault, Phase};
@@ -76,17 +77,20 @@ fn object_open(
     text: &str,
     len: &mut usize,
 ) -> u32
-    ensures answer { IsRefusedOr (as_client object.old) result (λ editor.
-        IsCalled editor.stream (call_result editor.client
+    ensures answer { IsRefusedOr (as_client object.old) result (λ asked.
+        IsCalled asked.stream (call_result asked.client
         (orders (open_asked uri.now language.now version text.now))) result (Some object.new)
         len.new) }
     ensures unchanged { result ≢ OK → (object.new ≡ object.old) × (len.new ≡ len.old) }
 {
-    let Object::Client(editor) = object else {
+    let Object::End(held) = object else {
         return OTHER_KIND;
     };
-    let answer = opened(alloc, &mut editor.client, uri, language, version, text);
-    keep_frame(&mut editor.frame, answer, len)
+    let Party::Client(client) = &mut held.party else {
+        return OTHER_KIND;
+    };
+    let answer = opened(alloc, client, uri, language, version, text);
+    keep_frame(&mut held.frame, answer, len)
 }
 
 /// Opens a document: the frame of `textDocument/didOpen` is to be sent (LSP 3.17,
@@ -165,23 +169,26 @@ fn object_client_edit(
     len: &mut usize,
 ) -> u32
     requires { refused_edit edits.now texts.now ≡ None }
-    ensures answer { IsRefusedOr (as_client object.old) result (λ editor.
-        IsCalled editor.stream (call_result editor.client
+    ensures answer { IsRefusedOr (as_client object.old) result (λ asked.
+        IsCalled asked.stream (call_result asked.client
         (orders (edit_asked uri.now version edits.now texts.now))) result (Some object.new)
         len.new) }
-    ensures report { IsRefusedOr (as_client object.old) result (λ editor.
-        IsWritten (call_result editor.client
+    ensures report { IsRefusedOr (as_client object.old) result (λ asked.
+        IsWritten (call_result asked.client
         (orders (edit_asked uri.now version edits.now texts.now))) result fault.new) }
     ensures unchanged { result ≢ OK → (object.new ≡ object.old) × (len.new ≡ len.old) }
     ensures fault { result ≢ INSIDE_CHARACTER → result ≢ REVERSED_RANGE → fault.new ≡ fault.old }
 {
-    let Object::Client(editor) = object else {
+    let Object::End(held) = object else {
         return OTHER_KIND;
     };
-    match edited(alloc, &mut editor.client, uri, version, edits, texts) {
+    let Party::Client(client) = &mut held.party else {
+        return OTHER_KIND;
+    };
+    match edited(alloc, client, uri, version, edits, texts) {
         Ok(frame) => {
             *len = frame.len();
-            editor.frame = frame;
+            held.frame = frame;
             OK
         }
         Err(error) => report_call(error, fault),
@@ -241,16 +248,19 @@ pub extern "C" fn laspidru_client_edit(
 /// Closes a document by an object's client.
 #[tactic(auto, using(crate::proofs::Calls::accepted, crate::proofs::Calls::call_refused))]
 fn object_client_close(object: &mut Object, uri: &str, len: &mut usize) -> u32
-    ensures answer { IsRefusedOr (as_client object.old) result (λ editor.
-        IsCalled editor.stream (call_result editor.client (orders (closes uri.now))) result
+    ensures answer { IsRefusedOr (as_client object.old) result (λ asked.
+        IsCalled asked.stream (call_result asked.client (orders (closes uri.now))) result
         (Some object.new) len.new) }
     ensures unchanged { result ≢ OK → (object.new ≡ object.old) × (len.new ≡ len.old) }
 {
-    let Object::Client(editor) = object else {
+    let Object::End(held) = object else {
         return OTHER_KIND;
     };
-    let answer = editor.client.close(uri);
-    keep_frame(&mut editor.frame, answer, len)
+    let Party::Client(client) = &mut held.party else {
+        return OTHER_KIND;
+    };
+    let answer = client.close(uri);
+    keep_frame(&mut held.frame, answer, len)
 }
 
 /// Closes a document: the frame of `textDocument/didClose` is to be sent (LSP 3.17,

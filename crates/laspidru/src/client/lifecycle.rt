@@ -9,6 +9,7 @@ ghost use Rattle.laspidru.specs.Codes.{IsRefusedOr};
 use crate::codes::{EMPTY, OK, OTHER_KIND};
 use crate::handle::Handle;
 use crate::object::Object;
+use crate::party::Party;
 use crate::reports::{Call, keep_frame};
 use lsp_client::{Client, ClientFault};
 use std::alloc::Global;
@@ -30,22 +31,25 @@ fn called(client: &mut Client, call: Call) -> Result<Vec<u8>, ClientFault>
 /// Makes a call of the lifecycle by an object's client.
 #[tactic(auto, using(crate::proofs::Calls::accepted, crate::proofs::Calls::call_refused))]
 fn object_call(object: &mut Object, call: Call, len: &mut usize) -> u32
-    ensures answer { IsRefusedOr (as_client object.old) result (λ editor.
-        IsCalled editor.stream (call_result editor.client (lifecycle_call call)) result
+    ensures answer { IsRefusedOr (as_client object.old) result (λ asked.
+        IsCalled asked.stream (call_result asked.client (lifecycle_call call)) result
         (Some object.new) len.new) }
     ensures unchanged { result ≢ OK → (object.new ≡ object.old) × (len.new ≡ len.old) }
 {
-    let Object::Client(editor) = object else {
+    let Object::End(held) = object else {
         return OTHER_KIND;
     };
-    let answer = called(&mut editor.client, call);
-    keep_frame(&mut editor.frame, answer, len)
+    let Party::Client(client) = &mut held.party else {
+        return OTHER_KIND;
+    };
+    let answer = called(client, call);
+    keep_frame(&mut held.frame, answer, len)
 }
 
 /// Makes a call of the lifecycle by the client of a handle.
 fn call(alloc: Global, handle: &mut Handle, call: Call, len: &mut usize) -> u32
-    ensures answer { IsRefusedOr (stored_client handle.old.value) result (λ editor.
-        IsCalled editor.stream (call_result editor.client (lifecycle_call call)) result
+    ensures answer { IsRefusedOr (stored_client handle.old.value) result (λ asked.
+        IsCalled asked.stream (call_result asked.client (lifecycle_call call)) result
         handle.new.value len.new) }
     ensures unchanged { result ≢ OK
         → (handle.new.value ≡ handle.old.value) × (len.new ≡ len.old) }
@@ -64,8 +68,8 @@ fn call(alloc: Global, handle: &mut Handle, call: Call, len: &mut usize) -> u32
 /// [`Client::start`].
 #[unsafe(no_mangle)]
 pub extern "C" fn laspidru_client_start(alloc: Global, handle: &mut Handle, len: &mut usize) -> u32
-    ensures answer { IsRefusedOr (stored_client handle.old.value) result (λ editor.
-        IsCalled editor.stream (call_result editor.client (lifecycle_call Call.Start)) result
+    ensures answer { IsRefusedOr (stored_client handle.old.value) result (λ asked.
+        IsCalled asked.stream (call_result asked.client (lifecycle_call Call.Start)) result
         handle.new.value len.new) }
     ensures unchanged { result ≢ OK
         → (handle.new.value ≡ handle.old.value) × (len.new ≡ len.old) }
@@ -82,8 +86,8 @@ pub extern "C" fn laspidru_client_shutdown(
     handle: &mut Handle,
     len: &mut usize,
 ) -> u32
-    ensures answer { IsRefusedOr (stored_client handle.old.value) result (λ editor.
-        IsCalled editor.stream (call_result editor.client (lifecycle_call Call.Shutdown)) result
+    ensures answer { IsRefusedOr (stored_client handle.old.value) result (λ asked.
+        IsCalled asked.stream (call_result asked.client (lifecycle_call Call.Shutdown)) result
         handle.new.value len.new) }
     ensures unchanged { result ≢ OK
         → (handle.new.value ≡ handle.old.value) × (len.new ≡ len.old) }
@@ -95,8 +99,8 @@ pub extern "C" fn laspidru_client_shutdown(
 /// this order: EMPTY, OTHER_KIND, WRONG_PHASE; OUT_OF_MEMORY. Costs [`Client::exit`].
 #[unsafe(no_mangle)]
 pub extern "C" fn laspidru_client_exit(alloc: Global, handle: &mut Handle, len: &mut usize) -> u32
-    ensures answer { IsRefusedOr (stored_client handle.old.value) result (λ editor.
-        IsCalled editor.stream (call_result editor.client (lifecycle_call Call.Exit)) result
+    ensures answer { IsRefusedOr (stored_client handle.old.value) result (λ asked.
+        IsCalled asked.stream (call_result asked.client (lifecycle_call Call.Exit)) result
         handle.new.value len.new) }
     ensures unchanged { result ≢ OK
         → (handle.new.value ≡ handle.old.value) × (len.new ≡ len.old) }

@@ -1,6 +1,7 @@
 //! Runs that end in a fault: the status, the output before it, and its line.
 
-use super::ran;
+use super::{ran, stopped};
+use lsp_stream::CallEnd::{Fail as Fails, Take};
 use std::str;
 use std::test::Fail;
 
@@ -45,6 +46,23 @@ fn what_ends_a_run(rt: HostRuntime) -> Result<(), Fail> {
         assert_eq!(rt; answer.status, *status);
     }
     Ok(())
+}
+
+#[test]
+fn a_read_that_fails_comes_after_the_lines_before_it(rt: HostRuntime) {
+    let input = "{\"event\":\"start\"}\n{\"event\":\"toServer\"}\n";
+    let answer = stopped(
+        rt.alloc(),
+        &["lsp_simulate"],
+        input,
+        &[Take(7), Take(20), Fails],
+    );
+    assert_eq!(rt;
+        answer.errors.as_slice(),
+        "lsp_simulate: read fault\n".as_bytes()
+    );
+    assert_eq!(rt; answer.output.as_slice(), "1 sent\n".as_bytes());
+    assert_eq!(rt; answer.status, 3);
 }
 
 #[test]

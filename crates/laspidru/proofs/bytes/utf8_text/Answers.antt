@@ -1,4 +1,4 @@
-use Rattle.laspidru.proofs.Texts.{utf8_yes, utf8_no}
+use Rattle.laspidru.proofs.Utf8.{utf8_yes, utf8_no}
 use Rattle.laspidru.proofs.bytes.utf8_text.Goals as goal
 
 pub returns-in-Ok-clause-text : goal.returns-in-Ok-clause-text

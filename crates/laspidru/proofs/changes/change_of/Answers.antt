@@ -1,4 +1,4 @@
-use Rattle.laspidru.proofs.Texts.{utf8_is}
+use Rattle.laspidru.proofs.Utf8.{utf8_is}
 use Rattle.laspidru.proofs.changes.change_of.Goals as goal
 
 pub from_utf8_unchecked-requires : goal.from_utf8_unchecked-requires

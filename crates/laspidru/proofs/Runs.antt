@@ -1,0 +1,20 @@
+-- A command on a log.
+use Rattle.std.proofs.Common.{◌≡◌, ◌⊎◌, ℕ, List, Option, Result, inl, inr}
+use Rattle.lsp_stream.specs.declared.fault.EngineFault.{EngineFault}
+use Rattle.lsp_replay.specs.declared.outcome.Outcome.{Outcome}
+use Rattle.laspidru.specs.declared.codes.TheConstants.{OUT_OF_MEMORY}
+use Rattle.laspidru.specs.declared.command.Command.{Command}
+use Rattle.laspidru.specs.declared.endings.Ending.{Ending}
+use Rattle.laspidru.specs.declared.endings.LogSettings.{LogSettings}
+use Rattle.laspidru.specs.declared.object.Object.{Object}
+use Rattle.laspidru.specs.Logs.{IsCommand, IsCommandRun, IsEnded, RanOn, RunAsked}
+
+-- It ran, and its output was kept, or out of memory.
+pub command_ran : (asked : RunAsked) (settings : LogSettings) (log : List ℕ) (it : Command) (output : List ℕ)
+    (answer : Result Outcome EngineFault) (code : ℕ) (stored : Option Object) (out : Ending)
+    → IsCommand asked.name settings asked.uri it → RanOn it asked.settings log output answer
+    → (code ≡ OUT_OF_MEMORY) ⊎ IsEnded output answer code stored out
+    → (code ≡ OUT_OF_MEMORY) ⊎ IsCommandRun asked settings log code stored out
+command_ran asked settings log it output answer code stored out is ran (inl none) = inl none
+command_ran asked settings log it output answer code stored out is ran (inr ended) =
+    inr (record { it = it; is = is; output = output; answer = answer; ran = ran; ended = ended })

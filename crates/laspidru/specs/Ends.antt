@@ -1,0 +1,184 @@
+-- What either end of a session does with a body, and what is asked of it and of its documents.
+use Rattle.std.specs.Prelude.{ℕ, ◌≡◌, if◌then◌else◌, List, length, option_map, Option, Some, None, Result, Ok, Err}
+use Rattle.std.specs.Option.{ok_or}
+use Rattle.lsp_frame.specs.Stream.{FramerData}
+use Rattle.lsp_text.specs.declared.encoding.Encoding.{Encoding}
+use Rattle.lsp_text.specs.declared.encoding.Encoding.TheVariants.{Utf8, Utf16, Utf32}
+use Rattle.lsp_message.specs.Message.{reading}
+use Rattle.lsp_message.specs.Params.{DocumentItem}
+use Rattle.lsp_store.specs.Opened.{StoreData}
+use Rattle.lsp_store.specs.Table.{entry_at}
+use Rattle.lsp_server.specs.declared.phase.Phase.{Phase}
+use Rattle.lsp_server.specs.declared.phase.Phase.TheVariants.{New, Running, Down, Ended}
+use Rattle.lsp_server.specs.Answer.{as_sent}
+use Rattle.lsp_server.specs.Step.{Step, step}
+use Rattle.lsp_client.specs.declared.phase.Phase as client_phase
+use Rattle.lsp_client.specs.Seen.{as_frame}
+use Rattle.lsp_client.specs.Step.{Delivery, delivery_of, is_listening}
+use Rattle.laspidru.specs.declared.answers.Answer.{Answer}
+use Rattle.laspidru.specs.declared.answers.Opened.{Opened}
+use Rattle.laspidru.specs.declared.answers.State.{State}
+use Rattle.laspidru.specs.declared.codes.TheConstants.{EMPTY, ENDED, NOT_OPEN, OK, OTHER_KIND, WRONG_PHASE}
+use Rattle.laspidru.specs.declared.object.Object.{Object}
+use Rattle.laspidru.specs.declared.object.Object.TheVariants.{End, Framer}
+use Rattle.laspidru.specs.declared.party.Party.{Party}
+use Rattle.laspidru.specs.declared.party.Party.TheVariants.{Server, Client}
+use Rattle.laspidru.specs.Clients.{delivered_out, phase_number, phase_reason, sent_frame}
+use Rattle.laspidru.specs.Codes.{and_then, unless}
+use Rattle.laspidru.specs.HeldEnds.{EndData}
+use Rattle.laspidru.specs.Objects.{uri_asked}
+use Rattle.laspidru.specs.Servers.{answer_out, reply_out}
+
+-- The end in an object.
+abbrev pub as_end : Object → Result EndData ℕ
+as_end (End held) = Ok held
+as_end other = Err OTHER_KIND
+
+-- The end in a handle.
+abbrev pub stored_end : Option Object → Result EndData ℕ
+stored_end (Some object) = as_end object
+stored_end None = Err EMPTY
+
+-- ---- what it does with a body
+
+-- What an end does with a body: the end after it, the frame to send, and the answer that C gets.
+pub record Handling : Type 0 where
+  pub party : Party
+  pub frame : List ℕ
+  pub answer : Answer
+
+-- The step of a server, as C gets it.
+abbrev pub served_out : Step → Handling
+served_out it = record {
+  party = Server it.state;
+  frame = reply_out (as_sent it.answer);
+  answer = answer_out (as_sent it.answer);
+}
+
+-- The delivery of a client, as C gets it.
+abbrev pub heard_out : Delivery → Handling
+heard_out it = record {
+  party = Client it.state;
+  frame = sent_frame (as_frame it.delivered);
+  answer = delivered_out (as_frame it.delivered);
+}
+
+-- By the table of a server's steps, or of a client's deliveries.
+abbrev pub handling_by : Party → List ℕ → Handling
+handling_by (Server server) body = served_out (step server (reading body))
+handling_by (Client client) body = heard_out (delivery_of client (reading body))
+
+-- A server handles no message after the end of its session.
+abbrev pub session_over : Phase → Option ℕ
+session_over Ended = Some ENDED
+session_over other = None
+
+-- A client handles none before `initialize` and after `exit`, nor once its session failed.
+abbrev pub deaf : client_phase.Phase → Option ℕ
+deaf phase = if is_listening phase then None else Some WRONG_PHASE
+
+-- The code of an end that handles no message in its phase.
+abbrev pub closed : Party → Option ℕ
+closed (Server server) = session_over server.phase
+closed (Client client) = deaf client.phase
+
+-- What an end does with a body, or the code of its refusal.
+abbrev pub handling_of : Party → List ℕ → Result Handling ℕ
+handling_of party body = unless (closed party) (Ok (handling_by party body))
+
+-- The end, its frame and the answer are those after a body, and the call is done.
+pub record IsHandledBy (party : Party) (frame : List ℕ) (code : ℕ) (out : Answer)
+    (it : Handling) : Type 0 where
+  pub done : code ≡ OK
+  pub party_after : party ≡ it.party
+  pub frame_after : frame ≡ it.frame
+  pub answer : out ≡ it.answer
+
+-- The handle has the end after a body, and C gets the answer.
+pub record IsHandled (held : EndData) (code : ℕ) (stored : Option Object) (out : Answer)
+    (it : Handling) : Type 0 where
+  pub done : code ≡ OK
+  pub end_after : stored
+      ≡ Some (End (record { party = it.party; frame = it.frame; stream = held.stream }))
+  pub answer : out ≡ it.answer
+
+-- An end that handles messages in its phase.
+abbrev pub listening : Result EndData ℕ → Result EndData ℕ
+listening held = and_then held (λ it. unless (closed it.party) (Ok it))
+
+-- ---- what is asked of it
+
+-- The framer of an object, or that of its end's stream.
+abbrev pub as_framing : Object → Result FramerData ℕ
+as_framing (Framer framing) = Ok framing
+as_framing (End held) = Ok held.stream.framing
+as_framing other = Err OTHER_KIND
+
+-- The same of a handle.
+abbrev pub stored_framing : Option Object → Result FramerData ℕ
+stored_framing (Some object) = as_framing object
+stored_framing None = Err EMPTY
+
+-- The frame that an end sends last.
+abbrev pub frame_asked : Result EndData ℕ → Result (List ℕ) ℕ
+frame_asked held = and_then held (λ it. Ok it.frame)
+
+-- The open documents of an end, and its limits.
+abbrev pub store_in : Party → StoreData
+store_in (Server server) = record { limits = server.config.limits; table = server.table }
+store_in (Client client) = record { limits = client.limits; table = client.table }
+
+-- The encoding that was agreed on.
+abbrev pub agreed_encoding : Party → Option Encoding
+agreed_encoding (Server server) = server.encoding
+agreed_encoding (Client client) = option_map (λ agreed. agreed.encoding) client.agreed
+
+-- The number of an encoding; 0 of none.
+abbrev pub encoding_number : Option Encoding → ℕ
+encoding_number None = 0
+encoding_number (Some Utf8) = 8
+encoding_number (Some Utf16) = 16
+encoding_number (Some Utf32) = 32
+
+-- The number of a server's phase, as a client in that phase has it.
+abbrev pub server_phase : Phase → ℕ
+server_phase New = 0
+server_phase Running = 2
+server_phase Down = 4
+server_phase Ended = 5
+
+-- The number of an end's phase.
+abbrev pub party_phase : Party → ℕ
+party_phase (Server server) = server_phase server.phase
+party_phase (Client client) = phase_number client.phase
+
+-- Why an end's session failed; 0 if it didn't.
+abbrev pub party_reason : Party → ℕ
+party_reason (Server server) = 0
+party_reason (Client client) = phase_reason client.phase
+
+-- The state of an end.
+pub record IsState (out : State) (party : Party) : Type 0 where
+  pub phase : out.phase ≡ party_phase party
+  pub reason : out.reason ≡ party_reason party
+  pub encoding : out.encoding ≡ encoding_number (agreed_encoding party)
+  pub documents : out.documents ≡ length (store_in party).table
+
+-- ---- its open documents
+
+-- The open document of a URI.
+abbrev pub entry_in : List ℕ → EndData → Result DocumentItem ℕ
+entry_in uri held = ok_or (entry_at (store_in held.party).table uri) NOT_OPEN
+
+-- The same, with the codes of the URI and of the handle before it.
+abbrev pub entry_asked : List ℕ → Result EndData ℕ → Result DocumentItem ℕ
+entry_asked uri held = and_then (uri_asked uri) (λ named. and_then held (entry_in named))
+
+-- The text of a document.
+abbrev pub entry_text : Result DocumentItem ℕ → Result (List ℕ) ℕ
+entry_text document = and_then document (λ entry. Ok entry.text)
+
+-- The version of a document, and how many bytes its text has.
+pub record IsOpened (out : Opened) (entry : DocumentItem) : Type 0 where
+  pub version : out.version ≡ entry.version
+  pub bytes : out.bytes ≡ length entry.text

@@ -1,0 +1,124 @@
+//! The function on canonical messages of an end's open documents.
+
+ghost use Rattle.std.specs.Prelude.{◌≡◌, ◌≢◌, None};
+ghost use Rattle.laspidru.specs.Batches.{edits_of, refused_edit};
+ghost use Rattle.laspidru.specs.Codes.{IsAnswerOrNoMemory, unless};
+ghost use Rattle.laspidru.specs.Ends.{as_end, store_in, stored_end};
+ghost use Rattle.laspidru.specs.Messages.{IsMessageLeft, canonical_message_of, message_asked};
+ghost use Rattle.laspidru.specs.Objects.{in_use};
+
+use crate::bytes::utf8_text;
+use crate::changes::{changes_of, encoding_of, refusal_of};
+use crate::codes::{
+    BAD_ENCODING, EMPTY, IN_USE, INSIDE_CHARACTER, NOT_UTF8, OK, OTHER_KIND, OUT_OF_MEMORY,
+    REVERSED_RANGE,
+};
+use crate::ends::store_of;
+use crate::handle::Handle;
+use crate::object::Object;
+use crate::reports::report_store;
+use crate::structs::{Edit, FaultAt};
+use lsp_text::Encoding;
+use std::alloc::Global;
+
+/// Puts the canonical message of a batch on a document of an object's end into an empty handle.
+#[tactic(auto, using(crate::proofs::Written::message_refused))]
+fn object_message(
+    alloc: Global,
+    object: &Object,
+    uri: &str,
+    version: i32,
+    encoding: Encoding,
+    edits: &[Edit],
+    texts: &[u8],
+    output: &mut Handle,
+    fault: &mut FaultAt,
+    len: &mut usize,
+) -> u32
+    requires checked { refused_edit edits.now texts.now ≡ None }
+    requires empty { output.old.value ≡ None }
+    ensures answer { IsAnswerOrNoMemory (as_end object.now) result (λ held.
+        IsMessageLeft (canonical_message_of (record {
+          store = store_in held.party;
+          uri = uri.now;
+          version = version;
+          encoding = encoding;
+          edits = edits_of edits.now texts.now;
+        })) result output.new.value len.new fault.new) }
+    ensures unchanged { result ≢ OK → (output.new.value ≡ None) × (len.new ≡ len.old) }
+    ensures fault { result ≢ INSIDE_CHARACTER → result ≢ REVERSED_RANGE → fault.new ≡ fault.old }
+{
+    let Object::End(held) = object else {
+        return OTHER_KIND;
+    };
+    let Ok(changes) = changes_of(alloc, edits, texts) else {
+        return OUT_OF_MEMORY;
+    };
+    let store = store_of(&held.party);
+    let frame = match store.canonical_message(uri, version, encoding, &changes) {
+        Ok(frame) => frame,
+        Err(error) => return report_store(error, fault),
+    };
+    let count = frame.len();
+    let Ok(object) = Box::new(alloc, Object::Output(frame)) else {
+        return OUT_OF_MEMORY;
+    };
+    output.put(object);
+    *len = count;
+    OK
+}
+
+/// Puts the frame of the canonical message of a batch on an open document into an empty handle (LSP
+/// 3.17, DidChangeTextDocument): that of [`Store::canonical_message`](lsp_store::Store). It is
+/// copied by `laspidru_output_copy`. The document stays as it is.
+///
+/// Codes, in this order: NOT_UTF8 of the URI; BAD_ENCODING; BAD_LENGTH or NOT_UTF8 of the first
+/// such edit; IN_USE of `output`; EMPTY, OTHER_KIND. Then OUT_OF_MEMORY, or NOT_OPEN,
+/// STALE_VERSION, TOO_MANY_CHANGES, INSIDE_CHARACTER, REVERSED_RANGE, TOO_LONG, also of a message
+/// that is too long. With the two codes of a faulty change `fault` says which change it is. Costs a
+/// pass over the texts, their copy, and `Store::canonical_message`.
+#[unsafe(no_mangle)]
+pub extern "C" fn laspidru_open_canonical_message(
+    alloc: Global,
+    handle: &mut Handle,
+    uri: &[u8],
+    version: i32,
+    encoding: u32,
+    edits: &[Edit],
+    texts: &[u8],
+    output: &mut Handle,
+    fault: &mut FaultAt,
+    len: &mut usize,
+) -> u32
+    ensures answer { let held =
+        unless (in_use output.old.value) (stored_end handle.old.value) in
+        IsAnswerOrNoMemory (message_asked uri.now version encoding edits.now texts.now held)
+        result
+        (λ asked. IsMessageLeft (canonical_message_of asked) result
+        output.new.value len.new fault.new) }
+    ensures handle { handle.new.value ≡ handle.old.value }
+    ensures unchanged { result ≢ OK
+        → (output.new.value ≡ output.old.value) × (len.new ≡ len.old) }
+    ensures fault { result ≢ INSIDE_CHARACTER → result ≢ REVERSED_RANGE → fault.new ≡ fault.old }
+{
+    let Some(uri) = utf8_text(uri) else {
+        return NOT_UTF8;
+    };
+    let Some(encoding) = encoding_of(encoding) else {
+        return BAD_ENCODING;
+    };
+    if let Some(code) = refusal_of(edits, texts) {
+        return code;
+    }
+    if output.is_full(alloc) {
+        return IN_USE;
+    }
+    let Some(object) = handle.take(alloc) else {
+        return EMPTY;
+    };
+    let code = object_message(
+        alloc, &object, uri, version, encoding, edits, texts, output, fault, len,
+    );
+    handle.put(object);
+    code
+}

@@ -1,0 +1,400 @@
+//! The functions on either end of a session.
+
+ghost use Rattle.std.specs.Prelude.{◌≡◌, ◌≢◌, IsOkAnd, None, Some};
+ghost use Rattle.laspidru.specs.declared.party.Party.TheVariants.{Client as ClientOf};
+ghost use Rattle.laspidru.specs.declared.party.Party.TheVariants.{Server as ServerOf};
+ghost use Rattle.laspidru.specs.Codes.{IsAnswer, IsAnswerOrNoMemory, IsRefusedOr, OnRefused};
+ghost use Rattle.laspidru.specs.Ends.{IsHandled, IsHandledBy, IsState, agreed_encoding, as_end};
+ghost use Rattle.laspidru.specs.Ends.{as_framing, closed, deaf, frame_asked, handling_of};
+ghost use Rattle.laspidru.specs.Ends.{listening, party_phase, party_reason, session_over, store_in};
+ghost use Rattle.laspidru.specs.Ends.{stored_end, stored_framing};
+ghost use Rattle.laspidru.specs.Framers.{IsBodyAnswer};
+ghost use Rattle.laspidru.specs.Objects.{IsCopy, rest_asked};
+ghost use Rattle.laspidru.specs.Taking.{IsTaken};
+
+use crate::answers::{Answer, State, answer_of, reply_of};
+use crate::bytes::copy_from;
+use crate::codes::{EMPTY, ENDED, OK, OTHER_KIND, OUT_OF_MEMORY, WRONG_PHASE};
+use crate::end::End;
+use crate::framer::copy_body;
+use crate::handle::Handle;
+use crate::object::Object;
+use crate::party::Party;
+use crate::reports::{
+    call_code_of, delivered_answer, frame_of, number_of, phase_of, server_phase_of,
+};
+use crate::taken::Taken;
+use lsp_client::{Client, Phase as ClientPhase};
+use lsp_server::{Phase, Server, ServerFault};
+use lsp_store::Store;
+use lsp_text::Encoding;
+use std::alloc::Global;
+
+/// Returns an end's open documents.
+pub(crate) fn store_of(party: &Party) -> &Store
+    ensures { result.now ≡ store_in party.now }
+{
+    match party {
+        Party::Server(server) => server.store(),
+        Party::Client(client) => client.store(),
+    }
+}
+
+/// Returns the encoding of positions that was agreed on.
+fn encoding_of_session(party: &Party) -> Option<Encoding>
+    ensures { result ≡ agreed_encoding party.now }
+{
+    match party {
+        Party::Server(server) => server.encoding(),
+        Party::Client(client) => client.encoding(),
+    }
+}
+
+/// Returns the number of an end's phase, and the code for why its session failed.
+fn phase_of_party(party: &Party) -> (u32, u32)
+    ensures phase { result.0 ≡ party_phase party.now }
+    ensures reason { result.1 ≡ party_reason party.now }
+{
+    match party {
+        Party::Server(server) => (server_phase_of(server.phase()), 0),
+        Party::Client(client) => phase_of(client.phase()),
+    }
+}
+
+/// Returns the code of a server that handles no message in this phase.
+fn ended_code(phase: Phase) -> Option<u32>
+    ensures { result ≡ session_over phase }
+{
+    match phase {
+        Phase::New | Phase::Running | Phase::Down => None,
+        Phase::Ended => Some(ENDED),
+    }
+}
+
+/// Returns the code of a client that handles no message in this phase.
+fn deaf_code(phase: ClientPhase) -> Option<u32>
+    ensures { result ≡ deaf phase }
+{
+    match phase {
+        ClientPhase::Asked | ClientPhase::Ready | ClientPhase::Closing | ClientPhase::Closed => {
+            None
+        }
+        ClientPhase::New | ClientPhase::Done | ClientPhase::Failed(_) => Some(WRONG_PHASE),
+    }
+}
+
+/// Returns the code of an end that handles no message in its phase.
+fn closed_code(party: &Party) -> Option<u32>
+    ensures { result ≡ closed party.now }
+{
+    match party {
+        Party::Server(server) => ended_code(server.phase()),
+        Party::Client(client) => deaf_code(client.phase()),
+    }
+}
+
+/// Handles a body by a server.
+fn serve(
+    alloc: Global,
+    server: &mut Server,
+    body: &[u8],
+    frame: &mut Vec<u8>,
+    out: &mut Answer,
+) -> u32
+    ensures answer { IsAnswerOrNoMemory (handling_of (ServerOf server.old) body.now) result
+        (IsHandledBy (ServerOf server.new) frame.new.items result out.new) }
+    ensures unchanged { result ≢ OK
+        → (server.new ≡ server.old) × (frame.new ≡ frame.old) × (out.new ≡ out.old) }
+{
+    let answer = match server.handle(body) {
+        Ok(answer) => answer,
+        Err(ServerFault::AlreadyEnded) => return ENDED,
+        Err(ServerFault::NoMemory) => return OUT_OF_MEMORY,
+    };
+    *out = answer_of(&answer);
+    *frame = reply_of(alloc, answer);
+    OK
+}
+
+/// Handles a body by a client.
+#[tactic(auto, using(crate::proofs::Bodies::delivered, crate::proofs::Bodies::delivery_refused))]
+fn hear(
+    alloc: Global,
+    client: &mut Client,
+    body: &[u8],
+    frame: &mut Vec<u8>,
+    out: &mut Answer,
+) -> u32
+    ensures answer { IsAnswerOrNoMemory (handling_of (ClientOf client.old) body.now) result
+        (IsHandledBy (ClientOf client.new) frame.new.items result out.new) }
+    ensures unchanged { result ≢ OK
+        → (client.new ≡ client.old) × (frame.new ≡ frame.old) × (out.new ≡ out.old) }
+{
+    let delivered = match client.deliver(body) {
+        Ok(delivered) => delivered,
+        Err(fault) => return call_code_of(fault),
+    };
+    *out = delivered_answer(&delivered);
+    *frame = frame_of(alloc, delivered);
+    OK
+}
+
+/// Handles a body by an end.
+fn handled(
+    alloc: Global,
+    party: &mut Party,
+    body: &[u8],
+    frame: &mut Vec<u8>,
+    out: &mut Answer,
+) -> u32
+    ensures answer { IsAnswerOrNoMemory (handling_of party.old body.now) result
+        (IsHandledBy party.new frame.new.items result out.new) }
+    ensures unchanged { result ≢ OK
+        → (party.new ≡ party.old) × (frame.new ≡ frame.old) × (out.new ≡ out.old) }
+{
+    match party {
+        Party::Server(server) => serve(alloc, server, body, frame, out),
+        Party::Client(client) => hear(alloc, client, body, frame, out),
+    }
+}
+
+/// Passes a body to an object's end.
+#[tactic(auto, using(crate::proofs::Bodies::handled_in))]
+fn object_deliver(alloc: Global, object: &mut Object, body: &[u8], out: &mut Answer) -> u32
+    ensures answer { IsRefusedOr (as_end object.old) result (λ held.
+        IsAnswerOrNoMemory (handling_of held.party body.now) result
+        (IsHandled held result (Some object.new) out.new)) }
+    ensures unchanged { result ≢ OK → (object.new ≡ object.old) × (out.new ≡ out.old) }
+{
+    let Object::End(held) = object else {
+        return OTHER_KIND;
+    };
+    handled(alloc, &mut held.party, body, &mut held.frame, out)
+}
+
+/// Handles the body of a message of the other end (LSP 3.17, Base Protocol). The answer is that of
+/// [`Server::handle`], or of [`Client::deliver`], and the end keeps the frame that is to be sent
+/// until the next message or call.
+///
+/// Codes, in this order: EMPTY, OTHER_KIND; ENDED of a server, WRONG_PHASE of a client;
+/// OUT_OF_MEMORY, after which the body may be passed again. Costs [`Server::handle`], or
+/// [`Client::deliver`].
+#[unsafe(no_mangle)]
+pub extern "C" fn laspidru_deliver(
+    alloc: Global,
+    handle: &mut Handle,
+    body: &[u8],
+    out: &mut Answer,
+) -> u32
+    ensures answer { IsRefusedOr (stored_end handle.old.value) result (λ held.
+        IsAnswerOrNoMemory (handling_of held.party body.now) result
+        (IsHandled held result handle.new.value out.new)) }
+    ensures unchanged { result ≢ OK
+        → (handle.new.value ≡ handle.old.value) × (out.new ≡ out.old) }
+{
+    let Some(mut object) = handle.take(alloc) else {
+        return EMPTY;
+    };
+    let code = object_deliver(alloc, &mut object, body, out);
+    handle.put(object);
+    code
+}
+
+/// Takes bytes of a piece, and handles the message that is whole then.
+#[tactic(auto, using(crate::proofs::Bodies::untaken, crate::proofs::Bodies::none_taken, crate::proofs::Bodies::waits, crate::proofs::Bodies::one_taken))]
+fn take(alloc: Global, held: &mut End, piece: &[u8], taken: &mut Taken, out: &mut Answer) -> u32
+    requires { closed held.old.party ≡ None }
+    ensures { IsTaken held.old piece.now result held.new taken.new out.old out.new }
+{
+    let code = held.stream.feed(piece, taken);
+    if code != OK {
+        return code;
+    }
+    let Some(body) = held.stream.body() else {
+        return OK;
+    };
+    if handled(alloc, &mut held.party, body, &mut held.frame, out) != OK {
+        return OUT_OF_MEMORY;
+    }
+    held.stream.note_handled();
+    OK
+}
+
+/// Takes bytes of a piece by an object's end.
+#[tactic(auto, using(crate::proofs::Bodies::taken_in, crate::proofs::Bodies::unrefused))]
+fn object_take(
+    alloc: Global,
+    object: &mut Object,
+    piece: &[u8],
+    taken: &mut Taken,
+    out: &mut Answer,
+) -> u32
+    ensures answer { IsRefusedOr (listening (as_end object.old)) result (λ held.
+        IsOkAnd (as_end object.new) (λ new.
+        IsTaken held piece.now result new taken.new out.old out.new)) }
+    ensures unchanged { OnRefused (listening (as_end object.old))
+        ((object.new ≡ object.old) × (taken.new ≡ taken.old) × (out.new ≡ out.old)) }
+{
+    let Object::End(held) = object else {
+        return OTHER_KIND;
+    };
+    if let Some(code) = closed_code(&held.party) {
+        return code;
+    }
+    take(alloc, held, piece, taken, out)
+}
+
+/// Takes bytes of the next piece of an end's stream: all of them, or those up to the end of one
+/// message, and handles that message (LSP 3.17, Base Protocol). `taken` is what
+/// `laspidru_framer_feed` writes. Once the message is whole, `out` is the answer of
+/// `laspidru_deliver`; before, it stays as it is. The body can be copied until the next call.
+///
+/// Codes, in this order: EMPTY, OTHER_KIND; ENDED of a server, WRONG_PHASE of a client. These
+/// change nothing. Then FAILED; OUT_OF_MEMORY, or BAD_FRAME. After OUT_OF_MEMORY a message may be
+/// whole and not handled: the next call handles it. Costs a pass over the bytes taken, their copy,
+/// and `laspidru_deliver`.
+#[unsafe(no_mangle)]
+pub extern "C" fn laspidru_take(
+    alloc: Global,
+    handle: &mut Handle,
+    piece: &[u8],
+    taken: &mut Taken,
+    out: &mut Answer,
+) -> u32
+    ensures answer { IsRefusedOr (listening (stored_end handle.old.value)) result (λ held.
+        IsOkAnd (stored_end handle.new.value) (λ new.
+        IsTaken held piece.now result new taken.new out.old out.new)) }
+    ensures unchanged { OnRefused (listening (stored_end handle.old.value))
+        ((handle.new.value ≡ handle.old.value) × (taken.new ≡ taken.old) × (out.new ≡ out.old)) }
+{
+    let Some(mut object) = handle.take(alloc) else {
+        return EMPTY;
+    };
+    let code = object_take(alloc, &mut object, piece, taken, out);
+    handle.put(object);
+    code
+}
+
+/// Copies the body that an end has buffered.
+fn end_body(held: &End, start: usize, out: &mut [u8], copied: &mut usize) -> u32
+    ensures answer { IsBodyAnswer held.now.stream.framing start result out.old out.new copied.new }
+    ensures unchanged { result ≢ OK → (out.new ≡ out.old) × (copied.new ≡ copied.old) }
+{
+    held.stream.copy_body(start, out, copied)
+}
+
+/// Copies the body that an object's framer or end has buffered.
+fn object_body(object: &Object, start: usize, out: &mut [u8], copied: &mut usize) -> u32
+    ensures answer { IsRefusedOr (as_framing object.now) result
+        (λ framing. IsBodyAnswer framing start result out.old out.new copied.new) }
+    ensures unchanged { result ≢ OK → (out.new ≡ out.old) × (copied.new ≡ copied.old) }
+{
+    match object {
+        Object::Framer(framer) => copy_body(framer, start, out, copied),
+        Object::End(held) => end_body(held, start, out, copied),
+        _ => OTHER_KIND,
+    }
+}
+
+/// Copies the bytes of the body of the message that an end took last, or that a framer has
+/// buffered, from `start` on, as many as `out` has room for, and returns how many. The next call of
+/// `laspidru_take` or `laspidru_framer_next` releases it. Codes, in this order: EMPTY, OTHER_KIND,
+/// NO_MESSAGE, OUT_OF_RANGE. Costs the copy.
+#[unsafe(no_mangle)]
+pub extern "C" fn laspidru_body(
+    alloc: Global,
+    handle: &mut Handle,
+    start: usize,
+    out: &mut [u8],
+    copied: &mut usize,
+) -> u32
+    ensures answer { IsRefusedOr (stored_framing handle.old.value) result
+        (λ framing. IsBodyAnswer framing start result out.old out.new copied.new) }
+    ensures handle { handle.new.value ≡ handle.old.value }
+    ensures unchanged { result ≢ OK → (out.new ≡ out.old) × (copied.new ≡ copied.old) }
+{
+    let Some(object) = handle.take(alloc) else {
+        return EMPTY;
+    };
+    let code = object_body(&object, start, out, copied);
+    handle.put(object);
+    code
+}
+
+/// Copies the frame of an object's end.
+fn object_frame(object: &Object, start: usize, out: &mut [u8], copied: &mut usize) -> u32
+    ensures answer { IsAnswer (rest_asked start (frame_asked (as_end object.now))) result
+        (IsCopy out.old out.new copied.new) }
+    ensures unchanged { result ≢ OK → (out.new ≡ out.old) × (copied.new ≡ copied.old) }
+{
+    let Object::End(held) = object else {
+        return OTHER_KIND;
+    };
+    copy_from(&held.frame, start, out, copied)
+}
+
+/// Copies the bytes of the frame to send from `start` on, as many as `out` has room for, and
+/// returns how many. The frame is that of the last message or call that was accepted; if that sends
+/// none it has no bytes. Codes, in this order: EMPTY, OTHER_KIND, OUT_OF_RANGE. Costs the copy.
+#[unsafe(no_mangle)]
+pub extern "C" fn laspidru_frame(
+    alloc: Global,
+    handle: &mut Handle,
+    start: usize,
+    out: &mut [u8],
+    copied: &mut usize,
+) -> u32
+    ensures answer { IsAnswer (rest_asked start (frame_asked (stored_end handle.old.value))) result
+        (IsCopy out.old out.new copied.new) }
+    ensures handle { handle.new.value ≡ handle.old.value }
+    ensures unchanged { result ≢ OK → (out.new ≡ out.old) × (copied.new ≡ copied.old) }
+{
+    let Some(object) = handle.take(alloc) else {
+        return EMPTY;
+    };
+    let code = object_frame(&object, start, out, copied);
+    handle.put(object);
+    code
+}
+
+/// Returns the state of an end's session.
+fn state_of(party: &Party) -> State
+    ensures { IsState result party.now }
+{
+    let (phase, reason) = phase_of_party(party);
+    State {
+        phase,
+        reason,
+        encoding: number_of(encoding_of_session(party)),
+        documents: store_of(party).len(),
+    }
+}
+
+/// Returns the state of an object's end.
+fn object_state(object: &Object, out: &mut State) -> u32
+    ensures answer { IsAnswer (as_end object.now) result (λ held. IsState out.new held.party) }
+    ensures unchanged { result ≢ OK → out.new ≡ out.old }
+{
+    let Object::End(held) = object else {
+        return OTHER_KIND;
+    };
+    *out = state_of(&held.party);
+    OK
+}
+
+/// Returns the phase of the session, the encoding that was agreed on (LSP 3.17,
+/// PositionEncodingKind), and how many documents are open. Codes, in this order: EMPTY, OTHER_KIND.
+#[unsafe(no_mangle)]
+pub extern "C" fn laspidru_session_state(alloc: Global, handle: &mut Handle, out: &mut State) -> u32
+    ensures answer { IsAnswer (stored_end handle.old.value) result
+        (λ held. IsState out.new held.party) }
+    ensures handle { handle.new.value ≡ handle.old.value }
+    ensures unchanged { result ≢ OK → out.new ≡ out.old }
+{
+    let Some(object) = handle.take(alloc) else {
+        return EMPTY;
+    };
+    let code = object_state(&object, out);
+    handle.put(object);
+    code
+}
