@@ -2,7 +2,7 @@
 //! both say of JSON is trusted, so no clause of ours says that they agree.
 
 use super::is_same;
-use lsp_reader::Scratch;
+use lsp_message::Scratch;
 use std::alloc::{AllocError, Global};
 use std::test::Fail;
 

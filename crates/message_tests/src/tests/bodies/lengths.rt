@@ -1,6 +1,6 @@
 //! The `rangeLength` of changes, by their bytes and by a tree.
 
-use lsp_reader::range_lengths;
+use lsp_message::range_lengths;
 use std::alloc::{AllocError, Global};
 use std::test::Fail;
 

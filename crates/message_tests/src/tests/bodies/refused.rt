@@ -1,6 +1,6 @@
 //! Bodies whose reading runs out of memory once, and is repeated.
 
-use lsp_reader::{Incoming, Scratch};
+use lsp_message::{Incoming, Scratch};
 use std::alloc::{AllocError, Global};
 use std::test::Fail;
 
