@@ -7,7 +7,7 @@ use Rattle.json.proofs.Grammar.{value_is, value-begin_array, value-begin_object,
 use Rattle.serde_json.specs.Data.{Num, Data, null, boolean, number, string, array, object, Items, no_items, item, Members, no_members, put}
 use Rattle.serde_json.specs.Read.{number_of, of_json, of_items, of_members, converted}
 use Rattle.lsp_message.specs.inside.Reading.{value_at, items_at, members_at}
-use Rattle.lsp_message.specs.inside.Scalars.{NumberData, number_kind}
+use Rattle.lsp_message.specs.inside.Scalars.{kept_number}
 use Rattle.lsp_message.proofs.Converted.{Failure, source, failure, no_some, some_value}
 
 -- ---- no turn is left
@@ -42,23 +42,23 @@ number_read depth s ts o is =
     ap (converted of_json) (value_is depth (Token.number s ∷ ts))
     ∙ ap (λ n. option_map (λ d. (d, ts)) (option_map number n)) is
 
-number_at : (depth : ℕ) (s : List ℕ) (ts : List Token) (f : NumberData) (o : Option Num) → number_of s ≡ o
-    → Some f ≡ option_map number_kind o
-    → (n : Num) × (value_at depth (Token.number s ∷ ts) ≡ Some (number n, ts)) × (f ≡ number_kind n)
+number_at : (depth : ℕ) (s : List ℕ) (ts : List Token) (f : Data) (o : Option Num) → number_of s ≡ o
+    → Some f ≡ option_map kept_number o
+    → (n : Num) × (value_at depth (Token.number s ∷ ts) ≡ Some (number n, ts)) × (f ≡ kept_number n)
 number_at depth s ts f None is kind = no_some f (sym kind)
-number_at depth s ts f (Some n) is kind = (n, number_read depth s ts (Some n) is, some_value f (number_kind n) kind)
+number_at depth s ts f (Some n) is kind = (n, number_read depth s ts (Some n) is, some_value f (kept_number n) kind)
 
-pub value_at-number : (depth : ℕ) (s : List ℕ) (ts : List Token) (f : NumberData)
-    → Some f ≡ option_map number_kind (number_of s)
-    → (n : Num) × (value_at depth (Token.number s ∷ ts) ≡ Some (number n, ts)) × (f ≡ number_kind n)
+pub value_at-number : (depth : ℕ) (s : List ℕ) (ts : List Token) (f : Data)
+    → Some f ≡ option_map kept_number (number_of s)
+    → (n : Num) × (value_at depth (Token.number s ∷ ts) ≡ Some (number n, ts)) × (f ≡ kept_number n)
 value_at-number depth s ts f kind = number_at depth s ts f (number_of s) refl kind
 
 no_number : (depth : ℕ) (s : List ℕ) (ts : List Token) (o : Option Num) → number_of s ≡ o
-    → None ≡ option_map number_kind o → value_at depth (Token.number s ∷ ts) ≡ None
+    → None ≡ option_map kept_number o → value_at depth (Token.number s ∷ ts) ≡ None
 no_number depth s ts None is none = number_read depth s ts None is
-no_number depth s ts (Some n) is none = no_some (number_kind n) none
+no_number depth s ts (Some n) is none = no_some (kept_number n) none
 
-pub value_at-no_number : (depth : ℕ) (s : List ℕ) (ts : List Token) → None ≡ option_map number_kind (number_of s)
+pub value_at-no_number : (depth : ℕ) (s : List ℕ) (ts : List Token) → None ≡ option_map kept_number (number_of s)
     → value_at depth (Token.number s ∷ ts) ≡ None
 value_at-no_number depth s ts none = no_number depth s ts (number_of s) refl none
 

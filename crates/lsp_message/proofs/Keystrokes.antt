@@ -1,7 +1,8 @@
--- What the lexemes of a change in its usual layout are read as.
+-- What the lexemes of a message with one change of a range are read as.
 use Rattle.std.proofs.Common.{◌≡◌, ℕ, ℤ, suc, List, [], ◌∷◌, Option, Some, None, option_and_then, refl, sym, ap, ◌∙◌, codes}
+use Rattle.std.specs.Prelude.{Bool, true, false, ⊤}
 use Rattle.json.specs.Token.{end_object}
-use Rattle.json.specs.Lex.{Lexeme, token, comma, lex, between, fresh, punctuate}
+use Rattle.json.specs.Lex.{Lexeme, token, lex, between, fresh, punctuate}
 use Rattle.json.specs.Json.{if_last, value, items, members}
 use Rattle.serde_json.specs.Data.{Num, Data, number, string, array, object, Members, no_members, put, no_items, item, unsigned}
 use Rattle.serde_json.specs.Read.{of_json, number_of, read}
@@ -12,7 +13,7 @@ use Rattle.lsp_message.specs.Params.{coordinate_in, version_in, position_in, ran
 use Rattle.lsp_message.specs.Values.{member_at, natural_in}
 use Rattle.lsp_message.specs.Incoming.{incoming_of, did_change}
 use Rattle.lsp_message.specs.Lengths.{lengths_of}
-use Rattle.lsp_message.specs.inside.Lexemes.{RangeDigits, AreVersionDigits, AreRangeDigits, AreLengthDigits, document_lexemes, changes_lexemes, head_lexemes, one_change, IsKeystroke}
+use Rattle.lsp_message.specs.inside.Lexemes.{RangeDigits, AreLengthDigits, params_lexemes, head_lexemes, one_change, IsKeystroke}
 
 -- ---- the value
 
@@ -48,24 +49,34 @@ message_data params =
 abbrev data_of : ℕ → List Lexeme → Option Data
 data_of depth ls = option_and_then of_json (option_and_then (λ p. if_last p.0 p.1) (value depth (punctuate fresh ls)))
 
+-- the digits of a length, and the number that they are
+abbrev IsLength : Option (List ℕ) → Option Num → Type 0
+IsLength None None = ⊤
+IsLength None (Some n) = ⊥
+IsLength (Some s) None = ⊥
+IsLength (Some s) (Some n) = number_of s ≡ Some n
+
 module _ (uri version text : List ℕ) (range : RangeDigits) (v l c m e : Num) (version_is : number_of version ≡ Some v)
     (line_is : number_of range.start.line ≡ Some l) (character_is : number_of range.start.character ≡ Some c)
     (end_line_is : number_of range.stop.line ≡ Some m) (end_character_is : number_of range.stop.character ≡ Some e) where
-  abbrev Reads : Option (List ℕ) → Option Num → ℕ → Type 0
-  Reads digits length depth =
+  abbrev Reads : Bool → Option (List ℕ) → Option Num → ℕ → Type 0
+  Reads by_name digits length depth =
       data_of (suc (suc (suc (suc (suc (suc (suc depth)))))))
-      (head_lexemes (document_lexemes uri version (comma
-      ∷ changes_lexemes range digits text (token end_object ∷ token end_object ∷ []))))
+      (head_lexemes (params_lexemes by_name uri version range digits text (token end_object ∷ [])))
       ≡ Some (message_data (params_data (document_data uri v)
       (edit_data length (range_data (position_data l c) (position_data m e)) text)))
 
-  without_length : (depth : ℕ) → Reads None None depth
+  reads : (by_name : Bool) (digits : Option (List ℕ)) (length : Option Num) → IsLength digits length → (depth : ℕ)
+      → Reads by_name digits length depth
   unfolding punctuate value members items
-  without_length depth = rw (version_is, line_is, character_is, end_line_is, end_character_is) refl
-
-  and_length : (depth : ℕ) (digits : List ℕ) (n : Num) → number_of digits ≡ Some n → Reads (Some digits) (Some n) depth
-  unfolding punctuate value members items
-  and_length depth digits n is = rw (version_is, line_is, character_is, end_line_is, end_character_is, is) refl
+  reads false None None is depth = rw (version_is, line_is, character_is, end_line_is, end_character_is) refl
+  reads true None None is depth = rw (version_is, line_is, character_is, end_line_is, end_character_is) refl
+  reads false (Some s) (Some n) is depth =
+      rw (version_is, line_is, character_is, end_line_is, end_character_is, is) refl
+  reads true (Some s) (Some n) is depth =
+      rw (version_is, line_is, character_is, end_line_is, end_character_is, is) refl
+  reads by_name None (Some n) is depth = absurd is
+  reads by_name (Some s) None is depth = absurd is
 
 -- ---- what the value asks
 
@@ -101,46 +112,32 @@ IsRead body uri version range length text = (d : Data) × (read body ≡ Some d)
     × (incoming_of (message_of d) ≡ did_change (Some (one_change uri version range text)))
     × (lengths_of (message_of d) ≡ length ∷ [])
 
-read_by : (body uri text version_digits : List ℕ) (version : ℤ) (range : Range) (length : Option ℕ)
-    (digits : RangeDigits) (length_digits : Option (List ℕ)) → AreVersionDigits version_digits version
-    → AreRangeDigits digits range → AreLengthDigits length_digits length
-    → lex between body ≡ head_lexemes (document_lexemes uri version_digits (comma
-    ∷ changes_lexemes digits length_digits text (token end_object ∷ token end_object ∷ [])))
-    → IsRead body uri version range length text
-read_by body uri text version_digits version range length digits None v r length_is lexemes =
-    let a = r.start in
-    let b = r.stop in
-    let start = position_data a.line.value a.character.value in
-    let stop = position_data b.line.value b.character.value in
-    let edit = edit_data None (range_data start stop) text in (
-      message_data (params_data (document_data uri v.value) edit),
-      ap (data_of 127) lexemes
-          ∙ without_length uri version_digits text digits v.value a.line.value a.character.value b.line.value
-          b.character.value v.read a.line.read a.character.read b.line.read b.character.read 120,
-      message_is uri text v.value edit version range v.within (edit_is None start stop range text
-          (range_is start stop range (position_is a.line.value a.character.value range.start a.line.within a.character.within)
-          (position_is b.line.value b.character.value range.stop b.line.within b.character.within))),
-      lengths_are uri v.value edit None refl ∙ ap (λ n. n ∷ []) (sym length_is),
-    )
-read_by body uri text version_digits version range length digits (Some s) v r length_is lexemes =
-    let a = r.start in
-    let b = r.stop in
-    let start = position_data a.line.value a.character.value in
-    let stop = position_data b.line.value b.character.value in
-    let n = unsigned length_is.0 in
-    let edit = edit_data (Some n) (range_data start stop) text in (
-      message_data (params_data (document_data uri v.value) edit),
-      ap (data_of 127) lexemes
-          ∙ and_length uri version_digits text digits v.value a.line.value a.character.value b.line.value
-          b.character.value v.read a.line.read a.character.read b.line.read b.character.read 120 s n length_is.1,
-      message_is uri text v.value edit version range v.within (edit_is (Some n) start stop range text
-          (range_is start stop range (position_is a.line.value a.character.value range.start a.line.within a.character.within)
-          (position_is b.line.value b.character.value range.stop b.line.within b.character.within))),
-      lengths_are uri v.value edit (Some length_is.0) refl ∙ ap (λ n. n ∷ []) (sym length_is.2),
-    )
+-- the number of a length, and what it is read as
+length_of : (digits : Option (List ℕ)) (length : Option ℕ) → AreLengthDigits digits length
+    → (n : Option Num) × IsLength digits n × ((range : Data) (text : List ℕ)
+    → natural_in (member_at (codes "rangeLength") (Some (edit_data n range text))) ≡ length)
+length_of None length is = (None, tt, λ range text. sym is)
+length_of (Some s) length is = (Some (unsigned is.0), is.1, λ range text. sym is.2)
 
 pub keystroke_read : (body uri : List ℕ) (version : ℤ) (range : Range) (length : Option ℕ) (text : List ℕ)
     → IsKeystroke body uri version range length text → IsRead body uri version range length text
 keystroke_read body uri version range length text k =
-    read_by body uri text k.version_digits version range length k.digits k.length_digits k.version_is k.is k.length_is
-    k.lexemes
+    let p = k.params in
+    let v = p.version_is in
+    let a = p.is.start in
+    let b = p.is.stop in
+    let start = position_data a.line.value a.character.value in
+    let stop = position_data b.line.value b.character.value in
+    let n = length_of p.length_digits length p.length_is in
+    let edit = edit_data n.0 (range_data start stop) text in (
+      message_data (params_data (document_data uri v.value) edit),
+      ap (data_of 127) (k.head ∙ ap head_lexemes (p.lexemes
+          ∙ ap (params_lexemes p.by_name uri p.version_digits p.digits p.length_digits text) k.ends))
+          ∙ reads uri p.version_digits text p.digits v.value a.line.value a.character.value b.line.value
+          b.character.value v.read a.line.read a.character.read b.line.read b.character.read p.by_name
+          p.length_digits n.0 n.1 120,
+      message_is uri text v.value edit version range v.within (edit_is n.0 start stop range text
+          (range_is start stop range (position_is a.line.value a.character.value range.start a.line.within a.character.within)
+          (position_is b.line.value b.character.value range.stop b.line.within b.character.within))),
+      lengths_are uri v.value edit length (n.2 (range_data start stop) text),
+    )

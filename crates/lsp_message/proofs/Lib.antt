@@ -24,6 +24,7 @@ pub mod Converted
 pub mod Grammar
 pub mod Openings
 pub mod Puts
+pub mod Kept
 pub mod Growing
 pub mod Messages
 pub mod Digits

@@ -1,5 +1,5 @@
 -- A value by its first token.
-use Rattle.std.proofs.Common.{◌≡◌, ℕ, zero, suc, ◌-◌, List, ◌∷◌, length, Bool, true, false, Option, Some, None, refl, sym, ap, ◌∙◌, arith, ◌⊎◌, inl, inr}
+use Rattle.std.proofs.Common.{◌≡◌, ℕ, zero, suc, ◌-◌, List, ◌∷◌, length, Bool, true, false, Option, Some, None, refl, sym, ap, ◌∙◌, arith}
 use Rattle.json.specs.Token.{Token}
 use Rattle.json.specs.Json.{parse_map}
 use Rattle.json.specs.Reads.{token_of}
@@ -10,10 +10,9 @@ use Rattle.serde_json.specs.Data.{Num, Data, null, boolean, number, string, arra
 use Rattle.serde_json.specs.Find.{as_array, as_object}
 use Rattle.serde_json.specs.Read.{of_json, converted, number_of}
 use Rattle.lsp_message.specs.Values.{is_null}
-use Rattle.lsp_message.specs.declared.reader.opening.Opening.{Opening}
-use Rattle.lsp_message.specs.declared.reader.opening.Opening.TheVariants as opening
 use Rattle.lsp_message.specs.inside.Reading.{value_at, items_at, members_at, rest_of}
-use Rattle.lsp_message.specs.inside.Members.{IsOpening, IsArrayOpening}
+use Rattle.lsp_message.specs.inside.Objects.{IsArrayOpening}
+use Rattle.lsp_message.specs.inside.Scalars.{kept}
 use Rattle.lsp_message.proofs.Converted.{no_some, some_value}
 use Rattle.lsp_message.proofs.Grammar.{value_at-null, value_at-boolean, value_at-string, number_read, value_at-shallow_array, value_at-shallow_object, value_at-array, value_at-object}
 
@@ -57,107 +56,63 @@ no_value : {P : Type 0} (depth : ℕ) (t : Token) (ts rest : List Token) → val
     → rest_of (value_at depth (t ∷ ts)) ≡ Some rest → P
 no_value depth t ts rest none e = no_some rest (sym (ap rest_of none) ∙ e)
 
-pub other_read : (depth : ℕ) (t : Token) (ts rest : List Token) → (t ≡ Token.begin_object → ⊥) → (t ≡ Token.null → ⊥)
-    → rest_of (value_at depth (t ∷ ts)) ≡ Some rest
-    → (d : Data) × (value_at depth (t ∷ ts) ≡ Some (d, rest)) × (as_object d ≡ None) × (is_null d ≡ false)
-other_read depth Token.begin_object ts rest not_object not_null e = absurd (not_object refl)
-other_read depth Token.end_object ts rest not_object not_null e =
-    no_value depth Token.end_object ts rest (ap (converted of_json) (value_is depth (Token.end_object ∷ ts))) e
-other_read depth Token.begin_array ts rest not_object not_null e = let read = array_read depth ts rest e in
-    (array read.0, read.1, refl, refl)
-other_read depth Token.end_array ts rest not_object not_null e =
-    no_value depth Token.end_array ts rest (ap (converted of_json) (value_is depth (Token.end_array ∷ ts))) e
-other_read depth (Token.key s) ts rest not_object not_null e =
-    no_value depth (Token.key s) ts rest (ap (converted of_json) (value_is depth (Token.key s ∷ ts))) e
-other_read depth (Token.string s) ts rest not_object not_null e =
-    (string s, one_token depth (Token.string s) ts rest (string s) (value_at-string depth s ts) e, refl, refl)
-other_read depth (Token.number s) ts rest not_object not_null e = let read =
-    number_token depth s ts rest (number_of s) refl e in (number read.0, read.1, refl, refl)
-other_read depth (Token.boolean b) ts rest not_object not_null e =
-    (boolean b, one_token depth (Token.boolean b) ts rest (boolean b) (value_at-boolean depth b ts) e, refl, refl)
-other_read depth Token.null ts rest not_object not_null e = absurd (not_null refl)
-other_read depth Token.bad ts rest not_object not_null e =
-    no_value depth Token.bad ts rest (ap (converted of_json) (value_is depth (Token.bad ∷ ts))) e
+-- what a value is not, by a first token that is another
+pub record Begins (t : Read) (d : Data) : Type 0 where
+  pub no_object : (t ≡ read.BeginObject → ⊥) → as_object d ≡ None
+  pub no_array : (t ≡ read.BeginArray → ⊥) → as_array d ≡ None
+  pub no_null : (t ≡ read.Null → ⊥) → is_null d ≡ false
+  pub nothing : (t ≡ read.Null → ⊥) → ((s : _) → t ≡ read.String s → ⊥) → ((s : _) → t ≡ read.Number s → ⊥)
+      → kept d ≡ boolean false
 
-pub no_array_read : (depth : ℕ) (t : Token) (ts rest : List Token) → (t ≡ Token.begin_array → ⊥)
-    → rest_of (value_at depth (t ∷ ts)) ≡ Some rest
-    → (d : Data) × (value_at depth (t ∷ ts) ≡ Some (d, rest)) × (as_array d ≡ None)
-no_array_read depth Token.begin_object ts rest not_array e = let read = object_read depth ts rest e in
-    (object read.0, read.1, refl)
-no_array_read depth Token.end_object ts rest not_array e =
+pub first_read : (depth : ℕ) (t : Read) (ts rest : List Token) → rest_of (value_at depth (token_of t ∷ ts)) ≡ Some rest
+    → (d : Data) × (value_at depth (token_of t ∷ ts) ≡ Some (d, rest)) × Begins t d
+first_read depth read.BeginObject ts rest e = let found = object_read depth ts rest e in (
+  object found.0,
+  found.1,
+  record { no_object = λ h. absurd (h refl); no_array = λ _. refl; no_null = λ _. refl; nothing = λ _ _ _. refl },
+)
+first_read depth read.EndObject ts rest e =
     no_value depth Token.end_object ts rest (ap (converted of_json) (value_is depth (Token.end_object ∷ ts))) e
-no_array_read depth Token.begin_array ts rest not_array e = absurd (not_array refl)
-no_array_read depth Token.end_array ts rest not_array e =
+first_read depth read.BeginArray ts rest e = let found = array_read depth ts rest e in (
+  array found.0,
+  found.1,
+  record { no_object = λ _. refl; no_array = λ h. absurd (h refl); no_null = λ _. refl; nothing = λ _ _ _. refl },
+)
+first_read depth read.EndArray ts rest e =
     no_value depth Token.end_array ts rest (ap (converted of_json) (value_is depth (Token.end_array ∷ ts))) e
-no_array_read depth (Token.key s) ts rest not_array e =
-    no_value depth (Token.key s) ts rest (ap (converted of_json) (value_is depth (Token.key s ∷ ts))) e
-no_array_read depth (Token.string s) ts rest not_array e =
-    (string s, one_token depth (Token.string s) ts rest (string s) (value_at-string depth s ts) e, refl)
-no_array_read depth (Token.number s) ts rest not_array e = let read =
-    number_token depth s ts rest (number_of s) refl e in (number read.0, read.1, refl)
-no_array_read depth (Token.boolean b) ts rest not_array e =
-    (boolean b, one_token depth (Token.boolean b) ts rest (boolean b) (value_at-boolean depth b ts) e, refl)
-no_array_read depth Token.null ts rest not_array e =
-    (null, one_token depth Token.null ts rest null (value_at-null depth ts) e, refl)
-no_array_read depth Token.bad ts rest not_array e =
+first_read depth (read.Key s) ts rest e =
+    no_value depth (Token.key s.now) ts rest (ap (converted of_json) (value_is depth (Token.key s.now ∷ ts))) e
+first_read depth (read.String s) ts rest e = (
+  string s.now,
+  one_token depth (Token.string s.now) ts rest (string s.now) (value_at-string depth s.now ts) e,
+  record { no_object = λ _. refl; no_array = λ _. refl; no_null = λ _. refl; nothing = λ _ h _. absurd (h s refl) },
+)
+first_read depth (read.Number s) ts rest e = let found = number_token depth s.now ts rest (number_of s.now) refl e in (
+  number found.0,
+  found.1,
+  record { no_object = λ _. refl; no_array = λ _. refl; no_null = λ _. refl; nothing = λ _ _ h. absurd (h s refl) },
+)
+first_read depth (read.Bool b) ts rest e = (
+  boolean b,
+  one_token depth (Token.boolean b) ts rest (boolean b) (value_at-boolean depth b ts) e,
+  record { no_object = λ _. refl; no_array = λ _. refl; no_null = λ _. refl; nothing = λ _ _ _. refl },
+)
+first_read depth read.Null ts rest e = (
+  null,
+  one_token depth Token.null ts rest null (value_at-null depth ts) e,
+  record {
+    no_object = λ _. refl;
+    no_array = λ _. refl;
+    no_null = λ h. absurd (h refl);
+    nothing = λ h _ _. absurd (h refl);
+  },
+)
+first_read depth read.Bad ts rest e =
     no_value depth Token.bad ts rest (ap (converted of_json) (value_is depth (Token.bad ∷ ts))) e
 
 -- ---- what an opening says of the value
-
-pub opened_object : (o : Opening) (depth : ℕ) (old new : List Token) → o ≡ opening.Object → IsOpening o depth old new
-    → value_at depth old ≡ parse_map object (members_at (depth - 1) (length new) no_members new)
-opened_object opening.Object depth old new is h = ap (value_at depth) h.1 ∙ value_at-object depth new h.0
-opened_object opening.Null depth old new is h = absurd cc
-opened_object opening.Other depth old new is h = absurd cc
-
--- the value of an opening that is no object
-pub opened_otherwise : (o : Opening) (depth : ℕ) (old new : List Token) → (o ≡ opening.Null) ⊎ (o ≡ opening.Other)
-    → IsOpening o depth old new
-    → (d : Data) × (value_at depth old ≡ Some (d, new)) × (as_object d ≡ None)
-opened_otherwise opening.Object depth old new (inl is) h = absurd cc
-opened_otherwise opening.Object depth old new (inr is) h = absurd cc
-opened_otherwise opening.Null depth old new is h = (null, h, refl)
-opened_otherwise opening.Other depth old new is h = (h.0, h.1, h.2)
 
 pub opened_array : (o : Bool) (depth : ℕ) (old new : List Token) → o ≡ true → IsArrayOpening o depth old new
     → value_at depth old ≡ parse_map array (items_at (depth - 1) (length new) new)
 opened_array true depth old new is h = ap (value_at depth) h.1 ∙ value_at-array depth new h.0
 opened_array false depth old new is h = absurd cc
-
--- ---- the token that a value of the code stands for
-
-pub is_begin_object : (t : Read) → token_of t ≡ Token.begin_object → t ≡ read.BeginObject
-is_begin_object read.BeginObject e = refl
-is_begin_object read.EndObject e = absurd cc
-is_begin_object read.BeginArray e = absurd cc
-is_begin_object read.EndArray e = absurd cc
-is_begin_object (read.Key s) e = absurd cc
-is_begin_object (read.String s) e = absurd cc
-is_begin_object (read.Number s) e = absurd cc
-is_begin_object (read.Bool b) e = absurd cc
-is_begin_object read.Null e = absurd cc
-is_begin_object read.Bad e = absurd cc
-
-pub is_begin_array : (t : Read) → token_of t ≡ Token.begin_array → t ≡ read.BeginArray
-is_begin_array read.BeginObject e = absurd cc
-is_begin_array read.EndObject e = absurd cc
-is_begin_array read.BeginArray e = refl
-is_begin_array read.EndArray e = absurd cc
-is_begin_array (read.Key s) e = absurd cc
-is_begin_array (read.String s) e = absurd cc
-is_begin_array (read.Number s) e = absurd cc
-is_begin_array (read.Bool b) e = absurd cc
-is_begin_array read.Null e = absurd cc
-is_begin_array read.Bad e = absurd cc
-
-pub is_null_token : (t : Read) → token_of t ≡ Token.null → t ≡ read.Null
-is_null_token read.BeginObject e = absurd cc
-is_null_token read.EndObject e = absurd cc
-is_null_token read.BeginArray e = absurd cc
-is_null_token read.EndArray e = absurd cc
-is_null_token (read.Key s) e = absurd cc
-is_null_token (read.String s) e = absurd cc
-is_null_token (read.Number s) e = absurd cc
-is_null_token (read.Bool b) e = absurd cc
-is_null_token read.Null e = refl
-is_null_token read.Bad e = absurd cc

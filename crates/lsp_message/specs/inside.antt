@@ -6,5 +6,5 @@ pub mod Params
 pub mod Seen
 pub mod Reading
 pub mod Scalars
-pub mod Members
+pub mod Objects
 pub mod Lexemes

@@ -15,14 +15,14 @@
 //! ```
 //!
 //! - `incoming`: what a body asks, its parameters read.
+//! - `object`: an object, of whose members some are kept.
 //! - `message`, `params`, `document`, `changes`, `change`, `range`, `position`: the objects of the
 //!   protocol, each with the members that are kept of it.
 //! - `keystroke`: a `didChange` in its usual layout, read by its bytes; `cursor`: what is left of a
 //!   text.
 //! - `lengths`: the `rangeLength` of changes, which nobody needs to apply them.
-//! - `scalar`: a member of which a text or a whole number is kept.
+//! - `scalar`: a text, a whole number or null.
 //! - `number`: which numbers are in range.
-//! - `opening`: the first token of an object.
 //! - `skip`: values that are skipped.
 //! - `fault`: why reading stops.
 
@@ -36,7 +36,7 @@ mod keystroke;
 mod lengths;
 mod message;
 mod number;
-mod opening;
+mod object;
 mod params;
 mod position;
 mod range;

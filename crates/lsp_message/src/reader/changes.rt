@@ -7,25 +7,25 @@ ghost use Rattle.lsp_message.specs.Values.{each_of};
 ghost use Rattle.lsp_message.specs.Params.{content_change_in};
 ghost use Rattle.lsp_message.specs.Seen.{content_change_view};
 ghost use Rattle.lsp_message.specs.inside.Reading.{value_at, items_at};
-ghost use Rattle.lsp_message.specs.inside.Members.{IsArrayOpening};
+ghost use Rattle.lsp_message.specs.inside.Objects.{IsArrayOpening};
 
 use crate::reader::change::read_change;
 use crate::reader::fault::Fault;
-use crate::reader::skip::{NotJson, skip_value_from};
-use json::{Reader, Token};
+use crate::reader::skip::skip_value_from;
+use json::{Invalid, Reader, Token};
 use lsp_edit::Change;
 use std::alloc::Global;
 
 /// Reads the bracket of an array, or skips another value. Returns whether the value is an array.
 #[inline(always)]
-fn open_array(reader: &mut Reader<'_>, depth: usize) -> Result<bool, NotJson>
+fn open_array(reader: &mut Reader<'_>, depth: usize) -> Result<bool, Invalid>
     ensures ok { IfOk result (λ o. IsArrayOpening o depth reader.old reader.new) }
     ensures shorter { OnOk result (length reader.new < length reader.old) }
     ensures error { OnErr result (value_at depth reader.old ≡ None) }
 {
-    let token = reader.next().ok_or(NotJson)?;
+    let token = reader.next().ok_or(Invalid)?;
     match token {
-        Token::BeginArray => if depth == 0 { Err(NotJson) } else { Ok(true) },
+        Token::BeginArray => if depth == 0 { Err(Invalid) } else { Ok(true) },
         _ => {
             skip_value_from(reader, token, depth)?;
             Ok(false)

@@ -11,8 +11,7 @@ ghost use Rattle.json.specs.Lex.{token, lex, between};
 ghost use Rattle.json.specs.Word.{ends_word};
 ghost use Rattle.lsp_message.specs.inside.Lexemes.{IsNaturalAt, IsCoordinateAt, IsVersionAt};
 
-use crate::reader::number::short_natural;
-use crate::reader::scalar::Scalar;
+use crate::reader::number::{Number, short_natural};
 
 /// What is left of a text.
 #[derive(Clone, Copy, Drop)]
@@ -38,6 +37,12 @@ impl<'a> Cursor<'a> {
         let rest = after(text, piece)?;
         self.rest = rest;
         Some(())
+    }
+
+    /// Returns whether this piece is next, after blanks.
+    #[inline(always)]
+    pub(crate) fn is_next(&self, piece: &str) -> bool {
+        after(after_blanks(self.rest), piece).is_some()
     }
 
     /// Reads a string without escapes, after blanks.
@@ -73,7 +78,7 @@ impl<'a> Cursor<'a> {
         ensures { IfSome result (λ n. IsCoordinateAt self.old.rest.now n self.new.rest.now) }
     {
         let value = self.natural()?;
-        Scalar::Natural(value).coordinate()
+        Number::Natural(value).coordinate()
     }
 
     /// Reads a version that isn't negative, as [`Cursor::natural`].
@@ -81,7 +86,7 @@ impl<'a> Cursor<'a> {
         ensures { IfSome result (λ n. IsVersionAt self.old.rest.now n self.new.rest.now) }
     {
         let value = self.natural()?;
-        Scalar::Natural(value).version()
+        Number::Natural(value).version()
     }
 
     /// Returns whether nothing but blanks is left.

@@ -3,7 +3,6 @@
 ghost use Rattle.std.specs.Prelude.{◌≡◌};
 ghost use Rattle.lsp_message.specs.declared.reader.fault.Fault.TheVariants as fault;
 
-use crate::reader::skip::NotJson;
 use json::Invalid;
 use std::alloc::{AllocError, AllocFailed};
 
@@ -14,14 +13,6 @@ pub(crate) enum Fault {
     NotJson,
     /// Out of memory; nothing is known of the text.
     NoMemory,
-}
-
-impl From<NotJson> for Fault {
-    ghost from_gives = { λ _ e. e ≡ fault.NotJson };
-
-    fn from(_e: NotJson) -> Fault {
-        Fault::NotJson
-    }
 }
 
 impl From<Invalid> for Fault {

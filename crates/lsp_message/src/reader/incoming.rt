@@ -19,8 +19,8 @@ use crate::params::{
 };
 use crate::reader::fault::Fault;
 use crate::reader::keystroke::read_keystroke;
-use crate::reader::message::read_message_members;
-use crate::reader::opening::{Opening, open_object};
+use crate::reader::message::MessageMembers;
+use crate::reader::object::{Object, read_object};
 use json::{Reader, Scratch};
 use serde_json::Value;
 use std::alloc::{AllocError, Global};
@@ -180,19 +180,13 @@ fn read_tokens(alloc: Global, text: &str, scratch: &mut Scratch) -> Result<Optio
     ensures error { result ≡ Err Fault.NotJson → read_value text.now ≡ None }
 {
     let mut reader = Reader::new(text, scratch)?;
-    match open_object(&mut reader, MAX_DEPTH)? {
-        Opening::Object => {}
-        Opening::Null | Opening::Other => {
-            return match reader.next() {
-                Some(_) => Err(Fault::NotJson),
-                None => Ok(Some(Incoming::NotAMessage { id: None })),
-            };
-        }
+    let read = read_object(MessageMembers::none(alloc), &mut reader, MAX_DEPTH)?;
+    if reader.next().is_some() {
+        return Err(Fault::NotJson);
     }
-    let found = read_message_members(alloc, &mut reader, MAX_DEPTH - 1)?;
-    match reader.next() {
-        Some(_) => Err(Fault::NotJson),
-        None => Ok(found.incoming(alloc)?),
+    match read {
+        Object::Of(kept) => Ok(kept.incoming()?),
+        Object::Null | Object::Other => Ok(Some(Incoming::NotAMessage { id: None })),
     }
 }
 

@@ -1,17 +1,20 @@
-//! A `textDocument/didChange` of one change in its usual layout, read by its bytes.
+//! A `textDocument/didChange` of one change in a usual layout, read by its bytes.
 //!
-//! What editors send at each keystroke has the members in one order. Spaces and line feeds between
-//! them may be there or not. A body of any other layout is left to the reader of tokens.
+//! Editors send the members of a keystroke's message in one order, and [`write`] has them in the
+//! order of their names (`by_name`). Spaces and line feeds between them may be there or not. A body
+//! of any other layout is left to the reader of tokens.
+//!
+//! [`write`]: crate::write
 
 ghost use Rattle.std.specs.Prelude.{◌≡◌, ◌∷◌, [], Some, IfOk, IfSome};
 ghost use Rattle.json.specs.Lex.{lex, between};
 ghost use Rattle.serde_json.specs.Data.{Data};
 ghost use Rattle.serde_json.specs.Read.{read as read_value};
-ghost use Rattle.lsp_message.specs.Message.{message_of};
-ghost use Rattle.lsp_message.specs.Seen.{change_view, incoming_view};
 ghost use Rattle.lsp_message.specs.Incoming.{incoming_of};
 ghost use Rattle.lsp_message.specs.Lengths.{lengths_of};
-ghost use Rattle.lsp_message.specs.inside.Lexemes.{head_lexemes, IsPositionAt, IsRangeAt, IsLengthAt, IsDocumentAt, IsChangesAt, IsKeystroke, one_change};
+ghost use Rattle.lsp_message.specs.Message.{message_of};
+ghost use Rattle.lsp_message.specs.Seen.{change_view, incoming_view};
+ghost use Rattle.lsp_message.specs.inside.Lexemes.{in_order, head_lexemes, IsPositionAt, IsRangeAt, IsLengthAt, IsDocumentAt, IsChangesAt, AreParamsAt, IsKeystroke, one_change};
 
 use crate::params::ChangeParams;
 use crate::reader::cursor::Cursor;
@@ -19,6 +22,19 @@ use crate::reader::incoming::Incoming;
 use lsp_edit::Change;
 use lsp_text::{Position, Range};
 use std::alloc::{AllocError, Global};
+
+/// Returns two pieces in an order; `first` comes first in that of editors.
+#[inline(always)]
+fn pieces(by_name: bool, first: &'static str, second: &'static str) -> (&'static str, &'static str)
+    ensures first { result.0.now ≡ (in_order by_name first.now second.now).0 }
+    ensures second { result.1.now ≡ (in_order by_name first.now second.now).1 }
+{
+    if by_name {
+        (second, first)
+    } else {
+        (first, second)
+    }
+}
 
 /// The document that a change names.
 #[derive(Clone, Copy, Drop)]
@@ -44,7 +60,7 @@ struct Keystroke<'a> {
 }
 
 impl<'a> Cursor<'a> {
-    /// Reads a message up to the brace of its params.
+    /// Reads a message up to its params.
     #[inline(always)]
     fn head(&mut self) -> Option<()>
         ensures { IfSome result (λ _. lex between self.old.rest.now
@@ -57,8 +73,7 @@ impl<'a> Cursor<'a> {
         self.take("\"method\":")?;
         self.take("\"textDocument/didChange\"")?;
         self.take(",")?;
-        self.take("\"params\":")?;
-        self.take("{")
+        self.take("\"params\":")
     }
 
     /// Reads the member `textDocument`.
@@ -79,32 +94,51 @@ impl<'a> Cursor<'a> {
     }
 
     /// Reads a position.
-    fn position(&mut self) -> Option<Position>
-        ensures { IfSome result (λ p. IsPositionAt self.old.rest.now p self.new.rest.now) }
+    #[inline(always)]
+    fn position(&mut self, by_name: bool) -> Option<Position>
+        ensures { IfSome result
+            (λ p. IsPositionAt by_name self.old.rest.now p self.new.rest.now) }
     {
+        let (first, second) = pieces(by_name, "\"line\":", "\"character\":");
         self.take("{")?;
-        self.take("\"line\":")?;
+        self.take(first)?;
         let line = self.coordinate()?;
         self.take(",")?;
-        self.take("\"character\":")?;
+        self.take(second)?;
         let character = self.coordinate()?;
         self.take("}")?;
-        Some(Position { line, character })
+        if by_name {
+            Some(Position {
+                line: character,
+                character: line,
+            })
+        } else {
+            Some(Position { line, character })
+        }
     }
 
     /// Reads a range.
     #[inline(always)]
-    fn range(&mut self) -> Option<Range>
-        ensures { IfSome result (λ r. IsRangeAt self.old.rest.now r self.new.rest.now) }
+    fn range(&mut self, by_name: bool) -> Option<Range>
+        ensures { IfSome result
+            (λ r. IsRangeAt by_name self.old.rest.now r self.new.rest.now) }
     {
+        let (first, second) = pieces(by_name, "\"start\":", "\"end\":");
         self.take("{")?;
-        self.take("\"start\":")?;
-        let start = self.position()?;
+        self.take(first)?;
+        let start = self.position(by_name)?;
         self.take(",")?;
-        self.take("\"end\":")?;
-        let stop = self.position()?;
+        self.take(second)?;
+        let stop = self.position(by_name)?;
         self.take("}")?;
-        Some(Range { start, stop })
+        if by_name {
+            Some(Range {
+                start: stop,
+                stop: start,
+            })
+        } else {
+            Some(Range { start, stop })
+        }
     }
 
     /// Reads the member `rangeLength` and its comma, if they are next.
@@ -125,15 +159,15 @@ impl<'a> Cursor<'a> {
 
     /// Reads the member `contentChanges`, with one change of a range.
     #[inline(always)]
-    fn changes(&mut self) -> Option<PlainChange<'a>>
-        ensures { IfSome result (λ e. IsChangesAt self.old.rest.now e.range e.length
+    fn changes(&mut self, by_name: bool) -> Option<PlainChange<'a>>
+        ensures { IfSome result (λ e. IsChangesAt by_name self.old.rest.now e.range e.length
             e.text.now self.new.rest.now) }
     {
         self.take("\"contentChanges\":")?;
         self.take("[")?;
         self.take("{")?;
         self.take("\"range\":")?;
-        let range = self.range()?;
+        let range = self.range(by_name)?;
         self.take(",")?;
         let length = self.range_length()?;
         self.take("\"text\":")?;
@@ -146,6 +180,28 @@ impl<'a> Cursor<'a> {
             text,
         })
     }
+
+    /// Reads the params, in either order of their members.
+    #[inline(always)]
+    fn params(&mut self) -> Option<Keystroke<'a>>
+        ensures { IfSome result (λ k. AreParamsAt self.old.rest.now k.document.uri.now
+            k.document.version k.change.range k.change.length k.change.text.now
+            self.new.rest.now) }
+    {
+        self.take("{")?;
+        if self.is_next("\"contentChanges\":") {
+            let change = self.changes(true)?;
+            self.take(",")?;
+            let document = self.document()?;
+            self.take("}")?;
+            return Some(Keystroke { document, change });
+        }
+        let document = self.document()?;
+        self.take(",")?;
+        let change = self.changes(false)?;
+        self.take("}")?;
+        Some(Keystroke { document, change })
+    }
 }
 
 /// Reads a whole text as a message with one change.
@@ -155,15 +211,12 @@ fn keystroke_of(text: &str) -> Option<Keystroke<'_>>
 {
     let mut cursor = Cursor::new(text);
     cursor.head()?;
-    let document = cursor.document()?;
-    cursor.take(",")?;
-    let change = cursor.changes()?;
-    cursor.take("}")?;
+    let found = cursor.params()?;
     cursor.take("}")?;
     if !cursor.is_at_end() {
         return None;
     }
-    Some(Keystroke { document, change })
+    Some(found)
 }
 
 impl<'a> Keystroke<'a> {
@@ -185,7 +238,7 @@ impl<'a> Keystroke<'a> {
     }
 }
 
-/// Reads a text as a message with one change in its usual layout; `None` where it is another.
+/// Reads a text as a message with one change in a usual layout; `None` where it is another.
 pub(crate) fn read_keystroke(alloc: Global, text: &str) -> Result<Option<Incoming>, AllocError>
     ensures { IfOk result (λ r. IfSome r (λ m. (d : Data) × (read_value text.now ≡ Some d)
         × (incoming_view m ≡ incoming_of (message_of d)))) }
@@ -197,7 +250,7 @@ pub(crate) fn read_keystroke(alloc: Global, text: &str) -> Result<Option<Incomin
     Ok(Some(Incoming::DidChange(Some(params))))
 }
 
-/// Returns the `rangeLength` of the change of a text that is a message with one change in its usual
+/// Returns the `rangeLength` of the change of a text that is a message with one change in a usual
 /// layout; `None` where it is another text.
 pub(crate) fn keystroke_length(text: &str) -> Option<Option<u64>>
     ensures { IfSome result (λ length. (d : Data) × (read_value text.now ≡ Some d)

@@ -1,20 +1,19 @@
 //! The members of a message, and what the message asks by them.
 
-ghost use Rattle.std.specs.Prelude.{◌≡◌, ◌<◌, length, option_map, Option, Some, None, Err, IfOk, IfSome, OnOk, OnErr};
-ghost use Rattle.serde_json.specs.Data.{Data, object, Members, no_members, put};
-ghost use Rattle.lsp_message.specs.Message.{message_of};
+ghost use Rattle.std.specs.Prelude.{◌≡◌, option_map, Option, Some, None, IfOk, IfSome, is_some};
+ghost use Rattle.serde_json.specs.Data.{Data, object, Members, no_members};
+ghost use Rattle.lsp_message.specs.Incoming.{incoming_of, request_of, notification_of};
+ghost use Rattle.lsp_message.specs.Message.{id_found, message_of};
 ghost use Rattle.lsp_message.specs.Seen.{id_view, incoming_view};
 ghost use Rattle.lsp_message.specs.inside.Message.{call_of, answer_of, outcome_of};
-ghost use Rattle.lsp_message.specs.Incoming.{incoming_of, request_of, notification_of};
-ghost use Rattle.lsp_message.specs.inside.Reading.{value_at, members_at};
-ghost use Rattle.lsp_message.specs.inside.Scalars.{scalar_in, scalar_view};
-ghost use Rattle.lsp_message.specs.inside.Members.{IsParamsOf, IsMessageOf};
+ghost use Rattle.lsp_message.specs.inside.Objects.{IsParamsOf, IsMessageOf, IsKeptId, is_failure};
 
 use crate::message::Id;
 use crate::reader::fault::Fault;
 use crate::reader::incoming::Incoming;
+use crate::reader::object::Kept;
 use crate::reader::params::{ParamsMembers, read_params};
-use crate::reader::scalar::{Scalar, read_scalar};
+use crate::reader::scalar::{Scalar, read_scalar, read_text};
 use crate::reader::skip::skip_value;
 use json::Reader;
 use std::alloc::{AllocError, Global};
@@ -22,106 +21,105 @@ use std::alloc::{AllocError, Global};
 /// What is kept of the members of a message.
 #[derive(Drop)]
 pub(crate) struct MessageMembers<'a> {
-    version: Scalar<'a>,
-    method: Scalar<'a>,
-    id: Scalar<'a>,
-    error: Scalar<'a>,
-    outcome: Scalar<'a>,
+    alloc: Global,
+    is_version_two: bool,
+    /// The method, if there is one; `Some(None)` where it is no text.
+    method: Option<Option<&'a str>>,
+    id: Option<Scalar<'a>>,
+    /// Whether there is an error that isn't null.
+    has_failed: bool,
+    has_result: bool,
     params: ParamsMembers<'a>,
 }
 
-impl<'a> MessageMembers<'a> {
-    /// Reads the member of this name. The last of several members of one name counts.
+impl<'a> Kept<'a> for MessageMembers<'a> {
+    ghost IsOf = { IsMessageOf };
+
     #[inline(always)]
     fn read_member(
         &mut self,
-        alloc: Global,
         reader: &mut Reader<'a>,
         depth: usize,
         name: &str,
-    ) -> Result<(), Fault>
-        ensures ok { OnOk result ((d : Data) × (value_at depth reader.old ≡ Some (d, reader.new))
-            × ((ms : Members) → IsMessageOf self.old ms
-            → IsMessageOf self.new (put name.now d ms))) }
-        ensures shorter { OnOk result (length reader.new < length reader.old) }
-        ensures error { result ≡ Err Fault.NotJson → value_at depth reader.old ≡ None }
-    {
+    ) -> Result<(), Fault> {
         match name {
-            "jsonrpc" => self.version = read_scalar(reader, depth)?,
-            "method" => self.method = read_scalar(reader, depth)?,
-            "id" => self.id = read_scalar(reader, depth)?,
-            "error" => self.error = read_scalar(reader, depth)?,
-            "result" => self.outcome = read_scalar(reader, depth)?,
-            "params" => self.params = read_params(alloc, reader, depth)?,
+            "jsonrpc" => self.is_version_two = read_scalar(reader, depth)?.is_two(),
+            "method" => self.method = Some(read_text(reader, depth)?),
+            "id" => self.id = Some(read_scalar(reader, depth)?),
+            "error" => self.has_failed = !read_scalar(reader, depth)?.is_null(),
+            "result" => {
+                skip_value(reader, depth)?;
+                self.has_result = true;
+            }
+            "params" => self.params = read_params(self.alloc, reader, depth)?,
             _ => skip_value(reader, depth)?,
         }
         Ok(())
     }
+}
+
+impl<'a> MessageMembers<'a> {
+    /// Returns what is kept of an object without members.
+    pub(crate) fn none(alloc: Global) -> Self
+        ensures { IsMessageOf result no_members }
+    {
+        MessageMembers {
+            alloc,
+            is_version_two: false,
+            method: None,
+            id: None,
+            has_failed: false,
+            has_result: false,
+            params: ParamsMembers::none(alloc),
+        }
+    }
 
     /// Returns what the message asks; `None` where its params have to be read as a tree.
-    pub(crate) fn incoming(self, alloc: Global) -> Result<Option<Incoming>, AllocError>
+    pub(crate) fn incoming(self) -> Result<Option<Incoming>, AllocError>
         ensures { IfOk result (λ r. IfSome r (λ m. (ms : Members) → IsMessageOf self.entry ms
             → incoming_view m ≡ incoming_of (message_of (object ms)))) }
     {
-        if !self.version.is_two() {
+        let alloc = self.alloc;
+        if !self.is_version_two {
             return Ok(Some(Incoming::NotAMessage {
-                id: self.id.id(alloc)?,
+                id: id_found(alloc, self.id)?,
             }));
         }
         match self.method {
-            Scalar::Missing => Ok(Some(response(alloc, self.id, self.error, self.outcome)?)),
-            Scalar::Text(method) => call(alloc, self.id, method, self.params),
-            _ => Ok(Some(Incoming::NotAMessage {
-                id: self.id.id(alloc)?,
+            None => Ok(Some(response(alloc, self.id, self.has_failed, self.has_result)?)),
+            Some(Some(method)) => call(alloc, self.id, method, self.params),
+            Some(None) => Ok(Some(Incoming::NotAMessage {
+                id: id_found(alloc, self.id)?,
             })),
         }
     }
 }
 
-/// Reads the rest of an object, after its brace.
-pub(crate) fn read_message_members<'a>(
-    alloc: Global,
-    reader: &mut Reader<'a>,
-    depth: usize,
-) -> Result<MessageMembers<'a>, Fault>
-    ensures ok { IfOk result (λ found. (ms : Members)
-        × (members_at depth (length reader.old) no_members reader.old ≡ Some (ms, reader.new))
-        × IsMessageOf found ms) }
-    ensures shorter { OnOk result (length reader.new < length reader.old) }
-    ensures error { result ≡ Err Fault.NotJson
-        → members_at depth (length reader.old) no_members reader.old ≡ None }
+/// Returns the id that a member `id` is, if it is there.
+fn id_found(alloc: Global, id: Option<Scalar<'_>>) -> Result<Option<Id>, AllocError>
+    ensures { IfOk result (λ r. (i : Option Data) → IsKeptId id.entry i
+        → option_map id_view r ≡ id_found i) }
 {
-    let mut found = MessageMembers {
-        version: Scalar::Missing,
-        method: Scalar::Missing,
-        id: Scalar::Missing,
-        error: Scalar::Missing,
-        outcome: Scalar::Missing,
-        params: ParamsMembers {
-            document: None,
-            changes: None,
-        },
-    };
-    'members: while let Some(name) = reader.next_key()? {
-        found.read_member(alloc, reader, depth, name)?;
+    match id {
+        Some(id) => id.id(alloc),
+        None => Ok(None),
     }
-    Ok(found)
 }
 
 /// Returns what a call asks. A notification has no member `id`.
 fn call(
     alloc: Global,
-    id: Scalar<'_>,
+    id: Option<Scalar<'_>>,
     method: &str,
     params: ParamsMembers<'_>,
 ) -> Result<Option<Incoming>, AllocError>
     ensures { IfOk result (λ r. IfSome r (λ m. (i : Option Data) (v : Option Data)
-        → scalar_view id.entry ≡ scalar_in i → IsParamsOf params.entry v
+        → IsKeptId id.entry i → IsParamsOf params.entry v
         → incoming_view m ≡ incoming_of (call_of i method.now v))) }
 {
-    if let Scalar::Missing = id {
+    let Some(id) = id else {
         return Ok(Some(notification(alloc, method, params)?));
-    }
+    };
     match id.id(alloc)? {
         Some(id) => request(alloc, id, method),
         None => Ok(Some(Incoming::NotAMessage { id: None })),
@@ -153,9 +151,9 @@ fn notification(
 {
     match method {
         "exit" => Ok(Incoming::Exit),
-        "textDocument/didOpen" => Ok(Incoming::DidOpen(params.open(alloc)?)),
-        "textDocument/didChange" => Ok(Incoming::DidChange(params.change(alloc)?)),
-        "textDocument/didClose" => Ok(Incoming::DidClose(params.close(alloc)?)),
+        "textDocument/didOpen" => Ok(Incoming::DidOpen(params.open()?)),
+        "textDocument/didChange" => Ok(Incoming::DidChange(params.change()?)),
+        "textDocument/didClose" => Ok(Incoming::DidClose(params.close()?)),
         _ => Ok(Incoming::OtherNotification {
             method: String::from_str(alloc, method)?,
         }),
@@ -165,38 +163,35 @@ fn notification(
 /// Returns what a message without a method asks, by the id that it names.
 fn response(
     alloc: Global,
-    id: Scalar<'_>,
-    error: Scalar<'_>,
-    outcome: Scalar<'_>,
+    id: Option<Scalar<'_>>,
+    has_failed: bool,
+    has_result: bool,
 ) -> Result<Incoming, AllocError>
     ensures { IfOk result (λ m. (i : Option Data) (e : Option Data) (o : Option Data)
-        → scalar_view id.entry ≡ scalar_in i → scalar_view error.entry ≡ scalar_in e
-        → scalar_view outcome.entry ≡ scalar_in o
+        → IsKeptId id.entry i → has_failed ≡ is_failure e → has_result ≡ is_some o
         → incoming_view m ≡ incoming_of (answer_of i e o)) }
 {
-    if let Scalar::Missing = id {
+    let Some(id) = id else {
         return Ok(Incoming::NotAMessage { id: None });
-    }
-    if let Scalar::Null = id {
-        return Ok(response_with(None, error, outcome));
+    };
+    if id.is_null() {
+        return Ok(response_with(None, has_failed, has_result));
     }
     match id.id(alloc)? {
-        Some(id) => Ok(response_with(Some(id), error, outcome)),
+        Some(id) => Ok(response_with(Some(id), has_failed, has_result)),
         None => Ok(Incoming::NotAMessage { id: None }),
     }
 }
 
 /// Returns a response where there is an error that isn't null, or a result.
-fn response_with(id: Option<Id>, error: Scalar<'_>, outcome: Scalar<'_>) -> Incoming
-    ensures { (e : Option Data) (o : Option Data)
-        → scalar_view error.entry ≡ scalar_in e → scalar_view outcome.entry ≡ scalar_in o
+fn response_with(id: Option<Id>, has_failed: bool, has_result: bool) -> Incoming
+    ensures { (e : Option Data) (o : Option Data) → has_failed ≡ is_failure e
+        → has_result ≡ is_some o
         → incoming_view result ≡ incoming_of (outcome_of (option_map id_view id) e o) }
 {
-    if !matches!(error, Scalar::Missing | Scalar::Null) {
-        return Incoming::Response { id };
-    }
-    match outcome {
-        Scalar::Missing => Incoming::NotAMessage { id },
-        _ => Incoming::Response { id },
+    if has_failed || has_result {
+        Incoming::Response { id }
+    } else {
+        Incoming::NotAMessage { id }
     }
 }

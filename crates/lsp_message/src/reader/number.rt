@@ -6,7 +6,9 @@
 ghost use Rattle.std.specs.Prelude.{◌≡◌, ◌∷◌, ◌==◌, option_map, slice_index, MatchOption, IfSome, Some, true, false};
 ghost use Rattle.serde_json.specs.Data.{unsigned};
 ghost use Rattle.serde_json.specs.Read.{number_of, number_from, float_of};
-ghost use Rattle.lsp_message.specs.inside.Scalars.{number_kind, number_view};
+ghost use Rattle.lsp_message.specs.Params.{version_in, coordinate_in};
+ghost use Rattle.lsp_message.specs.Values.{whole_in};
+ghost use Rattle.lsp_message.specs.inside.Scalars.{kept_number, number_data};
 
 use fast_float::Numeral;
 
@@ -28,7 +30,7 @@ impl Number {
     /// Reads the number of a token; `None` where it is too large for `f64`.
     #[inline(always)]
     pub(crate) fn parse(text: &str) -> Option<Number>
-        ensures { option_map number_view result ≡ option_map number_kind (number_of text.now) }
+        ensures { option_map number_data result ≡ option_map kept_number (number_of text.now) }
     {
         match short_natural(text.as_bytes()) {
             Some(n) => Some(Number::Natural(n)),
@@ -38,7 +40,7 @@ impl Number {
 
     #[inline(never)]
     fn parse_any(text: &str) -> Option<Number>
-        ensures { option_map number_view result ≡ option_map number_kind (number_of text.now) }
+        ensures { option_map number_data result ≡ option_map kept_number (number_of text.now) }
     {
         let bytes = text.as_bytes();
         match after_minus(bytes) {
@@ -49,8 +51,8 @@ impl Number {
 
     #[inline(always)]
     fn from_zero(numeral: &Numeral<'_>) -> Option<Number>
-        ensures { option_map number_view result
-            ≡ option_map number_kind (number_from false numeral.now) }
+        ensures { option_map number_data result
+            ≡ option_map kept_number (number_from false numeral.now) }
     {
         match numeral.to_u64() {
             Some(n) => Some(Number::Natural(n)),
@@ -60,8 +62,8 @@ impl Number {
 
     #[inline(always)]
     fn below_zero(numeral: &Numeral<'_>) -> Option<Number>
-        ensures { option_map number_view result
-            ≡ option_map number_kind (number_from true numeral.now) }
+        ensures { option_map number_data result
+            ≡ option_map kept_number (number_from true numeral.now) }
     {
         match numeral.to_i64(true) {
             Some(n) if n < 0 => Some(Number::Negative(n)),
@@ -71,13 +73,43 @@ impl Number {
 
     #[inline(never)]
     fn nearest(negative: bool, numeral: &Numeral<'_>) -> Option<Number>
-        ensures { option_map number_view result
-            ≡ option_map number_kind (float_of negative numeral.now) }
+        ensures { option_map number_data result
+            ≡ option_map kept_number (float_of negative numeral.now) }
     {
         if numeral.to_float::<f64>(negative).is_finite() {
             Some(Number::Float)
         } else {
             None
+        }
+    }
+
+    /// Returns a whole number in the range of `i64`.
+    pub(crate) fn whole(self) -> Option<i64>
+        ensures { result ≡ whole_in (Some (number_data self)) }
+    {
+        match self {
+            Number::Natural(n) => i64::try_from(n).ok(),
+            Number::Negative(n) => Some(n),
+            Number::Float => None,
+        }
+    }
+
+    /// Returns a version.
+    pub(crate) fn version(self) -> Option<i32>
+        ensures { result ≡ version_in (Some (number_data self)) }
+    {
+        i32::try_from(self.whole()?).ok()
+    }
+
+    /// Returns a line or a character.
+    #[inline(always)]
+    pub(crate) fn coordinate(self) -> Option<u32>
+        ensures { result ≡ coordinate_in (Some (number_data self)) }
+    {
+        match self {
+            Number::Natural(n) => u32::try_from(n).ok(),
+            Number::Negative(_) => None,
+            Number::Float => None,
         }
     }
 }

@@ -1,14 +1,15 @@
 //! The range of a change.
 
-ghost use Rattle.std.specs.Prelude.{◌≡◌, ◌<◌, length, Some, None, IfOk, OnOk, OnErr};
-ghost use Rattle.serde_json.specs.Data.{Data, object, Members, no_members, put};
+ghost use Rattle.std.specs.Prelude.{◌≡◌, ◌<◌, length, Some, None, Err, IfOk, OnOk};
+ghost use Rattle.serde_json.specs.Data.{Data, object, Members};
 ghost use Rattle.lsp_message.specs.Params.{range_of};
-ghost use Rattle.lsp_message.specs.inside.Reading.{value_at, members_at};
-ghost use Rattle.lsp_message.specs.inside.Members.{IsRangeOf};
+ghost use Rattle.lsp_message.specs.inside.Reading.{value_at};
+ghost use Rattle.lsp_message.specs.inside.Objects.{IsRangeOf};
 
-use crate::reader::opening::{Opening, open_object};
+use crate::reader::fault::Fault;
+use crate::reader::object::{Kept, Object, read_object};
 use crate::reader::position::read_position;
-use crate::reader::skip::{NotJson, skip_value};
+use crate::reader::skip::skip_value;
 use json::Reader;
 use lsp_text::{Position, Range};
 
@@ -19,21 +20,16 @@ pub(crate) struct RangeMembers {
     stop: Option<Position>,
 }
 
-impl RangeMembers {
-    /// Reads the member of this name. The last of several members of one name counts.
+impl<'a> Kept<'a> for RangeMembers {
+    ghost IsOf = { IsRangeOf };
+
     #[inline(always)]
     fn read_member(
         &mut self,
-        reader: &mut Reader<'_>,
+        reader: &mut Reader<'a>,
         depth: usize,
         name: &str,
-    ) -> Result<(), NotJson>
-        ensures ok { OnOk result ((d : Data) × (value_at depth reader.old ≡ Some (d, reader.new))
-            × ((ms : Members) → IsRangeOf self.old ms
-            → IsRangeOf self.new (put name.now d ms))) }
-        ensures shorter { OnOk result (length reader.new < length reader.old) }
-        ensures error { OnErr result (value_at depth reader.old ≡ None) }
-    {
+    ) -> Result<(), Fault> {
         match name {
             "start" => self.start = read_position(reader, depth)?,
             "end" => self.stop = read_position(reader, depth)?,
@@ -41,7 +37,9 @@ impl RangeMembers {
         }
         Ok(())
     }
+}
 
+impl RangeMembers {
     #[inline(always)]
     fn range(self) -> Option<Option<Range>>
         ensures { (ms : Members) → IsRangeOf self ms → result ≡ range_of (Some (object ms)) }
@@ -52,42 +50,24 @@ impl RangeMembers {
     }
 }
 
-/// Reads the rest of an object, after its brace.
-fn read_range_members(reader: &mut Reader<'_>, depth: usize) -> Result<RangeMembers, NotJson>
-    ensures ok { IfOk result (λ found. (ms : Members)
-        × (members_at depth (length reader.old) no_members reader.old ≡ Some (ms, reader.new))
-        × IsRangeOf found ms) }
-    ensures shorter { OnOk result (length reader.new < length reader.old) }
-    ensures error { OnErr result
-        (members_at depth (length reader.old) no_members reader.old ≡ None) }
-{
-    let mut found = RangeMembers {
-        start: None,
-        stop: None,
-    };
-    'members: while let Some(name) = reader.next_key()? {
-        found.read_member(reader, depth, name)?;
-    }
-    Ok(found)
-}
-
 /// Reads a value as a range: `Some(None)` where it is null, which means the whole text; `None`
 /// where it is neither.
 pub(crate) fn read_range(
     reader: &mut Reader<'_>,
     depth: usize,
-) -> Result<Option<Option<Range>>, NotJson>
+) -> Result<Option<Option<Range>>, Fault>
     ensures ok { IfOk result (λ r. (d : Data) × (value_at depth reader.old ≡ Some (d, reader.new))
         × (r ≡ range_of (Some d))) }
     ensures shorter { OnOk result (length reader.new < length reader.old) }
-    ensures error { OnErr result (value_at depth reader.old ≡ None) }
+    ensures error { result ≡ Err Fault.NotJson → value_at depth reader.old ≡ None }
 {
-    match open_object(reader, depth)? {
-        Opening::Null => Ok(Some(None)),
-        Opening::Other => Ok(None),
-        Opening::Object => {
-            let found = read_range_members(reader, depth - 1)?;
-            Ok(found.range())
-        }
+    let none = RangeMembers {
+        start: None,
+        stop: None,
+    };
+    match read_object(none, reader, depth)? {
+        Object::Of(kept) => Ok(kept.range()),
+        Object::Null => Ok(Some(None)),
+        Object::Other => Ok(None),
     }
 }

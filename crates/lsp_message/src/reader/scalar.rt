@@ -1,64 +1,93 @@
-//! A member of which a text or a whole number is kept.
+//! Members of which a text, a whole number or null is kept, and nothing of arrays and objects.
 
 ghost use Rattle.std.specs.Prelude.{◌≡◌, ◌<◌, length, option_map, Some, None, IfOk, OnOk, OnErr};
 ghost use Rattle.serde_json.specs.Data.{Data};
+ghost use Rattle.lsp_message.specs.Message.{id_in, is_version_two};
+ghost use Rattle.lsp_message.specs.Params.{version_in, coordinate_in};
 ghost use Rattle.lsp_message.specs.Seen.{id_view};
+ghost use Rattle.lsp_message.specs.Values.{is_null, text_in};
 ghost use Rattle.lsp_message.specs.inside.Reading.{value_at};
-ghost use Rattle.lsp_message.specs.inside.Scalars.{scalar_of, scalar_view, scalar_text, scalar_whole, scalar_version, scalar_coordinate, scalar_id, is_scalar_two};
+ghost use Rattle.lsp_message.specs.inside.Scalars.{kept, scalar_data};
 
 use crate::message::Id;
 use crate::reader::number::Number;
-use crate::reader::skip::{NotJson, skip_value_from};
-use json::{Reader, Token};
+use crate::reader::skip::skip_value_from;
+use json::{Invalid, Reader, Token};
 use std::alloc::{AllocError, Global};
 
-/// What is kept of a member: a text or a whole number, and nothing of arrays and objects.
+/// What is kept of a value.
 #[derive(Clone, Copy, Drop)]
 pub(crate) enum Scalar<'a> {
-    Missing,
     Null,
     Text(&'a str),
-    Natural(u64),
-    Negative(i64),
-    Float,
+    Number(Number),
+    /// A boolean, an array or an object.
     Other,
 }
 
 /// Reads a value whose arrays and objects nest at most `depth` deep.
 #[inline(always)]
-pub(crate) fn read_scalar<'a>(reader: &mut Reader<'a>, depth: usize) -> Result<Scalar<'a>, NotJson>
+pub(crate) fn read_scalar<'a>(reader: &mut Reader<'a>, depth: usize) -> Result<Scalar<'a>, Invalid>
     ensures ok { IfOk result (λ s. (d : Data) × (value_at depth reader.old ≡ Some (d, reader.new))
-        × (scalar_view s ≡ scalar_of d)) }
+        × (scalar_data s ≡ kept d)) }
     ensures shorter { OnOk result (length reader.new < length reader.old) }
     ensures error { OnErr result (value_at depth reader.old ≡ None) }
 {
-    let token = reader.next().ok_or(NotJson)?;
+    let token = reader.next().ok_or(Invalid)?;
     match token {
         Token::String(text) => Ok(Scalar::Text(text)),
         Token::Null => Ok(Scalar::Null),
         Token::Number(text) => match Number::parse(text) {
-            Some(Number::Natural(n)) => Ok(Scalar::Natural(n)),
-            Some(Number::Negative(n)) => Ok(Scalar::Negative(n)),
-            Some(Number::Float) => Ok(Scalar::Float),
-            None => Err(NotJson),
+            Some(number) => Ok(Scalar::Number(number)),
+            None => Err(Invalid),
         },
-        Token::Bool(_) => Ok(Scalar::Other),
-        Token::EndObject | Token::EndArray | Token::Key(_) | Token::Bad => Err(NotJson),
-        Token::BeginArray => {
-            skip_value_from(reader, token, depth)?;
-            Ok(Scalar::Other)
-        }
-        Token::BeginObject => {
+        _ => {
             skip_value_from(reader, token, depth)?;
             Ok(Scalar::Other)
         }
     }
 }
 
+/// Reads a value as a text; `None` where it is none.
+#[inline(always)]
+pub(crate) fn read_text<'a>(
+    reader: &mut Reader<'a>,
+    depth: usize,
+) -> Result<Option<&'a str>, Invalid>
+    ensures ok { IfOk result (λ r. (d : Data) × (value_at depth reader.old ≡ Some (d, reader.new))
+        × (option_map (λ s. s.now) r ≡ text_in (Some d))) }
+    ensures shorter { OnOk result (length reader.new < length reader.old) }
+    ensures error { OnErr result (value_at depth reader.old ≡ None) }
+{
+    Ok(read_scalar(reader, depth)?.text())
+}
+
+/// Reads a value as a version; `None` where it is none.
+#[inline(always)]
+pub(crate) fn read_version(reader: &mut Reader<'_>, depth: usize) -> Result<Option<i32>, Invalid>
+    ensures ok { IfOk result (λ r. (d : Data) × (value_at depth reader.old ≡ Some (d, reader.new))
+        × (r ≡ version_in (Some d))) }
+    ensures shorter { OnOk result (length reader.new < length reader.old) }
+    ensures error { OnErr result (value_at depth reader.old ≡ None) }
+{
+    Ok(read_scalar(reader, depth)?.version())
+}
+
+/// Reads a value as a line or a character; `None` where it is none.
+#[inline(always)]
+pub(crate) fn read_coordinate(reader: &mut Reader<'_>, depth: usize) -> Result<Option<u32>, Invalid>
+    ensures ok { IfOk result (λ r. (d : Data) × (value_at depth reader.old ≡ Some (d, reader.new))
+        × (r ≡ coordinate_in (Some d))) }
+    ensures shorter { OnOk result (length reader.new < length reader.old) }
+    ensures error { OnErr result (value_at depth reader.old ≡ None) }
+{
+    Ok(read_scalar(reader, depth)?.coordinate())
+}
+
 impl<'a> Scalar<'a> {
     #[inline(always)]
-    pub(crate) fn text(self) -> Option<&'a str>
-        ensures { option_map (λ s. s.now) result ≡ scalar_text (scalar_view self.entry) }
+    fn text(self) -> Option<&'a str>
+        ensures { option_map (λ s. s.now) result ≡ text_in (Some (scalar_data self.entry)) }
     {
         match self {
             Scalar::Text(text) => Some(text),
@@ -66,50 +95,49 @@ impl<'a> Scalar<'a> {
         }
     }
 
-    /// Returns a whole number in the range of `i64`.
-    fn whole(self) -> Option<i64>
-        ensures { result ≡ scalar_whole (scalar_view self.entry) }
+    fn version(self) -> Option<i32>
+        ensures { result ≡ version_in (Some (scalar_data self.entry)) }
     {
         match self {
-            Scalar::Natural(n) => i64::try_from(n).ok(),
-            Scalar::Negative(n) => Some(n),
+            Scalar::Number(number) => number.version(),
             _ => None,
         }
     }
 
-    pub(crate) fn version(self) -> Option<i32>
-        ensures { result ≡ scalar_version (scalar_view self.entry) }
-    {
-        i32::try_from(self.whole()?).ok()
-    }
-
     /// Returns a line or a character.
     #[inline(always)]
-    pub(crate) fn coordinate(self) -> Option<u32>
-        ensures { result ≡ scalar_coordinate (scalar_view self.entry) }
+    fn coordinate(self) -> Option<u32>
+        ensures { result ≡ coordinate_in (Some (scalar_data self.entry)) }
     {
         match self {
-            Scalar::Natural(n) => u32::try_from(n).ok(),
+            Scalar::Number(number) => number.coordinate(),
             _ => None,
         }
     }
 
     pub(crate) fn id(self, alloc: Global) -> Result<Option<Id>, AllocError>
-        ensures { IfOk result (λ r. option_map id_view r ≡ scalar_id (scalar_view self.entry)) }
+        ensures { IfOk result (λ r. option_map id_view r ≡ id_in (scalar_data self.entry)) }
     {
         match self {
             Scalar::Text(text) => Ok(Some(Id::Text(String::from_str(alloc, text)?))),
-            _ => Ok(self.whole().map(Id::Whole)),
+            Scalar::Number(number) => Ok(number.whole().map(Id::Whole)),
+            _ => Ok(None),
         }
     }
 
     /// Returns whether it names version 2.0 of JSON-RPC.
     pub(crate) fn is_two(self) -> bool
-        ensures { result ≡ is_scalar_two (scalar_view self.entry) }
+        ensures { result ≡ is_version_two (Some (scalar_data self.entry)) }
     {
         match self {
             Scalar::Text(text) => text == "2.0",
             _ => false,
         }
+    }
+
+    pub(crate) fn is_null(self) -> bool
+        ensures { result ≡ is_null (scalar_data self.entry) }
+    {
+        matches!(self, Scalar::Null)
     }
 }

@@ -11,25 +11,15 @@ ghost use Rattle.lsp_message.specs.inside.Reading.{value_at, items_at, members_a
 use crate::reader::number::Number;
 use json::{Invalid, Reader, Token};
 
-/// The text is no JSON, nests too deep, or has a number that is too large.
-#[derive(Clone, Copy, Debug, Drop, PartialEq, Eq)]
-pub(crate) struct NotJson;
-
-impl From<Invalid> for NotJson {
-    fn from(_e: Invalid) -> NotJson {
-        NotJson
-    }
-}
-
 /// Skips a value whose arrays and objects nest at most `depth` deep.
 #[cycle(skip)]
 #[inline(always)]
-pub(crate) fn skip_value(reader: &mut Reader<'_>, depth: usize) -> Result<(), NotJson>
+pub(crate) fn skip_value(reader: &mut Reader<'_>, depth: usize) -> Result<(), Invalid>
     ensures ok { OnOk result (rest_of (value_at depth reader.old) ≡ Some reader.new) }
     ensures shorter { OnOk result (length reader.new < length reader.old) }
     ensures error { OnErr result (value_at depth reader.old ≡ None) }
 {
-    let token = reader.next().ok_or(NotJson)?;
+    let token = reader.next().ok_or(Invalid)?;
     skip_value_from(reader, token, depth)
 }
 
@@ -40,7 +30,7 @@ pub(crate) fn skip_value_from<'a>(
     reader: &mut Reader<'a>,
     token: Token<'a>,
     depth: usize,
-) -> Result<(), NotJson>
+) -> Result<(), Invalid>
     ensures ok { OnOk result
         (rest_of (value_at depth (token_of token.entry ∷ reader.old)) ≡ Some reader.new) }
     ensures shorter { OnOk result
@@ -53,18 +43,18 @@ pub(crate) fn skip_value_from<'a>(
         Token::Null => Ok(()),
         Token::Number(text) => match Number::parse(text) {
             Some(_) => Ok(()),
-            None => Err(NotJson),
+            None => Err(Invalid),
         },
-        Token::EndObject | Token::EndArray | Token::Key(_) | Token::Bad => Err(NotJson),
+        Token::EndObject | Token::EndArray | Token::Key(_) | Token::Bad => Err(Invalid),
         Token::BeginArray => {
             if depth == 0 {
-                return Err(NotJson);
+                return Err(Invalid);
             }
             skip_items(reader, depth - 1)
         }
         Token::BeginObject => {
             if depth == 0 {
-                return Err(NotJson);
+                return Err(Invalid);
             }
             skip_members(reader, depth - 1)
         }
@@ -74,7 +64,7 @@ pub(crate) fn skip_value_from<'a>(
 /// Skips the rest of an array, after its bracket.
 #[cycle(skip)]
 #[inline(never)]
-fn skip_items(reader: &mut Reader<'_>, depth: usize) -> Result<(), NotJson>
+fn skip_items(reader: &mut Reader<'_>, depth: usize) -> Result<(), Invalid>
     ensures ok { OnOk result
         (rest_of (items_at depth (length reader.old) reader.old) ≡ Some reader.new) }
     ensures shorter { OnOk result (length reader.new < length reader.old) }
@@ -89,7 +79,7 @@ fn skip_items(reader: &mut Reader<'_>, depth: usize) -> Result<(), NotJson>
 /// Skips the rest of an object, after its brace.
 #[cycle(skip)]
 #[inline(never)]
-fn skip_members(reader: &mut Reader<'_>, depth: usize) -> Result<(), NotJson>
+fn skip_members(reader: &mut Reader<'_>, depth: usize) -> Result<(), Invalid>
     ensures ok { OnOk result
         (rest_of (members_at depth (length reader.old) no_members reader.old) ≡ Some reader.new) }
     ensures shorter { OnOk result (length reader.new < length reader.old) }

@@ -10,7 +10,7 @@ returns c =
       length_digits = length.digits;
       is = range.is;
       length_is = length.is;
-      lexemes = changes_read c.args.self.now.rest.now c.take.new.self.rest.now c.take-2.new.self.rest.now
+      lexemes = changes_read c.args.by_name c.args.self.now.rest.now c.take.new.self.rest.now c.take-2.new.self.rest.now
           c.take-3.new.self.rest.now c.take-4.new.self.rest.now c.range.new.self.rest.now c.take-5.new.self.rest.now
           c.range_length.new.self.rest.now c.take-6.new.self.rest.now c.plain_text.new.self.rest.now
           c.take-7.new.self.rest.now c.take-8.new.self.rest.now c.in_ok-text.text.now range.digits length.digits
