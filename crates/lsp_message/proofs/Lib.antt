@@ -1,13 +1,13 @@
--- Where to begin: `lsp_message::read.ok` is `read_by` of `Readings`. `write.body` is `body_is` of `BodyLemmas`: the bytes are the
--- compact text of the message's value (`Bodies`), which the writers' own proofs put together by `Tokens`.
+-- Where to begin: `lsp_message::read.ok` is `read_by` of `Readings`. `write.body` is `body_is` of `BodyLemmas`: the
+-- bytes are the compact text of the message's value (`Bodies`), which the writers' own proofs put together by `Tokens`.
 -- `write.read_back` and `unique` are `is_read_back` and `body_of-unique` of `ReadBack`, over `Sound`: which values
 -- are read back as themselves. `message_laws` is in `MessageLemmas`, the rows of the table of messages, and in
 -- `RefusalLemmas`. `MemberLemmas` leads from `message_of` to the private contracts of `src/message.rt`.
 --
 -- `Incoming::read.ok` has two main ways. By tokens, each object is read a member at a time: `Grammar` says what
 -- one more token or member makes of the value (`members_at-more`), `Openings` what the first token does, `Puts` what a
--- kept member is then, and `Messages` what the message is by its members. A keystroke is read by its bytes:
--- `body_read` of `Lexemes` has the tokens of its layout, and `keystroke_read` of `Keystrokes` what these mean.
+-- kept member is then, `Kept` why a scalar is enough, and `Messages` what the message is by its members. A keystroke is read by its bytes:
+-- `Lexemes` has the tokens of its layouts, and `keystroke_read` of `Keystrokes` what these mean.
 -- `Growing` is for the list of changes, `Digits` for numbers, `Converted` for results.
 pub mod Readings
 pub mod Sound

@@ -18,5 +18,12 @@ pub returns-in_ok-skip_value-in_default-clause-ok : goal.returns-in_ok-skip_valu
 returns-in_ok-skip_value-in_default-clause-ok c =
     let k = c.args.name.now in
     let read = left_some (value_at c.args.depth c.args.reader.now) c.skip_value.new.reader
-    c.in_ok-skip_value-in_default.ensures.ok in
-    (read.0, read.1, λ ms before. simp (get_put, differs k (codes "start") c.in_default.not-start, differs k (codes "end") c.in_default.not-end) before)
+    c.in_ok-skip_value-in_default.ensures.ok in (
+      read.0,
+      read.1,
+      λ ms before. simp (
+        get_put,
+        differs k (codes "start") c.in_default.not-start,
+        differs k (codes "end") c.in_default.not-end,
+      ) before,
+    )
