@@ -2,7 +2,7 @@
 use Rattle.std.proofs.Common.{◌≡◌, ℕ, ℤ, suc, List, [], ◌∷◌, Option, Some, None, option_and_then, refl, sym, ap, ◌∙◌, codes}
 use Rattle.std.specs.Prelude.{Bool, true, false, ⊤}
 use Rattle.json.specs.Token.{end_object}
-use Rattle.json.specs.Lex.{Lexeme, token, lex, between, fresh, punctuate}
+use Rattle.json.specs.Lex.{Lexeme, token, fresh, punctuate}
 use Rattle.json.specs.Json.{if_last, value, items, members}
 use Rattle.serde_json.specs.Data.{Num, Data, number, string, array, object, Members, no_members, put, no_items, item, unsigned}
 use Rattle.serde_json.specs.Read.{of_json, number_of, read}
@@ -58,7 +58,8 @@ IsLength (Some s) (Some n) = number_of s ≡ Some n
 
 module _ (uri version text : List ℕ) (range : RangeDigits) (v l c m e : Num) (version_is : number_of version ≡ Some v)
     (line_is : number_of range.start.line ≡ Some l) (character_is : number_of range.start.character ≡ Some c)
-    (end_line_is : number_of range.stop.line ≡ Some m) (end_character_is : number_of range.stop.character ≡ Some e) where
+    (end_line_is : number_of range.stop.line ≡ Some m)
+    (end_character_is : number_of range.stop.character ≡ Some e) where
   abbrev Reads : Bool → Option (List ℕ) → Option Num → ℕ → Type 0
   Reads by_name digits length depth =
       data_of (suc (suc (suc (suc (suc (suc (suc depth)))))))
@@ -137,7 +138,8 @@ keystroke_read body uri version range length text k =
           b.character.value v.read a.line.read a.character.read b.line.read b.character.read p.by_name
           p.length_digits n.0 n.1 120,
       message_is uri text v.value edit version range v.within (edit_is n.0 start stop range text
-          (range_is start stop range (position_is a.line.value a.character.value range.start a.line.within a.character.within)
+          (range_is start stop range
+          (position_is a.line.value a.character.value range.start a.line.within a.character.within)
           (position_is b.line.value b.character.value range.stop b.line.within b.character.within))),
       lengths_are uri v.value edit length (n.2 (range_data start stop) text),
     )

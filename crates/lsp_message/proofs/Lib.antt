@@ -5,10 +5,10 @@
 -- `RefusalLemmas`. `MemberLemmas` leads from `message_of` to the private contracts of `src/message.rt`.
 --
 -- `Incoming::read.ok` has two main ways. By tokens, each object is read a member at a time: `Grammar` says what
--- one more token or member makes of the value (`members_at-more`), `Openings` what the first token does, `Puts` what a
--- kept member is then, `Kept` why a scalar is enough, and `Messages` what the message is by its members. A keystroke is read by its bytes:
--- `Lexemes` has the tokens of its layouts, and `keystroke_read` of `Keystrokes` what these mean.
--- `Growing` is for the list of changes, `Digits` for numbers, `Converted` for results.
+-- one more token or member makes of the value (`members_at-more`), `Openings` what the first token does, `Puts` what
+-- a kept member is then, `Kept` why a scalar is enough, and `Messages` what the message is by its members. A
+-- keystroke is read by its bytes: `Lexemes` has the tokens of its two layouts, and `keystroke_read` of `Keystrokes`
+-- what these mean. `Growing` is for the list of changes, `Digits` for numbers, `Converted` for results.
 pub mod Readings
 pub mod Sound
 pub mod Bodies

@@ -1,6 +1,5 @@
 use Rattle.std.proofs.Common.{◌≡◌, ◌<◌, ◌∷◌, length, refl, ap, ◌∙◌, arith}
 use Rattle.json.specs.Json.{parse_map}
-use Rattle.json.specs.Token.{Token}
 use Rattle.json.specs.Reads.{token_of}
 use Rattle.serde_json.specs.Data.{null, object}
 use Rattle.lsp_message.specs.inside.Reading.{value_at}

@@ -5,8 +5,8 @@ use Rattle.lsp_message.proofs.reader.cursor.Cursor.params.Goals as goal
 
 pub returns-then-is_next : goal.returns-then-is_next
 returns-then-is_next c =
-    let document = c.in_ok-document-then-is_next.ensures in
-    let change = c.in_ok-change-then-is_next.ensures in
+    let document = c.in_ok-document.ensures in
+    let change = c.in_ok-change.ensures in
     record {
       by_name = true;
       version_digits = document.digits;
@@ -16,16 +16,16 @@ returns-then-is_next c =
       is = change.is;
       length_is = change.length_is;
       lexemes = params_read c.args.self.now.rest.now c.take.new.self.rest.now c.changes.new.self.rest.now
-          c.take-2.new.self.rest.now c.document.new.self.rest.now c.take-3.new.self.rest.now
-          (changes_lexemes true change.digits change.length_digits c.in_ok-change-then-is_next.change.text.now)
-          (document_lexemes c.in_ok-document-then-is_next.document.uri.now document.digits) c.in_ok-take.ensures
-          change.lexemes c.in_ok-take-then-is_next.ensures document.lexemes c.in_ok-take-then-is_next-2.ensures;
+          c.take-then-is_next.new.self.rest.now c.document.new.self.rest.now c.take-then-is_next-2.new.self.rest.now
+          (changes_lexemes true change.digits change.length_digits c.in_ok-change.change.text.now)
+          (document_lexemes c.in_ok-document.document.uri.now document.digits) c.in_ok-take.ensures
+          change.lexemes c.in_ok-take-2.ensures document.lexemes c.in_ok-take-3.ensures;
     }
 
-pub returns-else-is_next : goal.returns-else-is_next
-returns-else-is_next c =
-    let document = c.in_ok-document.ensures in
-    let change = c.in_ok-change.ensures in
+pub returns : goal.returns
+returns c =
+    let document = c.in_ok-document-2.ensures in
+    let change = c.in_ok-change-2.ensures in
     record {
       by_name = false;
       version_digits = document.digits;
@@ -35,8 +35,8 @@ returns-else-is_next c =
       is = change.is;
       length_is = change.length_is;
       lexemes = params_read c.args.self.now.rest.now c.take.new.self.rest.now c.document-2.new.self.rest.now
-          c.take-4.new.self.rest.now c.changes-2.new.self.rest.now c.take-5.new.self.rest.now
-          (document_lexemes c.in_ok-document.document.uri.now document.digits)
-          (changes_lexemes false change.digits change.length_digits c.in_ok-change.change.text.now)
-          c.in_ok-take.ensures document.lexemes c.in_ok-take-2.ensures change.lexemes c.in_ok-take-3.ensures;
+          c.take-2.new.self.rest.now c.changes-2.new.self.rest.now c.take-3.new.self.rest.now
+          (document_lexemes c.in_ok-document-2.document.uri.now document.digits)
+          (changes_lexemes false change.digits change.length_digits c.in_ok-change-2.change.text.now)
+          c.in_ok-take.ensures document.lexemes c.in_ok-take-4.ensures change.lexemes c.in_ok-take-5.ensures;
     }

@@ -1,4 +1,4 @@
-use Rattle.std.proofs.Common.{◌≡◌, true, false, codes, ap, ◌∙◌}
+use Rattle.std.proofs.Common.{codes}
 use Rattle.lsp_message.specs.inside.Lexemes.{number_lexemes}
 use Rattle.lsp_message.proofs.Lexemes.{line_piece, character_piece, two_read}
 use Rattle.lsp_message.proofs.reader.cursor.Cursor.position.Goals as goal
@@ -15,8 +15,10 @@ returns-then-by_name c =
       is = record { line = other.is; character = one.is };
       lexemes = two_read c.args.self.now.rest.now c.take.new.self.rest.now c.take-2.new.self.rest.now
           c.coordinate.new.self.rest.now c.take-3.new.self.rest.now c.take-4.new.self.rest.now
-          c.coordinate-2.new.self.rest.now c.take-5.new.self.rest.now (codes "\"character\":") (codes "\"line\":") (codes "character") (codes "line")
-          (number_lexemes one.digits) (number_lexemes other.digits) character_piece line_piece c.in_ok-take.ensures
+          c.coordinate-2.new.self.rest.now c.take-5.new.self.rest.now (codes "\"character\":")
+          (codes "\"line\":") (codes "character") (codes "line")
+          (number_lexemes one.digits) (number_lexemes other.digits)
+          character_piece line_piece c.in_ok-take.ensures
           (rw first at c.in_ok-take-2.ensures) one.lexemes c.in_ok-take-3.ensures
           (rw second at c.in_ok-take-4.ensures) other.lexemes c.in_ok-take-5.ensures;
     })
@@ -33,8 +35,10 @@ returns-else-by_name c =
       is = record { line = one.is; character = other.is };
       lexemes = two_read c.args.self.now.rest.now c.take.new.self.rest.now c.take-2.new.self.rest.now
           c.coordinate.new.self.rest.now c.take-3.new.self.rest.now c.take-4.new.self.rest.now
-          c.coordinate-2.new.self.rest.now c.take-5.new.self.rest.now (codes "\"line\":") (codes "\"character\":") (codes "line") (codes "character")
-          (number_lexemes one.digits) (number_lexemes other.digits) line_piece character_piece c.in_ok-take.ensures
+          c.coordinate-2.new.self.rest.now c.take-5.new.self.rest.now (codes "\"line\":")
+          (codes "\"character\":") (codes "line") (codes "character")
+          (number_lexemes one.digits) (number_lexemes other.digits)
+          line_piece character_piece c.in_ok-take.ensures
           (rw first at c.in_ok-take-2.ensures) one.lexemes c.in_ok-take-3.ensures
           (rw second at c.in_ok-take-4.ensures) other.lexemes c.in_ok-take-5.ensures;
     })

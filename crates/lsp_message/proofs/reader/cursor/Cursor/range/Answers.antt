@@ -1,4 +1,4 @@
-use Rattle.std.proofs.Common.{◌≡◌, true, false, codes, ap, ◌∙◌}
+use Rattle.std.proofs.Common.{true, false, codes}
 use Rattle.lsp_message.specs.inside.Lexemes.{position_lexemes}
 use Rattle.lsp_message.proofs.Lexemes.{start_piece, end_piece, two_read}
 use Rattle.lsp_message.proofs.reader.cursor.Cursor.range.Goals as goal
@@ -15,8 +15,10 @@ returns-then-by_name c =
       is = record { start = other.is; stop = one.is };
       lexemes = two_read c.args.self.now.rest.now c.take.new.self.rest.now c.take-2.new.self.rest.now
           c.position.new.self.rest.now c.take-3.new.self.rest.now c.take-4.new.self.rest.now
-          c.position-2.new.self.rest.now c.take-5.new.self.rest.now (codes "\"end\":") (codes "\"start\":") (codes "end") (codes "start")
-          (position_lexemes true one.digits) (position_lexemes true other.digits) end_piece start_piece c.in_ok-take.ensures
+          c.position-2.new.self.rest.now c.take-5.new.self.rest.now (codes "\"end\":")
+          (codes "\"start\":") (codes "end") (codes "start")
+          (position_lexemes true one.digits) (position_lexemes true other.digits)
+          end_piece start_piece c.in_ok-take.ensures
           (rw first at c.in_ok-take-2.ensures) (rw by_name at one.lexemes) c.in_ok-take-3.ensures
           (rw second at c.in_ok-take-4.ensures) (rw by_name at other.lexemes) c.in_ok-take-5.ensures;
     })
@@ -33,8 +35,10 @@ returns-else-by_name c =
       is = record { start = one.is; stop = other.is };
       lexemes = two_read c.args.self.now.rest.now c.take.new.self.rest.now c.take-2.new.self.rest.now
           c.position.new.self.rest.now c.take-3.new.self.rest.now c.take-4.new.self.rest.now
-          c.position-2.new.self.rest.now c.take-5.new.self.rest.now (codes "\"start\":") (codes "\"end\":") (codes "start") (codes "end")
-          (position_lexemes false one.digits) (position_lexemes false other.digits) start_piece end_piece c.in_ok-take.ensures
+          c.position-2.new.self.rest.now c.take-5.new.self.rest.now (codes "\"start\":")
+          (codes "\"end\":") (codes "start") (codes "end")
+          (position_lexemes false one.digits) (position_lexemes false other.digits)
+          start_piece end_piece c.in_ok-take.ensures
           (rw first at c.in_ok-take-2.ensures) (rw by_name at one.lexemes) c.in_ok-take-3.ensures
           (rw second at c.in_ok-take-4.ensures) (rw by_name at other.lexemes) c.in_ok-take-5.ensures;
     })

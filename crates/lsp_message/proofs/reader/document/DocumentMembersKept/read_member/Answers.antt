@@ -1,4 +1,4 @@
-use Rattle.std.proofs.Common.{codes, Some, ap, ◌∙◌}
+use Rattle.std.proofs.Common.{codes}
 use Rattle.json.proofs.Grammar.{left_some}
 use Rattle.lsp_message.specs.inside.Reading.{value_at}
 use Rattle.lsp_message.proofs.Puts.{differs, get_put}

@@ -18,11 +18,12 @@ returns-in_ok-response-in-None c = λ ms b.
 
 pub returns-in-Some-Some : goal.returns-in-Some-Some
 returns-in-Some-Some c =
+    let named : c.args.self.method ≡ Some (Some c.in-Some-Some.method) = grind arith in
     if_ok_weaker c.call.result _ _ (λ r. if_some_weaker r _ _ (λ m asks ms b.
     let two : c.args.self.is_version_two ≡ true = grind arith in
     let version : is_version_two (get_member (codes "jsonrpc") ms) ≡ true = sym b.0 ∙ two in
     let read = by_method (get_member (codes "jsonrpc") ms) (get_member (codes "method") ms) (get_member (codes "id") ms)
     (get_member (codes "params") ms) (get_member (codes "error") ms) (get_member (codes "result") ms)
-    (Some (Some c.in-Some-Some.method.now)) version (rw (c.in-Some-Some.is, c.in-Some-Some.field-0-is) at b.1) in
+    (Some (Some c.in-Some-Some.method.now)) version (rw named at b.1) in
     asks (get_member (codes "id") ms) (get_member (codes "params") ms) b.2 b.5
     ∙ ap incoming_of (sym (message_of_object ms ∙ read)))) c.call.ensures
