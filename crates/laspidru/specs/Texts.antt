@@ -1,7 +1,7 @@
 -- What a code means, and the document that a message is about.
 use Rattle.std.specs.Prelude.{ℕ, List, map, slice_get, Option, Some, None, Result}
 use Rattle.std.specs.Option.{ok_or}
-use Rattle.lsp_reader.specs.Incoming.{IncomingData, did_open, did_change, did_close}
+use Rattle.lsp_message.specs.Incoming.{IncomingData, did_open, did_change, did_close}
 use Rattle.laspidru.specs.declared.codes.TheConstants.{NO_DOCUMENT, OUT_OF_RANGE}
 use Rattle.laspidru.specs.declared.texts.TheConstants.{TEXTS}
 

@@ -2,15 +2,15 @@
 
 ghost use Rattle.std.specs.Prelude.{◌≡◌, ◌≢◌, ◌⊎◌, map, option_map, slice_get};
 ghost use Rattle.lsp_message.specs.Message.{reading};
-ghost use Rattle.lsp_reader.specs.Incoming.{incoming_of};
-ghost use Rattle.lsp_reader.specs.Seen.{incoming_view};
+ghost use Rattle.lsp_message.specs.Incoming.{incoming_of};
+ghost use Rattle.lsp_message.specs.Seen.{incoming_view};
 ghost use Rattle.laspidru.specs.Codes.{IsAnswer};
 ghost use Rattle.laspidru.specs.Objects.{IsCopy, rest_asked};
 ghost use Rattle.laspidru.specs.Texts.{code_texts, document_of, named_document, text_asked_of};
 
 use crate::bytes::copy_from;
 use crate::codes::{NO_DOCUMENT, OK, OUT_OF_MEMORY, OUT_OF_RANGE};
-use lsp_reader::Incoming;
+use lsp_message::Incoming;
 use std::alloc::Global;
 
 /// The version, as three numbers of two digits.

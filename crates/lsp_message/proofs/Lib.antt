@@ -1,8 +1,14 @@
--- Where to begin: `read.ok` is `read_by` of `Readings`. `write.body` is `body_is` of `BodyLemmas`: the bytes are the
--- compact text of the message's value (`Bodies`), which the writers' own proofs put together by `Tokens`.
+-- Where to begin: `lsp_message::read.ok` is `read_by` of `Readings`. `write.body` is `body_is` of `BodyLemmas`: the
+-- bytes are the compact text of the message's value (`Bodies`), which the writers' own proofs put together by `Tokens`.
 -- `write.read_back` and `unique` are `is_read_back` and `body_of-unique` of `ReadBack`, over `Sound`: which values
 -- are read back as themselves. `message_laws` is in `MessageLemmas`, the rows of the table of messages, and in
 -- `RefusalLemmas`. `MemberLemmas` leads from `message_of` to the private contracts of `src/message.rt`.
+--
+-- `Incoming::read.ok` has two main ways. By tokens, each object is read a member at a time: `Grammar` says what
+-- one more token or member makes of the value (`members_at-more`), `Openings` what the first token does, `Puts` what
+-- a kept member is then, `Kept` why a scalar is enough, and `Messages` what the message is by its members. A
+-- keystroke is read by its bytes: `Lexemes` has the tokens of its two layouts, and `keystroke_read` of `Keystrokes`
+-- what these mean. `Growing` is for the list of changes, `Digits` for numbers, `Converted` for results.
 pub mod Readings
 pub mod Sound
 pub mod Bodies
@@ -14,3 +20,13 @@ pub mod RefusalLemmas
 pub mod Examples
 pub mod Tokens
 pub mod BodyLemmas
+pub mod Converted
+pub mod Grammar
+pub mod Openings
+pub mod Puts
+pub mod Kept
+pub mod Growing
+pub mod Messages
+pub mod Digits
+pub mod Lexemes
+pub mod Keystrokes

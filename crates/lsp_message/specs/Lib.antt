@@ -4,6 +4,8 @@ pub mod Params
 pub mod Agreement
 pub mod Outgoing
 pub mod Written
+pub mod Incoming
+pub mod Lengths
 pub mod Seen
 pub mod inside
 pub mod laws

@@ -18,6 +18,9 @@ use Rattle.lsp_message.specs.declared.params.ChangeParams.{ChangeParams}
 use Rattle.lsp_message.specs.declared.params.CloseParams.{CloseParams}
 use Rattle.lsp_message.specs.declared.outgoing.Outgoing.{Outgoing}
 use Rattle.lsp_message.specs.declared.outgoing.Outgoing.TheVariants.{Initialize, Initialized, DidOpen, DidChange, DidClose, Shutdown, Exit, InitializeResult, ShutdownResult, ErrorReply}
+use Rattle.lsp_message.specs.declared.reader.incoming.Incoming.{Incoming}
+use Rattle.lsp_message.specs.declared.reader.incoming.Incoming.TheVariants as asked
+use Rattle.lsp_message.specs.Incoming as incoming
 use Rattle.lsp_message.specs.Message as spec
 use Rattle.lsp_message.specs.Outgoing as out
 use Rattle.lsp_message.specs.Params.{DocumentItem, ContentChangeData, ChangeData, CloseData}
@@ -74,6 +77,20 @@ did_change_of uri version changes = out.did_change (change_data uri version chan
 -- The params of a `textDocument/didClose`, with the URI as bytes.
 abbrev pub close_view : CloseParams → CloseData
 close_view p = record { uri = string_bytes p.uri }
+
+-- What a body asks, with its texts as bytes.
+abbrev pub incoming_view : Incoming → incoming.IncomingData
+incoming_view asked.NotJson = incoming.not_json
+incoming_view (asked.NotAMessage id) = incoming.not_a_message (option_map id_view id)
+incoming_view (asked.Response id) = incoming.response (option_map id_view id)
+incoming_view (asked.Initialize id offers) = incoming.initialize (id_view id) offers
+incoming_view (asked.Shutdown id) = incoming.shutdown (id_view id)
+incoming_view (asked.OtherRequest id method) = incoming.other_request (id_view id) (string_bytes method)
+incoming_view asked.Exit = incoming.exit
+incoming_view (asked.DidOpen params) = incoming.did_open (option_map open_view params)
+incoming_view (asked.DidChange params) = incoming.did_change (option_map change_view params)
+incoming_view (asked.DidClose params) = incoming.did_close (option_map close_view params)
+incoming_view (asked.OtherNotification method) = incoming.other_notification (string_bytes method)
 
 -- A message that is written, with its texts as bytes.
 abbrev pub outgoing_view : Outgoing → out.OutgoingData

@@ -4,3 +4,7 @@ pub mod Message
 pub mod Agreement
 pub mod Params
 pub mod Seen
+pub mod Reading
+pub mod Scalars
+pub mod Objects
+pub mod Lexemes

@@ -3,6 +3,7 @@
 //!
 //! - `message`: which message a body is.
 //! - `params`: the typed parameters of the document messages.
+//! - `reader`: what a body asks of a server, read in one pass over the tokens of its JSON.
 //! - `agreement`: what a client offers and what a server announces.
 //! - `outgoing`: the messages that are written, and the errors of replies.
 //! - `writer`: the canonical body of each of them, and its frame. `lifecycle` has the messages of a
@@ -17,6 +18,7 @@ mod members;
 mod message;
 mod outgoing;
 mod params;
+mod reader;
 mod writer;
 
 pub use agreement::{Announced, Offers, SyncKind, params_initialize, result_initialize};
@@ -26,4 +28,5 @@ pub use outgoing::{ErrorCode, Outgoing};
 pub use params::{
     ChangeParams, CloseParams, OpenParams, ParamsFault, params_change, params_close, params_open,
 };
+pub use reader::{Incoming, Scratch, range_lengths};
 pub use writer::{message_frame, push_change, push_document, write};

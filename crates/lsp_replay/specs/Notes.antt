@@ -20,7 +20,7 @@ use Rattle.lsp_message.specs.Params.{DocumentItem, ChangeData}
 use Rattle.lsp_message.specs.declared.agreement.Announced.{Announced}
 use Rattle.lsp_message.specs.declared.agreement.SyncKind.{SyncKind}
 use Rattle.lsp_message.specs.declared.agreement.SyncKind.TheVariants.{Incremental}
-use Rattle.lsp_reader.specs.Lengths.{lengths_of}
+use Rattle.lsp_message.specs.Lengths.{lengths_of}
 use Rattle.lsp_store.specs.Table.{entry_at, greatest_batch}
 use Rattle.lsp_server.specs.Answer.{changed}
 use Rattle.lsp_server.specs.Incoming.{IncomingData, did_open, did_change, incoming_of}

@@ -6,7 +6,7 @@ use Rattle.lsp_edit.specs.Edited.{content_change}
 use Rattle.lsp_message.specs.declared.params.ChangeParams.{ChangeParams}
 use Rattle.lsp_message.specs.Params.{ChangeData}
 use Rattle.lsp_message.specs.Seen.{change_view, content_change_view}
-use Rattle.lsp_reader.specs.Incoming.{did_change}
+use Rattle.lsp_message.specs.Incoming.{did_change}
 use Rattle.lsp_text.specs.declared.encoding.Encoding.{Encoding}
 use Rattle.lsp_store.specs.declared.fault.StoreFault.{StoreFault}
 use Rattle.lsp_store.specs.declared.fault.StoreFault.TheVariants.{NoMemory}

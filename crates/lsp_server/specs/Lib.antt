@@ -1,4 +1,4 @@
-pub use Rattle.lsp_reader.specs.Incoming
+pub use Rattle.lsp_message.specs.Incoming
 pub mod Codes
 pub mod Choice
 pub mod Answer

@@ -1,7 +1,7 @@
 -- A change in two halves: what becomes of it before anything changes, and the server after a plan.
 use Rattle.std.specs.Prelude.{◌≡◌, ◌≢◌, map, Some}
 use Rattle.lsp_message.specs.Params.{ChangeData}
-use Rattle.lsp_reader.specs.Incoming.{did_change}
+use Rattle.lsp_message.specs.Incoming.{did_change}
 use Rattle.lsp_store.specs.declared.store.plan.Plan.{Plan}
 use Rattle.lsp_store.specs.Opened.{StoreData}
 use Rattle.lsp_store.specs.Plan.{IsPlanOf, IsPlanOn, after_plan}

@@ -1,6 +1,6 @@
 -- The types of `src/` as the definitions see them.
 use Rattle.std.specs.Prelude.{IsSome, ⊤}
-pub use Rattle.lsp_reader.specs.Seen.{incoming_view}
+pub use Rattle.lsp_message.specs.Seen.{incoming_view}
 use Rattle.lsp_server.specs.declared.answer.Answer.{Answer}
 use Rattle.lsp_server.specs.declared.answer.Answer.TheVariants.{Reply, Changed, Dropped, Ignored, Refused}
 use Rattle.lsp_server.specs.declared.answer.Answer.TheVariants as answer

@@ -82,8 +82,9 @@ pub use config::{ChangeForm, Config, EncodingChoice};
 pub use laws::step_laws;
 pub use lsp_edit::{Change, EditFault, Side, TextEdit, TextEditFault};
 pub use lsp_frame::{BadLimits, Limits};
-pub use lsp_message::{ChangeParams, CloseParams, ErrorCode, Id, Offers, OpenParams, SyncKind};
-pub use lsp_reader::Incoming;
+pub use lsp_message::{
+    ChangeParams, CloseParams, ErrorCode, Id, Incoming, Offers, OpenParams, SyncKind,
+};
 pub use lsp_store::{Document, Documents, Plan, Store, StoreFault, TextBuffer};
 pub use lsp_text::{Encoding, InsideCharacter, Position, Range, UnknownEncoding};
 pub use phase::Phase;

@@ -9,8 +9,8 @@ ghost use Rattle.lsp_server.specs.Step.{new_server, with_encoding, step, step_on
 ghost use Rattle.lsp_server.specs.Answer.{NeverAllocates, as_sent};
 ghost use Rattle.lsp_server.specs.Seen.{answer_view, IsRefusing};
 ghost use Rattle.lsp_server.specs.Calls.{IsQuietStepOf};
-ghost use Rattle.lsp_reader.specs.Incoming.{incoming_of};
-ghost use Rattle.lsp_reader.specs.Seen.{incoming_view};
+ghost use Rattle.lsp_message.specs.Incoming.{incoming_of};
+ghost use Rattle.lsp_message.specs.Seen.{incoming_view};
 
 mod documents;
 mod lifecycle;
@@ -18,8 +18,7 @@ mod lifecycle;
 use crate::answer::{Answer, ServerFault};
 use crate::config::{ChangeForm, Config, EncodingChoice};
 use crate::phase::Phase;
-use lsp_message::ErrorCode;
-use lsp_reader::{Incoming, Scratch};
+use lsp_message::{ErrorCode, Incoming, Scratch};
 use lsp_store::Store;
 use lsp_text::Encoding;
 use std::alloc::{AllocError, Global};

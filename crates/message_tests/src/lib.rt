@@ -1,4 +1,4 @@
-//! The tests of `lsp_frame`, `lsp_message` and `lsp_reader`: what no clause of theirs says.
+//! The tests of `lsp_frame` and `lsp_message`: what no clause of theirs says.
 #![tactic(auto)]
 
 #[cfg(test)]

@@ -15,7 +15,7 @@ use std::alloc::AllocError;
 impl Server {
     ghost use Rattle.std.specs.Prelude.{◌≡◌, ◌≢◌, ◌↔◌, Some, None, Err, IfOk, IsErrOf, OnErr, OnOk, map, option_map, string_bytes};
     ghost use Rattle.lsp_message.specs.Seen.{open_view, change_view, close_view};
-    ghost use Rattle.lsp_reader.specs.Incoming.{did_open, did_change, did_close};
+    ghost use Rattle.lsp_message.specs.Incoming.{did_open, did_change, did_close};
     ghost use Rattle.lsp_edit.specs.Edited.{content_change};
     ghost use Rattle.lsp_message.specs.Params.{ChangeData};
     ghost use Rattle.lsp_store.specs.Opened.{ChangeMayAllocate};

@@ -9,7 +9,7 @@ use std::alloc::AllocError;
 impl Server {
     ghost use Rattle.std.specs.Prelude.{◌≡◌, ◌≢◌, ℕ, List, None, option_map};
     ghost use Rattle.lsp_message.specs.Seen.{id_view};
-    ghost use Rattle.lsp_reader.specs.Incoming.{initialize, shutdown, other_request, exit, other_notification};
+    ghost use Rattle.lsp_message.specs.Incoming.{initialize, shutdown, other_request, exit, other_notification};
     ghost use Rattle.lsp_server.specs.declared.phase.Phase.TheVariants.{Ended};
     ghost use Rattle.lsp_server.specs.Answer.{as_sent};
     ghost use Rattle.lsp_server.specs.Seen.{answer_view};

@@ -5,8 +5,7 @@ mod both_ways;
 mod lengths;
 mod refused;
 
-use lsp_message::{ReadFault, read};
-use lsp_reader::{Incoming, Scratch};
+use lsp_message::{Incoming, ReadFault, Scratch, read};
 use std::alloc::{AllocError, Global};
 
 /// Returns what a body asks, read by a tree of JSON.

@@ -1,7 +1,7 @@
 //! What unusual bodies ask, printed by `Debug`, as it was worked out by hand.
 
 use super::by_tree;
-use lsp_reader::Incoming;
+use lsp_message::Incoming;
 use std::alloc::{AllocError, Global};
 use std::test::Fail;
 

@@ -2,14 +2,16 @@
 //! What both say of JSON is trusted, so no clause of ours says that they agree.
 
 use super::is_same;
-use lsp_reader::Scratch;
+use lsp_message::Scratch;
 use std::alloc::{AllocError, Global};
 use std::test::Fail;
 
-static MESSAGES: [&str; 10] = [
-    // A keystroke in its usual layouts.
+static MESSAGES: [&str; 11] = [
+    // A keystroke as editors write it, with spaces and without.
     r#"{"jsonrpc":"2.0","method":"textDocument/didChange","params":{"textDocument":{"uri":"file:///a","version":2},"contentChanges":[{"range":{"start":{"line":1,"character":2},"end":{"line":3,"character":40}},"rangeLength":7,"text":"é"}]}}"#,
     "{\n  \"jsonrpc\": \"2.0\",\n  \"method\": \"textDocument/didChange\",\n  \"params\": {\n    \"textDocument\": {\n      \"uri\": \"file:///a\",\n      \"version\": 2\n    },\n    \"contentChanges\": [\n      {\n        \"range\": {\n          \"start\": {\n            \"line\": 1,\n            \"character\": 2\n          },\n          \"end\": {\n            \"line\": 3,\n            \"character\": 40\n          }\n        },\n        \"text\": \"é\"\n      }\n    ]\n  }\n}",
+    // A keystroke as `write` writes it.
+    r#"{"jsonrpc":"2.0","method":"textDocument/didChange","params":{"contentChanges":[{"range":{"end":{"character":40,"line":3},"start":{"character":2,"line":1}},"text":"é"}],"textDocument":{"uri":"file:///a","version":2}}}"#,
     r#"{"id":1,"jsonrpc":"2.0","method":"initialize","params":{"capabilities":{"general":{"positionEncodings":["utf-8","utf-16"]}},"processId":null,"rootUri":null}}"#,
     r#"{"jsonrpc":"2.0","method":"initialized","params":{}}"#,
     r#"{"jsonrpc":"2.0","method":"textDocument/didOpen","params":{"textDocument":{"languageId":"plaintext","text":"a\n\u00e9\ud83d\ude00\"","uri":"file:///a","version":-1}}}"#,

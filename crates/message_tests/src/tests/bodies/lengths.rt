@@ -1,6 +1,6 @@
 //! The `rangeLength` of changes, by their bytes and by a tree.
 
-use lsp_reader::range_lengths;
+use lsp_message::range_lengths;
 use lsp_samples::again;
 use std::alloc::{AllocError, Global};
 use std::test::Fail;
@@ -11,7 +11,7 @@ struct Row {
     lengths: &'static [Option<u64>],
 }
 
-static ROWS: [Row; 13] = [
+static ROWS: [Row; 14] = [
     // A keystroke in its usual layout, spaced, without a length, and with others that are in range.
     Row {
         body: br#"{"jsonrpc":"2.0","method":"textDocument/didChange","params":{"textDocument":{"uri":"u","version":2},"contentChanges":[{"range":{"start":{"line":0,"character":1},"end":{"line":0,"character":4}},"rangeLength":3,"text":"a"}]}}"#,
@@ -28,6 +28,11 @@ static ROWS: [Row; 13] = [
     Row {
         body: br#"{"jsonrpc":"2.0","method":"textDocument/didChange","params":{"textDocument":{"uri":"u","version":2},"contentChanges":[{"range":{"start":{"line":0,"character":1},"end":{"line":0,"character":1}},"rangeLength":18446744073709551615,"text":"a"}]}}"#,
         lengths: &[Some(18446744073709551615)],
+    },
+    // A keystroke with its members in the order of their names.
+    Row {
+        body: br#"{"jsonrpc":"2.0","method":"textDocument/didChange","params":{"contentChanges":[{"range":{"end":{"character":4,"line":0},"start":{"character":1,"line":0}},"rangeLength":3,"text":"a"}],"textDocument":{"uri":"u","version":2}}}"#,
+        lengths: &[Some(3)],
     },
     // Numbers that are no length, and a null.
     Row {

@@ -1,7 +1,7 @@
 //! Bodies whose reading runs out of memory once, and is made again.
 
 use super::by_tree;
-use lsp_reader::{Incoming, Scratch};
+use lsp_message::{Incoming, Scratch};
 use lsp_samples::again;
 use std::alloc::{AllocError, Global};
 use std::test::Fail;

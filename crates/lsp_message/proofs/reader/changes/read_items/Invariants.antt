@@ -1,0 +1,18 @@
+use Rattle.std.proofs.Common.{◌≡◌, ℕ, ◌≤◌, List, length, map, Some, None, if◌then◌else◌}
+use Rattle.json.specs.Json.{parse_map}
+use Rattle.serde_json.specs.Data.{Data}
+use Rattle.lsp_message.specs.Seen.{content_change_view}
+use Rattle.lsp_message.specs.inside.Reading.{items_at}
+use Rattle.lsp_message.proofs.Growing.{items_before, edits_list}
+use Rattle.lsp_message.proofs.reader.changes.read_items.Given as goal
+
+abbrev pub invariant-items : goal.invariant-items
+invariant-items l =
+    (n : ℕ) × (before : List Data) × (length l.reader ≤ n)
+    × (items_at l.depth (length l.initial.reader) l.initial.reader ≡ parse_map (items_before before)
+    (items_at l.depth n l.reader))
+    × (length l.reader ≤ length l.initial.reader)
+    × ((if l.all_changes then Some (map content_change_view l.found.items) else None) ≡ edits_list before)
+
+abbrev pub decreases-items : goal.decreases-items
+decreases-items l = length l.reader

@@ -1,0 +1,41 @@
+use Rattle.std.proofs.Common.{codes}
+use Rattle.json.proofs.Grammar.{left_some}
+use Rattle.lsp_message.specs.inside.Reading.{value_at}
+use Rattle.lsp_message.proofs.Puts.{differs, get_put}
+use Rattle.lsp_message.proofs.reader.document.DocumentMembersKept.read_member.Goals as goal
+
+pub returns-in_ok-self-in-uri-clause-ok : goal.returns-in_ok-self-in-uri-clause-ok
+returns-in_ok-self-in-uri-clause-ok c =
+    let read = c.in_ok-self-in-uri.ensures.ok in
+    (read.0, read.1, λ ms before. rw c.in-uri.is (simp get_put (read.2, before.1, before.2, before.3)))
+
+pub returns-in_ok-self-in-languageId-clause-ok : goal.returns-in_ok-self-in-languageId-clause-ok
+returns-in_ok-self-in-languageId-clause-ok c =
+    let read = c.in_ok-self-in-languageId.ensures.ok in
+    (read.0, read.1, λ ms before. rw c.in-languageId.is (simp get_put (before.0, read.2, before.2, before.3)))
+
+pub returns-in_ok-self-in-version-clause-ok : goal.returns-in_ok-self-in-version-clause-ok
+returns-in_ok-self-in-version-clause-ok c =
+    let read = c.in_ok-self-in-version.ensures.ok in
+    (read.0, read.1, λ ms before. rw c.in-version.is (simp get_put (before.0, before.1, read.2, before.3)))
+
+pub returns-in_ok-self-in-text-clause-ok : goal.returns-in_ok-self-in-text-clause-ok
+returns-in_ok-self-in-text-clause-ok c =
+    let read = c.in_ok-self-in-text.ensures.ok in
+    (read.0, read.1, λ ms before. rw c.in-text.is (simp get_put (before.0, before.1, before.2, read.2)))
+
+pub returns-in_ok-skip_value-in_default-clause-ok : goal.returns-in_ok-skip_value-in_default-clause-ok
+returns-in_ok-skip_value-in_default-clause-ok c =
+    let k = c.args.name.now in
+    let read = left_some (value_at c.args.depth c.args.reader.now) c.skip_value.new.reader
+    c.in_ok-skip_value-in_default.ensures.ok in (
+      read.0,
+      read.1,
+      λ ms before. simp (
+        get_put,
+        differs k (codes "uri") c.in_default.not-uri,
+        differs k (codes "languageId") c.in_default.not-languageId,
+        differs k (codes "version") c.in_default.not-version,
+        differs k (codes "text") c.in_default.not-text,
+      ) before,
+    )

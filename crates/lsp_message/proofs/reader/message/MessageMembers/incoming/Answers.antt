@@ -1,0 +1,29 @@
+use Rattle.std.proofs.Common.{◌≡◌, true, Some, None, codes, sym, ap, ◌∙◌, arith}
+use Rattle.serde_json.specs.Find.{get_member}
+use Rattle.lsp_message.specs.Incoming.{incoming_of}
+use Rattle.lsp_message.specs.Message.{is_version_two}
+use Rattle.lsp_message.proofs.MemberLemmas.{message_of_object}
+use Rattle.lsp_message.proofs.Messages.{if_ok_weaker, if_some_weaker, by_method}
+use Rattle.lsp_message.proofs.reader.message.MessageMembers.incoming.Goals as goal
+
+pub returns-in_ok-response-in-None : goal.returns-in_ok-response-in-None
+returns-in_ok-response-in-None c = λ ms b.
+    let two : c.args.self.is_version_two ≡ true = grind arith in
+    let version : is_version_two (get_member (codes "jsonrpc") ms) ≡ true = sym b.0 ∙ two in
+    let read = by_method (get_member (codes "jsonrpc") ms) (get_member (codes "method") ms) (get_member (codes "id") ms)
+    (get_member (codes "params") ms) (get_member (codes "error") ms) (get_member (codes "result") ms) None version
+    (rw c.in-None.is at b.1) in
+    c.in_ok-response-in-None.ensures (get_member (codes "id") ms) (get_member (codes "error") ms)
+    (get_member (codes "result") ms) b.2 b.3 b.4 ∙ ap incoming_of (sym (message_of_object ms ∙ read))
+
+pub returns-in-Some-Some : goal.returns-in-Some-Some
+returns-in-Some-Some c =
+    let named : c.args.self.method ≡ Some (Some c.in-Some-Some.method) = grind arith in
+    if_ok_weaker c.call.result _ _ (λ r. if_some_weaker r _ _ (λ m asks ms b.
+    let two : c.args.self.is_version_two ≡ true = grind arith in
+    let version : is_version_two (get_member (codes "jsonrpc") ms) ≡ true = sym b.0 ∙ two in
+    let read = by_method (get_member (codes "jsonrpc") ms) (get_member (codes "method") ms) (get_member (codes "id") ms)
+    (get_member (codes "params") ms) (get_member (codes "error") ms) (get_member (codes "result") ms)
+    (Some (Some c.in-Some-Some.method.now)) version (rw named at b.1) in
+    asks (get_member (codes "id") ms) (get_member (codes "params") ms) b.2 b.5
+    ∙ ap incoming_of (sym (message_of_object ms ∙ read)))) c.call.ensures

@@ -1,0 +1,55 @@
+use Rattle.std.proofs.Common.{◌≡◌, ◌∷◌, sym, ap, ◌∙◌, arith, rules}
+use Rattle.json.specs.Token.{Token}
+use Rattle.json.specs.Reads.{token_of}
+use Rattle.serde_json.specs.Data.{null, number, string}
+use Rattle.lsp_message.specs.inside.Reading.{value_at}
+use Rattle.lsp_message.specs.inside.Scalars.{number_data}
+use Rattle.lsp_message.proofs.Converted.{on_err}
+use Rattle.lsp_message.proofs.Grammar.{value_at-nil, value_at-string, value_at-null, value_at-number, value_at-no_number}
+use Rattle.lsp_message.proofs.Openings.{first_read}
+use Rattle.lsp_message.proofs.reader.scalar.read_scalar.Goals as goal
+
+pub returns-in_err-token-clause-error : goal.returns-in_err-token-clause-error
+returns-in_err-token-clause-error c = on_err _ (value_at-nil c.args.depth c.args.reader.now (grind arith))
+
+pub returns-in-String-clause-ok : goal.returns-in-String-clause-ok
+returns-in-String-clause-ok c =
+    let first : c.args.reader.now ≡ token_of c.in_ok-token.token ∷ c.next.new.self = grind arith in
+    let is : c.args.reader.now ≡ Token.string c.in-String.text.now ∷ c.next.new.self = grind (arith, first) in
+    (string c.in-String.text.now, ap (value_at c.args.depth) is ∙ value_at-string c.args.depth _ _, search rules)
+
+pub returns-in-Null-clause-ok : goal.returns-in-Null-clause-ok
+returns-in-Null-clause-ok c =
+    let first : c.args.reader.now ≡ token_of c.in_ok-token.token ∷ c.next.new.self = grind arith in
+    let is : c.args.reader.now ≡ Token.null ∷ c.next.new.self = grind (arith, first) in
+    (null, ap (value_at c.args.depth) is ∙ value_at-null c.args.depth _, search rules)
+
+pub returns-in-Some-clause-ok : goal.returns-in-Some-clause-ok
+returns-in-Some-clause-ok c =
+    let first : c.args.reader.now ≡ token_of c.in_ok-token.token ∷ c.next.new.self = grind arith in
+    let is : c.args.reader.now ≡ Token.number c.in-Number.text.now ∷ c.next.new.self = grind (arith, first) in
+    let read = value_at-number c.args.depth c.in-Number.text.now c.next.new.self (number_data c.in-Some.number)
+    c.in-Some.ensures in
+    (number read.0, ap (value_at c.args.depth) is ∙ read.1, read.2)
+
+pub returns-in-None-clause-error : goal.returns-in-None-clause-error
+returns-in-None-clause-error c =
+    let first : c.args.reader.now ≡ token_of c.in_ok-token.token ∷ c.next.new.self = grind arith in
+    let is : c.args.reader.now ≡ Token.number c.in-Number.text.now ∷ c.next.new.self = grind (arith, first) in
+    ap (value_at c.args.depth) is ∙ value_at-no_number c.args.depth _ _ c.in-None.ensures
+
+pub returns-in_ok-skip_value_from-in_default : goal.returns-in_ok-skip_value_from-in_default
+returns-in_ok-skip_value_from-in_default c =
+    let t = c.in_ok-token.token in
+    let first : c.args.reader.now ≡ token_of t ∷ c.next.new.self = grind arith in
+    let done = c.in_ok-skip_value_from-in_default.ensures in
+    let read = first_read c.args.depth t c.next.new.self c.skip_value_from.new.reader done.ok in
+    record {
+      ok = (
+        read.0,
+        ap (value_at c.args.depth) first ∙ read.1,
+        sym (read.2.nothing c.in_default.not-Null c.in_default.not-String c.in_default.not-Number),
+      );
+      shorter = rw first done.shorter;
+      error = tt;
+    }

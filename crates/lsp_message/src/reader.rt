@@ -1,0 +1,48 @@
+//! Reads what a body asks of a language server, in one pass over the tokens of its JSON.
+//!
+//! No tree is built, but for `initialize`, and by [`range_lengths`] where the body is no keystroke:
+//! the members that the protocol names are kept, and all others are skipped. The result is what
+//! `specs/Incoming.antt` defines for the value that `serde_json` reads, for each body.
+//!
+//! ```text
+//! let mut scratch = Scratch::new(alloc);
+//! // for each body:
+//! match Incoming::read_with(alloc, body, &mut scratch)? {
+//!     Incoming::DidChange(Some(params)) => apply(params),
+//!     Incoming::OtherRequest { id, method } => answer(id, method, body),
+//!     ..
+//! }
+//! ```
+//!
+//! - `incoming`: what a body asks, its parameters read.
+//! - `object`: an object, of whose members some are kept.
+//! - `message`, `params`, `document`, `changes`, `change`, `range`, `position`: the objects of the
+//!   protocol, each with the members that are kept of it.
+//! - `keystroke`: a `didChange` in its usual layout, read by its bytes; `cursor`: what is left of a
+//!   text.
+//! - `lengths`: the `rangeLength` of changes, which nobody needs to apply them.
+//! - `scalar`: a text, a whole number or null.
+//! - `number`: which numbers are in range.
+//! - `skip`: values that are skipped.
+//! - `fault`: why reading stops.
+
+mod change;
+mod changes;
+mod cursor;
+mod document;
+mod fault;
+mod incoming;
+mod keystroke;
+mod lengths;
+mod message;
+mod number;
+mod object;
+mod params;
+mod position;
+mod range;
+mod scalar;
+mod skip;
+
+pub use incoming::Incoming;
+pub use json::Scratch;
+pub use lengths::range_lengths;

@@ -1,0 +1,197 @@
+//! What is left of a text, read by its bytes. For layouts that are known beforehand.
+//!
+//! A call returns `None` where the text goes on otherwise. The text may be JSON all the same, and
+//! is then read by its tokens.
+
+ghost use Rattle.std.specs.Prelude.{◌≡◌, ◌∷◌, ◌++◌, ◌||◌, ◌==◌, ◌≤◌, [], drop, length, take, IfSome, IsTrue, true};
+ghost use Rattle.json.specs.Print.{escape};
+ghost use Rattle.json.specs.Run.{is_stop};
+ghost use Rattle.json.specs.Token.{string};
+ghost use Rattle.json.specs.Lex.{token, lex, between};
+ghost use Rattle.json.specs.Word.{ends_word};
+ghost use Rattle.lsp_message.specs.inside.Lexemes.{IsNaturalAt, IsCoordinateAt, IsVersionAt};
+
+use crate::reader::number::{Number, short_natural};
+
+/// What is left of a text.
+#[derive(Clone, Copy, Drop)]
+pub(crate) struct Cursor<'a> {
+    rest: &'a str,
+}
+
+impl<'a> Cursor<'a> {
+    #[inline(always)]
+    pub(crate) fn new(text: &'a str) -> Cursor<'a>
+        ensures { result.rest.now ≡ text.now }
+    {
+        Cursor { rest: text }
+    }
+
+    /// Reads this piece, after blanks.
+    #[inline(always)]
+    pub(crate) fn take(&mut self, piece: &str) -> Option<()>
+        ensures { IfSome result (λ _. lex between self.old.rest.now
+            ≡ lex between (piece.now ++ self.new.rest.now)) }
+    {
+        let text = after_blanks(self.rest);
+        let rest = after(text, piece)?;
+        self.rest = rest;
+        Some(())
+    }
+
+    /// Returns whether this piece is next, after blanks.
+    #[inline(always)]
+    pub(crate) fn is_next(&self, piece: &str) -> bool {
+        after(after_blanks(self.rest), piece).is_some()
+    }
+
+    /// Reads a string without escapes, after blanks.
+    pub(crate) fn plain_text(&mut self) -> Option<&'a str>
+        ensures { IfSome result (λ text. lex between self.old.rest.now
+            ≡ token (string text.now) ∷ lex between self.new.rest.now) }
+    {
+        let start = after_blanks(self.rest);
+        let content = after(start, "\"")?;
+        let (text, end) = content.split_at_checked(plain_len(content.as_bytes()))?;
+        let rest = after(end, "\"")?;
+        self.rest = rest;
+        Some(text)
+    }
+
+    /// Reads a whole number below 2^64, after blanks, where a comma, a closing brace or a line
+    /// feed follows it.
+    pub(crate) fn natural(&mut self) -> Option<u64>
+        ensures { IfSome result (λ n. IsNaturalAt self.old.rest.now n self.new.rest.now) }
+    {
+        let text = after_blanks(self.rest);
+        let (digits, rest) = text.split_at_checked(digits_len(text.as_bytes()))?;
+        let value = short_natural(digits.as_bytes())?;
+        if !json::is_number(digits) || !ends_number(rest) {
+            return None;
+        }
+        self.rest = rest;
+        Some(value)
+    }
+
+    /// Reads a line or a character, as [`Cursor::natural`].
+    pub(crate) fn coordinate(&mut self) -> Option<u32>
+        ensures { IfSome result (λ n. IsCoordinateAt self.old.rest.now n self.new.rest.now) }
+    {
+        let value = self.natural()?;
+        Number::Natural(value).coordinate()
+    }
+
+    /// Reads a version that isn't negative, as [`Cursor::natural`].
+    pub(crate) fn version(&mut self) -> Option<i32>
+        ensures { IfSome result (λ n. IsVersionAt self.old.rest.now n self.new.rest.now) }
+    {
+        let value = self.natural()?;
+        Number::Natural(value).version()
+    }
+
+    /// Returns whether nothing but blanks is left.
+    pub(crate) fn is_at_end(&self) -> bool
+        ensures { IsTrue result → lex between self.now.rest.now ≡ [] }
+    {
+        after_blanks(self.rest).is_empty()
+    }
+}
+
+/// Returns the text after this piece.
+#[inline(always)]
+fn after<'a>(text: &'a str, piece: &str) -> Option<&'a str>
+    ensures { IfSome result (λ rest. text.now ≡ piece.now ++ rest.now) }
+{
+    let (beginning, rest) = text.split_at_checked(piece.len())?;
+    if beginning == piece { Some(rest) } else { None }
+}
+
+/// Returns the text after spaces and line feeds, which mean nothing between lexemes.
+#[inline(always)]
+fn after_blanks(text: &str) -> &str
+    ensures { lex between text.now ≡ lex between result.now }
+{
+    match text.as_bytes().first() {
+        Some(byte) if *byte <= b' ' => skip_blanks(text),
+        _ => text,
+    }
+}
+
+#[inline(never)]
+fn skip_blanks(text: &str) -> &str
+    ensures { lex between text.now ≡ lex between result.now }
+{
+    match text.split_at_checked(blanks_len(text.as_bytes())) {
+        Some((_, rest)) => rest,
+        None => text,
+    }
+}
+
+/// Returns the number of spaces and line feeds at the beginning.
+fn blanks_len(text: &[u8]) -> usize
+    ensures { lex between (drop result text.now) ≡ lex between text.now }
+{
+    let mut len = 0;
+    for byte in text {
+        if !is_blank(*byte) {
+            return len;
+        }
+        len += 1;
+    }
+    len
+}
+
+/// Returns whether a byte is a space or a line feed.
+#[inline(always)]
+fn is_blank(byte: u8) -> bool
+    ensures { result ≡ (byte == 32 || byte == 10) }
+{
+    (byte == b' ') | (byte == b'\n')
+}
+
+/// Returns the number of bytes before the first that a string has only as an escape, or its end.
+fn plain_len(text: &[u8]) -> usize
+    ensures { escape (take result text.now) ≡ take result text.now }
+{
+    let mut len = 0;
+    for byte in text {
+        if stops(*byte) {
+            return len;
+        }
+        len += 1;
+    }
+    len
+}
+
+/// Returns whether a byte ends the plain text of a string.
+#[inline(always)]
+fn stops(byte: u8) -> bool
+    ensures { result ≡ is_stop byte }
+{
+    (byte == b'"') | (byte == b'\\') | (byte < b' ')
+}
+
+/// Returns the number of digits at the beginning.
+fn digits_len(text: &[u8]) -> usize
+    ensures { result ≤ length text.now }
+{
+    let mut len = 0;
+    for byte in text {
+        if !byte.is_ascii_digit() {
+            return len;
+        }
+        len += 1;
+    }
+    len
+}
+
+/// Returns whether a number ends before this text.
+#[inline(always)]
+fn ends_number(text: &str) -> bool
+    ensures { IsTrue result → ends_word text.now ≡ true }
+{
+    match text.as_bytes().split_first() {
+        Some((byte, _)) => (*byte == b',') | (*byte == b'}') | (*byte == b'\n'),
+        None => false,
+    }
+}

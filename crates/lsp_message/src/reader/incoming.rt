@@ -1,0 +1,234 @@
+//! What a body asks of a server.
+//!
+//! Reads `json`'s tokens and builds no tree, but for `initialize`. It is proved to be `reading`
+//! of `lsp_message`, which is what `read` is: nothing is compared at run time.
+
+ghost use Rattle.std.specs.Prelude.{◌≡◌, ℕ, List, option_map, Some, None, Err, IfOk, IfSome, IsUtf8, OnErr, string_bytes};
+ghost use Rattle.serde_json.specs.Data.{Data};
+ghost use Rattle.serde_json.specs.Read.{read as read_value};
+ghost use Rattle.serde_json.specs.View.{view};
+ghost use Rattle.lsp_message.specs.Message.{reading, message_of, not_json};
+ghost use Rattle.lsp_message.specs.Params.{change_of, ParamsMayAllocate};
+ghost use Rattle.lsp_message.specs.Seen.{id_view, message_view, IsReadFault, incoming_view};
+ghost use Rattle.lsp_message.specs.Incoming.{incoming_of, incoming_by, request_of, notification_of, did_change};
+
+use crate::agreement::{Offers, params_initialize};
+use crate::message::{Id, Message, ReadFault, read};
+use crate::params::{
+    ChangeParams, CloseParams, OpenParams, ParamsFault, params_change, params_close, params_open,
+};
+use crate::reader::fault::Fault;
+use crate::reader::keystroke::read_keystroke;
+use crate::reader::message::MessageMembers;
+use crate::reader::object::{Object, read_object};
+use json::{Reader, Scratch};
+use serde_json::Value;
+use std::alloc::{AllocError, Global};
+
+/// The greatest depth of arrays and objects, as in `serde_json`.
+const MAX_DEPTH: usize = 127;
+
+/// The greatest length of a body that is read with the caller's scratch.
+const MAX_KEPT: usize = 65_536;
+
+/// What a body asks of a server, its params read (LSP 3.17, Base Protocol). Params that don't fit
+/// their method are `None`.
+///
+/// The params of other requests and notifications, and the result of a response, are read by
+/// `lsp_message::read` of the same body.
+#[derive(Debug, PartialEq, Eq, Drop)]
+pub enum Incoming {
+    /// The body is no JSON.
+    NotJson,
+    /// The body is JSON and no message. The id is the one that a reply may name, if there is one.
+    NotAMessage { id: Option<Id> },
+    /// The response to a request of the server. The id is `None` where the member is null.
+    Response { id: Option<Id> },
+    /// `initialize`, with the encodings that the client offers.
+    Initialize { id: Id, offers: Option<Offers> },
+    /// `shutdown`.
+    Shutdown { id: Id },
+    /// Any other request. A request `exit` is one, and a document message as a request.
+    OtherRequest { id: Id, method: String },
+    /// `exit`.
+    Exit,
+    /// `textDocument/didOpen`.
+    DidOpen(Option<OpenParams>),
+    /// `textDocument/didChange`.
+    DidChange(Option<ChangeParams>),
+    /// `textDocument/didClose`.
+    DidClose(Option<CloseParams>),
+    /// Any other notification.
+    OtherNotification { method: String },
+}
+
+impl Incoming {
+    /// Reads what a body asks. Fails only where memory runs out, and never for a body that isn't
+    /// UTF-8.
+    ///
+    /// One pass, linear in the body. Beside the memory of its result it takes a scratch: 16 KB and
+    /// the body's length. To read many bodies, keep one scratch and call [`Incoming::read_with`].
+    #[inline(never)]
+    pub fn read(alloc: Global, body: &[u8]) -> Result<Incoming, AllocError>
+        ensures ok { IfOk result (λ m. incoming_view m ≡ incoming_of (reading body.now)) }
+        ensures memory { OnErr result (IsUtf8 body.now) }
+    {
+        let mut scratch = Scratch::new(alloc);
+        read_body(alloc, body, &mut scratch)
+    }
+
+    /// Reads what a body asks, as [`Incoming::read`], with a scratch that is kept from body to
+    /// body.
+    ///
+    /// A body of more than 64 KB is read with a scratch of its own, so at most 80 KB are kept.
+    pub fn read_with(
+        alloc: Global,
+        body: &[u8],
+        scratch: &mut Scratch,
+    ) -> Result<Incoming, AllocError>
+        ensures ok { IfOk result (λ m. incoming_view m ≡ incoming_of (reading body.now)) }
+        ensures memory { OnErr result (IsUtf8 body.now) }
+    {
+        if body.len() > MAX_KEPT {
+            return Incoming::read(alloc, body);
+        }
+        read_body(alloc, body, scratch)
+    }
+
+    /// Returns what a message asks, for a caller who has read it. Fails only where memory runs out.
+    ///
+    /// Linear in the number of changes of a `textDocument/didChange`; texts are moved out of the
+    /// message.
+    pub fn of(alloc: Global, message: Message) -> Result<Incoming, AllocError>
+        ensures { IfOk result (λ m. incoming_view m ≡ incoming_by (message_view message)) }
+    {
+        match message {
+            Message::Request { id, method, params } => Ok(request(alloc, id, method, params)),
+            Message::Notification { method, params } => notification(alloc, method, params),
+            Message::Response { id, .. } => Ok(Incoming::Response { id }),
+        }
+    }
+}
+
+fn read_body(alloc: Global, body: &[u8], scratch: &mut Scratch) -> Result<Incoming, AllocError>
+    ensures ok { IfOk result (λ m. incoming_view m ≡ incoming_of (reading body.now)) }
+    ensures memory { OnErr result (IsUtf8 body.now) }
+{
+    let Ok(text) = std::str::from_utf8(body) else {
+        return Ok(Incoming::NotJson);
+    };
+    match read_text(alloc, text, scratch) {
+        Ok(Some(incoming)) => Ok(incoming),
+        Ok(None) => read_tree(alloc, body),
+        Err(fault) => unread_text(fault),
+    }
+}
+
+/// Turns the fault of a text into what the text asks, or into out of memory.
+fn unread_text(fault: Fault) -> Result<Incoming, AllocError>
+    ensures ok { IfOk result
+        (λ m. (fault ≡ Fault.NotJson) × (incoming_view m ≡ incoming_of not_json)) }
+    ensures memory { OnErr result (fault ≡ Fault.NoMemory) }
+{
+    match fault {
+        Fault::NotJson => Ok(Incoming::NotJson),
+        Fault::NoMemory => Err(AllocError),
+    }
+}
+
+/// Reads a body as a tree of JSON.
+#[inline(never)]
+fn read_tree(alloc: Global, body: &[u8]) -> Result<Incoming, AllocError>
+    ensures { IfOk result (λ m. incoming_view m ≡ incoming_of (reading body.now)) }
+{
+    match read(alloc, body) {
+        Ok(message) => Incoming::of(alloc, message),
+        Err(fault) => unread_body(fault),
+    }
+}
+
+/// Turns the fault of a body into what the body asks, or into out of memory.
+fn unread_body(fault: ReadFault) -> Result<Incoming, AllocError>
+    ensures ok { IfOk result (λ m. (body : List ℕ) → IsReadFault body fault
+        → incoming_view m ≡ incoming_of (reading body)) }
+    ensures memory { OnErr result (fault ≡ ReadFault.NoMemory) }
+{
+    match fault {
+        ReadFault::NotJson => Ok(Incoming::NotJson),
+        ReadFault::NotAMessage { id } => Ok(Incoming::NotAMessage { id }),
+        ReadFault::NoMemory => Err(AllocError),
+    }
+}
+
+/// Reads a text, a keystroke by its bytes; `None` where it has to be read as a tree.
+fn read_text(alloc: Global, text: &str, scratch: &mut Scratch) -> Result<Option<Incoming>, Fault>
+    ensures ok { IfOk result (λ r. IfSome r (λ m. (d : Data) × (read_value text.now ≡ Some d)
+        × (incoming_view m ≡ incoming_of (message_of d)))) }
+    ensures error { result ≡ Err Fault.NotJson → read_value text.now ≡ None }
+{
+    let found = read_keystroke(alloc, text)?;
+    if found.is_some() {
+        return Ok(found);
+    }
+    read_tokens(alloc, text, scratch)
+}
+
+/// Reads a text by its tokens; `None` where it has to be read as a tree.
+fn read_tokens(alloc: Global, text: &str, scratch: &mut Scratch) -> Result<Option<Incoming>, Fault>
+    ensures ok { IfOk result (λ r. IfSome r (λ m. (d : Data) × (read_value text.now ≡ Some d)
+        × (incoming_view m ≡ incoming_of (message_of d)))) }
+    ensures error { result ≡ Err Fault.NotJson → read_value text.now ≡ None }
+{
+    let mut reader = Reader::new(text, scratch)?;
+    let read = read_object(MessageMembers::none(alloc), &mut reader, MAX_DEPTH)?;
+    if reader.next().is_some() {
+        return Err(Fault::NotJson);
+    }
+    match read {
+        Object::Of(kept) => Ok(kept.incoming()?),
+        Object::Null | Object::Other => Ok(Some(Incoming::NotAMessage { id: None })),
+    }
+}
+
+fn request(alloc: Global, id: Id, method: String, params: Option<Value>) -> Incoming
+    ensures { incoming_view result
+        ≡ request_of (id_view id) (string_bytes method) (option_map view params) }
+{
+    match method.as_str() {
+        "initialize" => {
+            let offers = params_initialize(alloc, params).ok();
+            Incoming::Initialize { id, offers }
+        }
+        "shutdown" => Incoming::Shutdown { id },
+        _ => Incoming::OtherRequest { id, method },
+    }
+}
+
+fn notification(
+    alloc: Global,
+    method: String,
+    params: Option<Value>,
+) -> Result<Incoming, AllocError>
+    ensures { IfOk result (λ m. incoming_view m
+        ≡ notification_of (string_bytes method) (option_map view params)) }
+{
+    match method.as_str() {
+        "exit" => Ok(Incoming::Exit),
+        "textDocument/didOpen" => Ok(Incoming::DidOpen(params_open(alloc, params).ok())),
+        "textDocument/didChange" => change(alloc, params),
+        "textDocument/didClose" => Ok(Incoming::DidClose(params_close(alloc, params).ok())),
+        _ => Ok(Incoming::OtherNotification { method }),
+    }
+}
+
+fn change(alloc: Global, params: Option<Value>) -> Result<Incoming, AllocError>
+    ensures ok { IfOk result (λ m. incoming_view m
+        ≡ did_change (change_of (option_map view params))) }
+    ensures memory { OnErr result (ParamsMayAllocate (option_map view params)) }
+{
+    match params_change(alloc, params) {
+        Ok(params) => Ok(Incoming::DidChange(Some(params))),
+        Err(ParamsFault::InvalidParams) => Ok(Incoming::DidChange(None)),
+        Err(ParamsFault::NoMemory) => Err(AllocError),
+    }
+}

@@ -1,0 +1,261 @@
+//! A `textDocument/didChange` of one change in a usual layout, read by its bytes.
+//!
+//! Editors send the members of a keystroke's message in one order, and [`write`] has them in the
+//! order of their names (`by_name`). Spaces and line feeds between them may be there or not. A body
+//! of any other layout is left to the reader of tokens.
+//!
+//! [`write`]: crate::write
+
+ghost use Rattle.std.specs.Prelude.{◌≡◌, ◌∷◌, [], Some, IfOk, IfSome};
+ghost use Rattle.json.specs.Lex.{lex, between};
+ghost use Rattle.serde_json.specs.Data.{Data};
+ghost use Rattle.serde_json.specs.Read.{read as read_value};
+ghost use Rattle.lsp_message.specs.Incoming.{incoming_of};
+ghost use Rattle.lsp_message.specs.Lengths.{lengths_of};
+ghost use Rattle.lsp_message.specs.Message.{message_of};
+ghost use Rattle.lsp_message.specs.Seen.{change_view, incoming_view};
+ghost use Rattle.lsp_message.specs.inside.Lexemes.{in_order, head_lexemes, IsPositionAt, IsRangeAt, IsLengthAt, IsDocumentAt, IsChangesAt, AreParamsAt, IsKeystroke, one_change};
+
+use crate::params::ChangeParams;
+use crate::reader::cursor::Cursor;
+use crate::reader::incoming::Incoming;
+use lsp_edit::Change;
+use lsp_text::{Position, Range};
+use std::alloc::{AllocError, Global};
+
+/// Returns two pieces in an order; `first` comes first in that of editors.
+#[inline(always)]
+fn pieces(by_name: bool, first: &'static str, second: &'static str) -> (&'static str, &'static str)
+    ensures first { result.0.now ≡ (in_order by_name first.now second.now).0 }
+    ensures second { result.1.now ≡ (in_order by_name first.now second.now).1 }
+{
+    if by_name {
+        (second, first)
+    } else {
+        (first, second)
+    }
+}
+
+/// The document that a change names.
+#[derive(Clone, Copy, Drop)]
+struct Document<'a> {
+    uri: &'a str,
+    version: i32,
+}
+
+/// The change, with its text as it is in the body.
+#[derive(Clone, Copy, Drop)]
+struct PlainChange<'a> {
+    range: Range,
+    /// The `rangeLength` of the change, if it has one.
+    length: Option<u64>,
+    text: &'a str,
+}
+
+/// A message with one change.
+#[derive(Clone, Copy, Drop)]
+struct Keystroke<'a> {
+    document: Document<'a>,
+    change: PlainChange<'a>,
+}
+
+impl<'a> Cursor<'a> {
+    /// Reads a message up to its params.
+    #[inline(always)]
+    fn head(&mut self) -> Option<()>
+        ensures { IfSome result (λ _. lex between self.old.rest.now
+            ≡ head_lexemes (lex between self.new.rest.now)) }
+    {
+        self.take("{")?;
+        self.take("\"jsonrpc\":")?;
+        self.take("\"2.0\"")?;
+        self.take(",")?;
+        self.take("\"method\":")?;
+        self.take("\"textDocument/didChange\"")?;
+        self.take(",")?;
+        self.take("\"params\":")
+    }
+
+    /// Reads the member `textDocument`.
+    #[inline(always)]
+    fn document(&mut self) -> Option<Document<'a>>
+        ensures { IfSome result (λ d. IsDocumentAt self.old.rest.now d.uri.now d.version
+            self.new.rest.now) }
+    {
+        self.take("\"textDocument\":")?;
+        self.take("{")?;
+        self.take("\"uri\":")?;
+        let uri = self.plain_text()?;
+        self.take(",")?;
+        self.take("\"version\":")?;
+        let version = self.version()?;
+        self.take("}")?;
+        Some(Document { uri, version })
+    }
+
+    /// Reads a position.
+    #[inline(always)]
+    fn position(&mut self, by_name: bool) -> Option<Position>
+        ensures { IfSome result
+            (λ p. IsPositionAt by_name self.old.rest.now p self.new.rest.now) }
+    {
+        let (first, second) = pieces(by_name, "\"line\":", "\"character\":");
+        self.take("{")?;
+        self.take(first)?;
+        let line = self.coordinate()?;
+        self.take(",")?;
+        self.take(second)?;
+        let character = self.coordinate()?;
+        self.take("}")?;
+        if by_name {
+            Some(Position {
+                line: character,
+                character: line,
+            })
+        } else {
+            Some(Position { line, character })
+        }
+    }
+
+    /// Reads a range.
+    #[inline(always)]
+    fn range(&mut self, by_name: bool) -> Option<Range>
+        ensures { IfSome result
+            (λ r. IsRangeAt by_name self.old.rest.now r self.new.rest.now) }
+    {
+        let (first, second) = pieces(by_name, "\"start\":", "\"end\":");
+        self.take("{")?;
+        self.take(first)?;
+        let start = self.position(by_name)?;
+        self.take(",")?;
+        self.take(second)?;
+        let stop = self.position(by_name)?;
+        self.take("}")?;
+        if by_name {
+            Some(Range {
+                start: stop,
+                stop: start,
+            })
+        } else {
+            Some(Range { start, stop })
+        }
+    }
+
+    /// Reads the member `rangeLength` and its comma, if they are next.
+    #[inline(always)]
+    fn range_length(&mut self) -> Option<Option<u64>>
+        ensures { IfSome result
+            (λ length. IsLengthAt self.old.rest.now length self.new.rest.now) }
+    {
+        let before = *self;
+        let Some(()) = self.take("\"rangeLength\":") else {
+            *self = before;
+            return Some(None);
+        };
+        let length = self.natural()?;
+        self.take(",")?;
+        Some(Some(length))
+    }
+
+    /// Reads the member `contentChanges`, with one change of a range.
+    #[inline(always)]
+    fn changes(&mut self, by_name: bool) -> Option<PlainChange<'a>>
+        ensures { IfSome result (λ e. IsChangesAt by_name self.old.rest.now e.range e.length
+            e.text.now self.new.rest.now) }
+    {
+        self.take("\"contentChanges\":")?;
+        self.take("[")?;
+        self.take("{")?;
+        self.take("\"range\":")?;
+        let range = self.range(by_name)?;
+        self.take(",")?;
+        let length = self.range_length()?;
+        self.take("\"text\":")?;
+        let text = self.plain_text()?;
+        self.take("}")?;
+        self.take("]")?;
+        Some(PlainChange {
+            range,
+            length,
+            text,
+        })
+    }
+
+    /// Reads the params, in either order of their members.
+    #[inline(always)]
+    fn params(&mut self) -> Option<Keystroke<'a>>
+        ensures { IfSome result (λ k. AreParamsAt self.old.rest.now k.document.uri.now
+            k.document.version k.change.range k.change.length k.change.text.now
+            self.new.rest.now) }
+    {
+        self.take("{")?;
+        if self.is_next("\"contentChanges\":") {
+            let change = self.changes(true)?;
+            self.take(",")?;
+            let document = self.document()?;
+            self.take("}")?;
+            return Some(Keystroke { document, change });
+        }
+        let document = self.document()?;
+        self.take(",")?;
+        let change = self.changes(false)?;
+        self.take("}")?;
+        Some(Keystroke { document, change })
+    }
+}
+
+/// Reads a whole text as a message with one change.
+fn keystroke_of(text: &str) -> Option<Keystroke<'_>>
+    ensures { IfSome result (λ k. IsKeystroke text.now k.document.uri.now k.document.version
+        k.change.range k.change.length k.change.text.now) }
+{
+    let mut cursor = Cursor::new(text);
+    cursor.head()?;
+    let found = cursor.params()?;
+    cursor.take("}")?;
+    if !cursor.is_at_end() {
+        return None;
+    }
+    Some(found)
+}
+
+impl<'a> Keystroke<'a> {
+    /// Returns the params, with texts of their own.
+    #[inline(always)]
+    fn params(self, alloc: Global) -> Result<ChangeParams, AllocError>
+        ensures { IfOk result (λ p. change_view p ≡ one_change self.entry.document.uri.now
+            self.entry.document.version self.entry.change.range self.entry.change.text.now) }
+    {
+        let uri = String::from_str(alloc, self.document.uri)?;
+        let text = String::from_str(alloc, self.change.text)?;
+        let range = Some(self.change.range);
+        let changes = vec![in alloc; Change { range, text }]?;
+        Ok(ChangeParams {
+            uri,
+            version: self.document.version,
+            changes,
+        })
+    }
+}
+
+/// Reads a text as a message with one change in a usual layout; `None` where it is another.
+pub(crate) fn read_keystroke(alloc: Global, text: &str) -> Result<Option<Incoming>, AllocError>
+    ensures { IfOk result (λ r. IfSome r (λ m. (d : Data) × (read_value text.now ≡ Some d)
+        × (incoming_view m ≡ incoming_of (message_of d)))) }
+{
+    let Some(found) = keystroke_of(text) else {
+        return Ok(None);
+    };
+    let params = found.params(alloc)?;
+    Ok(Some(Incoming::DidChange(Some(params))))
+}
+
+/// Returns the `rangeLength` of the change of a text that is a message with one change in a usual
+/// layout; `None` where it is another text.
+pub(crate) fn keystroke_length(text: &str) -> Option<Option<u64>>
+    ensures { IfSome result (λ length. (d : Data) × (read_value text.now ≡ Some d)
+        × (lengths_of (message_of d) ≡ length ∷ [])) }
+{
+    let found = keystroke_of(text)?;
+    Some(found.change.length)
+}
