@@ -3,6 +3,10 @@
 //! Clauses see the bytes alone. So `as_str` promises the text where it returns one, and not
 //! when. A text that is moved in is one block until its first change, which cuts it. So a
 //! document that is opened and never changed isn't copied.
+//!
+//! The invariant bounds the blocks: each but the last has 1,024 bytes or more. So a text of n
+//! bytes is in at most n / 1,024 + 1 of them, however much was typed and deleted before. Clauses
+//! see no blocks: `block_count` promises this bound alone, and a row of `lsp_bench` counts them.
 ghost use Rattle.std.specs.Prelude.{◌≡◌, ◌+◌, ◌/◌, ◌<◌, ◌≤◌, ◌↔◌, ℕ, List, Some, IsTrue, IfOk};
 ghost use Rattle.std.specs.Prelude.{OnOk, OnErr, length, option_map, string_bytes, string_len};
 ghost use Rattle.std.specs.List.{concat, replace_range};

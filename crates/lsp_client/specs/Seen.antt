@@ -1,6 +1,7 @@
 -- The results of a client's calls, by the tables of its steps.
-use Rattle.std.specs.Prelude.{ℕ, ℤ, ◌≡◌, ◌⊎◌, List, map, String, string_bytes, None, Result, Ok, Err}
+use Rattle.std.specs.Prelude.{ℕ, ℤ, ◌≡◌, ◌⊎◌, List, map, String, string_bytes, true, None, Result, Ok, Err}
 use Rattle.std.specs.declared.alloc.Global.{Global}
+use Rattle.std.specs.Str.{IsUtf8}
 use Rattle.lsp_frame.specs.Frame.{frame}
 use Rattle.lsp_edit.specs.declared.change.Change.{Change}
 use Rattle.lsp_edit.specs.Edited.{content_change}
@@ -14,7 +15,7 @@ use Rattle.lsp_client.specs.declared.delivered.Delivered.TheVariants.{Send, Note
 use Rattle.lsp_store.specs.Opened.{ChangeMayAllocate}
 use Rattle.lsp_store.specs.Table.{open_refusal, close_refusal}
 use Rattle.lsp_client.specs.declared.phase.Phase.TheVariants.{Ready}
-use Rattle.lsp_client.specs.Step.{ClientData, Sending, Order, opens, edits, closes, Delivery, DeliveredData, sends, noted, ignored, bad_server}
+use Rattle.lsp_client.specs.Step.{ClientData, Sending, Order, opens, edits, closes, Delivery, DeliveredData, is_listening, sends, noted, ignored, bad_server}
 
 -- ---- what a call asks
 
@@ -86,3 +87,7 @@ IsLeftToMessage s (closes uri) = close_refusal s.table uri ≡ None
 -- An order may take memory only in phase Ready, and only where it is left to its message.
 abbrev pub OrderMayAllocate : ClientData → Order → Type 0
 OrderMayAllocate s order = (s.phase ≡ Ready) × IsLeftToMessage s order
+
+-- A delivery may take memory only while the client listens, and only for a body that is UTF-8.
+abbrev pub DeliveryMayAllocate : ClientData → List ℕ → Type 0
+DeliveryMayAllocate s body = (is_listening s.phase ≡ true) × IsUtf8 body

@@ -1,12 +1,14 @@
 //! What the client does with a body that the server sent.
 
-ghost use Rattle.std.specs.Prelude.{◌≡◌, true, IfErr, IfOk, None, Ok, OnErr, Some, option_map};
+ghost use Rattle.std.specs.Prelude.{◌≡◌, true, Err, IfErr, IfOk, None, Ok, OnErr, Some, option_map};
+ghost use Rattle.std.specs.Str.{IsUtf8};
 ghost use Rattle.lsp_message.specs.Message.{OutcomeData, reading, message as read_as, response};
 ghost use Rattle.lsp_message.specs.Seen.{message_view, id_view, outcome_view};
 ghost use Rattle.lsp_client.specs.declared.phase.Phase.TheVariants.{Asked, Closing};
 ghost use Rattle.lsp_client.specs.Step as spec;
 ghost use Rattle.lsp_client.specs.Step.{delivery_result, delivery_of, delivery_in, begin_as_announced, failure};
-ghost use Rattle.lsp_client.specs.Seen.{IsDelivered, IsFaultOf, delivered_view};
+ghost use Rattle.lsp_client.specs.Seen.{DeliveryMayAllocate, IsDelivered, IsFaultOf, delivered_view};
+ghost use Rattle.lsp_client.specs.declared.fault.ClientFault.TheVariants.{NoMemory};
 
 use crate::agreed::Agreed;
 use crate::client::{Client, INITIALIZE_ID, SHUTDOWN_ID};
@@ -38,13 +40,14 @@ impl Client {
     ///
     /// After `BadServer` the phase is Failed, and the documents are as before. Nothing else
     /// changes. After [`ClientFault::NoMemory`] the client is unchanged, and a caller can deliver
-    /// the same body again. Costs one parse of the body, and the bytes of what is to be sent.
+    /// the same body again. It never comes for a body that isn't UTF-8. Costs one parse of the body, and the bytes of what is to be sent.
     pub fn deliver(&mut self, body: &[u8]) -> Result<Delivered, ClientFault>
         ensures ok { IfOk result (λ delivered.
             IsDelivered (delivery_result self.old (reading body.now))
             (delivered_view delivered) self.new) }
         ensures unchanged { OnErr result (self.new ≡ self.old) }
         ensures error { IfErr result (IsFaultOf (delivery_result self.old (reading body.now))) }
+        ensures memory { result ≡ Err NoMemory → DeliveryMayAllocate self.old body.now }
     {
         match self.phase {
             Phase::Asked | Phase::Ready | Phase::Closing | Phase::Closed => {
@@ -59,6 +62,7 @@ impl Client {
             IsDelivered (Ok (delivery_of self.old (reading body.now)))
             (delivered_view delivered) self.new) }
         ensures unchanged { OnErr result (self.new ≡ self.old) }
+        ensures memory { OnErr result (IsUtf8 body.now) }
     {
         match read(self.alloc, body) {
             Ok(message) => self.deliver_message(message),

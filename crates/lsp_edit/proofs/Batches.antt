@@ -6,5 +6,6 @@ pub mod LocatedLemmas
 pub mod LocatedRowLemmas
 pub mod LocatedOrderLemmas
 pub mod PlainLemmas
+pub mod RangeLemmas
 pub mod TextBatchLemmas
 pub mod TextEditLemmas

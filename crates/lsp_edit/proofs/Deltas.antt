@@ -3,5 +3,6 @@ pub mod DeltaLemmas
 pub mod SeriesLemmas
 pub mod IndexedLemmas
 pub mod InPlaceLemmas
+pub mod WholeLemmas
 pub mod LayerLemmas
 pub mod OwnedLemmas

@@ -1,5 +1,5 @@
 -- A text with its lines, under batches of changes.
-use Rattle.std.specs.Prelude.{ℕ, ◌≡◌, ◌≤◌, ◌⊎◌, if◌then◌else◌, nat_lt, List, [], ◌∷◌, length, encode_utf8_all, Some, Result, Ok, Err}
+use Rattle.std.specs.Prelude.{ℕ, ◌≡◌, ◌≤◌, ◌⊎◌, if◌then◌else◌, nat_lt, List, [], ◌∷◌, length, encode_utf8_all, IsOk, Option, Some, Result, Ok, Err}
 use Rattle.std.specs.Str.{IsUtf8, chars}
 use Rattle.lsp_text.specs.declared.position.Range.{Range}
 use Rattle.lsp_edit.specs.declared.fault.EditFault.{EditFault}
@@ -28,9 +28,19 @@ abbrev pub IsBatchFaultOf : (ℕ → ℕ) → ℕ → List ℕ → List ContentC
 IsBatchFaultOf units max_len before batch fault = (fault ≡ NoMemory)
     ⊎ (text_within max_len before (meaning units (chars before) batch) ≡ Err fault)
 
--- A batch of one change with a range, by the bytes of its text.
+-- A batch of one change, by the bytes of its text.
+abbrev pub one_change : Option Range → List ℕ → List ContentChange
+one_change range new = record { range = range; text = chars new } ∷ []
+
+-- A batch of one change with a range.
 abbrev pub alone : Range → List ℕ → List ContentChange
-alone range new = record { range = Some range; text = chars new } ∷ []
+alone range new = one_change (Some range) new
+
+-- A batch of one change may take memory only where it leaves a text of at most `max_len` bytes.
+abbrev pub BatchMayAllocate : (ℕ → ℕ) → ℕ → List ℕ → List ContentChange → Type 0
+BatchMayAllocate units max_len before batch = (range : Option Range) (text : List ℕ)
+    → batch ≡ one_change range text
+    → IsOk (text_within max_len before (meaning units (chars before) batch))
 
 -- How a fault of a change is reported.
 abbrev pub batch_fault_of : EditFault → BatchFault

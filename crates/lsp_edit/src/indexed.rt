@@ -8,11 +8,11 @@ ghost use Rattle.std.specs.Prelude.{◌≡◌, ◌≢◌, ◌≤◌, ◌↔◌, 
 ghost use Rattle.std.specs.Str.{IsUtf8, chars};
 ghost use Rattle.lsp_text.specs.Units.{units_in};
 ghost use Rattle.lsp_text.specs.declared.position.Range.{Range};
-ghost use Rattle.lsp_edit.specs.declared.indexed.fault.BatchFault.TheVariants.{NoMemory};
+ghost use Rattle.lsp_edit.specs.declared.indexed.fault.BatchFault.TheVariants.{NoMemory, TooLong};
 ghost use Rattle.lsp_edit.specs.Batch.{meaning};
 ghost use Rattle.lsp_edit.specs.Delta.{IsDeltaOf, IsOn, bytes_after};
 ghost use Rattle.lsp_edit.specs.Edited.{content_change};
-ghost use Rattle.lsp_edit.specs.Indexed.{IsBatchFaultOf, alone, text_within};
+ghost use Rattle.lsp_edit.specs.Indexed.{BatchMayAllocate, IsBatchFaultOf, alone, one_change, text_within};
 
 mod canonical;
 mod draft;
@@ -125,10 +125,10 @@ impl IndexedText {
         ensures unchanged { OnErr result (self.new ≡ self.old) }
         ensures error { IfErr result (IsBatchFaultOf (units_in encoding) max_len self.old
             (map content_change changes.now)) }
-        // For one change with a range, out of memory means that there is a result of that length.
-        ensures memory { result ≡ Err NoMemory → (range : Range) (text : List ℕ)
-            → map content_change changes.now ≡ alone range text → IsOk (text_within max_len self.old
-            (meaning (units_in encoding) (chars self.old) (map content_change changes.now))) }
+        // For one change, out of memory means that there is a result of that length.
+        ensures memory { result ≡ Err NoMemory
+            → BatchMayAllocate (units_in encoding) max_len self.old
+            (map content_change changes.now) }
     {
         // `?` isn't proved here.
         match self.delta(encoding, changes, max_len) {
@@ -184,9 +184,14 @@ impl IndexedText {
             (IsDeltaOf (units_in encoding) max_len self.now (map content_change changes.now)) }
         ensures error { IfErr result (IsBatchFaultOf (units_in encoding) max_len self.now
             (map content_change changes.now)) }
+        ensures whole { result ≡ Err NoMemory → (text : List ℕ)
+            → map content_change changes.now ≡ one_change None text
+            → IsOk (text_within max_len self.now
+            (meaning (units_in encoding) (chars self.now) (map content_change changes.now))) }
     {
         // States that the text is UTF-8.
         let _ = self.len();
+        check_whole(changes, max_len)?;
         let left = self.draft(encoding, changes, max_len)?;
         Ok(Delta::Left {
             encoding,
@@ -199,7 +204,8 @@ impl IndexedText {
     /// most `max_len` bytes. The delta borrows the changes, and nothing of the text.
     ///
     /// Has the errors of [`IndexedText::change`], and changes nothing. One change with a range
-    /// costs its two positions, and takes no memory. Any other batch costs what it costs to apply.
+    /// costs its two positions, and takes no memory. Any other batch costs what it costs to apply;
+    /// one whole text that is too long is refused before memory is taken.
     pub fn delta<'a>(
         &self,
         encoding: Encoding,
@@ -212,8 +218,11 @@ impl IndexedText {
             (IsDeltaOf (units_in encoding) max_len self.now (map content_change changes.now)) }
         ensures error { IfErr result (IsBatchFaultOf (units_in encoding) max_len self.now
             (map content_change changes.now)) }
-        ensures memory { result ≡ Err NoMemory → (range : Range) (text : List ℕ)
+        ensures quiet { result ≡ Err NoMemory → (range : Range) (text : List ℕ)
             → map content_change changes.now ≡ alone range text → ⊥ }
+        ensures memory { result ≡ Err NoMemory
+            → BatchMayAllocate (units_in encoding) max_len self.now
+            (map content_change changes.now) }
     {
         match put_of(changes) {
             Some((range, new)) => self.put_delta(encoding, range, new, max_len),
@@ -259,4 +268,37 @@ fn put_of<'a>(changes: &'a [Change]) -> Option<(Range, &'a str)>
         ] => Some((*range, text)),
         _ => None,
     }
+}
+
+/// Returns the text of a batch of one whole text.
+fn whole_of(changes: &[Change]) -> Option<&str>
+    ensures some { IfSome result
+        (λ text. map content_change changes.now ≡ one_change None text.now) }
+    ensures utf8 { IfSome result (λ text. IsUtf8 text.now) }
+    ensures none { result ≡ None → (text : List ℕ)
+        → map content_change changes.now ≡ one_change None text → ⊥ }
+{
+    match changes {
+        [Change { range: None, text }] => Some(text.as_str()),
+        _ => None,
+    }
+}
+
+/// Refuses a batch of one whole text of more than `max_len` bytes. Takes no memory.
+fn check_whole(changes: &[Change], max_len: usize) -> Result<(), BatchFault>
+    ensures ok { OnOk result ((units : ℕ → ℕ) (before text : List ℕ)
+        → map content_change changes.now ≡ one_change None text
+        → IsOk (text_within max_len before
+        (meaning units (chars before) (map content_change changes.now)))) }
+    ensures error { IfErr result (λ fault. (fault ≡ TooLong) × ((units : ℕ → ℕ) (before : List ℕ)
+        → text_within max_len before
+        (meaning units (chars before) (map content_change changes.now)) ≡ Err fault)) }
+{
+    let Some(text) = whole_of(changes) else {
+        return Ok(());
+    };
+    if text.len() > max_len {
+        return Err(BatchFault::TooLong);
+    }
+    Ok(())
 }

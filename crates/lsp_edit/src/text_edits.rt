@@ -5,12 +5,12 @@
 //! indexes. The way back needs no proof: `located` is a function of the list, so a list has one
 //! batch by indexes at most, and none that `NoneOverlap` refuses.
 
-ghost use Rattle.std.specs.Prelude.{◌≡◌, ◌⊎◌, ◌++◌, ◌∷◌, [], IfErr, IfOk, OnOk, length};
+ghost use Rattle.std.specs.Prelude.{◌≡◌, ◌≢◌, ◌⊎◌, ◌++◌, ◌∷◌, [], Err, IfErr, IfOk, IsOk, OnOk, length};
 ghost use Rattle.std.specs.Str.{IsUtf8, chars};
 ghost use Rattle.lsp_text.specs.Units.{units_in};
 ghost use Rattle.lsp_edit.specs.declared.text_edits.TextEditFault.TheVariants.{NoMemory};
 ghost use Rattle.lsp_edit.specs.Parts.{new_parts, parts_of};
-ghost use Rattle.lsp_edit.specs.TextEdits.{fault_of};
+ghost use Rattle.lsp_edit.specs.TextEdits.{HasRangeFault, IsEditsFault, fault_of, located};
 ghost use Rattle.lsp_edit.specs.inside.TextEdits.{AreApart, ArePlaced, DoOverlap, HasFaultyRange, IsInOrder, IsPlacingFault, AreLeftByEdits, old_parts, parts_left};
 
 use crate::ends::ends;
@@ -79,6 +79,41 @@ pub struct Placed<'a> {
     pub start: usize,
     pub stop: usize,
     pub text: &'a str,
+}
+
+/// Checks the ranges of edits: an error is the first faulty one. Takes no memory.
+fn check_ranges(text: &OldText<'_>, encoding: Encoding, edits: &[TextEdit]) -> Result<(), EditFault>
+    ensures ok { OnOk result (IsOk (located (units_in encoding) (chars text.now) 0 edits.now)) }
+    ensures error { IfErr result (λ fault.
+        HasRangeFault (units_in encoding) (chars text.now) edits.now (fault_of fault)) }
+    ensures memory { result ≢ Err EditFault.NoMemory }
+{
+    for (number, edit) in edits.iter().enumerate() {
+        ends(text, encoding, edit.range, number)?;
+    }
+    Ok(())
+}
+
+/// Returns the fault of edits. In place of out of memory it is the first fault of a range, if one
+/// is faulty. Takes no memory.
+pub fn decided_fault(
+    text: &OldText<'_>,
+    encoding: Encoding,
+    edits: &[TextEdit],
+    fault: TextEditFault,
+) -> TextEditFault
+    ensures error { IsEditsFault (units_in encoding) (chars text.now) edits.now fault
+        → IsEditsFault (units_in encoding) (chars text.now) edits.now result }
+    ensures memory { result ≡ NoMemory
+        → IsOk (located (units_in encoding) (chars text.now) 0 edits.now) }
+{
+    match fault {
+        TextEditFault::NoMemory => match check_ranges(text, encoding, edits) {
+            Ok(()) => TextEditFault::NoMemory,
+            Err(fault) => TextEditFault::from(fault),
+        },
+        fault => fault,
+    }
 }
 
 /// Returns the spans that edits leave of a text.

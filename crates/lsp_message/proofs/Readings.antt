@@ -12,7 +12,7 @@ use Rattle.serde_json.specs.declared.value.Value.{Value}
 use Rattle.lsp_message.specs.declared.message.Message.{Message}
 use Rattle.lsp_message.specs.declared.message.ReadFault.{ReadFault}
 use Rattle.lsp_message.specs.declared.message.ReadFault.TheVariants.{NotJson, NotAMessage, NoMemory}
-use Rattle.lsp_message.specs.Message.{Reading, message_of, not_json, message, reading}
+use Rattle.lsp_message.specs.Message.{MessageData, Reading, message_of, not_json, message, reading}
 use Rattle.serde_json.specs.Errors.{IsMemory}
 use Rattle.serde_json.specs.declared.error.Error.{Error}
 use Rattle.lsp_message.specs.Seen.{message_view, IsReadFault, IsFaultOfError}
@@ -43,27 +43,57 @@ err_by_reading (Err (NotAMessage id)) body found is h = is ∙ h
 err_by_reading (Err NoMemory) body found is h = absurd h
 
 -- the fault that an error of `serde_json` makes
-pub fault_by_error : (body : List ℕ) (error : Error) (fault : ReadFault) → IsFaultOfError error fault
-    → (¬ IsMemory error → IsUtf8 body → read body ≡ None) → (IsMemory error → 0 < length body) → slice_index body 0
+pub fault_by_error : (body : List ℕ) (error : Error) (fault : ReadFault) → IsUtf8 body → IsFaultOfError error fault
+    → (¬ IsMemory error → read body ≡ None) → (IsMemory error → 0 < length body) → slice_index body 0
     ≢ 239 → IsReadFault body fault
-fault_by_error body error NotJson is refused memory unmarked = reading_of_none body (refused is)
-fault_by_error body error (NotAMessage id) is refused memory unmarked = absurd is
-fault_by_error body error NoMemory is refused memory unmarked = (memory is, unmarked)
+fault_by_error body error NotJson utf8 is refused memory unmarked = reading_of_none body (λ u. refused is)
+fault_by_error body error (NotAMessage id) utf8 is refused memory unmarked = absurd is
+fault_by_error body error NoMemory utf8 is refused memory unmarked = (memory is, unmarked, utf8)
 
--- What is answered to a body by what `serde_json` makes of it.
-pub read_by : (body : List ℕ) (parsed : Result Value Error) (answer : Result Message ReadFault) →
-    IfOk parsed (λ value. IsUtf8 body × (read body ≡ Some (view value))) →
-    IfErr parsed (λ error. ¬ IsMemory error → IsUtf8 body → read body ≡ None)
+read_of : (body : List ℕ) (parsed : Result Value Error) (answer : Result Message ReadFault) → IsUtf8 body →
+    IfOk parsed (λ value. read body ≡ Some (view value)) →
+    IfErr parsed (λ error. ¬ IsMemory error → read body ≡ None)
     → IfErr parsed (λ error. IsMemory error → 0 < length body) →
     slice_index body 0 ≢ 239 → MatchResult parsed (λ value. Answers answer (message_of (view value)))
     (λ error. IsErrAnd answer (IsFaultOfError error)) →
     IfOk answer (λ m. reading body ≡ message (message_view m)) × IfErr answer (IsReadFault body)
-read_by body (Ok value) answer ok refused memory unmarked h =
-    let is = reading_of_value body (view value) ok.0 ok.1 in
+read_of body (Ok value) answer utf8 ok refused memory unmarked h =
+    let is = reading_of_value body (view value) utf8 ok in
     (ok_by_reading answer body _ is h, err_by_reading answer body _ is h)
-read_by body (Err error) (Ok m) ok refused memory unmarked h = absurd h
-read_by body (Err error) (Err fault) ok refused memory unmarked h =
-    (tt, fault_by_error body error fault h refused memory unmarked)
+read_of body (Err error) (Ok m) utf8 ok refused memory unmarked h = absurd h
+read_of body (Err error) (Err fault) utf8 ok refused memory unmarked h =
+    (tt, fault_by_error body error fault utf8 h refused memory unmarked)
+
+-- What is answered to a body by what `serde_json` makes of its text.
+pub read_by : (text body : List ℕ) (parsed : Result Value Error) (answer : Result Message ReadFault) → text ≡ body →
+    IsUtf8 body →
+    IfOk parsed (λ value. read text ≡ Some (view value)) →
+    IfErr parsed (λ error. ¬ IsMemory error → read text ≡ None)
+    → IfErr parsed (λ error. IsMemory error → 0 < length text) →
+    slice_index body 0 ≢ 239 → MatchResult parsed (λ value. Answers answer (message_of (view value)))
+    (λ error. IsErrAnd answer (IsFaultOfError error)) →
+    IfOk answer (λ m. reading body ≡ message (message_view m)) × IfErr answer (IsReadFault body)
+read_by text body parsed answer same utf8 ok refused memory unmarked h =
+    subst
+    (λ (b : List ℕ). IsUtf8 b → slice_index b 0 ≢ 239
+    → IfOk answer (λ m. reading b ≡ message (message_view m)) × IfErr answer (IsReadFault b))
+    same
+    (λ u m. read_of text parsed answer u ok refused memory m h)
+    utf8
+    unmarked
+
+utf8_at : (body : List ℕ) (m : MessageData) (b : Bool) → is_utf8 body ≡ b → reading body ≡ message m → IsUtf8 body
+utf8_at body m true valid is = IsUtf8-from_is_utf8 body valid
+utf8_at body m false broken is =
+    absurd (let e : not_json ≡ message m = sym (not_json_at body false broken (λ u. absurd (never body broken u))) ∙ is in
+    cc)
+  where
+    never : (body : List ℕ) → is_utf8 body ≡ false → IsUtf8 body → ⊥
+    never body broken u = let e : false ≡ true = sym broken ∙ is_utf8-from_IsUtf8 body u in cc
+
+-- A body that is a message is UTF-8.
+pub message_utf8 : (body : List ℕ) (m : MessageData) → reading body ≡ message m → IsUtf8 body
+message_utf8 body m is = utf8_at body m _ refl is
 
 marked : (rest : List ℕ) → read (239 ∷ rest) ≡ None
 unfolding value punctuate lex word after_number

@@ -1,5 +1,6 @@
 -- The types of `src/` as the definitions see them: `x_view` is the data of an `x`.
 use Rattle.std.specs.Prelude.{◌≡◌, ◌≢◌, ◌<◌, ℕ, ℤ, List, length, slice_index, map, option_map, string_bytes}
+use Rattle.std.specs.Str.{IsUtf8}
 use Rattle.serde_json.specs.Errors.{IsMemory}
 use Rattle.serde_json.specs.View.{view}
 use Rattle.serde_json.specs.declared.error.Error.{Error}
@@ -87,12 +88,12 @@ outgoing_view (InitializeResult id encoding kind) = out.initialize_result (id_vi
 outgoing_view (ShutdownResult id) = out.shutdown_result (id_view id)
 outgoing_view (ErrorReply id error) = out.error_reply (option_map id_view id) error
 
--- Which fault reading a body reports. Out of memory comes only for a body that isn't empty and
--- doesn't begin as a byte order mark does.
+-- Which fault reading a body reports. Out of memory comes only for a body that is UTF-8, isn't empty
+-- and doesn't begin as a byte order mark does.
 abbrev pub IsReadFault : List ℕ → ReadFault → Type 0
 IsReadFault body NotJson = spec.reading body ≡ spec.not_json
 IsReadFault body (NotAMessage id) = spec.reading body ≡ spec.not_a_message (option_map id_view id)
-IsReadFault body NoMemory = (0 < length body) × (slice_index body 0 ≢ 239)
+IsReadFault body NoMemory = (0 < length body) × (slice_index body 0 ≢ 239) × IsUtf8 body
 
 -- Which fault an error of `serde_json` becomes.
 abbrev pub IsFaultOfError : Error → ReadFault → Type 0

@@ -85,8 +85,8 @@ impl From<serde_json::Error> for ReadFault {
 ///
 /// Fails with [`ReadFault::NotJson`] or [`ReadFault::NotAMessage`] as the body is, and with
 /// [`ReadFault::NoMemory`] where memory runs out. [`ReadFault::NoMemory`] never comes for an empty
-/// body or one with a byte order mark. One parse, linear in the body; texts are moved out of what
-/// was parsed.
+/// body, one with a byte order mark, or one that isn't UTF-8. One parse, linear in the body; texts
+/// are moved out of what was parsed.
 pub fn read(alloc: Global, body: &[u8]) -> Result<Message, ReadFault>
     ensures ok { IfOk result (λ m. reading body.now ≡ message (message_view m)) }
     ensures error { IfErr result (IsReadFault body.now) }
@@ -94,7 +94,10 @@ pub fn read(alloc: Global, body: &[u8]) -> Result<Message, ReadFault>
     if begins_with_mark(body) {
         return Err(ReadFault::NotJson);
     }
-    message_from(Value::from_slice(alloc, body))
+    let Ok(text) = std::str::from_utf8(body) else {
+        return Err(ReadFault::NotJson);
+    };
+    message_from(Value::from_str(alloc, text))
 }
 
 /// Returns whether a body begins with the first byte of a byte order mark. No JSON does.

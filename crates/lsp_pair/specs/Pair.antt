@@ -103,6 +103,11 @@ IsStep old to_client happened new =
     IsDeliveryStep (λ first rest. IsClientStep old first rest happened new)
     old old.to_client happened new
 
+-- A step may take memory, unless it is a delivery from a queue that is empty.
+abbrev pub StepMayAllocate : PairData → EventData → Type 0
+StepMayAllocate old event =
+    (event ≡ to_server → old.to_server ≢ []) × (event ≡ to_client → old.to_client ≢ [])
+
 -- The steps of a list of events, in order.
 abbrev pub IsRun : PairData → List EventData → PairData → Type 0
 IsRun old [] new = new ≡ old

@@ -10,8 +10,8 @@ ghost use Rattle.std.specs.VecDeque.{deque_len, deque_capacity};
 ghost use Rattle.lsp_client.specs.declared.fault.ClientFault.TheVariants.{NoMemory};
 ghost use Rattle.lsp_client.specs.Seen.{IsSent, IsFaultOf};
 ghost use Rattle.lsp_client.specs.Step.{call_result};
-ghost use Rattle.lsp_pair.specs.Events.{Setting, EventData, to_server, to_client};
-ghost use Rattle.lsp_pair.specs.Pair.{new_pair, IsFitting, IsStep, can_choose_utf16, are_within};
+ghost use Rattle.lsp_pair.specs.Events.{Setting, EventData};
+ghost use Rattle.lsp_pair.specs.Pair.{new_pair, IsFitting, IsStep, StepMayAllocate, can_choose_utf16, are_within};
 ghost use Rattle.lsp_pair.specs.laws.World.{IsProperEvent};
 ghost use Rattle.lsp_pair.specs.laws.At.{IsAt};
 ghost use Rattle.lsp_pair.specs.inside.Ends.{IsCall, HoldsOnCall};
@@ -156,9 +156,7 @@ impl Pair {
         ensures refused { IfOk result (λ happened. (fault : ClientFault)
             → happened ≡ Happened.Refused fault → self.new ≡ self.old) }
         // A delivery where nothing waits takes no memory.
-        ensures memory { OnErr result ((event_view event.now ≡ to_server
-            → self.old.to_server ≢ []) × (event_view event.now ≡ to_client
-            → self.old.to_client ≢ [])) }
+        ensures memory { OnErr result (StepMayAllocate self.old (event_view event.now)) }
         // A pair at the world of a list of events is afterwards at the world of the list with this
         // one added. `IsAt` need not be opened: `pair_laws` has what holds of such pairs.
         ensures at { OnOk result ((setting : Setting) (events : List EventData)

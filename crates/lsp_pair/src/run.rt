@@ -1,8 +1,8 @@
 //! Many steps of a pair.
 
-ghost use Rattle.std.specs.Prelude.{◌↔◌, ◌≤◌, ◌<◌, ◌++◌, List, IsTrue, length, map, take};
+ghost use Rattle.std.specs.Prelude.{◌↔◌, ◌≤◌, ◌<◌, ◌++◌, List, IsSomeAnd, IsTrue, length, map, slice_get, take};
 ghost use Rattle.lsp_pair.specs.Events.{Setting, EventData};
-ghost use Rattle.lsp_pair.specs.Pair.{IsFitting, IsRun};
+ghost use Rattle.lsp_pair.specs.Pair.{IsFitting, IsRun, StepMayAllocate};
 ghost use Rattle.lsp_pair.specs.laws.At.{IsAt};
 ghost use Rattle.lsp_pair.specs.inside.History.{IsHistory};
 ghost use Rattle.lsp_pair.specs.Documents.{History, HaveDocuments, IsLater};
@@ -27,6 +27,10 @@ pub struct Ran {
 pub fn run_pair(pair: &mut Pair, events: &[Event]) -> Ran
     ensures within { result.stepped ≤ length events.now }
     ensures all { (IsTrue result.out_of_memory) ↔ (result.stepped < length events.now) }
+    // The step at which it stopped may take memory.
+    ensures memory { IsTrue result.out_of_memory
+        → IsSomeAnd (slice_get (map event_view events.now) result.stepped)
+        (StepMayAllocate pair.new) }
     // The run consists of the steps of the first `stepped` events, and no other.
     ensures steps { IsRun pair.old (take result.stepped (map event_view events.now)) pair.new }
     // A pair at the world of a list of events is afterwards at the world of the list with these

@@ -190,6 +190,10 @@ module _ (uri : List ℕ) (limits : LimitsData) (encoding : Encoding) (joined : 
       → IsRefusal (add_refusal kept version more) fault
   change_refused fault why = subst (λ (r : Option Refusal). IsRefusal r fault) stored_refusal why
 
+  pub change_accepted : entry_refusal limits (units_in encoding) (entry_under uri stored) version more ≡ None
+      → add_refusal kept version more ≡ None
+  change_accepted accepted = sym stored_refusal ∙ accepted
+
   pub change_left : IsLeftToMeaning limits (entry_under uri stored) version more
       → IsLeftToMeaning kept.limits (reached_entry kept) version more
   change_left left =
@@ -214,6 +218,11 @@ pub add_refused : (inside kept : SquashData) → inside ≡ kept → (version : 
     → IsRefusal (add_refusal kept version batch) fault
 add_refused inside kept view version batch fault why =
     subst (λ (k : SquashData). IsRefusal (add_refusal k version batch) fault) view why
+
+pub add_accepted : (inside kept : SquashData) → inside ≡ kept → (version : ℤ) (batch : List ContentChange)
+    → add_refusal inside version batch ≡ None → add_refusal kept version batch ≡ None
+add_accepted inside kept view version batch accepted =
+    subst (λ (k : SquashData). add_refusal k version batch ≡ None) view accepted
 
 -- What stays leads to what stays.
 pub reached_still : (old new : SquashData) (was is : Stored) → new ≡ old → is ≡ was

@@ -1,12 +1,14 @@
 -- A store as callers see it, and what its calls do to it.
-use Rattle.std.specs.Prelude.{◌≡◌, ℕ, ℤ, IsSomeAnd, List, String, string_bytes, Ok}
+use Rattle.std.specs.Prelude.{◌≡◌, ℕ, ℤ, IsSomeAnd, List, String, string_bytes, Option, None, Ok}
 use Rattle.std.specs.declared.alloc.Global.{Global}
 use Rattle.lsp_frame.specs.Limits.{LimitsData}
 use Rattle.lsp_store.specs.declared.fault.StoreFault.{StoreFault}
 use Rattle.lsp_store.specs.declared.store.stored.Stored.{Stored}
+use Rattle.lsp_text.specs.declared.position.Range.{Range}
 use Rattle.lsp_edit.specs.Batch.{ContentChange}
+use Rattle.lsp_edit.specs.Indexed.{one_change}
 use Rattle.lsp_message.specs.Params.{DocumentItem}
-use Rattle.lsp_store.specs.Table.{Command, IsLeftToMeaning, entry_at, after_command, command_refusal}
+use Rattle.lsp_store.specs.Table.{Command, IsLeftToMeaning, entry_at, after_command, change_refusal, command_refusal}
 use Rattle.lsp_store.specs.Faults.{IsRefusal}
 
 -- A store: its limits, and its open documents in order of opening.
@@ -42,3 +44,9 @@ IsRefused old command fault = IsRefusal (command_refusal old.limits old.table co
 abbrev pub ChangeMayAllocate : StoreData → List ℕ → ℤ → List ContentChange → Type 0
 ChangeMayAllocate old uri version batch =
     IsSomeAnd (entry_at old.table uri) (λ entry. IsLeftToMeaning old.limits entry version batch)
+
+-- A batch of one change may take memory only where it is accepted.
+abbrev pub OneMayAllocate : StoreData → (ℕ → ℕ) → List ℕ → ℤ → List ContentChange → Type 0
+OneMayAllocate old units uri version batch = (range : Option Range) (text : List ℕ)
+    → batch ≡ one_change range text
+    → change_refusal old.limits units old.table uri version batch ≡ None

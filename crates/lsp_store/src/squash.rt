@@ -1,7 +1,9 @@
 //! Batches of changes on one document, as one batch.
 
-ghost use Rattle.std.specs.Prelude.{◌≡◌, ℕ, List, None, Err, IfErr, IfOk, OnErr, OnOk, map, string_bytes};
+ghost use Rattle.std.specs.Prelude.{◌≡◌, ℕ, List, Option, None, Err, IfErr, IfOk, OnErr, OnOk, map, string_bytes};
+ghost use Rattle.lsp_text.specs.declared.position.Range.{Range};
 ghost use Rattle.lsp_edit.specs.Edited.{content_change};
+ghost use Rattle.lsp_edit.specs.Indexed.{one_change};
 ghost use Rattle.lsp_store.specs.declared.fault.StoreFault.TheVariants.{NoMemory};
 ghost use Rattle.lsp_store.specs.Faults.{IsRefusal};
 ghost use Rattle.lsp_store.specs.Opened.{entry_under};
@@ -118,10 +120,14 @@ impl Batches {
         ensures reached_unchanged { OnErr result (reached.new ≡ reached.old) }
         ensures error { IfErr result
             (IsRefusal (add_refusal self.old version (map content_change changes.now))) }
-        // Memory is taken only once nothing but the meaning can refuse the batch.
+        // Memory is taken only once nothing but the meaning can refuse the batch; for one change, once
+        // nothing can.
         ensures memory { result ≡ Err NoMemory
             → IsLeftToMeaning self.old.limits (reached_entry self.old) version
             (map content_change changes.now) }
+        ensures one { result ≡ Err NoMemory → (range : Option Range) (text : List ℕ)
+            → map content_change changes.now ≡ one_change range text
+            → add_refusal self.old version (map content_change changes.now) ≡ None }
     {
         // States that the text is UTF-8.
         let _ = reached.text.len();
@@ -213,10 +219,14 @@ impl Squash {
         ensures unchanged { OnErr result (self.new ≡ self.old) }
         ensures error { IfErr result
             (IsRefusal (add_refusal self.old version (map content_change changes.now))) }
-        // Memory is taken only once nothing but the meaning can refuse the batch.
+        // Memory is taken only once nothing but the meaning can refuse the batch; for one change, once
+        // nothing can.
         ensures memory { result ≡ Err NoMemory
             → IsLeftToMeaning self.old.limits (reached_entry self.old) version
             (map content_change changes.now) }
+        ensures one { result ≡ Err NoMemory → (range : Option Range) (text : List ℕ)
+            → map content_change changes.now ≡ one_change range text
+            → add_refusal self.old version (map content_change changes.now) ≡ None }
     {
         self.batches.change(&mut self.reached, version, changes)?;
         Ok(())

@@ -1,11 +1,12 @@
 //! The open documents, in order of opening.
 
 ghost use Rattle.std.specs.Prelude.{◌≡◌, ◌≤◌, ◌↔◌, ℕ, IsTrue, ℤ, List, [], Err, IfErr, IfOk, OnErr, OnOk, map, length, slice_get};
+ghost use Rattle.lsp_text.specs.Units.{units_in};
 ghost use Rattle.lsp_edit.specs.Batch.{ContentChange};
 ghost use Rattle.lsp_edit.specs.Edited.{content_change};
 ghost use Rattle.lsp_store.specs.declared.fault.StoreFault.TheVariants.{NotOpen, NoMemory};
 ghost use Rattle.lsp_store.specs.Table.{entry_at, changes as changing, closes};
-ghost use Rattle.lsp_store.specs.Opened.{ChangeMayAllocate, IsRefused, Takes};
+ghost use Rattle.lsp_store.specs.Opened.{ChangeMayAllocate, IsRefused, OneMayAllocate, Takes};
 ghost use Rattle.lsp_store.specs.Plan.{IsPlanOf, IsPlanOn, after_plan};
 
 pub(crate) mod canonical;
@@ -132,9 +133,12 @@ impl Store {
         ensures error { IfErr result
             (IsRefused self.old
             (changing uri.now version encoding (map content_change changes.now))) }
-        // Memory is taken only once nothing but what the batch means can refuse it.
+        // Memory is taken only once nothing but what the batch means can refuse it; for one change,
+        // once nothing can.
         ensures memory { result ≡ Err NoMemory
             → ChangeMayAllocate self.old uri.now version (map content_change changes.now) }
+        ensures one { result ≡ Err NoMemory → OneMayAllocate self.old (units_in encoding) uri.now
+            version (map content_change changes.now) }
     {
         // `?` isn't proved here.
         match self.plan(uri, version, encoding, changes) {
@@ -167,6 +171,8 @@ impl Store {
             (changing uri.now version encoding (map content_change changes.now))) }
         ensures memory { result ≡ Err NoMemory
             → ChangeMayAllocate self.now uri.now version (map content_change changes.now) }
+        ensures one { result ≡ Err NoMemory → OneMayAllocate self.now (units_in encoding) uri.now
+            version (map content_change changes.now) }
     {
         let Some((index, _, stored)) = self.documents.get_full(uri) else {
             return Err(StoreFault::NotOpen);

@@ -1,12 +1,12 @@
 //! Laws that follow from the definitions alone, for proofs over positions.
 
 ghost use Rattle.std.specs.Prelude.{ℕ, List};
-ghost use Rattle.lsp_text.specs.laws.Encodings.{NameLaw, UnitLaw};
+ghost use Rattle.lsp_text.specs.laws.Encodings.{DefaultLaw, NameLaw, UnitLaw};
 ghost use Rattle.lsp_text.specs.laws.Examples.{HoldsOnExamples};
 ghost use Rattle.lsp_text.specs.laws.Lines.{LinesPart, StartsLaw, SplitsLaw, PastEndLaw};
 ghost use Rattle.lsp_text.specs.laws.Places.{RisingLaw, EndsLaw, BoundaryLaw, IndexLaw};
 ghost use Rattle.lsp_text.specs.laws.Places.{BytesBeforeLaw, BytesBetweenLaw, BytesAfterLaw, FurtherLaw};
-ghost use Rattle.lsp_text.specs.laws.Positions.{DenotesLaw, WholeLaw, NearLaw, AloneLaw, ExactLaw, PastLineLaw, PastTextLaw};
+ghost use Rattle.lsp_text.specs.laws.Positions.{DenotesLaw, WholeLaw, NearLaw, AloneLaw, ExactLaw, OrderLaw, PastLineLaw, PastTextLaw};
 ghost use Rattle.lsp_text.specs.laws.Positions.{FoundLaw};
 
 /// Promises what is true of positions in every text (LSP 3.17, Position). The call itself does
@@ -19,6 +19,7 @@ ghost use Rattle.lsp_text.specs.laws.Positions.{FoundLaw};
 ///   rounded.
 /// - A position past a line's content denotes the end of that content, one past the last line the
 ///   end of the text.
+/// - `Ord` compares lines, then characters.
 /// - `examples`: what the definitions say of some small texts.
 ///
 /// The laws are for any units, if each character has at least one.
@@ -30,6 +31,7 @@ pub fn position_laws()
     ensures exact { ExactLaw }
     ensures past_line { PastLineLaw }
     ensures past_text { PastTextLaw }
+    ensures order { OrderLaw }
     ensures examples { HoldsOnExamples }
 {}
 
@@ -66,9 +68,10 @@ pub fn place_laws()
     ensures further { FurtherLaw }
 {}
 
-/// Promises that each encoding is found by its name and by no other, and that a character has 1 to
-/// 4 units. The call itself does nothing.
+/// Promises that each encoding is found by its name and by no other, that a character has 1 to 4
+/// units, and that the default is UTF-16. The call itself does nothing.
 pub fn encoding_laws()
     ensures name { NameLaw }
     ensures units { UnitLaw }
+    ensures default { DefaultLaw }
 {}

@@ -9,7 +9,8 @@ ghost use Rattle.lsp_edit.specs.Layers.{layer_parts};
 ghost use Rattle.lsp_edit.specs.inside.Layers.{IsLayer};
 ghost use Rattle.lsp_edit.specs.Edited.{Means, content_change, edited_bytes};
 ghost use Rattle.lsp_edit.specs.Indexed.{IsCanonicalBatch, IsBatchFaultOf, text_within};
-ghost use Rattle.lsp_edit.specs.TextEdits.{IsBatchOfEdits, IsEditsFault};
+ghost use Rattle.lsp_edit.specs.TextEdits.{IsBatchOfEdits, IsEditsFault, located};
+ghost use Rattle.lsp_edit.specs.declared.text_edits.TextEditFault.TheVariants as edits_fault;
 
 use crate::change::{Change, MAX_NEW_TEXT};
 use crate::composed::{MAX_OLD_TEXT, compose_old};
@@ -19,7 +20,7 @@ use crate::joined::layer::Layer;
 use crate::joined::{Joined, SERIES};
 use crate::pieces::Pieces;
 use crate::pieces::canonical::canonical_of;
-use crate::text_edits::{TextEdit, TextEditFault, spans_of_edits};
+use crate::text_edits::{TextEdit, TextEditFault, decided_fault, spans_of_edits};
 use lsp_text::Encoding;
 
 impl IndexedText {
@@ -82,10 +83,32 @@ impl IndexedText {
     /// Returns the canonical batch of what text edits mean (LSP 3.17, TextEdit[]). All their ranges
     /// count in the current text, and insertions at one offset come in the order of the list.
     ///
-    /// An error reports an edit with a faulty range, two edits that overlap, or out of memory.
-    /// Costs each edit's two positions, a stable sort by their starts, and one exact position for
-    /// each end of a changed gap.
+    /// An error reports an edit with a faulty range, two edits that overlap, or out of memory; a
+    /// faulty range also where memory runs out. Costs each edit's two positions, a stable sort by
+    /// their starts, and one exact position for each end of a changed gap.
     pub fn batch_of_edits(
+        &self,
+        encoding: Encoding,
+        edits: &[TextEdit],
+    ) -> Result<Vec<Change>, TextEditFault>
+        ensures batch { IfOk result (λ batch.
+            IsBatchOfEdits (units_in encoding) self.now edits.now
+            (map content_change batch.items)) }
+        ensures error { IfErr result (λ fault.
+            IsEditsFault (units_in encoding) (chars self.now) edits.now fault) }
+        // Where memory runs out, no range is faulty.
+        ensures memory { result ≡ Err edits_fault.NoMemory
+            → IsOk (located (units_in encoding) (chars self.now) 0 edits.now) }
+    {
+        match self.batch_or_fault(encoding, edits) {
+            Ok(batch) => Ok(batch),
+            Err(fault) => Err(decided_fault(&self.as_old(), encoding, edits, fault)),
+        }
+    }
+
+    /// Returns the canonical batch of what text edits mean. Out of memory may come in place of each
+    /// fault.
+    fn batch_or_fault(
         &self,
         encoding: Encoding,
         edits: &[TextEdit],

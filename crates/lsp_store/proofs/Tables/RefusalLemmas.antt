@@ -4,6 +4,7 @@ use Rattle.std.proofs.lemmas.Bool.{lt-ltb, le-ltb, or_left, or_right, or_from, c
 use Rattle.std.proofs.lemmas.List.{length-map}
 use Rattle.std.proofs.lemmas.List.Sums.{sum_by-cons}
 use Rattle.std.proofs.lemmas.Str.{IsUtf8-string_bytes, encodes-chars}
+use Rattle.std.specs.Prelude.{IsOk}
 use Rattle.std.specs.Str.{chars}
 use Rattle.lsp_frame.specs.Limits.{LimitsData}
 use Rattle.lsp_edit.specs.declared.change.Change.{Change}
@@ -14,7 +15,7 @@ use Rattle.lsp_edit.specs.Faults.{fault_at}
 use Rattle.lsp_edit.specs.Indexed.{bytes_left, text_within}
 use Rattle.lsp_edit.specs.Batch.{ContentChange, Fault, meaning}
 use Rattle.lsp_edit.specs.Edited.{content_change}
-use Rattle.lsp_store.specs.declared.fault.StoreFault.TheVariants.{StaleVersion, TooManyChanges}
+use Rattle.lsp_store.specs.declared.fault.StoreFault.TheVariants.{NoMemory, StaleVersion, TooManyChanges}
 use Rattle.lsp_store.specs.Faults.{refusal_fault, store_fault_of, IsRefusal}
 use Rattle.lsp_message.specs.Params.{DocumentItem}
 use Rattle.lsp_store.specs.Table.{too_many_changes, batch_bytes, greatest_batch, is_stale, entry_refusal, meaning_refusal, meant_text}
@@ -161,3 +162,20 @@ module _ (limits : LimitsData) (before : List ℕ) where
   text_told meant fault error =
       ⊎_elim (λ (e : fault ≡ text.NoMemory). inl (ap store_fault_of e))
       (λ (e : text_within limits.max_text before meant ≡ Err fault). inr (meaning_told meant fault e)) error
+
+-- A batch that leaves a text within the limit is accepted, if only its meaning is left.
+pub meaning_within : (limits : LimitsData) (bytes : List ℕ) (meant : Result (List Item) (ℕ × Fault))
+    → IsOk (text_within limits.max_text bytes meant) → meaning_refusal limits bytes meant ≡ None
+meaning_within limits bytes (Err fault) is = absurd (let e : false ≡ true = is in cc)
+meaning_within limits bytes (Ok items) is =
+    ⊎_elim
+    (λ (t : nat_lt limits.max_text (length (bytes_left bytes items)) ≡ true).
+    absurd (let e : false ≡ true = rw t at is in cc))
+    (λ (f : nat_lt limits.max_text (length (bytes_left bytes items)) ≡ false). rw f refl)
+    (cases_Bool (nat_lt limits.max_text (length (bytes_left bytes items))))
+
+-- Only out of memory becomes out of memory.
+pub memory_told : (fault : BatchFault) → store_fault_of fault ≡ NoMemory → fault ≡ text.NoMemory
+memory_told (text.Edit why) e = cc
+memory_told text.TooLong e = cc
+memory_told text.NoMemory e = refl

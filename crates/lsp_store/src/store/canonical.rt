@@ -10,7 +10,7 @@ ghost use Rattle.lsp_edit.specs.Batch.{ContentChange};
 ghost use Rattle.lsp_edit.specs.Edited.{content_change};
 ghost use Rattle.lsp_store.specs.declared.fault.StoreFault.TheVariants.{BodyTooLong, NoMemory, TooManyChanges};
 ghost use Rattle.lsp_store.specs.Faults.{IsRefusal};
-ghost use Rattle.lsp_store.specs.Opened.{ChangeMayAllocate};
+ghost use Rattle.lsp_store.specs.Opened.{ChangeMayAllocate, OneMayAllocate};
 ghost use Rattle.lsp_edit.specs.Delta.{bytes_after};
 ghost use Rattle.lsp_store.specs.Plan.{IsBodyOfPlan, IsMessageFault, IsMessageOfPlan, IsPlanOf, IsPlanOn};
 ghost use Rattle.lsp_store.specs.Table.{change_refusal, too_many_changes};
@@ -169,6 +169,8 @@ impl Store {
         // refuse it.
         ensures memory { result ≡ Err NoMemory
             → ChangeMayAllocate self.now uri.now version (map content_change changes.now) }
+        ensures one { result ≡ Err NoMemory → OneMayAllocate self.now (units_in encoding) uri.now
+            version (map content_change changes.now) }
         // The canonical batch is that of what the batch means; `batch_laws` has what holds of it.
         ensures canonical { OnOk result
             (IsCanonicalOn (units_in encoding) self.now.table uri.now

@@ -1,6 +1,6 @@
 //! An open document as a caller reads it.
 
-ghost use Rattle.std.specs.Prelude.{◌≡◌, ◌↔◌, ◌+◌, ◌<◌, ◌≤◌, ℕ, IfErr, IfNone, IfOk, IfSome, OnSome, Some, length, map, option_map};
+ghost use Rattle.std.specs.Prelude.{◌≡◌, ◌↔◌, ◌+◌, ◌<◌, ◌≤◌, ℕ, Err, IfErr, IfNone, IfOk, IfSome, IsOk, OnSome, Some, length, map, option_map};
 ghost use Rattle.std.specs.Result.{result_ok};
 ghost use Rattle.std.specs.Str.{IsCharBoundary, IsUtf8, chars};
 ghost use Rattle.lsp_text.specs.LineStarts.{IsPlace};
@@ -10,7 +10,8 @@ ghost use Rattle.lsp_text.specs.TextLines.{line_ends};
 ghost use Rattle.lsp_text.specs.Units.{units_in};
 ghost use Rattle.lsp_buffer.specs.Contents.{IsContentOf};
 ghost use Rattle.lsp_edit.specs.Edited.{content_change};
-ghost use Rattle.lsp_edit.specs.TextEdits.{IsBatchOfEdits, IsEditsFault};
+ghost use Rattle.lsp_edit.specs.TextEdits.{IsBatchOfEdits, IsEditsFault, located};
+ghost use Rattle.lsp_edit.specs.declared.text_edits.TextEditFault.TheVariants as edits_fault;
 ghost use Rattle.lsp_store.specs.UnitsBefore.{HasUnitsBefore};
 ghost use Rattle.lsp_store.specs.Opened.{entry_under};
 
@@ -158,9 +159,9 @@ impl<'a> Document<'a> {
     /// Returns the batch that means what text edits mean on the text (LSP 3.17, TextEdit[]), for
     /// [`crate::Store::change`] or an editor. The ranges of all edits are in the current text.
     ///
-    /// Fails where an edit's range is faulty or two edits overlap, and where memory runs out. Costs
-    /// each edit's two positions, a stable sort by their starts, and one exact position for each
-    /// end of what is changed.
+    /// Fails where an edit's range is faulty or two edits overlap, and where memory runs out; a
+    /// faulty range is reported also then. Costs each edit's two positions, a stable sort by their
+    /// starts, and one exact position for each end of what is changed.
     pub fn batch_of_edits(
         &self,
         encoding: Encoding,
@@ -171,6 +172,9 @@ impl<'a> Document<'a> {
             (map content_change batch.items)) }
         ensures error { IfErr result (λ fault.
             IsEditsFault (units_in encoding) (chars self.now.text) edits.now fault) }
+        // Where memory runs out, no range is faulty.
+        ensures memory { result ≡ Err edits_fault.NoMemory
+            → IsOk (located (units_in encoding) (chars self.now.text) 0 edits.now) }
     {
         self.stored.text.batch_of_edits(encoding, edits)
     }

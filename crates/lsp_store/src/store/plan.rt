@@ -8,7 +8,8 @@ use std::fmt;
 
 /// A batch of changes that an open document accepts, resolved on its text ([`crate::Store::plan`]).
 /// It borrows the changes, and nothing of the store. Calls that take it want the store as it was
-/// then: it is applied before anything else changes.
+/// then: it is applied before anything else changes. They ask for its text alone. So an older plan
+/// may be applied to an equal text, and sets the version that it was made with, also a lower one.
 #[derive(Drop)]
 pub struct Plan<'a> {
     pub(crate) index: usize,

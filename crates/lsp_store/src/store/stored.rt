@@ -18,10 +18,12 @@ pub struct Stored {
 }
 
 impl Stored {
-    ghost use Rattle.std.specs.Prelude.{◌≡◌, ◌≢◌, ℕ, List, Some, None, Err, IfErr, IfOk, OnErr, OnOk, map, option_map, string_bytes, string_len};
+    ghost use Rattle.std.specs.Prelude.{◌≡◌, ◌≢◌, ℕ, List, Option, Some, None, Err, IfErr, IfOk, OnErr, OnOk, map, option_map, string_bytes, string_len};
     ghost use Rattle.lsp_text.specs.Units.{units_in};
     ghost use Rattle.lsp_edit.specs.Edited.{content_change};
+    ghost use Rattle.lsp_text.specs.declared.position.Range.{Range};
     ghost use Rattle.lsp_edit.specs.Delta.{IsDeltaOf, IsOn, bytes_after};
+    ghost use Rattle.lsp_edit.specs.Indexed.{one_change};
     ghost use Rattle.lsp_store.specs.Plan.{planned};
     ghost use Rattle.lsp_store.specs.declared.fault.StoreFault.TheVariants.{NoMemory};
     ghost use Rattle.lsp_store.specs.Table.{IsLeftToMeaning, entry_refusal, is_stale};
@@ -110,6 +112,10 @@ impl Stored {
         ensures memory { result ≡ Err NoMemory → (uri : List ℕ)
             → IsLeftToMeaning limits.now (entry_under uri self.now) version
             (map content_change changes.now) }
+        ensures one { result ≡ Err NoMemory → (uri : List ℕ) (range : Option Range)
+            (text : List ℕ) → map content_change changes.now ≡ one_change range text
+            → entry_refusal limits.now (units_in encoding) (entry_under uri self.now) version
+            (map content_change changes.now) ≡ None }
     {
         let max_len = limits.max_text();
         self.check_change(limits, version, changes)?;

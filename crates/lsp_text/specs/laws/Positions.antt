@@ -1,6 +1,8 @@
 -- Laws over positions. `units` says how many units a character has.
 use Rattle.std.specs.Prelude.{ℕ, ◌≡◌, ◌≤◌, ◌<◌, false, List, length, take, Some}
+use Rattle.std.specs.Ordering.{nat_cmp, on, then_cmp}
 use Rattle.lsp_text.specs.declared.position.Position.{Position}
+use Rattle.lsp_text.specs.contracts.position.PositionOrd.TheImpl as position_ord
 use Rattle.lsp_text.specs.Text.{place_of}
 use Rattle.lsp_text.specs.TextLines.{splits_crlf, line_at, line_ends, line_start, line_stop}
 use Rattle.lsp_text.specs.LineStarts.{start_places}
@@ -56,6 +58,11 @@ PastLineLaw =
 abbrev pub PastTextLaw : Type 0
 PastTextLaw = (units : ℕ → ℕ) (text : List ℕ) (p : Position) → line_ends text < p.line →
     denoted units text p ≡ Some (length text)
+
+-- `Ord` compares lines, then characters.
+abbrev pub OrderLaw : Type 0
+OrderLaw = (first second : Position) → (position_ord.ghosts).cmp first second
+    ≡ then_cmp (on (λ p. p.line) nat_cmp) (on (λ p. p.character) nat_cmp) first second
 
 -- The line that is found among the byte offsets of the line starts is the line of the index.
 abbrev pub FoundLaw : Type 0

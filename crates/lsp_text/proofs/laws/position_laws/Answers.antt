@@ -1,3 +1,4 @@
+use Rattle.std.proofs.Common.{refl}
 use Rattle.lsp_text.proofs.Positions.PositionLemmas.{exact_denotes, exact_same, denoted_whole, denoted_exact}
 use Rattle.lsp_text.proofs.Positions.NearLemmas.{exact_near}
 use Rattle.lsp_text.proofs.Positions.PastLemmas.{past_line, past_text}
@@ -13,5 +14,6 @@ returns c = record {
   exact = denoted_exact;
   past_line = past_line;
   past_text = past_text;
+  order = λ first second. refl;
   examples = holds_on_examples;
 }

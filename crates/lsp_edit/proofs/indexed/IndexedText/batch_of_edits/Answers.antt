@@ -1,35 +1,12 @@
-use Rattle.std.proofs.lemmas.Result.{err_from_is_err_and}
+use Rattle.std.proofs.Common.{ℕ, List, subst}
+use Rattle.std.specs.Str.{chars}
 use Rattle.lsp_text.specs.Units.{units_in}
-use Rattle.lsp_edit.specs.Parts.{parts_of}
-use Rattle.lsp_edit.proofs.Canonical.GapLemmas.{ends_exact}
-use Rattle.lsp_edit.proofs.Batches.LawLemmas.{units_some}
-use Rattle.lsp_edit.proofs.Batches.LocatedLemmas.{batch_by_indexes, fault_by_indexes}
-use Rattle.lsp_edit.proofs.Batches.TextEditLemmas.{batch_means, items_keep, parts_are}
+use Rattle.lsp_edit.specs.TextEdits.{IsEditsFault}
 use Rattle.lsp_edit.proofs.indexed.IndexedText.batch_of_edits.Goals as goal
 
-pub canonical_of-requires-clause-parts : goal.canonical_of-requires-clause-parts
-canonical_of-requires-clause-parts c =
-    rw c.deref.ensures.value
-    (parts_are c.as_old-text.result c.in_ok-spans.ensures.utf8 (units_in c.args.encoding) c.args.edits.now
-    (parts_of c.in_ok-spans.spans.items) c.in_ok-spans.ensures.are)
-
-pub canonical_of-requires-clause-ends : goal.canonical_of-requires-clause-ends
-canonical_of-requires-clause-ends c =
-    rw c.deref.ensures.value
-    (ends_exact _ _ (items_keep c.as_old-text.result c.in_ok-spans.ensures.utf8 (units_in c.args.encoding)
-    c.args.edits.now (parts_of c.in_ok-spans.spans.items) c.in_ok-spans.ensures.are))
-
-pub returns-clause-batch : goal.returns-clause-batch
-returns-clause-batch c =
-    let made = rw c.deref.ensures.value at c.in_ok-canonical_of.ensures in
-    rw (← c.as_old-text.ensures)
-    (batch_by_indexes c.as_old-text.result c.in_ok-spans.ensures.utf8 (units_in c.args.encoding) c.args.edits.now
-    (parts_of c.in_ok-spans.spans.items) _ c.in_ok-spans.ensures.are made
-    (batch_means c.as_old-text.result c.in_ok-spans.ensures.utf8 (units_in c.args.encoding) c.args.edits.now
-    (parts_of c.in_ok-spans.spans.items) c.in_ok-spans.ensures.are (units_some c.args.encoding) _ made))
-
-pub returns-in_err-spans-clause-error : goal.returns-in_err-spans-clause-error
-returns-in_err-spans-clause-error c =
-    let p = err_from_is_err_and c.from_residual.result c.from_residual.ensures.1 in
-    rw (p.1, p.2, ← c.as_old-text.ensures)
-    (fault_by_indexes c.as_old-text.result (units_in c.args.encoding) c.args.edits.now _ c.in_err-spans.ensures.error)
+pub returns-in-Err-clause-error : goal.returns-in-Err-clause-error
+returns-in-Err-clause-error c =
+    subst
+    (λ (t : List ℕ). IsEditsFault (units_in c.args.encoding) (chars t) c.args.edits.now c.in-Err.fault
+    → IsEditsFault (units_in c.args.encoding) (chars t) c.args.edits.now c.decided_fault-in-Err.result)
+    c.as_old.ensures c.decided_fault-in-Err.ensures.error c.in-Err.ensures.error

@@ -6,7 +6,7 @@ use Rattle.lsp_store.specs.declared.fault.StoreFault.{StoreFault}
 use Rattle.lsp_store.specs.declared.fault.StoreFault.TheVariants.{NoMemory}
 use Rattle.lsp_store.specs.Opened.{entry_under}
 use Rattle.lsp_store.proofs.Messages.MessageLemmas.{accepted_left}
-use Rattle.lsp_store.proofs.SquashLemmas.{change_adds, change_at, change_left, change_refused}
+use Rattle.lsp_store.proofs.SquashLemmas.{change_accepted, change_adds, change_at, change_left, change_refused}
 use Rattle.lsp_store.proofs.squash.Batches.change.Goals as goal
 
 pub change-requires-clause-reached : goal.change-requires-clause-reached
@@ -52,3 +52,21 @@ returns-in-Err-clause-memory c = λ e.
     c.self.inside.version c.args.self.now c.self.view_is c.args.reached.now c.len.ensures.utf8 c.requires.reached
     c.args.version (map content_change c.args.changes.now)
     (rw version at (c.in-Err.ensures.memory (ap (λ (fault : StoreFault). Err fault) no_memory) uri))
+
+pub returns-in_err-change-in-Ok-clause-one : goal.returns-in_err-change-in-Ok-clause-one
+returns-in_err-change-in-Ok-clause-one c = λ e range text is.
+    let version : to_z w32 (of_z w32 c.args.version) ≡ c.args.version = to_z-of_z w32 c.args.version (search rules) in
+    let uri = string_bytes c.self.inside.uri in
+    change_accepted uri c.self.inside.limits c.self.inside.encoding c.self.inside.joined
+    c.self.inside.version c.args.self.now c.self.view_is c.args.reached.now c.len.ensures.utf8 c.requires.reached
+    c.args.version (map content_change c.args.changes.now) (rw version at (c.in-Ok.ensures.accepted uri))
+
+pub returns-in-Err-clause-one : goal.returns-in-Err-clause-one
+returns-in-Err-clause-one c = λ e range text is.
+    let no_memory : c.in-Err.fault ≡ NoMemory = cc in
+    let version : to_z w32 (of_z w32 c.args.version) ≡ c.args.version = to_z-of_z w32 c.args.version (search rules) in
+    let uri = string_bytes c.self.inside.uri in
+    change_accepted uri c.self.inside.limits c.self.inside.encoding c.self.inside.joined
+    c.self.inside.version c.args.self.now c.self.view_is c.args.reached.now c.len.ensures.utf8 c.requires.reached
+    c.args.version (map content_change c.args.changes.now)
+    (rw version at (c.in-Err.ensures.one (ap (λ (fault : StoreFault). Err fault) no_memory) uri range text is))

@@ -5,7 +5,7 @@ use Rattle.lsp_edit.specs.Edited.{content_change}
 use Rattle.lsp_store.specs.declared.fault.StoreFault.TheVariants.{NoMemory}
 use Rattle.lsp_store.specs.Squash.{IsSquashAfter, SquashData, reached_entry}
 use Rattle.lsp_store.specs.Table.{IsLeftToMeaning}
-use Rattle.lsp_store.proofs.SquashLemmas.{add_refused, reached_still}
+use Rattle.lsp_store.proofs.SquashLemmas.{add_accepted, add_refused, reached_still}
 use Rattle.lsp_store.proofs.squash.Squash.add.Goals as goal
 
 pub invariant_of-self : goal.invariant_of-self
@@ -36,3 +36,14 @@ returns-in_err-change-clause-memory c = λ e.
     let no_memory : c.change.result ≡ Err NoMemory = cc in
     subst (λ (kept : SquashData). IsLeftToMeaning kept.limits (reached_entry kept) c.args.version
     (map content_change c.args.changes.now)) c.self.view_is (rw version at (c.change.ensures.memory no_memory))
+
+pub returns-in_err-change-clause-one : goal.returns-in_err-change-clause-one
+returns-in_err-change-clause-one c = λ e range text is.
+    let version : to_z w32 (of_z w32 c.args.version) ≡ c.args.version = to_z-of_z w32 c.args.version (search rules) in
+    let p = err_from_is_err_and c.from_residual.result c.from_residual.ensures.1 in
+    let converted = p.1 in
+    let same = p.2 in
+    let was = c.in_err-change.was in
+    let no_memory : c.change.result ≡ Err NoMemory = cc in
+    add_accepted _ _ c.self.view_is c.args.version (map content_change c.args.changes.now)
+    (rw version at (c.change.ensures.one no_memory range text is))

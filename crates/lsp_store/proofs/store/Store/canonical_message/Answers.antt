@@ -48,6 +48,14 @@ returns-in-Ok-clause-memory c =
     rw version at c.in-Ok.ensures.planned in
     λ e. q.left
 
+pub returns-in-Ok-clause-one : goal.returns-in-Ok-clause-one
+returns-in-Ok-clause-one c =
+    let version : to_z w32 (of_z w32 c.args.version) ≡ c.args.version = to_z-of_z w32 c.args.version (search rules) in
+    let batch : List ContentChange = map content_change c.args.changes.now in
+    let q : IsPlanOf c.args.self.now c.args.uri.now c.args.version c.args.encoding batch c.in-Ok.plan =
+    rw version at c.in-Ok.ensures.planned in
+    λ e range text is. q.accepted
+
 pub returns-in-Ok-clause-canonical : goal.returns-in-Ok-clause-canonical
 returns-in-Ok-clause-canonical c =
     let version : to_z w32 (of_z w32 c.args.version) ≡ c.args.version = to_z-of_z w32 c.args.version (search rules) in

@@ -1,10 +1,12 @@
-use Rattle.std.proofs.Common.{◌≡◌, Err, Some, ap, map, rules, w32, to_z, of_z}
+use Rattle.std.proofs.Common.{◌≡◌, ◌∙◌, Err, Option, None, Some, ap, map, rules, w32, to_z, of_z}
 use Rattle.std.proofs.lemmas.Int.{to_z-of_z}
+use Rattle.lsp_text.specs.Units.{units_in}
 use Rattle.lsp_edit.specs.Edited.{content_change}
+use Rattle.lsp_message.specs.Params.{DocumentItem}
 use Rattle.lsp_store.specs.declared.fault.StoreFault.{StoreFault}
 use Rattle.lsp_store.specs.declared.fault.StoreFault.TheVariants.{NoMemory}
 use Rattle.lsp_store.specs.Opened.{entry_under}
-use Rattle.lsp_store.specs.Table.{IsLeftToMeaning, entry_at}
+use Rattle.lsp_store.specs.Table.{IsLeftToMeaning, entry_at, entry_refusal, refusal_on}
 use Rattle.lsp_store.proofs.Tables.PlanLemmas.{plan_is}
 use Rattle.lsp_store.proofs.Tables.StoreLemmas.{change_absent, change_refused, held_at, limits_are, may_take}
 use Rattle.lsp_store.proofs.store.Store.plan.Goals as goal
@@ -55,3 +57,23 @@ returns-in-Err-clause-memory c = λ e.
     ) at (c.in-Err.ensures.memory (ap (λ (fault : StoreFault). Err fault) no_memory) c.args.uri.now) in
     may_take c.args.self.now c.args.uri.now c.args.version (map content_change c.args.changes.now)
     (entry_under c.args.uri.now c.in-Some.stored.now) is_open left
+
+pub returns-in-Err-clause-one : goal.returns-in-Err-clause-one
+returns-in-Err-clause-one c = λ e range text is.
+    let no_memory : c.in-Err.fault ≡ NoMemory = cc in
+    let version : to_z w32 (of_z w32 c.args.version) ≡ c.args.version = to_z-of_z w32 c.args.version (search rules) in
+    let is_open : entry_at c.args.self.now.table c.args.uri.now
+    ≡ Some (entry_under c.args.uri.now c.in-Some.stored.now) =
+    held_at c.self.inside.limits c.self.inside.documents.entries c.args.self.now c.self.view_is c.args.uri.now
+    c.in-Some.stored.now c.in-Some.ensures.value in
+    let limits : c.self.inside.limits ≡ c.args.self.now.limits =
+    limits_are c.self.inside.limits c.self.inside.documents.entries c.args.self.now c.self.view_is in
+    let accepted : entry_refusal c.args.self.now.limits (units_in c.args.encoding)
+    (entry_under c.args.uri.now c.in-Some.stored.now) c.args.version (map content_change c.args.changes.now) ≡ None =
+    rw (
+      version,
+      limits,
+    ) at (c.in-Err.ensures.one (ap (λ (fault : StoreFault). Err fault) no_memory) c.args.uri.now range text is) in
+    ap (λ (o : Option DocumentItem). refusal_on c.args.self.now.limits (units_in c.args.encoding) o c.args.version
+    (map content_change c.args.changes.now)) is_open
+    ∙ accepted

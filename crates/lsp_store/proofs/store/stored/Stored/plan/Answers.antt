@@ -1,8 +1,12 @@
-use Rattle.std.proofs.Common.{◌≡◌, ◌∙◌, inr, rules, w32, to_z, of_z}
+use Rattle.std.proofs.Common.{◌≡◌, ◌∙◌, Err, ap, inr, rules, w32, to_z, of_z}
 use Rattle.std.proofs.lemmas.Int.{to_z-of_z}
 use Rattle.std.proofs.lemmas.Result.{err_from_is_err_and}
 use Rattle.lsp_text.specs.Units.{units_in}
-use Rattle.lsp_store.proofs.Tables.RefusalLemmas.{meaning_accepted, text_told}
+use Rattle.lsp_store.proofs.Tables.RefusalLemmas.{meaning_accepted, meaning_within, memory_told, text_told}
+use Rattle.lsp_edit.specs.declared.indexed.fault.BatchFault.{BatchFault}
+use Rattle.lsp_edit.specs.declared.indexed.fault.BatchFault.TheVariants as faults
+use Rattle.lsp_store.specs.declared.fault.StoreFault.TheVariants.{NoMemory}
+use Rattle.lsp_store.specs.Faults.{store_fault_of}
 use Rattle.lsp_store.proofs.store.stored.Stored.plan.Goals as goal
 
 pub returns-in_err-check_change-clause-error : goal.returns-in_err-check_change-clause-error
@@ -32,3 +36,13 @@ pub returns-in-Err-clause-memory : goal.returns-in-Err-clause-memory
 returns-in-Err-clause-memory c = λ e uri.
     let version : to_z w32 (of_z w32 c.args.version) ≡ c.args.version = to_z-of_z w32 c.args.version (search rules) in
     rw version at (c.in_ok-check_change.ensures.may uri)
+
+pub returns-in-Err-clause-one : goal.returns-in-Err-clause-one
+returns-in-Err-clause-one c = λ e uri range text is.
+    let version : to_z w32 (of_z w32 c.args.version) ≡ c.args.version = to_z-of_z w32 c.args.version (search rules) in
+    let told : store_fault_of c.in-Err.fault ≡ NoMemory = cc in
+    let none : c.in-Err.fault ≡ faults.NoMemory = memory_told c.in-Err.fault told in
+    (rw version at (c.in_ok-check_change.ensures.may uri (units_in c.args.encoding)))
+    ∙ meaning_within c.args.limits.now c.args.self.now.text _
+    (rw c.max_text-max_len.ensures.value at
+    (c.in-Err.ensures.memory (ap (λ (fault : BatchFault). Err fault) none) range text is))

@@ -1,0 +1,86 @@
+-- The ranges of edits, one after another: the first faulty one is that of the list.
+use Rattle.std.proofs.Common.{ℕ, suc, ◌≡◌, ◌+◌, List, [], ◌∷◌, Result, Ok, Err, refl, ap, sym, ◌∙◌, subst, arith}
+use Rattle.std.specs.Prelude.{IsOk, string_bytes}
+use Rattle.std.specs.Str.{chars}
+use Rattle.lsp_edit.specs.declared.fault.EditFault.{EditFault}
+use Rattle.lsp_edit.specs.declared.text_edits.TextEdit.{TextEdit}
+use Rattle.lsp_edit.specs.Batch.{Fault, ends_of}
+use Rattle.lsp_edit.specs.Faults.{fault_at, places_at}
+use Rattle.lsp_edit.specs.TextEdits.{HasRangeFault, LocatedEdit, fault_of, located, located_first}
+
+-- No range of the edits before the rest is faulty.
+pub record Ranging (units : ℕ → ℕ) (old : List ℕ) (edits : List TextEdit) (number : ℕ) (rest : List TextEdit) : Type
+    0 where
+  pub ok : IsOk (located units old number rest) → IsOk (located units old 0 edits)
+  pub error : (fault : ℕ × Fault) → located units old number rest ≡ Err fault → located units old 0 edits ≡ Err fault
+
+pub ranging_first : (units : ℕ → ℕ) (old : List ℕ) (edits : List TextEdit) → Ranging units old edits 0 edits
+ranging_first units old edits = record { ok = λ is. is; error = λ fault is. is }
+
+ok_first : (number : ℕ) (text : List ℕ) (ends : ℕ × ℕ) (others : Result (List LocatedEdit) (ℕ × Fault)) → IsOk others
+    → IsOk (located_first number text (Ok ends) others)
+ok_first number text ends (Ok others) is = refl
+ok_first number text ends (Err fault) is = is
+
+module _ (units : ℕ → ℕ) (old : List ℕ) (edits : List TextEdit) (number : ℕ) (edit : TextEdit)
+    (rest more : List TextEdit) (is : rest ≡ edit ∷ more) (ranging : Ranging units old edits number rest) where
+  abbrev text : List ℕ
+  text = chars (string_bytes edit.new_text)
+
+  here : located units old number rest
+      ≡ located_first number text (ends_of units old edit.range) (located units old (suc number) more)
+  here = ap (located units old number) is
+
+  ranging_after : (ends : ℕ × ℕ) → ends_of units old edit.range ≡ Ok ends → Ranging units old edits (suc number) more
+  ranging_after ends e =
+      let first : located units old number rest
+      ≡ located_first number text (Ok ends) (located units old (suc number) more) =
+      here ∙ ap (λ (r : Result (ℕ × ℕ) Fault). located_first number text r (located units old (suc number) more)) e in
+      record {
+        ok = λ all. ranging.ok (subst (λ (r : Result (List LocatedEdit) (ℕ × Fault)). IsOk r) (sym first)
+            (ok_first number text ends (located units old (suc number) more) all));
+        error = λ fault faulty. ranging.error fault
+            (first ∙ ap (located_first number text (Ok ends)) faulty);
+      }
+
+  pub ranging_on : (places : ℕ × ℕ) → Ok places ≡ places_at number old (ends_of units old edit.range)
+      → Ranging units old edits (number + 1) more
+  ranging_on places at = by_ends (ends_of units old edit.range) refl
+    where
+      by_ends : (ends : Result (ℕ × ℕ) Fault) → ends_of units old edit.range ≡ ends
+          → Ranging units old edits (number + 1) more
+      by_ends (Ok ends) e =
+          let n : suc number ≡ number + 1 = omega arith in
+          subst (λ (m : ℕ). Ranging units old edits m more) n (ranging_after ends e)
+      by_ends (Err why) e =
+          absurd
+          (let g : ◌≡◌ {A = Result (ℕ × ℕ) EditFault} (Ok places) (Err (fault_at number why)) =
+          at ∙ ap (places_at number old) e in cc)
+
+  pub ranging_stops : (fault : EditFault) → Err fault ≡ places_at number old (ends_of units old edit.range)
+      → HasRangeFault units old edits (fault_of fault)
+  ranging_stops fault at = by_ends (ends_of units old edit.range) refl
+    where
+      by_ends : (ends : Result (ℕ × ℕ) Fault) → ends_of units old edit.range ≡ ends
+          → HasRangeFault units old edits (fault_of fault)
+      by_ends (Ok ends) e =
+          absurd
+          (let g : ◌≡◌ {A = Result (ℕ × ℕ) EditFault} (Err fault) (places_at number old (Ok ends)) =
+          at ∙ ap (places_at number old) e in cc)
+      by_ends (Err why) e =
+          let g : ◌≡◌ {A = Result (ℕ × ℕ) EditFault} (Err fault) (Err (fault_at number why)) =
+          at ∙ ap (places_at number old) e in
+          let w : fault ≡ fault_at number why = cc in
+          record {
+            number = number;
+            why = why;
+            at = ranging.error (number, why)
+                (here ∙ ap (λ (r : Result (ℕ × ℕ) Fault). located_first number text r
+                (located units old (suc number) more)) e);
+            error = ap fault_of w;
+          }
+
+pub ranging_all : (units : ℕ → ℕ) (old : List ℕ) (edits : List TextEdit) (number : ℕ) (rest : List TextEdit)
+    → Ranging units old edits number rest → rest ≡ [] → IsOk (located units old 0 edits)
+ranging_all units old edits number rest ranging none =
+    ranging.ok (subst (λ (es : List TextEdit). IsOk (located units old number es)) (sym none) refl)

@@ -1,0 +1,8 @@
+use Rattle.std.proofs.Common.{drop}
+use Rattle.std.specs.Str.{chars}
+use Rattle.lsp_text.specs.Units.{units_in}
+use Rattle.lsp_edit.proofs.Batches.RangeLemmas.{Ranging}
+use Rattle.lsp_edit.proofs.text_edits.check_ranges.Given as goal
+
+abbrev pub invariant-loop-number : goal.invariant-loop-number
+invariant-loop-number l = Ranging (units_in l.encoding) (chars l.text) l.edits l.number (drop l.number l.edits)
