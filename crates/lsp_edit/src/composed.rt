@@ -10,12 +10,14 @@ ghost use Rattle.lsp_text.specs.Units.{units_in};
 ghost use Rattle.lsp_edit.specs.Batch.{after_changes, meaning};
 ghost use Rattle.lsp_edit.specs.Edited.{Means, content_change, edited_bytes};
 ghost use Rattle.lsp_edit.specs.Faults.{IsFaultOfChanges};
+ghost use Rattle.lsp_edit.specs.inside.Before.{text_before};
 ghost use Rattle.lsp_edit.specs.Items.{plain};
 
 use crate::change::{Change, MAX_NEW_TEXT};
 use crate::fault::EditFault;
-use crate::old_text::OldText;
+use crate::pieces::before::Before;
 use crate::pieces::{MAX_TEXT, Pieces};
+use lsp_buffer::TextBuffer;
 use lsp_text::Encoding;
 use std::alloc::{AllocError, Global};
 
@@ -26,17 +28,17 @@ pub const MAX_OLD_TEXT: usize = 1_073_741_824;
 /// does a batch whose first change replaces all.
 fn begun<'a>(
     alloc: Global,
-    before: OldText<'a>,
+    before: Before<'a>,
     changes: &[Change],
 ) -> Result<Pieces<'a>, AllocError>
     ensures begun { IfOk result (λ pieces. pieces.edited ≡ record {
-      before = chars before.entry;
-      items = plain (chars before.entry);
+      before = chars (text_before before.entry);
+      items = plain (chars (text_before before.entry));
       changes = 0;
     }) }
-    ensures utf8 { IsUtf8 before.entry }
+    ensures utf8 { IsUtf8 (text_before before.entry) }
 {
-    let _ = before.len();
+    let _ = before.get().len();
     match changes {
         [Change { range: Some(_), .. }, _, ..] => Pieces::begin_several(alloc, before),
         _ => Ok(Pieces::begin(alloc, before)),
@@ -86,25 +88,26 @@ pub fn compose<'a>(
         (λ fault. IsFaultOfChanges
         (meaning (units_in encoding) (chars before.now) (map content_change changes.now)) fault) }
 {
-    let before = OldText::new(alloc, before)?;
-    compose_old(alloc, before, encoding, changes)
+    let before = Before::Own(TextBuffer::from_str(alloc, before)?);
+    compose_before(alloc, before, encoding, changes)
 }
 
-/// Applies the changes of a batch to an old text in any form, as [`compose`] does.
-pub(crate) fn compose_old<'a>(
+/// Applies the changes of a batch to a text in blocks, as [`compose`] does.
+pub(crate) fn compose_before<'a>(
     alloc: Global,
-    before: OldText<'a>,
+    before: Before<'a>,
     encoding: Encoding,
     changes: &'a [Change],
 ) -> Result<Pieces<'a>, EditFault>
-    requires size { length before ≤ MAX_OLD_TEXT }
+    requires size { length (text_before before) ≤ MAX_OLD_TEXT }
     requires fits { sum_by (λ change. string_len change.text) changes.now ≤ MAX_NEW_TEXT }
     ensures means { MatchResult result
-        (λ pieces. Means (chars before.entry) (meaning (units_in encoding) (chars before.entry)
-        (map content_change changes.now)) (length changes.now) pieces.edited)
-        (λ fault. IsFaultOfChanges
-        (meaning (units_in encoding) (chars before.entry) (map content_change changes.now)) fault) }
-    ensures utf8 { OnOk result (IsUtf8 before.entry) }
+        (λ pieces. Means (chars (text_before before.entry)) (meaning (units_in encoding)
+        (chars (text_before before.entry)) (map content_change changes.now)) (length changes.now)
+        pieces.edited)
+        (λ fault. IsFaultOfChanges (meaning (units_in encoding) (chars (text_before before.entry))
+        (map content_change changes.now)) fault) }
+    ensures utf8 { OnOk result (IsUtf8 (text_before before.entry)) }
 {
     let pieces = begun(alloc, before, changes)?;
     apply_all(pieces, encoding, changes)

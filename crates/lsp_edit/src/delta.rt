@@ -6,7 +6,7 @@
 
 ghost use Rattle.std.specs.Prelude.{◌≡◌, ◌≤◌, IfOk, List, Ok, length, map, string_bytes};
 ghost use Rattle.std.specs.List.{replace_range};
-ghost use Rattle.std.specs.Str.{chars};
+ghost use Rattle.std.specs.Str.{IsCharBoundary, chars};
 ghost use Rattle.lsp_text.specs.Units.{units_in};
 ghost use Rattle.lsp_edit.specs.Canonical.{canonical};
 ghost use Rattle.lsp_edit.specs.Layers.{layer_parts};
@@ -21,6 +21,7 @@ use crate::indexed::fault::BatchFault;
 use crate::joined::layer::Layer;
 use crate::pieces::canonical::canonical_of;
 use crate::pieces::spans::Spans;
+use lsp_buffer::TextBuffer;
 use lsp_text::Encoding;
 use std::alloc::{AllocError, Global};
 
@@ -38,6 +39,28 @@ pub enum Delta<'a> {
         /// The text after all of them.
         left: IndexedText,
     },
+}
+
+/// Returns a text with the bytes from `start` to `stop` replaced. Fails only where memory runs out.
+/// Costs one copy of the result.
+fn replaced(
+    alloc: Global,
+    text: &TextBuffer,
+    start: usize,
+    stop: usize,
+    new: &str,
+) -> Result<String, AllocError>
+    requires order { start ≤ stop }
+    requires at_start { IsCharBoundary text.now start }
+    requires at_stop { IsCharBoundary text.now stop }
+    ensures { IfOk result (λ left. string_bytes left ≡ replace_range text.now start stop new.now) }
+{
+    let len = text.len();
+    let mut left = String::with_capacity(alloc, len - (stop - start) + new.len())?;
+    text.push_range(&mut left, 0, start)?;
+    left.push_str(new)?;
+    text.push_range(&mut left, stop, len)?;
+    Ok(left)
 }
 
 /// A replaced range of bytes: one change, resolved.
@@ -71,8 +94,7 @@ impl<'a> Put<'a> {
         ensures { IfOk result (λ left. string_bytes left
             ≡ replace_range text.now self.now.start self.now.stop self.now.new.now) }
     {
-        let before = text.as_old();
-        before.replaced(alloc, self.start, self.stop, self.new)
+        replaced(alloc, text.text(), self.start, self.stop, self.new)
     }
 
     /// Returns the replacement as spans that own their texts.
@@ -83,7 +105,7 @@ impl<'a> Put<'a> {
             (Ok (put_items text.now self.now.start self.now.stop self.now.new.now))
             text.now (layer_parts layer)) }
     {
-        let mut spans = Spans::whole(alloc, &text.as_old());
+        let mut spans = Spans::whole(alloc, text.text());
         spans.replace(alloc, self.start, self.stop, self.new)?;
         Layer::of_spans(alloc, 0, spans.as_slice())
     }
@@ -96,10 +118,10 @@ impl<'a> Put<'a> {
             ≡ canonical (units_in self.now.encoding) (chars text.now)
             (put_items text.now self.now.start self.now.stop self.now.new.now)) }
     {
-        let before = text.as_old();
-        let mut spans = Spans::whole(alloc, &before);
+        let before = text.text();
+        let mut spans = Spans::whole(alloc, before);
         spans.replace(alloc, self.start, self.stop, self.new)?;
-        canonical_of(alloc, &before, spans.as_slice(), self.encoding)
+        canonical_of(alloc, before, spans.as_slice(), self.encoding)
     }
 }
 

@@ -23,7 +23,6 @@ use crate::composed::MAX_OLD_TEXT;
 use crate::delta::{Delta, Put};
 use crate::ends::ends;
 use crate::indexed::fault::BatchFault;
-use crate::old_text::OldText;
 use crate::pieces::MAX_TEXT;
 use lsp_buffer::TextBuffer;
 use lsp_text::{Encoding, Range};
@@ -81,13 +80,6 @@ impl IndexedText {
     /// Returns the text's allocator.
     fn allocator(&self) -> &Global {
         self.text.allocator()
-    }
-
-    /// Returns the text as the one before any change.
-    pub(crate) fn as_old(&self) -> OldText<'_>
-        ensures { result ≡ self.now }
-    {
-        OldText::in_blocks(&self.text)
     }
 
     /// Returns a copy, which shares its blocks with this text. Fails only where memory runs out.
@@ -157,9 +149,9 @@ impl IndexedText {
             (alone range new.now)) }
         ensures memory { result ≢ Err NoMemory }
     {
-        let text = self.as_old();
+        let text = self.text();
         let len = text.len();
-        let (start, stop) = ends(&text, encoding, range, 0)?;
+        let (start, stop) = ends(text, encoding, range, 0)?;
         if len - (stop - start) + new.len() > max_len {
             return Err(BatchFault::TooLong);
         }

@@ -205,13 +205,13 @@ impl Joined {
             ≡ canonical (units_in encoding) (chars self.now.before) self.now.items) }
     {
         let alloc = *self.layers.allocator();
-        let text = self.before.as_old();
-        let whole = Spans::whole(alloc, &text);
+        let text = self.before.text();
+        let whole = Spans::whole(alloc, text);
         let mut spans = Vec::from_slice(alloc, whole.as_slice())?;
         for layer in &self.layers {
             let next = layer.borrowed(alloc)?;
             spans = spans_through(alloc, &spans, &next)?;
         }
-        canonical_of(alloc, &text, &spans, encoding)
+        canonical_of(alloc, text, &spans, encoding)
     }
 }

@@ -15,8 +15,8 @@ ghost use Rattle.lsp_edit.specs.inside.TextEdits.{AreApart, ArePlaced, DoOverlap
 
 use crate::ends::ends;
 use crate::fault::{EditFault, Side};
-use crate::old_text::OldText;
 use crate::pieces::span::Span;
+use lsp_buffer::TextBuffer;
 use lsp_text::{Encoding, Range};
 use std::alloc::{AllocError, Global};
 use thiserror::Error;
@@ -84,7 +84,7 @@ pub struct Placed<'a> {
 /// Returns the spans that edits leave of a text.
 pub fn spans_of_edits<'a>(
     alloc: Global,
-    text: &OldText<'_>,
+    text: &TextBuffer,
     encoding: Encoding,
     edits: &'a [TextEdit],
 ) -> Result<Vec<Span<'a>>, TextEditFault>
@@ -102,7 +102,7 @@ pub fn spans_of_edits<'a>(
 /// Finds the byte offsets of each edit in a text.
 fn place_all<'a>(
     alloc: Global,
-    text: &OldText<'_>,
+    text: &TextBuffer,
     encoding: Encoding,
     edits: &'a [TextEdit],
 ) -> Result<Vec<Placed<'a>>, TextEditFault>

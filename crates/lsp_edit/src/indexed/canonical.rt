@@ -12,12 +12,13 @@ ghost use Rattle.lsp_edit.specs.Indexed.{IsCanonicalBatch, IsBatchFaultOf, text_
 ghost use Rattle.lsp_edit.specs.TextEdits.{IsBatchOfEdits, IsEditsFault};
 
 use crate::change::{Change, MAX_NEW_TEXT};
-use crate::composed::{MAX_OLD_TEXT, compose_old};
+use crate::composed::{MAX_OLD_TEXT, compose_before};
 use crate::indexed::IndexedText;
 use crate::indexed::fault::BatchFault;
 use crate::joined::layer::Layer;
 use crate::joined::{Joined, SERIES};
 use crate::pieces::Pieces;
+use crate::pieces::before::Before;
 use crate::pieces::canonical::canonical_of;
 use crate::text_edits::{TextEdit, TextEditFault, spans_of_edits};
 use lsp_text::Encoding;
@@ -43,7 +44,7 @@ impl IndexedText {
             (map content_change changes.now)) }
     {
         let alloc = *self.allocator();
-        let pieces = compose_old(alloc, self.as_old(), encoding, changes)?;
+        let pieces = compose_before(alloc, Before::Borrowed(self.text()), encoding, changes)?;
         may_have_len(&pieces, max_len)?;
         Ok(pieces)
     }
@@ -97,9 +98,9 @@ impl IndexedText {
             IsEditsFault (units_in encoding) (chars self.now) edits.now fault) }
     {
         let alloc = *self.allocator();
-        let text = self.as_old();
-        let spans = spans_of_edits(alloc, &text, encoding, edits)?;
-        Ok(canonical_of(alloc, &text, &spans, encoding)?)
+        let text = self.text();
+        let spans = spans_of_edits(alloc, text, encoding, edits)?;
+        Ok(canonical_of(alloc, text, &spans, encoding)?)
     }
 
     /// Returns the result of a batch in spans that own their texts. It has the errors of

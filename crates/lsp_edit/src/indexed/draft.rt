@@ -45,7 +45,7 @@ impl IndexedText {
         ensures longer { IfOk result (λ next. length next ≤ length self + length new.now) }
     {
         let _ = self.len();
-        let (start, stop) = ends(&self.as_old(), encoding, range, number)?;
+        let (start, stop) = ends(self.text(), encoding, range, number)?;
         let IndexedText { mut text } = self;
         text.replace_range(start, stop, new)?;
         Ok(IndexedText { text })

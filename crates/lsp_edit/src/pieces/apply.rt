@@ -29,12 +29,12 @@ impl<'a> Pieces<'a> {
             (edited_text self.old.edited) range)) }
     {
         if self.changes == 0 {
-            return ends(&self.before, encoding, range, 0);
+            return ends(self.before.get(), encoding, range, 0);
         }
         let current = current_or_new(
             self.current.take(),
             self.alloc,
-            &self.before,
+            self.before.get(),
             self.spans.as_slice(),
             self.len,
         )?;

@@ -15,79 +15,79 @@ replace-requires-clause-order c =
 
 pub replace-requires-clause-at_start : goal.replace-requires-clause-at_start
 replace-requires-clause-at_start c =
-    let p : IsPut (units_in c.args.self.now.encoding) c.as_old-before.result c.args.self.now.start c.args.self.now.stop
+    let p : IsPut (units_in c.args.self.now.encoding) c.text-before.result.now c.args.self.now.start c.args.self.now.stop
     c.args.self.now.new.now =
     subst (λ (bytes : List ℕ). IsPut (units_in c.args.self.now.encoding) bytes c.args.self.now.start
     c.args.self.now.stop c.args.self.now.new.now)
-    (sym c.as_old-before.ensures) c.requires.put in
+    (sym c.text-before.ensures) c.requires.put in
     subst (λ (parts : List Part). AreCut parts c.args.self.now.start) (sym c.whole-spans.ensures.parts)
     (put_start_cut _ _ _ _ _ p)
 
 pub replace-requires-clause-at_stop : goal.replace-requires-clause-at_stop
 replace-requires-clause-at_stop c =
-    let p : IsPut (units_in c.args.self.now.encoding) c.as_old-before.result c.args.self.now.start c.args.self.now.stop
+    let p : IsPut (units_in c.args.self.now.encoding) c.text-before.result.now c.args.self.now.start c.args.self.now.stop
     c.args.self.now.new.now =
     subst (λ (bytes : List ℕ). IsPut (units_in c.args.self.now.encoding) bytes c.args.self.now.start
     c.args.self.now.stop c.args.self.now.new.now)
-    (sym c.as_old-before.ensures) c.requires.put in
+    (sym c.text-before.ensures) c.requires.put in
     subst (λ (parts : List Part). AreCut parts c.args.self.now.stop) (sym c.whole-spans.ensures.parts) (put_stop_cut _
     _ _ _ _ p)
 
 pub replace-requires-clause-ordered : goal.replace-requires-clause-ordered
 replace-requires-clause-ordered c =
-    let p : IsPut (units_in c.args.self.now.encoding) c.as_old-before.result c.args.self.now.start c.args.self.now.stop
+    let p : IsPut (units_in c.args.self.now.encoding) c.text-before.result.now c.args.self.now.start c.args.self.now.stop
     c.args.self.now.new.now =
     subst (λ (bytes : List ℕ). IsPut (units_in c.args.self.now.encoding) bytes c.args.self.now.start
     c.args.self.now.stop c.args.self.now.new.now)
-    (sym c.as_old-before.ensures) c.requires.put in
+    (sym c.text-before.ensures) c.requires.put in
     subst AreOrdered (sym c.whole-spans.ensures.parts) (put_ordered _ _ _ _ _ p)
 
 pub canonical_of-requires-clause-parts : goal.canonical_of-requires-clause-parts
 canonical_of-requires-clause-parts c =
-    let p : IsPut (units_in c.args.self.now.encoding) c.as_old-before.result c.args.self.now.start c.args.self.now.stop
+    let p : IsPut (units_in c.args.self.now.encoding) c.text-before.result.now c.args.self.now.start c.args.self.now.stop
     c.args.self.now.new.now =
     subst (λ (bytes : List ℕ). IsPut (units_in c.args.self.now.encoding) bytes c.args.self.now.start
     c.args.self.now.stop c.args.self.now.new.now)
-    (sym c.as_old-before.ensures) c.requires.put in
-    let made : parts_of c.as_slice.result.now ≡ replaced_parts (whole_parts c.as_old-before.result)
+    (sym c.text-before.ensures) c.requires.put in
+    let made : parts_of c.as_slice.result.now ≡ replaced_parts (whole_parts c.text-before.result.now)
     c.args.self.now.start
     c.args.self.now.stop c.args.self.now.new.now
     = ap parts_of c.as_slice.ensures
     ∙ (c.in_ok-replace.ensures.ok ∙ ap (λ (parts : List Part). replaced_parts parts c.args.self.now.start
     c.args.self.now.stop
     c.args.self.now.new.now) c.whole-spans.ensures.parts) in
-    subst (AreParts c.as_old-before.result) (sym made) (put_are _ _ _ _ _ p)
+    subst (AreParts c.text-before.result.now) (sym made) (put_are _ _ _ _ _ p)
 
 pub canonical_of-requires-clause-ends : goal.canonical_of-requires-clause-ends
 canonical_of-requires-clause-ends c =
-    let p : IsPut (units_in c.args.self.now.encoding) c.as_old-before.result c.args.self.now.start c.args.self.now.stop
+    let p : IsPut (units_in c.args.self.now.encoding) c.text-before.result.now c.args.self.now.start c.args.self.now.stop
     c.args.self.now.new.now =
     subst (λ (bytes : List ℕ). IsPut (units_in c.args.self.now.encoding) bytes c.args.self.now.start
     c.args.self.now.stop c.args.self.now.new.now)
-    (sym c.as_old-before.ensures) c.requires.put in
-    let made : parts_of c.as_slice.result.now ≡ replaced_parts (whole_parts c.as_old-before.result)
+    (sym c.text-before.ensures) c.requires.put in
+    let made : parts_of c.as_slice.result.now ≡ replaced_parts (whole_parts c.text-before.result.now)
     c.args.self.now.start
     c.args.self.now.stop c.args.self.now.new.now
     = ap parts_of c.as_slice.ensures
     ∙ (c.in_ok-replace.ensures.ok ∙ ap (λ (parts : List Part). replaced_parts parts c.args.self.now.start
     c.args.self.now.stop
     c.args.self.now.new.now) c.whole-spans.ensures.parts) in
-    subst (λ (parts : List Part). AllHaveExactEnds (chars c.as_old-before.result)
-    (gaps (chars c.as_old-before.result) (items_of (chars c.as_old-before.result) parts))) (sym made)
+    subst (λ (parts : List Part). AllHaveExactEnds (chars c.text-before.result.now)
+    (gaps (chars c.text-before.result.now) (items_of (chars c.text-before.result.now) parts))) (sym made)
     (put_exact _ _ _ _ _ p)
 
 pub returns : goal.returns
 returns c =
-    let p : IsPut (units_in c.args.self.now.encoding) c.as_old-before.result c.args.self.now.start c.args.self.now.stop
+    let p : IsPut (units_in c.args.self.now.encoding) c.text-before.result.now c.args.self.now.start c.args.self.now.stop
     c.args.self.now.new.now =
     subst (λ (bytes : List ℕ). IsPut (units_in c.args.self.now.encoding) bytes c.args.self.now.start
     c.args.self.now.stop c.args.self.now.new.now)
-    (sym c.as_old-before.ensures) c.requires.put in
-    let made : parts_of c.as_slice.result.now ≡ replaced_parts (whole_parts c.as_old-before.result)
+    (sym c.text-before.ensures) c.requires.put in
+    let made : parts_of c.as_slice.result.now ≡ replaced_parts (whole_parts c.text-before.result.now)
     c.args.self.now.start
     c.args.self.now.stop c.args.self.now.new.now
     = ap parts_of c.as_slice.ensures
     ∙ (c.in_ok-replace.ensures.ok ∙ ap (λ (parts : List Part). replaced_parts parts c.args.self.now.start
     c.args.self.now.stop
     c.args.self.now.new.now) c.whole-spans.ensures.parts) in
-    rw (made, put_items_are _ _ _ _ _ p, c.as_old-before.ensures) at c.canonical_of.ensures
+    rw (made, put_items_are _ _ _ _ _ p, c.text-before.ensures) at c.canonical_of.ensures

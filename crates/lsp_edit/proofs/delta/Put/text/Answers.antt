@@ -8,13 +8,13 @@ replaced-requires-clause-order c = put_order _ _ _ _ _ c.requires.put
 
 pub replaced-requires-clause-at_start : goal.replaced-requires-clause-at_start
 replaced-requires-clause-at_start c =
-    subst (λ (bytes : List ℕ). IsCharBoundary bytes c.args.self.now.start) (sym c.as_old-before.ensures)
+    subst (λ (bytes : List ℕ). IsCharBoundary bytes c.args.self.now.start) (sym c.text.ensures)
     (put_start _ _ _ _ _ c.requires.put)
 
-pub replaced-requires-clause-at_end : goal.replaced-requires-clause-at_end
-replaced-requires-clause-at_end c =
-    subst (λ (bytes : List ℕ). IsCharBoundary bytes c.args.self.now.stop) (sym c.as_old-before.ensures)
+pub replaced-requires-clause-at_stop : goal.replaced-requires-clause-at_stop
+replaced-requires-clause-at_stop c =
+    subst (λ (bytes : List ℕ). IsCharBoundary bytes c.args.self.now.stop) (sym c.text.ensures)
     (put_stop _ _ _ _ _ c.requires.put)
 
 pub returns : goal.returns
-returns c = rw c.as_old-before.ensures at c.replaced.ensures
+returns c = rw c.text.ensures at c.replaced.ensures

@@ -12,11 +12,11 @@ returns-in_err-start-clause-error c =
     rw (p.1, p.2)
     (range_faulted (units_in c.args.encoding) c.args.number c.args.self c.len.ensures.utf8 c.args.range c.args.new.now
     c.utf8.new _
-    (places_seen (units_in c.args.encoding) c.args.number c.args.range _ _ _ c.as_old.ensures c.in_err-start.ensures))
+    (places_seen (units_in c.args.encoding) c.args.number c.args.range _ _ _ c.text.ensures c.in_err-start.ensures))
 
 pub replace_range-requires-clause-order : goal.replace_range-requires-clause-order
 replace_range-requires-clause-order c =
-    let found = places_seen (units_in c.args.encoding) c.args.number c.args.range _ _ _ c.as_old.ensures
+    let found = places_seen (units_in c.args.encoding) c.args.number c.args.range _ _ _ c.text.ensures
     c.in_ok-start.ensures in
     let r = is_ranged (units_in c.args.encoding) c.args.number c.args.self c.len.ensures.utf8 c.args.range
     c.args.new.now c.utf8.new c.in_ok-start.start c.in_ok-start.stop found in
@@ -24,7 +24,7 @@ replace_range-requires-clause-order c =
 
 pub replace_range-requires-clause-at_start : goal.replace_range-requires-clause-at_start
 replace_range-requires-clause-at_start c =
-    let found = places_seen (units_in c.args.encoding) c.args.number c.args.range _ _ _ c.as_old.ensures
+    let found = places_seen (units_in c.args.encoding) c.args.number c.args.range _ _ _ c.text.ensures
     c.in_ok-start.ensures in
     let r = is_ranged (units_in c.args.encoding) c.args.number c.args.self c.len.ensures.utf8 c.args.range
     c.args.new.now c.utf8.new c.in_ok-start.start c.in_ok-start.stop found in
@@ -32,7 +32,7 @@ replace_range-requires-clause-at_start c =
 
 pub replace_range-requires-clause-at_end : goal.replace_range-requires-clause-at_end
 replace_range-requires-clause-at_end c =
-    let found = places_seen (units_in c.args.encoding) c.args.number c.args.range _ _ _ c.as_old.ensures
+    let found = places_seen (units_in c.args.encoding) c.args.number c.args.range _ _ _ c.text.ensures
     c.in_ok-start.ensures in
     let r = is_ranged (units_in c.args.encoding) c.args.number c.args.self c.len.ensures.utf8 c.args.range
     c.args.new.now c.utf8.new c.in_ok-start.start c.in_ok-start.stop found in
@@ -40,7 +40,7 @@ replace_range-requires-clause-at_end c =
 
 pub replace_range-requires-clause-room : goal.replace_range-requires-clause-room
 replace_range-requires-clause-room c =
-    let found = places_seen (units_in c.args.encoding) c.args.number c.args.range _ _ _ c.as_old.ensures
+    let found = places_seen (units_in c.args.encoding) c.args.number c.args.range _ _ _ c.text.ensures
     c.in_ok-start.ensures in
     let r = is_ranged (units_in c.args.encoding) c.args.number c.args.self c.len.ensures.utf8 c.args.range
     c.args.new.now c.utf8.new c.in_ok-start.start c.in_ok-start.stop found in
@@ -54,7 +54,7 @@ replace_range-requires-clause-room c =
 
 pub returns-clause-ok : goal.returns-clause-ok
 returns-clause-ok c =
-    let found = places_seen (units_in c.args.encoding) c.args.number c.args.range _ _ _ c.as_old.ensures
+    let found = places_seen (units_in c.args.encoding) c.args.number c.args.range _ _ _ c.text.ensures
     c.in_ok-start.ensures in
     let r = is_ranged (units_in c.args.encoding) c.args.number c.args.self c.len.ensures.utf8 c.args.range
     c.args.new.now c.utf8.new c.in_ok-start.start c.in_ok-start.stop found in
@@ -66,7 +66,7 @@ returns-clause-ok c =
 
 pub returns-clause-longer : goal.returns-clause-longer
 returns-clause-longer c =
-    let found = places_seen (units_in c.args.encoding) c.args.number c.args.range _ _ _ c.as_old.ensures
+    let found = places_seen (units_in c.args.encoding) c.args.number c.args.range _ _ _ c.text.ensures
     c.in_ok-start.ensures in
     let r = is_ranged (units_in c.args.encoding) c.args.number c.args.self c.len.ensures.utf8 c.args.range
     c.args.new.now c.utf8.new c.in_ok-start.start c.in_ok-start.stop found in

@@ -1,4 +1,4 @@
-use Rattle.std.proofs.Common.{refl, sym, ◌∙◌}
+use Rattle.std.proofs.Common.{IsUtf8, refl, subst, sym, ◌∙◌}
 use Rattle.lsp_edit.proofs.Composing.EditedLemmas.{begun, whole_bytes, whole_is}
 use Rattle.lsp_edit.proofs.pieces.Pieces.begin_several.Goals as goal
 
@@ -7,11 +7,17 @@ invariant_of-result c = (
   rw (
     c.whole-spans.ensures.parts,
     c.len-len.ensures.len,
-  ) (begun c.args.before _ c.len-len.ensures.utf8 c.len-len.ensures.size
-      (whole_is c.args.before c.len-len.ensures.utf8)),
-  rw c.whole-spans.ensures.parts
-      (c.in_ok-current.ensures ∙ sym (whole_bytes c.args.before c.len-len.ensures.utf8)),
+    ← c.get-text.ensures,
+  ) (begun c.get-text.result.now _ c.len-len.ensures.utf8 c.len-len.ensures.size
+      (whole_is c.get-text.result.now c.len-len.ensures.utf8)),
+  rw (c.whole-spans.ensures.parts, ← c.get-text.ensures)
+      (c.in_ok-current.ensures.copy ∙ sym (whole_bytes c.get-text.result.now c.len-len.ensures.utf8)),
 )
 
 pub returns-clause-begun : goal.returns-clause-begun
-returns-clause-begun c = rw c.whole-spans.ensures.parts (rw (whole_is c.args.before c.len-len.ensures.utf8).items refl)
+returns-clause-begun c =
+    rw (c.whole-spans.ensures.parts, ← c.get-text.ensures)
+    (rw (whole_is c.get-text.result.now c.len-len.ensures.utf8).items refl)
+
+pub returns-clause-utf8 : goal.returns-clause-utf8
+returns-clause-utf8 c = subst IsUtf8 c.get-text.ensures c.len-len.ensures.utf8

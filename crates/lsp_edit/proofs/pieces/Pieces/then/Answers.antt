@@ -37,7 +37,7 @@ invariant_of-result c =
     length-map c.in_ok-spans.spans.items part_of in
     let same : parts_of c.new.result ≡ parts_of c.in_ok-spans.spans.items = ap parts_of c.new.ensures in
     let m : length (parts_of c.new.result) ≡ length (parts_of c.in_ok-spans.spans.items) = ap length same in
-    rw c.borrowed.ensures (
+    rw c.get.ensures (
       then_holds _ _ _ _ _ _ _ _ both _ (same ∙ made) (omega (
         arith,
         n,
@@ -62,7 +62,7 @@ returns-clause-composed c =
     length-map c.in_ok-spans.spans.items part_of in
     let same : parts_of c.new.result ≡ parts_of c.in_ok-spans.spans.items = ap parts_of c.new.ensures in
     let m : length (parts_of c.new.result) ≡ length (parts_of c.in_ok-spans.spans.items) = ap length same in
-    rw c.borrowed.ensures
+    rw c.get.ensures
     (then_told _ _ _ _ _ _ _ _ both _ (same ∙ made) (omega (
       arith,
       n,

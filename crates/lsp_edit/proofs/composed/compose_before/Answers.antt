@@ -1,6 +1,6 @@
 use Rattle.std.proofs.Common.{arith}
 use Rattle.lsp_edit.proofs.Composing.EditedLemmas.{first_bytes}
-use Rattle.lsp_edit.proofs.composed.compose_old.Goals as goal
+use Rattle.lsp_edit.proofs.composed.compose_before.Goals as goal
 
 pub apply_all-requires-clause-room : goal.apply_all-requires-clause-room
 apply_all-requires-clause-room c = omega (
