@@ -2,7 +2,7 @@
 //!
 //! One change of a range is made in place. A longer batch is made in a copy, which shares the
 //! blocks, and moved in: so a fault in a later change undoes nothing. One that begins with a
-//! whole text copies nothing. It keeps no spans: who wants them composes by `Pieces`.
+//! whole text copies nothing. It keeps no spans: who wants them composes the delta.
 
 ghost use Rattle.std.specs.Prelude.{◌≡◌, ◌≢◌, ◌≤◌, ◌↔◌, ℕ, List, IsTrue, IfErr, IfOk, IfSome, IsOk, OnErr, OnOk, Err, Ok, None, length, map, string_bytes, string_len, sum_by};
 ghost use Rattle.std.specs.Str.{IsUtf8, chars};
@@ -20,7 +20,7 @@ pub(crate) mod fault;
 
 use crate::change::{Change, MAX_NEW_TEXT};
 use crate::composed::MAX_OLD_TEXT;
-use crate::delta::{Delta, Put};
+use crate::delta::{Delta, Left, Put};
 use crate::ends::ends;
 use crate::indexed::fault::BatchFault;
 use crate::pieces::MAX_TEXT;
@@ -163,7 +163,7 @@ impl IndexedText {
         }))
     }
 
-    /// Resolves a batch by the text that it leaves.
+    /// Resolves a batch in a copy of the text.
     fn left_delta<'a>(
         &self,
         encoding: Encoding,
@@ -179,12 +179,13 @@ impl IndexedText {
     {
         // States that the text is UTF-8.
         let _ = self.len();
-        let left = self.draft(encoding, changes, max_len)?;
-        Ok(Delta::Left {
+        let (text, ends) = self.draft(encoding, changes, max_len)?;
+        Ok(Delta::Left(Left {
             encoding,
             changes,
-            left,
-        })
+            ends,
+            text,
+        }))
     }
 
     /// Resolves a batch on the text (LSP 3.17, DidChangeTextDocumentParams), if the result has at
@@ -226,8 +227,8 @@ impl IndexedText {
     {
         match delta {
             Delta::Put(put) => self.text.replace_range(put.start, put.stop, put.new),
-            Delta::Left { left, .. } => {
-                *self = left;
+            Delta::Left(batch) => {
+                *self = batch.text;
                 Ok(())
             }
         }

@@ -56,7 +56,7 @@ pub struct Pieces<'a> {
     len: usize,
     // How many changes were applied.
     changes: usize,
-    // The result, if it was made: before the first of several changes, or for a later one.
+    // The result, if it was made to resolve a range in it.
     current: Option<TextBuffer>,
 }
 
@@ -106,31 +106,6 @@ impl<'a> Pieces<'a> {
             changes: 0,
             current: None,
         }
-    }
-
-    /// Makes pieces of a text before any change, ready for several changes: with a current text
-    /// that shares the blocks of that text. Fails only where memory runs out. Costs what
-    /// [`TextBuffer::clone_in`] costs.
-    pub(crate) fn begin_several(alloc: Global, before: Before<'a>) -> Result<Self, AllocError>
-        ensures begun { IfOk result (λ pieces. pieces.edited ≡ record {
-          before = chars (text_before before.entry);
-          items = plain (chars (text_before before.entry));
-          changes = 0;
-        }) }
-        ensures utf8 { OnOk result (IsUtf8 (text_before before.entry)) }
-    {
-        let text = before.get();
-        let current = text.clone_in(alloc)?;
-        let len = text.len();
-        let spans = Spans::whole(alloc, text);
-        Ok(Pieces {
-            alloc,
-            before,
-            spans,
-            len,
-            changes: 0,
-            current: Some(current),
-        })
     }
 
     /// Makes pieces of a text before any change. Fails only where memory runs out. Costs a copy of

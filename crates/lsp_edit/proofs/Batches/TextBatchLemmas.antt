@@ -1,7 +1,7 @@
 -- What changes leave of a text, by its characters alone, and by the items that stand for it.
 use Rattle.std.proofs.Common.{ℕ, suc, ◌≡◌, ◌+◌, ◌-◌, ◌<◌, ◌≤◌, ◌⊎◌, true, false, List, [], ◌∷◌, ◌++◌, length, map, take, drop, nat_le, refl, sym, ap, ap₂, ◌∙◌, subst, arith, encode_utf8_all, ⊎_elim, inl, inr, le-leb, Option, Some, None, Result, Ok, Err, string_len}
 use Rattle.std.proofs.lemmas.Bool.{cases_Bool, lt-ltb, le-ltb}
-use Rattle.std.proofs.lemmas.List.{append_assoc, map-append, take-map, drop-map}
+use Rattle.std.proofs.lemmas.List.{append_assoc, append-nil, map-append, take-map, drop-map}
 use Rattle.std.proofs.lemmas.List.Sums.{sum_by-cons}
 use Rattle.std.proofs.lemmas.Str.{encodes-append, encodes-chars, chars_from_encodes, IsUtf8-append, IsUtf8-take, IsUtf8-drop}
 use Rattle.std.specs.List.{replace_range}
@@ -18,11 +18,12 @@ use Rattle.lsp_edit.specs.declared.indexed.fault.BatchFault.TheVariants.{Edit as
 use Rattle.lsp_edit.specs.Items.{Item, New, plain, character_of, text_of}
 use Rattle.lsp_edit.specs.Batch.{ContentChange, Fault, InsideStart, InsideStop, Reversed, changed_in, items_after, after_changes, continue_with, meaning, in_order, ends_of}
 use Rattle.lsp_edit.specs.inside.Batch.{replaced}
-use Rattle.lsp_edit.specs.inside.TextBatch.{text_replaced, text_changed, text_after_change, text_after_changes, text_continue_with, IsFaultOf, IsFaultOfBatch}
+use Rattle.lsp_edit.specs.Delta.{AreEndsIn, AreEndsOf}
+use Rattle.lsp_edit.specs.inside.TextBatch.{AreTextEnds, text_replaced, text_changed, text_after_change, text_after_changes, text_continue_with, IsFaultOf, IsFaultOfBatch}
 use Rattle.lsp_edit.specs.Faults.{fault_at, places_at}
 use Rattle.lsp_edit.specs.Edited.{content_change}
 use Rattle.lsp_edit.specs.Indexed.{bytes_left, text_within, batch_fault_of}
-use Rattle.lsp_edit.proofs.Composing.AppliedLemmas.{AreEnds, ends_told}
+use Rattle.lsp_edit.proofs.Composing.AppliedLemmas.{AreEnds, ends_told, places_any}
 use Rattle.lsp_edit.proofs.Parts.CutLemmas.{text_of-new}
 use Rattle.lsp_edit.proofs.Composing.EditedLemmas.{plain_text}
 use Rattle.lsp_edit.proofs.Composing.RoomLemmas.{texts_len}
@@ -136,12 +137,6 @@ module _ (units : ℕ → ℕ) (before : List ℕ) (batch : List ContentChange) 
 
 -- ---- one change of a range
 
--- places are the same, whatever the number of the change
-pub places_any : (number : ℕ) (text : List ℕ) (start stop : ℕ) (ends : Result (ℕ × ℕ) Fault) → Ok (start, stop)
-    ≡ places_at number text ends → Ok (start, stop) ≡ places_at 0 text ends
-places_any number text start stop (Ok ends) e = cc
-places_any number text start stop (Err why) e = absurd (cc)
-
 -- what was found of the places in a text, said of its bytes
 pub places_seen : (units : ℕ → ℕ) (number : ℕ) (range : Range) (r : Result (ℕ × ℕ) EditFault) (seen bytes : List ℕ)
     → seen ≡ bytes → r ≡ places_at number (chars seen) (ends_of units (chars seen) range)
@@ -243,13 +238,17 @@ module _ (units : ℕ → ℕ) (number : ℕ) (before : List ℕ) (utf8 : IsUtf8
 -- ---- a batch, change by change
 
 -- How far a batch was applied: what is left of it leaves the same text, and there is room for it.
-pub record Drafting (units : ℕ → ℕ) (left : Result (List ℕ) (ℕ × Fault)) (number : ℕ) (rest : List Change)
-    (draft : List ℕ) : Type 0 where
+-- With the ends of the others they are those of `AreAll`.
+pub record Drafting (units : ℕ → ℕ) (left : Result (List ℕ) (ℕ × Fault)) (AreAll : List (ℕ × ℕ) → Type 0)
+    (number : ℕ) (rest : List Change) (draft : List ℕ) (found : List (ℕ × ℕ)) : Type 0 where
   pub same : text_after_changes units number (chars draft) (map content_change rest) ≡ left
+  pub ends : (more : List (ℕ × ℕ)) → AreTextEnds units (chars draft) (map content_change rest) more
+      → AreAll (found ++ more)
   pub room : length draft + texts_len rest ≤ 2147483648
 
-module _ (units : ℕ → ℕ) (left : Result (List ℕ) (ℕ × Fault)) (number : ℕ) (change : Change) (rest more : List Change)
-    (draft : List ℕ) (is : rest ≡ change ∷ more) (drafting : Drafting units left number rest draft) where
+module _ (units : ℕ → ℕ) (left : Result (List ℕ) (ℕ × Fault)) (AreAll : List (ℕ × ℕ) → Type 0) (number : ℕ)
+    (change : Change) (rest more : List Change) (draft : List ℕ) (found : List (ℕ × ℕ)) (is : rest ≡ change ∷ more)
+    (drafting : Drafting units left AreAll number rest draft found) where
   same_here : text_continue_with (λ next. text_after_changes units (suc number) next (map content_change more)) number
       (text_after_change units (chars draft) (content_change change)) ≡ left
   same_here = rw is at drafting.same
@@ -262,14 +261,23 @@ module _ (units : ℕ → ℕ) (left : Result (List ℕ) (ℕ × Fault)) (number
     sum_by-cons (λ (c : Change). string_len c.text) change more,
   )
 
-  pub drafting_on : (next : List ℕ) → text_after_change units (chars draft) (content_change change) ≡ Ok (chars next)
-      → length next ≤ length draft + string_len change.text → Drafting units left (number + 1) more next
-  drafting_on next made longer =
+  pub drafting_on : (next : List ℕ) (end : ℕ × ℕ) (all : List (ℕ × ℕ))
+      → text_after_change units (chars draft) (content_change change) ≡ Ok (chars next)
+      → AreEndsIn units (chars draft) (content_change change) end → all ≡ found ++ end ∷ []
+      → length next ≤ length draft + string_len change.text → Drafting units left AreAll (number + 1) more next all
+  drafting_on next end all made at all_is longer =
       let n : number + 1 ≡ suc number = omega arith in
       let l : text_after_changes units (suc number) (chars next) (map content_change more)
       ≡ left = rw made at same_here in
       record {
         same = ap (λ (m : ℕ). text_after_changes units m (chars next) (map content_change more)) n ∙ l;
+        ends = λ others have.
+            let met : AreTextEnds units (chars draft) (content_change change ∷ map content_change more) (end ∷ others) =
+            (at, λ left made_too. let e : chars next ≡ left = cc in
+            subst (λ (t : List ℕ). AreTextEnds units t (map content_change more) others) e have) in
+            let here : AreTextEnds units (chars draft) (map content_change rest) (end ∷ others) = rw is met in
+            subst AreAll (sym (ap (λ (es : List (ℕ × ℕ)). es ++ others) all_is ∙ append_assoc found (end ∷ []) others))
+            (drafting.ends (end ∷ others) here);
         room = omega (
           arith,
           drafting.room,
@@ -290,6 +298,41 @@ module _ (units : ℕ → ℕ) (left : Result (List ℕ) (ℕ × Fault)) (number
       let l : Err (number, t.0) ≡ left = rw t.1 at same_here in
       inr (number, t.0, sym l, t.2))
       error
+
+-- After the last change.
+pub drafted_ends : (units : ℕ → ℕ) (left : Result (List ℕ) (ℕ × Fault)) (AreAll : List (ℕ × ℕ) → Type 0) (number : ℕ)
+    (rest : List Change) (draft : List ℕ) (found : List (ℕ × ℕ)) → rest ≡ []
+    → Drafting units left AreAll number rest draft found → AreAll found
+drafted_ends units left AreAll number rest draft found none drafting =
+    subst AreAll (append-nil found) (drafting.ends [] (rw none tt))
+
+-- The same ends, said of items.
+pub ends_items : (units : ℕ → ℕ) (old : List ℕ) (items : List Item) (batch : List ContentChange)
+    (ends : List (ℕ × ℕ)) → AreTextEnds units (text_of old items) batch ends → AreEndsOf units old items batch ends
+ends_items units old items [] ends are = tt
+ends_items units old items (change ∷ batch) [] are = are
+ends_items units old items (change ∷ batch) (end ∷ ends) are = (
+  are.0,
+  λ next made. ends_items units old next batch ends (are.1 (text_of old next)
+      (change_text units old items change.text change.range ∙ ap (text_result old) made)),
+)
+
+-- The ends that were found for a range.
+pub ends_at : (units : ℕ → ℕ) (number : ℕ) (text new : List ℕ) (range : Range) (start stop : ℕ)
+    → Ok (start, stop) ≡ places_at number text (ends_of units text range)
+    → AreEndsIn units text (record { range = Some range; text = new }) (start, stop)
+ends_at units number text new range start stop found other is =
+    let same : range ≡ other = cc in
+    subst (λ (r : Range). ◌≡◌ {A = Result (ℕ × ℕ) EditFault} (Ok (start, stop))
+    (places_at 0 text (ends_of units text r))) same
+    (places_any number text start stop (ends_of units text range) found)
+
+-- A batch that begins with a whole text has the same ends in every text.
+pub any_ends : (units : ℕ → ℕ) (text other new : List ℕ) (batch : List ContentChange) (ends : List (ℕ × ℕ))
+    → AreTextEnds units text (record { range = None; text = new } ∷ batch) ends
+    → AreTextEnds units other (record { range = None; text = new } ∷ batch) ends
+any_ends units text other new batch [] are = are
+any_ends units text other new batch (end ∷ ends) are = (λ range is. absurd (cc), are.1)
 
 -- A batch that begins with a whole text leaves the same of every text.
 pub any_text : (units : ℕ → ℕ) (text other new : List ℕ) (batch : List ContentChange)

@@ -14,7 +14,7 @@ use Rattle.lsp_edit.specs.declared.change.Change.{Change}
 use Rattle.lsp_edit.specs.declared.fault.EditFault.{EditFault}
 use Rattle.lsp_edit.specs.declared.fault.EditFault.TheVariants.{NoMemory}
 use Rattle.lsp_edit.specs.Items.{Item, New, character_of, text_of}
-use Rattle.lsp_edit.specs.Batch.{ContentChange, InsideStart, InsideStop, Reversed, items_after, in_order, ends_of}
+use Rattle.lsp_edit.specs.Batch.{ContentChange, Fault, InsideStart, InsideStop, Reversed, items_after, in_order, ends_of}
 use Rattle.lsp_edit.specs.inside.Batch.{replaced}
 use Rattle.lsp_edit.specs.Faults.{fault_at, IsFaultOfChange, places_at}
 use Rattle.lsp_edit.specs.inside.Faults.{IsPlaces}
@@ -96,6 +96,20 @@ fault_told units old items characters range number fault error =
           (let f : ◌≡◌ {A = Result (ℕ × ℕ) EditFault} (Err fault) (Err (fault_at number Reversed)) = rw o at e in cc),
         ))
         (cases_Bool (nat_le a b))
+
+-- Places that were told are the same, whatever the number of the change.
+pub places_any : (number : ℕ) (text : List ℕ) (start stop : ℕ) (ends : Result (ℕ × ℕ) Fault)
+    → Ok (start, stop) ≡ places_at number text ends → Ok (start, stop) ≡ places_at 0 text ends
+places_any number text start stop (Ok ends) e = cc
+places_any number text start stop (Err why) e = absurd (cc)
+
+pub places_found : (number : ℕ) (text : List ℕ) (start stop : ℕ) (ends : Result (ℕ × ℕ) Fault)
+    → IsPlaces (Ok (start, stop)) (places_at number text ends) → Ok (start, stop) ≡ places_at 0 text ends
+places_found number text start stop ends told =
+    ⊎_elim
+    (λ (e : Ok (start, stop) ≡ Err NoMemory). absurd (cc))
+    (λ (e : Ok (start, stop) ≡ places_at number text ends). places_any number text start stop ends e)
+    told
 
 pub bytes_split : (text : List ℕ) (k : ℕ) → length (encode_utf8_all (take k text))
     + length (encode_utf8_all (drop k text)) ≡ length (encode_utf8_all text)
@@ -351,20 +365,12 @@ next_holds units before parts changes change next len is made same count counted
 -- What was told of a range's places, told of the fields.
 module _ (units : ℕ → ℕ) (range : Range) (before : List ℕ) (parts : List Part) (len changes : ℕ)
     (are : ArePieces before parts len changes) (edited : PlainData) (view : seen before parts changes ≡ edited) where
-  pub ends_seen : (start stop : ℕ)
-      → IsPlaces (Ok (
-        start,
-        stop,
-      )) (places_at edited.changes (edited_text edited) (ends_of units (edited_text edited) range))
+  pub ends_seen : (start stop : ℕ) → Ok (start, stop) ≡ places_at 0 (edited_text edited)
+      (ends_of units (edited_text edited) range)
       → AreEnds units (text_of (chars before) (items_of (chars before) parts)) range start stop
-  ends_seen start stop error =
-      ⊎_elim
-      (λ (e : Ok (start, stop) ≡ Err NoMemory). absurd (cc))
-      (λ (e : Ok (start, stop) ≡ places_at edited.changes (edited_text edited)
-      (ends_of units (edited_text edited) range)).
+  ends_seen start stop found =
       subst (λ (text : List ℕ). AreEnds units text range start stop) (sym (ap edited_text view))
-      (ends_told units (edited_text edited) range edited.changes start stop e))
-      error
+      (ends_told units (edited_text edited) range 0 start stop found)
 
   -- a range whose places were told may be replaced
   pub record IsRanged (new : List ℕ) (start stop : ℕ) : Type 0 where
@@ -384,10 +390,7 @@ module _ (units : ℕ → ℕ) (range : Range) (before : List ℕ) (parts : List
         (replaced_parts parts start stop new) (len - (stop - start) + length new)
 
   pub ranged : (new : List ℕ) → IsUtf8 new → length (edited_bytes edited) + length new ≤ 2147483648 → (start stop : ℕ)
-      → IsPlaces (Ok (
-        start,
-        stop,
-      )) (places_at edited.changes (edited_text edited) (ends_of units (edited_text edited) range))
+      → Ok (start, stop) ≡ places_at 0 (edited_text edited) (ends_of units (edited_text edited) range)
       → IsRanged new start stop
   ranged new utf8 room start stop error =
       let fits : len + length new ≤ 2147483648 = room_told before parts len changes (length new) edited are view room in

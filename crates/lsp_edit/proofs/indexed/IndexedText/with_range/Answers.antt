@@ -3,7 +3,7 @@ use Rattle.std.proofs.lemmas.Result.{err_from_is_err_and}
 use Rattle.std.specs.List.{replace_range}
 use Rattle.std.specs.Str.{IsCharBoundary, chars}
 use Rattle.lsp_text.specs.Units.{units_in}
-use Rattle.lsp_edit.proofs.Batches.TextBatchLemmas.{is_ranged, places_seen, range_faulted}
+use Rattle.lsp_edit.proofs.Batches.TextBatchLemmas.{ends_at, is_ranged, places_seen, range_faulted}
 use Rattle.lsp_edit.proofs.indexed.IndexedText.with_range.Goals as goal
 
 pub returns-in_err-start-clause-error : goal.returns-in_err-start-clause-error
@@ -75,3 +75,9 @@ returns-clause-longer c =
     = c.in_ok-replace_range.ensures.changed
     ∙ ap (λ (bs : List ℕ). replace_range bs c.in_ok-start.start c.in_ok-start.stop c.args.new.now) c.self.view_is in
     omega (arith, r.longer, ap length bytes)
+
+pub returns-clause-ends : goal.returns-clause-ends
+returns-clause-ends c =
+    ends_at (units_in c.args.encoding) c.args.number (chars c.args.self) (chars c.args.new.now) c.args.range
+    c.in_ok-start.start c.in_ok-start.stop
+    (places_seen (units_in c.args.encoding) c.args.number c.args.range _ _ _ c.text.ensures c.in_ok-start.ensures)
