@@ -6,7 +6,7 @@
 //! two offsets. `apply` may run out of memory: to reserve first, each clause would have to show
 //! the room of two buffers.
 
-ghost use Rattle.std.specs.Prelude.{◌≡◌, ◌≤◌, ◌×◌, IfOk, IfSome, List, Ok, length, map, string_bytes};
+ghost use Rattle.std.specs.Prelude.{◌≡◌, ◌≤◌, IfOk, IfSome, List, Ok, length, map, string_bytes};
 ghost use Rattle.std.specs.List.{replace_range};
 ghost use Rattle.std.specs.Str.{chars};
 ghost use Rattle.lsp_text.specs.Units.{units_in};

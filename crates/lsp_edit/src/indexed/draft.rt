@@ -1,6 +1,6 @@
 //! The text that a batch leaves, which is made in a copy, and the ends of its ranges.
 
-ghost use Rattle.std.specs.Prelude.{◌≡◌, ◌+◌, ◌×◌, ◌<◌, ◌≤◌, ℕ, List, IfErr, IfOk, OnOk, Err, Ok, Some, length, map, string_len, sum_by};
+ghost use Rattle.std.specs.Prelude.{◌≡◌, ◌+◌, ◌++◌, ◌∷◌, ◌<◌, ◌≤◌, ℕ, List, [], IfErr, IfOk, OnOk, Err, Ok, Some, length, map, string_len, sum_by};
 ghost use Rattle.std.specs.Str.{IsUtf8, chars};
 ghost use Rattle.lsp_text.specs.Units.{units_in};
 ghost use Rattle.lsp_edit.specs.declared.indexed.fault.BatchFault.TheVariants.{TooLong, NoMemory};
@@ -104,7 +104,7 @@ impl IndexedText {
         for (number, change) in changes.iter().enumerate() {
             let (next, found) = draft.after(encoding, number, change)?;
             draft = next;
-            ends.push(found)?;
+            push_ends(&mut ends, found)?;
         }
         Ok((draft, ends))
     }
@@ -174,6 +174,14 @@ impl IndexedText {
         may_be_left(&draft, max_len)?;
         Ok((draft, ends))
     }
+}
+
+/// Appends the ends of a range.
+fn push_ends(ends: &mut Vec<(usize, usize)>, found: (usize, usize)) -> Result<(), AllocError>
+    ensures { OnOk result (ends.new.items ≡ ends.old.items ++ found ∷ []) }
+{
+    ends.push(found)?;
+    Ok(())
 }
 
 /// Fails if the text that a batch leaves has more than `max_len` bytes. Takes no memory.

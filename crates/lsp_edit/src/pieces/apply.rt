@@ -1,6 +1,6 @@
 //! A change of pieces: its places in the current text, and the spans after it.
 
-ghost use Rattle.std.specs.Prelude.{◌≡◌, ◌≢◌, ◌+◌, ◌×◌, ◌≤◌, ℕ, IfErr, OnErr, OnOk, Ok, Err, IsOk, Some, None, length, string_len};
+ghost use Rattle.std.specs.Prelude.{◌≡◌, ◌≢◌, ◌+◌, ◌≤◌, ℕ, IfErr, OnErr, OnOk, Ok, Err, IsOk, Some, None, length, string_len};
 ghost use Rattle.std.specs.Str.{chars};
 ghost use Rattle.lsp_text.specs.Units.{units_in};
 ghost use Rattle.lsp_edit.specs.declared.fault.EditFault.TheVariants.{NoMemory};
