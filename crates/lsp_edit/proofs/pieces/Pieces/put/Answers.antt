@@ -6,6 +6,7 @@ use Rattle.lsp_edit.specs.Parts.{Part, part_of, parts_of, bytes_of}
 use Rattle.lsp_edit.specs.inside.Parts.{replaced_parts}
 use Rattle.lsp_edit.specs.Spans.{spans_in}
 use Rattle.lsp_edit.specs.Edited.{IsCurrent}
+use Rattle.lsp_edit.specs.inside.Before.{text_before}
 use Rattle.lsp_edit.proofs.Composing.CurrentLemmas.{current_is, current_utf8}
 use Rattle.lsp_edit.proofs.Composing.AppliedLemmas.{IsRanged, ranged, next_told, next_holds}
 use Rattle.lsp_edit.proofs.Composing.SpannedLemmas.{same_edited}
@@ -87,7 +88,7 @@ invariant_of-self c = (c.self.invariant.0, rw c.take.ensures.after tt)
 
 pub invariant_of-self-2 : goal.invariant_of-self-2
 invariant_of-self-2 c =
-    let r : IsRanged c.requires.ends.units c.requires.ends.range c.self.inside.before
+    let r : IsRanged c.requires.ends.units c.requires.ends.range (text_before c.self.inside.before)
     (parts_of (spans_in c.self.inside.spans)) c.self.inside.len c.self.inside.changes c.self.invariant.0
     c.args.self.now.edited (same_edited c.self.view_is) c.args.text.now
     c.args.start c.args.stop
@@ -100,7 +101,7 @@ invariant_of-self-2 c =
     length-map (spans_in c.replace.new.self) part_of in
     let small : length (replaced_parts (parts_of (spans_in c.self.inside.spans)) c.args.start c.args.stop
     c.args.text.now) < 18446744073709551616 = omega (arith, n, ap length made, c.in_ok-replace.ensures.few) in
-    let current : IsCurrent (bytes_of c.self.inside.before (parts_of (spans_in c.replace.new.self)))
+    let current : IsCurrent (bytes_of (text_before c.self.inside.before) (parts_of (spans_in c.replace.new.self)))
     c.match-take.current
     = elim c.match-take.branch [
       | in-None w ↦ rw w.current-is tt
@@ -109,7 +110,7 @@ invariant_of-self-2 c =
           (w.in_ok-replaced-in-Some.ensures
           ∙ (ap (λ (bytes : List ℕ). replace_range bytes c.args.start c.args.stop c.args.text.now)
           (current_is _ _ _ c.self.invariant.1 (sym c.take.ensures.value ∙ w.in-Some.is))
-          ∙ (sym r.bytes ∙ ap (λ (parts : List Part). bytes_of c.self.inside.before parts) (sym made))))
+          ∙ (sym r.bytes ∙ ap (λ (parts : List Part). bytes_of (text_before c.self.inside.before) parts) (sym made))))
     ] in (
       next_holds c.requires.ends.units _ _ _ _ _ _ (r.next small) _ made _ c.saturating_add-self-inside.ensures,
       current,
@@ -117,7 +118,7 @@ invariant_of-self-2 c =
 
 pub returns-clause-applied : goal.returns-clause-applied
 returns-clause-applied c = λ units range found.
-    let r : IsRanged units range c.self.inside.before
+    let r : IsRanged units range (text_before c.self.inside.before)
     (parts_of (spans_in c.self.inside.spans)) c.self.inside.len c.self.inside.changes c.self.invariant.0
     c.args.self.now.edited (same_edited c.self.view_is) c.args.text.now
     c.args.start c.args.stop
