@@ -192,7 +192,7 @@ impl<'a> Delta<'a> {
     ///
     /// Fails only where memory runs out. A range costs one exact position for each of its ends,
     /// and a copy of its new text. Any other batch costs its spans, and that for each changed gap.
-    /// Some thousand changes are resolved once more in series, each of which costs some
+    /// Some hundred changes are resolved once more in series, each of which costs an
     /// [`IndexedText::clone_in`].
     pub fn canonical(&self, alloc: Global, text: &IndexedText) -> Result<Vec<Change>, AllocError>
         requires on { IsOn text.now self.now }

@@ -10,6 +10,7 @@ use Rattle.lsp_text.specs.declared.position.Range.{Range}
 use Rattle.lsp_text.specs.Positions.{denoted}
 use Rattle.lsp_text.specs.Text.{place_of}
 use Rattle.lsp_text.proofs.Positions.PlaceLemmas.{take_place, drop_place}
+use Rattle.lsp_buffer.proofs.Changes.ChangeLemmas.{replaced_length}
 use Rattle.lsp_edit.specs.declared.change.Change.{Change}
 use Rattle.lsp_edit.specs.declared.fault.EditFault.{EditFault}
 use Rattle.lsp_edit.specs.declared.fault.EditFault.TheVariants.{NoMemory}
@@ -23,11 +24,10 @@ use Rattle.lsp_edit.specs.inside.TextBatch.{AreTextEnds, text_replaced, text_cha
 use Rattle.lsp_edit.specs.Faults.{fault_at, places_at}
 use Rattle.lsp_edit.specs.Edited.{content_change}
 use Rattle.lsp_edit.specs.Indexed.{bytes_left, text_within, batch_fault_of}
-use Rattle.lsp_edit.proofs.Composing.AppliedLemmas.{AreEnds, ends_told, places_any}
-use Rattle.lsp_edit.proofs.Parts.CutLemmas.{text_of-new}
+use Rattle.lsp_edit.proofs.Composing.AppliedLemmas.{AreEnds, bytes_put, ends_told, fault_told, places_any, text_put}
 use Rattle.lsp_edit.proofs.Composing.EditedLemmas.{plain_text}
 use Rattle.lsp_edit.proofs.Composing.RoomLemmas.{texts_len}
-use Rattle.lsp_edit.proofs.Deltas.InPlaceLemmas.{range_order, range_start, range_stop, replaced_len}
+use Rattle.lsp_edit.proofs.Deltas.InPlaceLemmas.{fault_edit, range_order, range_start, range_stop}
 
 -- the text that items stand for, where there are any
 abbrev pub text_result : {E : Type 0} → List ℕ → Result (List Item) E → Result (List ℕ) E
@@ -41,12 +41,7 @@ replaced_text : (old : List ℕ) (items : List Item) (new : List ℕ) (start sto
 replaced_text old items new None stop = refl
 replaced_text old items new (Some start) None = refl
 replaced_text old items new (Some start) (Some stop) =
-    let text : text_of old (take start items ++ (map New new ++ drop stop items)) ≡ take start (text_of old items)
-    ++ (new ++ drop stop (text_of old items))
-    = map-append (character_of old) (take start items) (map New new ++ drop stop items)
-    ∙ ap₂ (λ (x y : List ℕ). x ++ y) (sym (take-map (character_of old) start items))
-    (map-append (character_of old) (map New new) (drop stop items) ∙ ap₂ (λ (x y : List ℕ). x ++ y)
-    (text_of-new old new) (sym (drop-map (character_of old) stop items))) in
+    let text = text_put old items new start stop in
     ⊎_elim
     (λ (e : nat_le start stop ≡ true). rw e (ap (λ (t : List ℕ). Ok t) (sym text)))
     (λ (e : nat_le start stop ≡ false). rw e refl)
@@ -76,11 +71,6 @@ changes_text units old number items (change ∷ batch) =
         ≡ text_result old (continue_with (λ next. after_changes units old (suc number) next batch) number made)
     go_on_text (Ok next) more = more next
     go_on_text (Err fault) more = refl
-
-fault_edit : (number : ℕ) (why : Fault) → EditOf (fault_at number why) ≡ batch_fault_of (fault_at number why)
-fault_edit number InsideStart = refl
-fault_edit number InsideStop = refl
-fault_edit number Reversed = refl
 
 module _ (units : ℕ → ℕ) (before : List ℕ) (batch : List ContentChange) where
   batch_text : text_after_changes units 0 (chars before) batch ≡ text_result (chars before)
@@ -137,13 +127,6 @@ module _ (units : ℕ → ℕ) (before : List ℕ) (batch : List ContentChange) 
 
 -- ---- one change of a range
 
--- what was found of the places in a text, said of its bytes
-pub places_seen : (units : ℕ → ℕ) (number : ℕ) (range : Range) (r : Result (ℕ × ℕ) EditFault) (seen bytes : List ℕ)
-    → seen ≡ bytes → r ≡ places_at number (chars seen) (ends_of units (chars seen) range)
-    → r ≡ places_at number (chars bytes) (ends_of units (chars bytes) range)
-places_seen units number range r seen bytes same found =
-    subst (λ (b : List ℕ). r ≡ places_at number (chars b) (ends_of units (chars b) range)) same found
-
 -- A range's places in a text, and what a text in their place leaves.
 pub record IsRanged (units : ℕ → ℕ) (before : List ℕ) (range : Range) (new : List ℕ) (start stop : ℕ) : Type 0 where
   pub order : start ≤ stop
@@ -166,15 +149,9 @@ module _ (units : ℕ → ℕ) (number : ℕ) (before : List ℕ) (utf8 : IsUtf8
       let ends : AreEnds units (chars before) range start stop =
       ends_told units (chars before) range number start stop error in
       let cs : List ℕ = take ends.low (chars before) ++ (chars new ++ drop ends.high (chars before)) in
-      let front : encode_utf8_all (take ends.low (chars before)) ≡ take start before
-      = sym (take_place (chars before) ends.low) ∙ rw (ends.start_is, encodes-chars before utf8) refl in
-      let back : encode_utf8_all (drop ends.high (chars before)) ≡ drop stop before
-      = sym (drop_place (chars before) ends.high) ∙ rw (ends.stop_is, encodes-chars before utf8) refl in
-      let bytes : encode_utf8_all cs ≡ replace_range before start stop new
-      = encodes-append (take ends.low (chars before)) (chars new ++ drop ends.high (chars before))
-      ∙ (ap₂ (λ (x y : List ℕ). x ++ y) front (encodes-append (chars new) (drop ends.high (chars before))
-      ∙ ap₂ (λ (x y : List ℕ). x ++ y) (encodes-chars new new_utf8) back)
-      ∙ sym (assoc (take start before) new (drop stop before))) in
+      let bytes : encode_utf8_all cs ≡ replace_range before start stop new =
+      bytes_put (chars before) new ends.low ends.high start stop new_utf8 ends.start_is ends.stop_is
+      ∙ ap (λ (bs : List ℕ). replace_range bs start stop new) (encodes-chars before utf8) in
       let whole : IsUtf8 (replace_range before start stop new)
       = IsUtf8-append (take start before ++ new) (drop stop before)
       (IsUtf8-append (take start before) new (IsUtf8-take before start utf8 at_start) new_utf8)
@@ -184,9 +161,6 @@ module _ (units : ℕ → ℕ) (number : ℕ) (before : List ℕ) (utf8 : IsUtf8
         ends.high_is,
         le-leb ends.low ends.high ends.order,
       ) (ap (λ (t : List ℕ). Ok t) (chars_from_encodes cs (replace_range before start stop new) whole bytes))
-    where
-      assoc : (a b c : List ℕ) → a ++ b ++ c ≡ a ++ (b ++ c)
-      assoc a b c = simp append_assoc
 
   pub is_ranged : (start stop : ℕ) → Ok (
     start,
@@ -205,7 +179,7 @@ module _ (units : ℕ → ℕ) (number : ℕ) (before : List ℕ) (utf8 : IsUtf8
         left = range_left start stop error at_start at_stop;
         longer = omega (
           arith,
-          replaced_len before utf8 start stop new new_utf8 order at_start at_stop,
+          replaced_length before new start stop order at_stop.0,
           order,
           at_stop.0,
         );
@@ -217,23 +191,13 @@ module _ (units : ℕ → ℕ) (number : ℕ) (before : List ℕ) (utf8 : IsUtf8
       → IsFaultOf number (text_after_change units (chars before) (record { range = Some range; text = chars new }))
       fault
   range_faulted fault error =
-      by_ends (denoted units (chars before) range.start) (denoted units (chars before) range.stop) error
-    where
-      by_ends : (a b : Option ℕ) → ◌≡◌ {A = Result (ℕ × ℕ) EditFault} (Err fault)
-          (places_at number (chars before) (in_order a b))
-          → IsFaultOf number (text_replaced (chars before) (chars new) a b) fault
-      by_ends None b e = inr (InsideStart, refl, cc)
-      by_ends (Some a) None e = inr (InsideStop, refl, cc)
-      by_ends (Some a) (Some b) e =
-          ⊎_elim
-          (λ (o : nat_le a b ≡ true). absurd (let f : ◌≡◌ {A = Result (ℕ × ℕ) EditFault} (Err fault)
-          (Ok (place_of (chars before) a, place_of (chars before) b)) = rw o at e in cc))
-          (λ (o : nat_le a b ≡ false). inr (
-            Reversed,
-            rw o refl,
-            (let f : ◌≡◌ {A = Result (ℕ × ℕ) EditFault} (Err fault) (Err (fault_at number Reversed)) = rw o at e in cc),
-          ))
-          (cases_Bool (nat_le a b))
+      ⊎_elim
+      (λ (memory : fault ≡ NoMemory). inl memory)
+      (λ (t : (why : Fault) × (changed_in units (chars before) (plain (chars before)) (chars new) (Some range) ≡ Err why)
+      × (fault ≡ fault_at number why)).
+      inr (t.0, rw plain_text at (change_text units (chars before) (plain (chars before)) (chars new) (Some range)
+      ∙ ap (text_result (chars before)) t.1), t.2))
+      (fault_told units (chars before) (plain (chars before)) (chars new) range number fault (inr (rw plain_text error)))
 
 -- ---- a batch, change by change
 

@@ -6,6 +6,7 @@ use Rattle.std.specs.List.{replace_range}
 use Rattle.std.specs.Str.{IsCharBoundary, IsUtf8, chars}
 use Rattle.lsp_text.specs.declared.encoding.Encoding.{Encoding}
 use Rattle.lsp_text.specs.Units.{units_in}
+use Rattle.lsp_buffer.proofs.Changes.ChangeLemmas.{replaced_length}
 use Rattle.lsp_edit.specs.declared.change.Change.{Change}
 use Rattle.lsp_edit.specs.declared.delta.Delta.{Delta}
 use Rattle.lsp_edit.specs.declared.delta.Delta.TheVariants.{Put, Left}
@@ -24,7 +25,7 @@ use Rattle.lsp_edit.proofs.Batches.LawLemmas.{canonical_law, units_some}
 use Rattle.lsp_edit.proofs.Batches.PlainLemmas.{applying_begins}
 use Rattle.lsp_edit.proofs.Composing.EditedLemmas.{first_bytes, plain_text}
 use Rattle.lsp_edit.proofs.Composing.RoomLemmas.{Applying, applying_on}
-use Rattle.lsp_edit.proofs.Deltas.InPlaceLemmas.{replaced_len, range_bytes_left, range_means, range_order, range_start, range_stop}
+use Rattle.lsp_edit.proofs.Deltas.InPlaceLemmas.{range_bytes_left, range_means, range_order, range_start, range_stop}
 
 -- A text that is within a limit is what a batch leaves.
 pub record IsWithin (before : List ℕ) (meant : Result (List Item) (ℕ × Fault)) (left : List ℕ) : Type 0 where
@@ -66,8 +67,8 @@ module _ (units : ℕ → ℕ) (before : List ℕ) (start stop : ℕ) (new : Lis
   pub put_stop : IsCharBoundary before stop
   put_stop = range_stop units before p.utf8 p.range new p.new_utf8 start stop p.places
 
-  pub put_len : length (replace_range before start stop new) ≡ start + length new + (length before - stop)
-  put_len = replaced_len before p.utf8 start stop new p.new_utf8 put_order put_start put_stop
+  pub put_len : length (replace_range before start stop new) ≡ length before - (stop - start) + length new
+  put_len = replaced_length before new start stop put_order put_stop.0
 
   -- What callers see of pieces of the text before any change.
   module _ (edited : PlainData)

@@ -2,9 +2,11 @@ use Rattle.std.proofs.Common.{◌≡◌, refl, length, IsUtf8, ap, inr, subst, a
 use Rattle.std.proofs.lemmas.Result.{err_from_is_err_and}
 use Rattle.std.specs.Str.{chars}
 use Rattle.lsp_text.specs.Units.{units_in}
+use Rattle.lsp_buffer.proofs.Changes.ChangeLemmas.{replaced_length}
 use Rattle.lsp_edit.specs.Faults.{places_at}
 use Rattle.lsp_edit.specs.Batch.{ends_of}
-use Rattle.lsp_edit.proofs.Deltas.InPlaceLemmas.{places_of_bytes, range_fault, range_means, range_order, range_start, range_stop, range_too_long, range_within, replaced_len}
+use Rattle.lsp_edit.proofs.Composing.AppliedLemmas.{places_seen}
+use Rattle.lsp_edit.proofs.Deltas.InPlaceLemmas.{range_fault, range_means, range_order, range_stop, range_too_long, range_within}
 use Rattle.lsp_edit.proofs.indexed.IndexedText.put_delta.Goals as goal
 
 pub returns-in_err-start-clause-error : goal.returns-in_err-start-clause-error
@@ -13,7 +15,7 @@ returns-in_err-start-clause-error c =
     rw (p.1, p.2)
     (range_fault (units_in c.args.encoding) c.args.self.now (subst IsUtf8 c.text-text.ensures c.len-len.ensures.utf8)
     c.args.range c.args.new.now c.utf8.new c.args.max_len _
-    (places_of_bytes (units_in c.args.encoding) c.args.range _ _ _ c.text-text.ensures c.in_err-start.ensures))
+    (places_seen (units_in c.args.encoding) 0 c.args.range _ _ _ c.text-text.ensures c.in_err-start.ensures))
 
 pub overflow_sub-stop : goal.overflow_sub-stop
 overflow_sub-stop c =
@@ -33,10 +35,8 @@ returns-then-len-stop-clause-error c =
       c.in_ok-start.start,
       c.in_ok-start.stop,
     ) ≡ places_at 0 (chars c.args.self.now) (ends_of (units_in c.args.encoding) (chars c.args.self.now) c.args.range) =
-    places_of_bytes (units_in c.args.encoding) c.args.range _ _ _ c.text-text.ensures c.in_ok-start.ensures in
+    places_seen (units_in c.args.encoding) 0 c.args.range _ _ _ c.text-text.ensures c.in_ok-start.ensures in
     let order = range_order (units_in c.args.encoding) c.args.self.now utf8 c.args.range c.args.new.now c.utf8.new
-    c.in_ok-start.start c.in_ok-start.stop error in
-    let start = range_start (units_in c.args.encoding) c.args.self.now utf8 c.args.range c.args.new.now c.utf8.new
     c.in_ok-start.start c.in_ok-start.stop error in
     let stop = range_stop (units_in c.args.encoding) c.args.self.now utf8 c.args.range c.args.new.now c.utf8.new
     c.in_ok-start.start c.in_ok-start.stop error in
@@ -45,8 +45,7 @@ returns-then-len-stop-clause-error c =
     c.in_ok-start.start c.in_ok-start.stop error c.args.max_len
     (omega (
       arith,
-      replaced_len c.args.self.now utf8 c.in_ok-start.start c.in_ok-start.stop c.args.new.now c.utf8.new order start
-          stop,
+      replaced_length c.args.self.now c.args.new.now c.in_ok-start.start c.in_ok-start.stop order stop.0,
       order,
       stop.0,
       c.if-len-stop.true,
@@ -61,10 +60,8 @@ returns-clause-ok c =
       c.in_ok-start.start,
       c.in_ok-start.stop,
     ) ≡ places_at 0 (chars c.args.self.now) (ends_of (units_in c.args.encoding) (chars c.args.self.now) c.args.range) =
-    places_of_bytes (units_in c.args.encoding) c.args.range _ _ _ c.text-text.ensures c.in_ok-start.ensures in
+    places_seen (units_in c.args.encoding) 0 c.args.range _ _ _ c.text-text.ensures c.in_ok-start.ensures in
     let order = range_order (units_in c.args.encoding) c.args.self.now utf8 c.args.range c.args.new.now c.utf8.new
-    c.in_ok-start.start c.in_ok-start.stop error in
-    let start = range_start (units_in c.args.encoding) c.args.self.now utf8 c.args.range c.args.new.now c.utf8.new
     c.in_ok-start.start c.in_ok-start.stop error in
     let stop = range_stop (units_in c.args.encoding) c.args.self.now utf8 c.args.range c.args.new.now c.utf8.new
     c.in_ok-start.start c.in_ok-start.stop error in
@@ -85,8 +82,7 @@ returns-clause-ok c =
           c.in_ok-start.start c.in_ok-start.stop error c.args.max_len
           (omega (
             arith,
-            replaced_len c.args.self.now utf8 c.in_ok-start.start c.in_ok-start.stop c.args.new.now c.utf8.new order
-                start stop,
+            replaced_length c.args.self.now c.args.new.now c.in_ok-start.start c.in_ok-start.stop order stop.0,
             order,
             stop.0,
             c.if-len-stop.false,
