@@ -1,5 +1,5 @@
 -- What was resolved once, read again.
-use Rattle.std.proofs.Common.{ℕ, ◌≡◌, ◌+◌, ◌-◌, ◌<◌, ◌≤◌, true, false, List, [], ◌∷◌, length, map, drop, refl, sym, ap, ◌∙◌, subst, arith, ⊎_elim, nat_lt, Some, Result, Ok, Err}
+use Rattle.std.proofs.Common.{ℕ, ◌≡◌, ◌+◌, ◌-◌, ◌<◌, ◌≤◌, true, false, List, [], ◌∷◌, length, map, drop, refl, sym, ap, ap₂, ◌∙◌, subst, arith, encode_utf8_all, ⊎_elim, nat_lt, Some, Result, Ok, Err}
 use Rattle.std.proofs.lemmas.Bool.{cases_Bool, cases_lt, ltb-false}
 use Rattle.std.proofs.lemmas.List.{drop_all}
 use Rattle.std.specs.List.{replace_range}
@@ -105,6 +105,12 @@ module _ (units : ℕ → ℕ) (before : List ℕ) (start stop : ℕ) (new : Lis
   pub put_bytes : bytes_left before (put_items before start stop new) ≡ replace_range before start stop new
   put_bytes = range_bytes_left units before p.utf8 p.range new p.new_utf8 start stop p.places
 
+-- The bytes of pieces with these items.
+pub left_bytes : (before left : List ℕ) (items : List Item) (edited : PlainData) → edited.before ≡ chars before
+    → edited.items ≡ items → bytes_left before items ≡ left → edited_bytes edited ≡ left
+left_bytes before left items edited old_is items_are is =
+    ap₂ (λ (old : List ℕ) (made : List Item). encode_utf8_all (text_of old made)) old_is items_are ∙ is
+
 -- A delta means what some batch means.
 pub record HasBatch (before : List ℕ) (delta : Delta) : Type 0 where
   pub units : ℕ → ℕ
@@ -128,6 +134,13 @@ has_batch before (Left left) on = record {
 on_utf8 : (before : List ℕ) (delta : Delta) → IsOn before delta → IsUtf8 before
 on_utf8 before (Put put) on = on.utf8
 on_utf8 before (Left left) on = on.utf8
+
+-- The canonical batch of items is that of what is meant.
+pub same_canonical : (units : ℕ → ℕ) (text old : List ℕ) (meant : Result (List Item) (ℕ × Fault)) (made : List Item)
+    (answered : List ContentChange) → old ≡ text → meant ≡ Ok made → answered ≡ canonical units old made
+    → (items : List Item) → meant ≡ Ok items → answered ≡ canonical units text items
+same_canonical units text old meant made answered old_is made_is is items items_are =
+    let e : made ≡ items = cc in is ∙ ap₂ (canonical units) old_is e
 
 -- The canonical batch of a delta is that of its batch.
 pub canonical_is : (encoding : Encoding) (max_len : ℕ) (before : List ℕ) (batch answered : List ContentChange)
