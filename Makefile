@@ -57,7 +57,7 @@ To change it (docs/DEVELOPING.md)
   make quick           every test of every crate, before any proof (CRATE)            rt                          some minutes
   make ready           what is to be mended before a push (CRATE="lsp_store ..")           rt                          under a minute
   make pages           its part on pages: links, versions, widths, words, and so on        python3                     seconds
-  make gate            .ci/run: all proofs, tests, programs and must-fail edits            rt                          90 minutes, later less
+  make gate            .ci/run: all proofs, tests and must-fail edits, then `make test`    rt                          90 minutes, later less
   make minutes         the gate, and where its minutes and its memory go                   rt, python3                 as the gate
   make edits           must-fail edits, also those that the gate leaves out (CRATE)        rt, python3                 minutes a crate
   make refused         out of memory at each request that a test makes (CRATE)             rt, after the gate          seconds
@@ -65,7 +65,7 @@ To change it (docs/DEVELOPING.md)
   make c               the archive for C, and its test in C                                rt                          up to an hour
   make targets         for other systems, in build/ (TARGET="wasm32 ..", ARGS=--check)     rt, it says what else       minutes, once proved
 
-To test what the gate doesn't
+To test what needs no proof, as the gate does at its end
   make test            each of these that this machine can run (PART="examples ..")        python3                     some minutes
   make conformance     the vectors, by a plain program and its mistakes                    python3                     half a minute
   make callers         the program on each crate's page (CRATE="lsp_text ..")              rt                          some minutes

@@ -4,6 +4,8 @@ import re
 
 from session_log import EDITOR, SERVER, Fault
 
+DOCUMENTS = ("textDocument/didOpen", "textDocument/didChange", "textDocument/didClose")
+
 # The decimal digits that a number keeps in Lua's print
 LUA_DIGITS = 14
 
@@ -21,6 +23,10 @@ class Message:
         self.line, self.sender, self.value, self.body, self.stream = line, sender, value, body, stream
         method = value.get("method")
         self.method = method if isinstance(method, str) else None
+
+    def is_of_document(self):
+        """Returns whether the editor opened, changed or closed a document by the message."""
+        return self.sender == EDITOR and self.method in DOCUMENTS
 
     def uri(self):
         """Returns the URI of the document that the message is of, or None."""

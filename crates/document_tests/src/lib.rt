@@ -1,4 +1,5 @@
-//! The tests of `lsp_store`, `lsp_server`, `lsp_client` and `lsp_pair`: what no clause of theirs says.
+//! The tests of `ordered_map`, `lsp_store`, `lsp_server`, `lsp_client` and `lsp_pair`: what no
+//! clause of theirs says.
 #![tactic(auto)]
 
 #[cfg(test)]

@@ -7,6 +7,8 @@
 //! - `lsp_bench edits` composes batches of changes.
 //! - `lsp_bench documents` makes a thousand keystrokes in each document.
 //! - `lsp_bench closing` opens and closes 65,536 documents.
+//! - `lsp_bench again` types and deletes five million letters, and closes and opens as many
+//!   documents.
 //! - `lsp_bench pairs` makes a million keystrokes in five rounds through both ends of a session.
 //! - `lsp_bench parse` frames and parses what standard input has, and prints how much that was.
 //!
@@ -15,6 +17,7 @@
 #![tactic(auto)]
 
 mod closing;
+mod comes_and_goes;
 mod documents;
 mod edits;
 mod frames;
@@ -36,6 +39,7 @@ fn main(rt: HostRuntime) -> io::Result<()> {
         "edits" => edits::run(&rt),
         "documents" => documents::run(&rt, 1_000),
         "closing" => closing::run(&rt, 65_536),
+        "again" => comes_and_goes::run(&rt, 1_000_000),
         "pairs" => pairs::run(&rt, 200_000),
         "parse" => parse(&rt),
         number => match number.parse() {
@@ -51,6 +55,7 @@ fn run<R: Runtime + AllocGlobal>(rt: &R, megabytes: u16) -> io::Result<()> {
     messages::run(rt, megabytes)?;
     documents::run(rt, 10)?;
     closing::run(rt, 1_000)?;
+    comes_and_goes::run(rt, 100_000)?;
     pairs::run(rt, 2_000)
 }
 

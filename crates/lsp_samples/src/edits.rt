@@ -1,5 +1,6 @@
 //! Changes as rows of numbers and a text.
 
+use crate::again;
 use lsp_edit::{Change, TextEdit};
 use lsp_text::{Position, Range};
 use std::alloc::{AllocError, Global};
@@ -44,13 +45,7 @@ pub fn batch_again(
     edits: &[Edit],
     refused: &mut usize,
 ) -> Result<Vec<Change>, AllocError> {
-    match batch(alloc, edits) {
-        Ok(changes) => Ok(changes),
-        Err(AllocError) => {
-            *refused = refused.saturating_add(1);
-            batch(alloc, edits)
-        }
-    }
+    again!(refused, AllocError, batch(alloc, edits))
 }
 
 /// Makes the text edit of a row, which has a range.

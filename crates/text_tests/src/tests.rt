@@ -2,4 +2,5 @@
 
 mod batches;
 mod buffer;
+mod faults;
 mod lines;

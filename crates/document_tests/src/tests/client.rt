@@ -1,50 +1,24 @@
 //! Sessions of a client: calls and bodies, each with the expected result.
 
-mod faults;
 mod phases;
 mod refused;
 mod session;
 
+use super::URI;
 use lsp_client::{Client, ClientFault, Delivered, Phase, Reason};
-use lsp_edit::Change;
 use lsp_frame::{Limits, frame};
 use lsp_message::Offers;
-use lsp_text::{Position, Range};
+use lsp_samples::edits::batch;
 use std::alloc::{AllocError, Global};
-use std::test::Fail;
 
-const URI: &str = "file:///a";
-
-/// Returns a client that offers UTF-16 alone, with wide limits.
-fn new_client(alloc: Global) -> Result<Client, Fail> {
-    client_with(alloc, Offers::new(false, false))
+/// Returns a client that offers UTF-16 alone.
+fn new_client(alloc: Global) -> Client {
+    Client::new(alloc, Limits::default(), Offers::new(false, false))
 }
 
-fn client_with(alloc: Global, offers: Offers) -> Result<Client, Fail> {
-    let limits = Limits::new(16_777_216, 16_777_216, 1_024, 65_536)?;
-    Ok(Client::new(alloc, limits, offers))
-}
-
-/// Returns a change of characters on line 0.
-fn change(alloc: Global, start: u32, stop: u32, text: &str) -> Result<Change, AllocError> {
-    let on = |character| Position { line: 0, character };
-    Ok(Change {
-        range: Some(Range {
-            start: on(start),
-            stop: on(stop),
-        }),
-        text: String::from_str(alloc, text)?,
-    })
-}
-
-fn open_as(
-    alloc: Global,
-    client: &mut Client,
-    uri: &str,
-    text: &str,
-) -> Result<Vec<u8>, ClientFault> {
+fn open(alloc: Global, client: &mut Client, text: &str) -> Result<Vec<u8>, ClientFault> {
     client.open(
-        String::from_str(alloc, uri)?,
+        String::from_str(alloc, URI)?,
         String::from_str(alloc, "plaintext")?,
         1,
         String::from_str(alloc, text)?,
@@ -73,9 +47,9 @@ fn answer_to(
 ) -> Result<Result<Delivered, ClientFault>, AllocError> {
     let sent = match asked {
         Ask::Start => client.start(),
-        Ask::Open(text) => open_as(alloc, client, URI, text),
+        Ask::Open(text) => open(alloc, client, text),
         Ask::Edit(version, start, stop, text) => {
-            client.edit(URI, version, &[change(alloc, start, stop, text)?])
+            client.edit(URI, version, &batch(alloc, &[(0, start, 0, stop, text)])?)
         }
         Ask::Close => client.close(URI),
         Ask::Shutdown => client.shutdown(),

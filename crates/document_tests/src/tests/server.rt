@@ -1,27 +1,34 @@
 //! What a server answers in each phase, with the exact bytes, and bodies whose handling runs out of
 //! memory.
 
-mod faults;
 mod front_page;
 mod halves;
 mod made_again;
 mod phases;
 
-use lsp_edit::EditFault;
-use lsp_frame::{BadLimits, Limits, frame};
+use lsp_frame::{Limits, frame};
 use lsp_server::{Answer, ChangeForm, Config, EncodingChoice, Phase, Refusal, Server, ServerFault};
 use lsp_store::StoreFault;
 use lsp_text::Encoding;
 use std::alloc::{AllocError, Global};
+use std::test::Fail;
 
-/// Returns a server with UTF-16, incremental synchronisation and wide limits.
-fn new_server(alloc: Global) -> Result<Server, BadLimits> {
-    let config = Config {
+fn new_server(alloc: Global) -> Server {
+    Server::new(alloc, Config::default())
+}
+
+/// The defaults that `docs/LSPSYNC.md` has, with those of `serve`.
+#[test]
+fn the_default_config(rt: HostRuntime) -> Result<(), Fail> {
+    let documented = Config {
         limits: Limits::new(16_777_216, 16_777_216, 1_024, 65_536)?,
-        choice: EncodingChoice::Fixed(Encoding::Utf16),
+        choice: EncodingChoice::Negotiated {
+            prefer: Encoding::Utf16,
+        },
         sync: ChangeForm::Incremental,
     };
-    Ok(Server::new(alloc, config))
+    assert!(rt; documented == Config::default());
+    Ok(())
 }
 
 /// Leads a new server to this phase, by the bodies that lead it from each phase to the next.
@@ -39,37 +46,6 @@ fn pass(server: &mut Server, bodies: &[&str]) -> Result<(), ServerFault> {
         let _answer = server.handle(body.as_bytes())?;
     }
     Ok(())
-}
-
-/// Returns whether a body has the expected answer.
-fn is_answered(
-    alloc: Global,
-    server: &mut Server,
-    body: &str,
-    wanted: &str,
-) -> Result<bool, AllocError> {
-    let given = server.handle(body.as_bytes());
-    is_answer(alloc, &given, wanted)
-}
-
-/// The version and the text of the document that the bodies name; none where it isn't open.
-type Open = Option<(i32, &'static str)>;
-
-/// Returns whether this is the document that the bodies name.
-fn has_document(server: &Server, wanted: Open) -> bool {
-    match (server.store().get("file:///a"), wanted) {
-        (None, None) => true,
-        (Some(document), Some((version, text))) => {
-            document.version() == version && document.text().is_text(text)
-        }
-        _ => false,
-    }
-}
-
-/// Returns whether this is the one document that is open, or none is where none is expected.
-fn holds(server: &Server, wanted: Open) -> bool {
-    let count = if wanted.is_some() { 1 } else { 0 };
-    has_document(server, wanted) && server.store().len() == count
 }
 
 /// Returns whether this is the expected answer: a reply with this body, or the answer of this word.
@@ -93,26 +69,13 @@ fn word_of(given: &Result<Answer, ServerFault>) -> &'static str {
         Ok(Answer::Changed) => "changed",
         Ok(Answer::Dropped) => "dropped",
         Ok(Answer::Ignored) => "ignored",
-        Ok(Answer::Refused(refusal)) => word_of_refusal(*refusal),
+        Ok(Answer::Refused(Refusal::InvalidParams)) => "refused M4",
+        Ok(Answer::Refused(Refusal::Store(StoreFault::AlreadyOpen))) => "refused S1",
+        Ok(Answer::Refused(_)) => "refused",
         Ok(Answer::Exit(0)) => "exit 0",
         Ok(Answer::Exit(1)) => "exit 1",
         Ok(Answer::Exit(_)) => "exit",
         Err(ServerFault::AlreadyEnded) => "ended",
         Err(ServerFault::NoMemory) => "out of memory",
-    }
-}
-
-fn word_of_refusal(refusal: Refusal) -> &'static str {
-    match refusal {
-        Refusal::InvalidParams => "refused M4",
-        Refusal::Store(StoreFault::AlreadyOpen) => "refused S1",
-        Refusal::Store(StoreFault::TooManyDocuments) => "refused S2",
-        Refusal::Store(StoreFault::TextTooLong) => "refused S3",
-        Refusal::Store(StoreFault::NotOpen) => "refused S4",
-        Refusal::Store(StoreFault::StaleVersion { .. }) => "refused S5",
-        Refusal::Store(StoreFault::TooManyChanges) => "refused S6",
-        Refusal::Store(StoreFault::Edit(EditFault::InsideCharacter { .. })) => "refused E1",
-        Refusal::Store(StoreFault::Edit(EditFault::ReversedRange { .. })) => "refused E2",
-        Refusal::Store(_) => "refused",
     }
 }

@@ -1,6 +1,5 @@
 //! Streams whose frames and faults were worked out by hand, with `max_body` 4,096.
 
-mod faults;
 mod refused;
 mod rows;
 

@@ -2,7 +2,6 @@
 
 ghost use Rattle.std.specs.Prelude.{◌≤◌, length};
 
-mod faults;
 mod pictures;
 mod refused;
 
@@ -110,10 +109,7 @@ fn positions_are_in_the_order_of_the_text(rt: HostRuntime) {
 }
 
 #[test]
-fn an_encoding_is_shown_by_its_name(rt: HostRuntime) -> Result<(), Fail> {
-    let text = format!(in rt.alloc(); "{} {UTF32}", Encoding::Utf8)?;
-    assert_eq!(rt; text.as_str(), "utf-8 utf-32");
+fn an_encoding_is_read_by_its_name(rt: HostRuntime) {
     let parsed: Result<Encoding, UnknownEncoding> = "utf-8".parse();
     assert!(rt; parsed == Ok(Encoding::Utf8));
-    Ok(())
 }

@@ -1,7 +1,7 @@
 //! Calls that run out of memory once, and are repeated.
 
 use super::{Ask, URI, answer_to, new_client};
-use lsp_client::{Client, ClientFault, Delivered, Phase};
+use lsp_client::{Client, ClientFault, Phase};
 use lsp_samples::bodies::{ACCEPTED, SHUT_DOWN};
 use std::alloc::Global;
 use std::process::Abort;
@@ -40,78 +40,62 @@ impl Session {
     }
 }
 
-fn is_done(
-    rt: &impl Abort,
-    alloc: Global,
-    calls: &[Ask],
-    refused: &mut u32,
-) -> Result<Phase, Fail> {
+/// Returns the phase after some calls.
+fn phase_after(rt: &impl Abort, alloc: Global, calls: &[Ask], refused: &mut u32) -> Phase {
     let mut session = Session {
-        client: new_client(alloc)?,
+        client: new_client(alloc),
         refused: *refused,
     };
     for asked in calls {
         assert!(rt; session.call(rt, alloc, *asked), "{asked:?}");
     }
     *refused = session.refused;
-    Ok(session.client.phase())
+    session.client.phase()
 }
 
 /// The response of a server that asks for whole texts.
 const FULL: &str = r#"{"id":1,"jsonrpc":"2.0","result":{"capabilities":{"textDocumentSync":1}}}"#;
 
-static LIFECYCLE: [Ask; 5] = [
-    Ask::Start,
-    Ask::Deliver(ACCEPTED),
-    Ask::Shutdown,
-    Ask::Deliver(SHUT_DOWN),
-    Ask::Exit,
-];
-
-static DOCUMENTS: [Ask; 5] = [
-    Ask::Start,
-    Ask::Deliver(ACCEPTED),
-    Ask::Open("abc"),
-    Ask::Edit(2, 1, 2, "X"),
-    Ask::Close,
-];
-
-static WHOLE: [Ask; 4] = [
-    Ask::Start,
-    Ask::Deliver(FULL),
-    Ask::Open("abc"),
-    Ask::Edit(2, 1, 2, "X"),
+/// Calls and bodies, and the phase after them.
+static RUNS: [(&[Ask], Phase); 3] = [
+    (
+        &[
+            Ask::Start,
+            Ask::Deliver(r#"{"id":5,"jsonrpc":"2.0","method":"x"}"#),
+            Ask::Deliver(ACCEPTED),
+            Ask::Shutdown,
+            Ask::Deliver(SHUT_DOWN),
+            Ask::Exit,
+        ],
+        Phase::Done,
+    ),
+    (
+        &[
+            Ask::Start,
+            Ask::Deliver(ACCEPTED),
+            Ask::Open("abc"),
+            Ask::Edit(2, 1, 2, "X"),
+            Ask::Close,
+        ],
+        Phase::Ready,
+    ),
+    (
+        &[
+            Ask::Start,
+            Ask::Deliver(FULL),
+            Ask::Open("abc"),
+            Ask::Edit(2, 1, 2, "X"),
+        ],
+        Phase::Ready,
+    ),
 ];
 
 #[test]
 fn refused_calls(rt: HostRuntime) -> Result<(), Fail> {
     let mut refused = 0;
-    let phase = is_done(&rt, rt.alloc(), &LIFECYCLE, &mut refused)?;
-    assert_eq!(rt; phase, Phase::Done);
-    let phase = is_done(&rt, rt.alloc(), &DOCUMENTS, &mut refused)?;
-    assert_eq!(rt; phase, Phase::Ready);
-    let phase = is_done(&rt, rt.alloc(), &WHOLE, &mut refused)?;
-    assert_eq!(rt; phase, Phase::Ready);
-    println!(rt; "refused {refused}")?;
-    Ok(())
-}
-
-#[test]
-fn refused_requests_of_the_server(rt: HostRuntime) -> Result<(), Fail> {
-    let mut client = new_client(rt.alloc())?;
-    let mut refused = 0;
-    if client.start().is_err() {
-        refused = 1;
-        let _initialize = client.start()?;
+    for (calls, phase) in &RUNS {
+        assert!(rt; phase_after(&rt, rt.alloc(), calls, &mut refused) == *phase);
     }
-    let body = r#"{"id":5,"jsonrpc":"2.0","method":"x"}"#;
-    let mut given = client.deliver(body.as_bytes());
-    if given == Err(ClientFault::NoMemory) {
-        refused = 1;
-        assert_eq!(rt; client.phase(), Phase::Asked);
-        given = client.deliver(body.as_bytes());
-    }
-    assert!(rt; matches!(given, Ok(Delivered::Send(_))));
     println!(rt; "refused {refused}")?;
     Ok(())
 }

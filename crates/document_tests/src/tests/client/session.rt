@@ -2,9 +2,9 @@
 
 use super::{Ask, URI, answer_to};
 use lsp_client::{Client, Delivered, Phase};
-use lsp_frame::{Framer, Limits};
+use lsp_frame::Framer;
 use lsp_message::Offers;
-use lsp_server::{Answer, ChangeForm, Config, EncodingChoice, Server};
+use lsp_server::{Answer, Config, EncodingChoice, Server};
 use lsp_text::Encoding;
 use std::alloc::Global;
 use std::test::Fail;
@@ -16,20 +16,17 @@ struct Ends {
     server: Server,
 }
 
-fn new_ends(alloc: Global) -> Result<Ends, Fail> {
-    let limits = Limits::new(16_777_216, 16_777_216, 1_024, 65_536)?;
-    let choice = EncodingChoice::Negotiated {
-        prefer: Encoding::Utf8,
-    };
+fn new_ends(alloc: Global) -> Ends {
     let config = Config {
-        limits,
-        choice,
-        sync: ChangeForm::Incremental,
+        choice: EncodingChoice::Negotiated {
+            prefer: Encoding::Utf8,
+        },
+        ..Config::default()
     };
-    Ok(Ends {
-        client: Client::new(alloc, limits, Offers::new(true, false)),
+    Ends {
+        client: Client::new(alloc, config.limits, Offers::new(true, false)),
         server: Server::new(alloc, config),
-    })
+    }
 }
 
 /// Passes the body of a frame to the server, and returns the frame of its reply.
@@ -102,7 +99,7 @@ static TALK: [(Ask, &str); 6] = [
 
 #[test]
 fn a_client_and_a_server_talk(rt: HostRuntime) -> Result<(), Fail> {
-    let mut ends = new_ends(rt.alloc())?;
+    let mut ends = new_ends(rt.alloc());
     for (asked, text) in &TALK {
         ends.call(rt.alloc(), *asked)?;
         assert_eq!(rt; ends.server_text(), *text, "{asked:?}");

@@ -1,16 +1,13 @@
 //! The two programs of the crate's head comment.
 
+use super::new_server;
 use lsp_frame::{Framer, frame};
 use lsp_message::Id;
 use lsp_samples::bodies::{ACCEPTED, EXIT, INITIALIZE, OPEN, SHUT_DOWN, SHUTDOWN};
 use lsp_samples::logs::log;
-use lsp_server::{Answer, Config, Incoming, Limits, Phase, Server, ServerFault};
+use lsp_server::{Answer, Incoming, Limits, Phase, Server, ServerFault};
 use std::alloc::{AllocError, Global};
 use std::test::Fail;
-
-fn new_server(alloc: Global) -> Server {
-    Server::new(alloc, Config::default())
-}
 
 /// Serves a stream that comes frame by frame.
 fn serve(

@@ -1,6 +1,6 @@
 //! Every pair of phase and kind of body.
 
-use super::{is_answered, lead, new_server};
+use super::{is_answer, lead, new_server};
 use lsp_samples::bodies::{
     CHANGE, CLOSE, EXIT, INITIALIZE, INITIALIZED, NO_ID, OPEN, PARSE_ERROR, SHUTDOWN,
 };
@@ -123,9 +123,11 @@ const SHUT_DOWN: &str = r#"{"id":7,"jsonrpc":"2.0","result":null}"#;
 
 /// Returns whether a body has this answer in this phase.
 fn is_answered_in(alloc: Global, phase: Phase, body: &str, wanted: &str) -> Result<bool, Fail> {
-    let mut server = new_server(alloc)?;
+    let mut server = new_server(alloc);
     lead(&mut server, &WAY, phase)?;
-    Ok(server.phase() == phase && is_answered(alloc, &mut server, body, wanted)?)
+    let is_there = server.phase() == phase;
+    let given = server.handle(body.as_bytes());
+    Ok(is_there && is_answer(alloc, &given, wanted)?)
 }
 
 #[test]

@@ -1,22 +1,57 @@
-//! Whole runs of calls on one store, in which a call that runs out of memory is repeated.
+//! Whole runs of calls on one store, in which a call that runs out of memory is made again.
 
-use super::{Open, Row, Step, URI, answer, is_current, narrow};
+use super::{URI, change, narrow, open};
+use crate::tests::{Open, is_left};
 use lsp_edit::EditFault;
 use lsp_frame::Limits;
-use lsp_samples::edits::ALL;
+use lsp_samples::bodies::CANONICAL;
+use lsp_samples::edits::{ALL, Edit, batch};
 use lsp_store::{Store, StoreFault};
 use lsp_text::Encoding;
 use std::alloc::Global;
 use std::process::Abort;
 use std::test::Fail;
 
-/// Returns whether this document is current, or no document is open where none is expected.
-fn is_left(store: &Store, wanted: Open) -> bool {
-    is_current(store, wanted) && (wanted.is_some() || store.len() == 0)
+/// A call on the one document of a store.
+enum Step {
+    Open(i32, &'static str),
+    Change(i32, &'static [Edit]),
+    /// The canonical message, with its body. Its result is the number of the frame's bytes.
+    Canonical(i32, &'static [Edit], &'static str),
+    Close,
+}
+
+use Step::{Canonical, Change, Close, Open as Opens};
+
+/// A call, its result (the bytes of a frame, or 0), and the document after it.
+type Row = (Step, Result<usize, StoreFault>, Open);
+
+/// Returns the number of bytes of a canonical message, and 0 if it isn't of this body.
+fn frame_len(
+    store: &Store,
+    version: i32,
+    changes: &[lsp_edit::Change],
+    body: &str,
+) -> Result<usize, StoreFault> {
+    let frame = store.canonical_message(URI, version, Encoding::Utf16, changes)?;
+    let is_framed = frame.as_slice().ends_with(body.as_bytes());
+    Ok(if is_framed { frame.len() } else { 0 })
+}
+
+fn answer(store: &mut Store, alloc: Global, step: &Step) -> Result<usize, StoreFault> {
+    match step {
+        Opens(version, text) => open(store, alloc, *version, text)?,
+        Change(version, edits) => change(store, *version, &batch(alloc, edits)?)?,
+        Canonical(version, edits, body) => {
+            return frame_len(store, *version, &batch(alloc, edits)?, body);
+        }
+        Close => store.close(URI)?,
+    }
+    Ok(0)
 }
 
 /// Returns whether the result of a call and the document after it are those of its row. Where
-/// memory runs out the document is unchanged, and the call repeated.
+/// memory runs out the document is unchanged, and the call made again.
 fn is_answered(
     alloc: Global,
     store: &mut Store,
@@ -48,122 +83,80 @@ fn are_answered(alloc: Global, limits: Limits, rows: &[Row], refused: &mut usize
     true
 }
 
-static AFTER_A_FAULT: [Row; 3] = [
-    (Step::Open(URI, 1, "abc"), Ok(0), Some((1, "abc"))),
+const LAST: i32 = 2_147_483_647;
+
+const MOVED: &str =
+    r#"{"jsonrpc":"2.0","method":"textDocument/didChange","params":{"contentChanges":[{"range":{"end":{"character":8,"line":0},"start":{"character":8,"line":0}},"text":"xyz"},{"range":{"end":{"character":3,"line":0},"start":{"character":0,"line":0}},"text":""}],"textDocument":{"uri":"file:///a","version":2}}}"#;
+
+const NOTHING: &str =
+    r#"{"jsonrpc":"2.0","method":"textDocument/didChange","params":{"contentChanges":[],"textDocument":{"uri":"file:///a","version":2147483647}}}"#;
+
+/// One document of at most 8 bytes, and at most two changes.
+static ROWS: [Row; 22] = [
+    (Opens(1, "abc"), Ok(0), Some((1, "abc"))),
     (
-        Step::Change(
-            URI,
-            2,
-            Encoding::Utf16,
-            &[(0, 0, 0, 1, "Z"), (0, 2, 0, 1, "")],
-        ),
+        Change(2, &[(0, 0, 0, 1, "Z"), (0, 2, 0, 1, "")]),
         Err(StoreFault::Edit(EditFault::ReversedRange { change: 1 })),
         Some((1, "abc")),
     ),
+    (Change(2, &[(0, 0, 0, 1, "Z")]), Ok(0), Some((2, "Zbc"))),
+    (Close, Ok(0), None),
+    // A text that would be too long, and one that is too long before the last change.
+    (Opens(1, "abcdefgh"), Ok(0), Some((1, "abcdefgh"))),
     (
-        Step::Change(URI, 2, Encoding::Utf16, &[(0, 0, 0, 1, "Z")]),
-        Ok(0),
-        Some((2, "Zbc")),
-    ),
-];
-
-/// Texts of at most 8 bytes. The canonical message has a body of 303 bytes and a header of 23.
-static LONG_TEXTS: [Row; 4] = [
-    (Step::Open(URI, 1, "abcdefgh"), Ok(0), Some((1, "abcdefgh"))),
-    (
-        Step::Change(URI, 2, Encoding::Utf16, &[(0, 8, 0, 8, "x")]),
+        Change(2, &[(0, 8, 0, 8, "x")]),
         Err(StoreFault::TextTooLong),
         Some((1, "abcdefgh")),
     ),
     (
-        Step::Canonical(URI, 2, &[(0, 0, 0, 3, ""), (0, 5, 0, 5, "xyz")]),
+        Canonical(2, &[(0, 0, 0, 3, ""), (0, 5, 0, 5, "xyz")], MOVED),
         Ok(326),
         Some((1, "abcdefgh")),
     ),
     (
-        Step::Change(
-            URI,
-            2,
-            Encoding::Utf16,
-            &[(0, 0, 0, 3, ""), (0, 5, 0, 5, "xyz")],
-        ),
+        Change(2, &[(0, 0, 0, 3, ""), (0, 5, 0, 5, "xyz")]),
         Ok(0),
         Some((2, "defghxyz")),
     ),
-];
-
-/// Changes of a range and of a batch that move lines.
-static LINES: [Row; 3] = [
-    (Step::Open(URI, 1, "a\nb"), Ok(0), Some((1, "a\nb"))),
+    (Close, Ok(0), None),
+    // Changes of a range and of a batch that move lines.
+    (Opens(1, "a\nb"), Ok(0), Some((1, "a\nb"))),
     (
-        Step::Change(URI, 2, Encoding::Utf16, &[(0, 1, 1, 1, "X\r\n\n")]),
+        Change(2, &[(0, 1, 1, 1, "X\r\n\n")]),
         Ok(0),
         Some((2, "aX\r\n\n")),
     ),
     (
-        Step::Change(
-            URI,
-            3,
-            Encoding::Utf16,
-            &[(0, 1, 0, 2, "\n"), (1, 0, 1, 0, "c")],
-        ),
+        Change(3, &[(0, 1, 0, 2, "\n"), (1, 0, 1, 0, "c")]),
         Ok(0),
         Some((3, "a\nc\r\n\n")),
     ),
-];
-
-const LAST: i32 = 2_147_483_647;
-
-/// One document and one change.
-static REFUSALS: [Row; 8] = [
-    (Step::Open(URI, 5, "a"), Ok(0), Some((5, "a"))),
+    (Close, Ok(0), None),
+    // Versions.
+    (Opens(5, "abc"), Ok(0), Some((5, "abc"))),
     (
-        Step::Change(URI, 5, Encoding::Utf16, &[]),
+        Change(5, &[]),
         Err(StoreFault::StaleVersion { held: 5 }),
-        Some((5, "a")),
+        Some((5, "abc")),
     ),
-    (Step::Canonical(URI, LAST, &[]), Ok(161), Some((5, "a"))),
+    (Canonical(LAST, &[], NOTHING), Ok(161), Some((5, "abc"))),
+    (Change(LAST, &[]), Ok(0), Some((LAST, "abc"))),
+    (Close, Ok(0), None),
+    // Whole texts.
+    (Opens(1, "abc"), Ok(0), Some((1, "abc"))),
     (
-        Step::Change(URI, LAST, Encoding::Utf16, &[]),
-        Ok(0),
-        Some((LAST, "a")),
-    ),
-    (Step::Close(URI), Ok(0), None),
-    (Step::Open(URI, 1, "a"), Ok(0), Some((1, "a"))),
-    (Step::Close(URI), Ok(0), None),
-    (Step::Close(URI), Err(StoreFault::NotOpen), None),
-];
-
-/// Bodies of 217, 214 and 129 bytes.
-static WHOLE_TEXTS: [Row; 6] = [
-    (Step::Open(URI, 1, "abc"), Ok(0), Some((1, "abc"))),
-    (
-        Step::Canonical(URI, 2, &[(ALL, 0, 0, 0, "abc")]),
+        Canonical(2, &[(ALL, 0, 0, 0, "aXc")], CANONICAL),
         Ok(240),
         Some((1, "abc")),
     ),
-    (
-        Step::Canonical(URI, 2, &[(ALL, 0, 0, 0, "")]),
-        Ok(237),
-        Some((1, "abc")),
-    ),
-    (Step::Close(URI), Ok(0), None),
-    (Step::Open(URI, 1, ""), Ok(0), Some((1, ""))),
-    (
-        Step::Canonical(URI, 2, &[(ALL, 0, 0, 0, "")]),
-        Ok(152),
-        Some((1, "")),
-    ),
+    (Close, Ok(0), None),
+    (Close, Err(StoreFault::NotOpen), None),
 ];
 
 #[test]
 fn refused_calls_on_one_store(rt: HostRuntime) -> Result<(), Fail> {
     let mut refused = 0;
-    assert!(rt; are_answered(rt.alloc(), narrow(1, 2)?, &LINES, &mut refused));
-    assert!(rt; are_answered(rt.alloc(), narrow(1, 2)?, &AFTER_A_FAULT, &mut refused));
-    assert!(rt; are_answered(rt.alloc(), narrow(1, 2)?, &LONG_TEXTS, &mut refused));
-    assert!(rt; are_answered(rt.alloc(), narrow(1, 1)?, &REFUSALS, &mut refused));
-    assert!(rt; are_answered(rt.alloc(), narrow(1, 2)?, &WHOLE_TEXTS, &mut refused));
+    assert!(rt; are_answered(rt.alloc(), narrow(8, 2)?, &ROWS, &mut refused));
     println!(rt; "refused {refused}")?;
     Ok(())
 }

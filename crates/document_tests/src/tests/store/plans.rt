@@ -1,43 +1,63 @@
-//! A batch that is planned once: its message, its body and its text are read from the plan, and other
-//! batches are joined to it.
+//! A batch that is planned: its message, its body and its text are read from the plan, other
+//! batches are joined to it, and it is applied.
 
 ghost use Rattle.std.specs.Prelude.{IfOk};
 ghost use Rattle.lsp_store.specs.Plan.{IsPlanOn};
 ghost use Rattle.lsp_store.specs.Squash.{HasReached};
 
 use super::{URI, store_again};
+use crate::tests::is_left;
 use lsp_edit::Change;
-use lsp_samples::edits::{Edit, batch_again};
+use lsp_samples::again;
+use lsp_samples::bodies::{CANONICAL, CHANGE};
+use lsp_samples::edits::{ALL, Edit, batch_again};
 use lsp_store::{Batches, Plan, Store, StoreFault};
 use lsp_text::Encoding;
 use std::alloc::{AllocError, Global};
 use std::test::Fail;
 
-/// The canonical body of the two batches below, and its header.
-const HEADER: &str = "Content-Length: 221\r\n\r\n";
+/// A text, a batch, its canonical body, and the text after it.
+type Row = (&'static str, &'static [Edit], &'static str, &'static str);
 
-const BODY: &str =
-    "{\"jsonrpc\":\"2.0\",\"method\":\"textDocument/didChange\",\"params\":{\"contentChanges\":[{\"range\":{\"end\":{\"character\":1,\"line\":1},\"start\":{\"character\":1,\"line\":0}},\"text\":\"X\\r\\n\\n\"}],\"textDocument\":{\"uri\":\"file:///a\",\"version\":2}}}";
+const LINES: &str =
+    r#"{"jsonrpc":"2.0","method":"textDocument/didChange","params":{"contentChanges":[{"range":{"end":{"character":1,"line":1},"start":{"character":1,"line":0}},"text":"X\r\n\n"}],"textDocument":{"uri":"file:///a","version":2}}}"#;
 
-const LEFT: &str = "aX\r\n\n";
+const NOTHING: &str =
+    r#"{"jsonrpc":"2.0","method":"textDocument/didChange","params":{"contentChanges":[],"textDocument":{"uri":"file:///a","version":2}}}"#;
 
-/// Two batches on `a\nb` that leave [`LEFT`], and have that body.
-static ALIKE: [&[Edit]; 2] = [
-    &[(0, 1, 1, 1, "X\r\n\n")],
-    &[(0, 1, 1, 1, "\r\n\n"), (0, 1, 0, 1, "X")],
+const TWO: &str =
+    r#"{"jsonrpc":"2.0","method":"textDocument/didChange","params":{"contentChanges":[{"range":{"end":{"character":3,"line":0},"start":{"character":3,"line":0}},"text":"Y"},{"range":{"end":{"character":1,"line":0},"start":{"character":0,"line":0}},"text":"Z"}],"textDocument":{"uri":"file:///a","version":2}}}"#;
+
+static ROWS: [Row; 6] = [
+    ("a\nb", &[(0, 1, 1, 1, "X\r\n\n")], LINES, "aX\r\n\n"),
+    (
+        "a\nb",
+        &[(0, 1, 1, 1, "\r\n\n"), (0, 1, 0, 1, "X")],
+        LINES,
+        "aX\r\n\n",
+    ),
+    ("abc", &[(0, 1, 0, 2, "X")], CHANGE, "aXc"),
+    ("abc", &[(0, 0, 0, 1, "Z"), (0, 3, 0, 3, "Y")], TWO, "ZbcY"),
+    (
+        "abc",
+        &[(0, 1, 0, 1, "X"), (0, 1, 0, 2, "")],
+        NOTHING,
+        "abc",
+    ),
+    ("abc", &[(ALL, 0, 0, 0, "aXc")], CANONICAL, "aXc"),
 ];
 
-/// Returns whether a plan has that message. Out of memory is counted, and the same plan is asked
-/// again.
-fn has_message(store: &Store, plan: &Plan<'_>, refused: &mut usize) -> Result<bool, StoreFault>
+/// Returns whether a plan has the message of its row.
+fn has_message(
+    store: &Store,
+    plan: &Plan<'_>,
+    row: &Row,
+    refused: &mut usize,
+) -> Result<bool, StoreFault>
     requires { IsPlanOn store.now plan.now }
 {
-    let mut frame = store.planned_message(plan);
-    if matches!(frame, Err(StoreFault::NoMemory)) {
-        *refused = refused.saturating_add(1);
-        frame = store.planned_message(plan);
-    }
-    Ok(frame?.as_slice().strip_prefix(HEADER.as_bytes()) == Some(BODY.as_bytes()))
+    let frame = again!(refused, StoreFault::NoMemory, store.planned_message(plan))?;
+    Ok(frame.as_slice().ends_with(row.2.as_bytes()))
 }
 
 /// Returns whether a plan's body is appended to bytes. Out of memory leaves them as they were.
@@ -45,6 +65,7 @@ fn has_body(
     alloc: Global,
     store: &Store,
     plan: &Plan<'_>,
+    row: &Row,
     refused: &mut usize,
 ) -> Result<bool, StoreFault>
     requires { IsPlanOn store.now plan.now }
@@ -60,24 +81,23 @@ fn has_body(
         }
         store.push_planned_body(&mut bytes, plan)?;
     }
-    Ok(bytes.as_slice() == BODY.as_bytes())
+    Ok(bytes.as_slice() == row.2.as_bytes())
 }
 
-/// Returns whether a plan leaves [`LEFT`].
-fn has_text(store: &Store, plan: &Plan<'_>, refused: &mut usize) -> Result<bool, AllocError>
+/// Returns whether a plan leaves the text of its row.
+fn has_text(
+    store: &Store,
+    plan: &Plan<'_>,
+    row: &Row,
+    refused: &mut usize,
+) -> Result<bool, AllocError>
     requires { IsPlanOn store.now plan.now }
 {
-    let text = match store.planned_text(plan) {
-        Ok(text) => text,
-        Err(AllocError) => {
-            *refused = refused.saturating_add(1);
-            store.planned_text(plan)?
-        }
-    };
-    Ok(text.as_str() == LEFT)
+    let text = again!(refused, AllocError, store.planned_text(plan))?;
+    Ok(text.as_str() == row.3)
 }
 
-/// Plans a batch. Out of memory is counted, and the batch planned again.
+/// Plans a batch. Out of memory is counted, and the call made again.
 fn plan_again<'a>(
     store: &Store,
     changes: &'a [Change],
@@ -85,47 +105,69 @@ fn plan_again<'a>(
 ) -> Result<Plan<'a>, StoreFault>
     ensures { IfOk result (IsPlanOn store.now) }
 {
-    match store.plan(URI, 2, Encoding::Utf16, changes) {
-        Err(StoreFault::NoMemory) => {
-            *refused = refused.saturating_add(1);
-            store.plan(URI, 2, Encoding::Utf16, changes)
-        }
-        other => other,
-    }
+    again!(
+        refused,
+        StoreFault::NoMemory,
+        store.plan(URI, 2, Encoding::Utf16, changes)
+    )
 }
 
-/// Returns whether message, body and text of a plan are those.
+/// Returns whether message, body and text of a plan are those of its row.
 fn is_read(
     alloc: Global,
     store: &Store,
     changes: &[Change],
+    row: &Row,
     refused: &mut usize,
 ) -> Result<bool, StoreFault> {
     let plan = plan_again(store, changes, refused)?;
     Ok(
-        has_message(store, &plan, refused)?
-            && has_body(alloc, store, &plan, refused)?
-            && has_text(store, &plan, refused)?,
+        has_message(store, &plan, row, refused)?
+            && has_body(alloc, store, &plan, row, refused)?
+            && has_text(store, &plan, row, refused)?,
     )
 }
 
-fn is_read_again(alloc: Global, edits: &[Edit], refused: &mut usize) -> Result<bool, StoreFault> {
-    let store = store_again(alloc, "a\nb", refused)?;
-    let changes = batch_again(alloc, edits, refused)?;
-    is_read(alloc, &store, &changes, refused)
+/// Plans a batch and applies the plan. Where memory runs out the store is as it was, and both calls
+/// are made again.
+fn is_applied(
+    store: &mut Store,
+    changes: &[Change],
+    row: &Row,
+    refused: &mut usize,
+) -> Result<bool, StoreFault> {
+    let plan = plan_again(store, changes, refused)?;
+    if store.apply(plan).is_err() {
+        *refused = refused.saturating_add(1);
+        if !is_left(store, Some((1, row.0))) {
+            return Ok(false);
+        }
+        let plan = plan_again(store, changes, refused)?;
+        store.apply(plan)?;
+    }
+    Ok(is_left(store, Some((2, row.3))))
+}
+
+fn is_planned(alloc: Global, row: &Row, refused: &mut usize) -> Result<bool, StoreFault> {
+    let mut store = store_again(alloc, row.0, refused)?;
+    let changes = batch_again(alloc, row.1, refused)?;
+    Ok(
+        is_read(alloc, &store, &changes, row, refused)?
+            && is_applied(&mut store, &changes, row, refused)?,
+    )
 }
 
 #[test]
-fn refused_reading_of_a_plan(rt: HostRuntime) -> Result<(), Fail> {
+fn refused_reading_and_applying_of_a_plan(rt: HostRuntime) -> Result<(), Fail> {
     let mut refused = 0;
-    for edits in &ALIKE {
-        assert!(rt; is_read_again(rt.alloc(), edits, &mut refused)?);
+    for (index, row) in ROWS.iter().enumerate() {
+        assert!(rt; is_planned(rt.alloc(), row, &mut refused)?, "{index}");
     }
     println!(rt; "refused {refused}")?;
     Ok(())
 }
 
-/// Starts batches at the document of a plan. Out of memory is counted, and the call repeated.
+/// Starts batches at the document of a plan. Out of memory is counted, and the call made again.
 fn start_again(
     alloc: Global,
     store: &Store,
@@ -146,16 +188,9 @@ fn start_again(
     Ok(batches)
 }
 
-/// Returns whether batches have a message with this end. Out of memory is counted, and the call
-/// repeated.
+/// Returns whether batches have a message with this end.
 fn end_with(batches: &Batches, end: &str, refused: &mut usize) -> Result<bool, StoreFault> {
-    let frame = match batches.message() {
-        Err(StoreFault::NoMemory) => {
-            *refused = refused.saturating_add(1);
-            batches.message()?
-        }
-        other => other?,
-    };
+    let frame = again!(refused, StoreFault::NoMemory, batches.message())?;
     Ok(frame.ends_with(end.as_bytes()))
 }
 
@@ -164,7 +199,7 @@ const NO_BATCH: &str =
     "{\"contentChanges\":[],\"textDocument\":{\"uri\":\"file:///a\",\"version\":1}}}";
 
 /// Adds a plan's batch to batches. Out of memory leaves them as they were; it is counted, and the
-/// call repeated.
+/// call made again.
 fn is_added(
     batches: &mut Batches,
     store: &Store,
@@ -188,26 +223,27 @@ fn is_joined(
     alloc: Global,
     store: &Store,
     plan: &Plan<'_>,
+    body: &str,
     refused: &mut usize,
 ) -> Result<bool, StoreFault>
     requires { IsPlanOn store.now plan.now }
 {
     let mut batches = start_again(alloc, store, plan, refused)?;
-    Ok(is_added(&mut batches, store, plan, refused)? && end_with(&batches, BODY, refused)?)
+    Ok(is_added(&mut batches, store, plan, refused)? && end_with(&batches, body, refused)?)
 }
 
-fn is_joined_again(alloc: Global, edits: &[Edit], refused: &mut usize) -> Result<bool, StoreFault> {
-    let store = store_again(alloc, "a\nb", refused)?;
-    let changes = batch_again(alloc, edits, refused)?;
+fn is_joined_again(alloc: Global, row: &Row, refused: &mut usize) -> Result<bool, StoreFault> {
+    let store = store_again(alloc, row.0, refused)?;
+    let changes = batch_again(alloc, row.1, refused)?;
     let plan = plan_again(&store, &changes, refused)?;
-    is_joined(alloc, &store, &plan, refused)
+    is_joined(alloc, &store, &plan, row.2, refused)
 }
 
 #[test]
 fn refused_batches_of_a_plan(rt: HostRuntime) -> Result<(), Fail> {
     let mut refused = 0;
-    for edits in &ALIKE {
-        assert!(rt; is_joined_again(rt.alloc(), edits, &mut refused)?);
+    for (index, row) in ROWS.iter().enumerate() {
+        assert!(rt; is_joined_again(rt.alloc(), row, &mut refused)?, "{index}");
     }
     println!(rt; "refused {refused}")?;
     Ok(())

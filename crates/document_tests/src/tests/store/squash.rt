@@ -1,12 +1,12 @@
 //! Batches on one document as one batch: the message of each series, byte for byte.
 
-use super::{URI, limits_of, narrow, store_of};
-use lsp_edit::Change;
+use super::{URI, narrow, store_of};
 use lsp_frame::{Limits, frame};
+use lsp_samples::again;
 use lsp_samples::edits::{ALL, Edit, batch, batch_again};
 use lsp_store::{Squash, Store, StoreFault};
 use lsp_text::Encoding;
-use std::alloc::Global;
+use std::alloc::{AllocError, Global};
 use std::test::Fail;
 
 /// A text, batches under the versions from 2 on, and the body of their one message.
@@ -57,12 +57,6 @@ static SERIES: [Row; 4] = [
     ),
 ];
 
-/// Returns a squash of a document of version 1 with this text.
-fn squash_of(alloc: Global, limits: Limits, text: &str) -> Result<Squash, StoreFault> {
-    let store = store_of(alloc, limits, 1, text)?;
-    squash_in(&store, alloc, limits)
-}
-
 fn squash_in(store: &Store, alloc: Global, limits: Limits) -> Result<Squash, StoreFault> {
     let Some(document) = store.get(URI) else {
         return Err(StoreFault::NotOpen);
@@ -70,119 +64,45 @@ fn squash_in(store: &Store, alloc: Global, limits: Limits) -> Result<Squash, Sto
     Ok(Squash::start(alloc, limits, &document, Encoding::Utf16)?)
 }
 
-fn add(squash: &mut Squash, alloc: Global, version: i32, edits: &[Edit]) -> Result<(), StoreFault> {
-    squash.add(version, &batch(alloc, edits)?)
+/// Returns a squash of a document of version 1 with this text.
+fn squash_of(alloc: Global, text: &str) -> Result<Squash, StoreFault> {
+    let limits = narrow(16, 8)?;
+    let store = store_of(alloc, limits, text)?;
+    squash_in(&store, alloc, limits)
 }
 
-/// Adds batches under the versions from 2 on.
-fn add_all(squash: &mut Squash, alloc: Global, batches: &[&[Edit]]) -> Result<(), StoreFault> {
+/// Adds batches under the versions from 2 on. Out of memory is counted, and the call made again.
+fn add_all(
+    squash: &mut Squash,
+    alloc: Global,
+    batches: &[&[Edit]],
+    refused: &mut usize,
+) -> Result<(), StoreFault> {
     let mut version: i32 = 1;
     for edits in batches {
         version = version.saturating_add(1);
-        add(squash, alloc, version, edits)?;
-    }
-    Ok(())
-}
-
-fn is_one_message(alloc: Global, row: &Row) -> Result<bool, StoreFault> {
-    let (text, batches, body) = *row;
-    let mut squash = squash_of(alloc, limits_of(4_096, 16, 1, 8)?, text)?;
-    add_all(&mut squash, alloc, batches)?;
-    Ok(squash.message()? == frame(alloc, body.as_bytes())?)
-}
-
-#[test]
-fn series_are_one_message(rt: HostRuntime) {
-    for (index, row) in SERIES.iter().enumerate() {
-        assert!(rt; is_one_message(rt.alloc(), row) == Ok(true), "{index}");
-    }
-}
-
-/// Starts a squash. Out of memory is counted, and the call repeated.
-fn squash_again(alloc: Global, refused: &mut usize) -> Result<Squash, StoreFault> {
-    let limits = narrow(1, 2)?;
-    match squash_of(alloc, limits, "ab") {
-        Err(StoreFault::NoMemory) => {
-            *refused = refused.saturating_add(1);
-            squash_of(alloc, limits, "ab")
-        }
-        other => other,
-    }
-}
-
-/// Adds a batch. Out of memory is counted, and the call repeated.
-fn add_again(
-    squash: &mut Squash,
-    version: i32,
-    changes: &[Change],
-    refused: &mut usize,
-) -> Result<(), StoreFault> {
-    match squash.add(version, changes) {
-        Err(StoreFault::NoMemory) => {
-            *refused = refused.saturating_add(1);
-            squash.add(version, changes)
-        }
-        other => other,
-    }
-}
-
-/// Returns the message of a squash. Out of memory is counted, and the call repeated.
-fn message_again(squash: &Squash, refused: &mut usize) -> Result<Vec<u8>, StoreFault> {
-    match squash.message() {
-        Err(StoreFault::NoMemory) => {
-            *refused = refused.saturating_add(1);
-            squash.message()
-        }
-        other => other,
-    }
-}
-
-static BATCHES: [&[Edit]; 3] = [
-    &[(0, 0, 0, 0, "x")],
-    &[(0, 3, 0, 3, "y")],
-    &[(0, 1, 0, 1, "z")],
-];
-
-/// Adds the batches under the versions from 2 on.
-fn add_all_again(
-    squash: &mut Squash,
-    alloc: Global,
-    refused: &mut usize,
-) -> Result<(), StoreFault> {
-    let mut version: i32 = 1;
-    for edits in &BATCHES {
-        version = version.saturating_add(1);
         let changes = batch_again(alloc, edits, refused)?;
-        add_again(squash, version, &changes, refused)?;
+        again!(refused, StoreFault::NoMemory, squash.add(version, &changes))?;
     }
     Ok(())
 }
 
-/// Returns whether a frame has the two changes that the batches mean together, and version 4.
-fn is_of_batches(frame: &[u8]) -> bool {
-    let parts =
-        "\"text\":\"y\"},{\"range\":{\"end\":{\"character\":0,\"line\":0},\"start\":{\"character\":0,\"line\":0}},\"text\":\"xz\"}]";
-    match str::from_utf8(frame) {
-        Ok(text) => {
-            text.len() == 326 && text.contains(parts) && text.ends_with("\"version\":4}}}")
-        }
-        Err(_) => false,
-    }
-}
-
-/// Returns whether three batches have their one message, whichever allocation was refused. Counts
-/// the refusals.
-fn runs_again(alloc: Global, refused: &mut usize) -> Result<bool, StoreFault> {
-    let mut squash = squash_again(alloc, refused)?;
-    add_all_again(&mut squash, alloc, refused)?;
-    let frame = message_again(&squash, refused)?;
-    Ok(is_of_batches(&frame))
+/// Returns whether a series has its one message, whichever request was refused.
+fn is_one_message(alloc: Global, row: &Row, refused: &mut usize) -> Result<bool, StoreFault> {
+    let (text, batches, body) = *row;
+    let mut squash = again!(refused, StoreFault::NoMemory, squash_of(alloc, text))?;
+    add_all(&mut squash, alloc, batches, refused)?;
+    let message = again!(refused, StoreFault::NoMemory, squash.message())?;
+    let wanted = again!(refused, AllocError, frame(alloc, body.as_bytes()))?;
+    Ok(message == wanted)
 }
 
 #[test]
-fn refused_squash(rt: HostRuntime) -> Result<(), Fail> {
+fn refused_series_are_one_message(rt: HostRuntime) -> Result<(), Fail> {
     let mut refused = 0;
-    assert!(rt; runs_again(rt.alloc(), &mut refused)?);
+    for (index, row) in SERIES.iter().enumerate() {
+        assert!(rt; is_one_message(rt.alloc(), row, &mut refused)?, "{index}");
+    }
     println!(rt; "refused {refused}")?;
     Ok(())
 }

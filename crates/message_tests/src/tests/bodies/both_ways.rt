@@ -1,5 +1,5 @@
-//! Messages cut at each byte, read by the tokens of one crate of JSON and by the tree of another. What
-//! both say of JSON is trusted, so no clause of ours says that they agree.
+//! Messages cut at each byte, read by the tokens of one crate of JSON and by the tree of another.
+//! What both say of JSON is trusted, so no clause of ours says that they agree.
 
 use super::is_same;
 use lsp_reader::Scratch;

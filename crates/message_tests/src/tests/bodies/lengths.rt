@@ -1,6 +1,7 @@
 //! The `rangeLength` of changes, by their bytes and by a tree.
 
 use lsp_reader::range_lengths;
+use lsp_samples::again;
 use std::alloc::{AllocError, Global};
 use std::test::Fail;
 
@@ -70,13 +71,9 @@ static ROWS: [Row; 13] = [
 ];
 
 /// Returns whether a body's changes have the lengths of its row. Out of memory is counted, and the
-/// call repeated.
-fn is_read(alloc: Global, row: &Row, refused: &mut u32) -> Result<bool, AllocError> {
-    if let Ok(lengths) = range_lengths(alloc, row.body) {
-        return Ok(lengths.as_slice() == row.lengths);
-    }
-    *refused = refused.saturating_add(1);
-    let lengths = range_lengths(alloc, row.body)?;
+/// call made again.
+fn is_read(alloc: Global, row: &Row, refused: &mut usize) -> Result<bool, AllocError> {
+    let lengths = again!(refused, AllocError, range_lengths(alloc, row.body))?;
     Ok(lengths.as_slice() == row.lengths)
 }
 

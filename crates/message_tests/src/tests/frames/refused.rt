@@ -3,6 +3,7 @@
 
 use super::narrow;
 use lsp_frame::{EncodeFault, FrameFault, Framer, encode, frame, read_frames};
+use lsp_samples::again;
 use std::alloc::{AllocError, Global};
 use std::test::Fail;
 
@@ -79,101 +80,47 @@ fn refused_feed(rt: HostRuntime) -> Result<(), Fail> {
     Ok(())
 }
 
-fn frame_again(alloc: Global, refused: &mut usize) -> Result<Vec<u8>, AllocError> {
-    match frame(alloc, b"[]") {
-        Ok(bytes) => Ok(bytes),
-        Err(_) => {
-            *refused = refused.saturating_add(1);
-            frame(alloc, b"[]")
-        }
-    }
+/// Returns whether a body is framed, and encoded under limits.
+fn is_framed(alloc: Global, refused: &mut usize) -> Result<bool, Fail> {
+    let (wanted, limits) = (b"Content-Length: 2\r\n\r\n[]".as_slice(), narrow()?);
+    let framed = again!(refused, AllocError, frame(alloc, b"[]"))?;
+    let encoded = again!(
+        refused,
+        EncodeFault::NoMemory,
+        encode(alloc, &limits, b"[]")
+    )?;
+    Ok(framed.as_slice() == wanted && encoded.as_slice() == wanted)
 }
 
 #[test]
-fn refused_frame(rt: HostRuntime) -> Result<(), Fail> {
+fn refused_frame_and_encode(rt: HostRuntime) -> Result<(), Fail> {
     let mut refused: usize = 0;
-    let bytes = frame_again(rt.alloc(), &mut refused)?;
-    assert!(rt; bytes.as_slice() == b"Content-Length: 2\r\n\r\n[]".as_slice());
+    assert!(rt; is_framed(rt.alloc(), &mut refused)?);
     println!(rt; "refused {refused}")?;
     Ok(())
 }
 
-fn encode_again(alloc: Global, refused: &mut usize) -> Result<Vec<u8>, Fail> {
-    let limits = narrow()?;
-    match encode(alloc, &limits, b"[]") {
-        Err(EncodeFault::NoMemory) => {
-            *refused = refused.saturating_add(1);
-            Ok(encode(alloc, &limits, b"[]")?)
-        }
-        other => Ok(other?),
-    }
-}
-
-#[test]
-fn refused_encode(rt: HostRuntime) -> Result<(), Fail> {
-    let mut refused: usize = 0;
-    let bytes = encode_again(rt.alloc(), &mut refused)?;
-    assert!(rt; bytes.as_slice() == b"Content-Length: 2\r\n\r\n[]".as_slice());
-    println!(rt; "refused {refused}")?;
-    Ok(())
-}
-
-fn piece_again(alloc: Global, piece: &[u8], refused: &mut usize) -> Result<Vec<u8>, AllocError> {
-    match Vec::from_slice(alloc, piece) {
-        Ok(owned) => Ok(owned),
-        Err(_) => {
-            *refused = refused.saturating_add(1);
-            Vec::from_slice(alloc, piece)
-        }
-    }
-}
-
-fn push_again(
-    pieces: &mut Vec<Vec<u8>>,
-    piece: Vec<u8>,
-    refused: &mut usize,
-) -> Result<(), AllocError> {
-    if let Err(back) = pieces.push(piece) {
-        *refused = refused.saturating_add(1);
-        pieces.push(back.value)?;
-    }
-    Ok(())
-}
-
-fn pieces(alloc: Global, refused: &mut usize) -> Result<Vec<Vec<u8>>, AllocError> {
+/// Returns the stream in pieces.
+fn pieces(alloc: Global) -> Result<Vec<Vec<u8>>, AllocError> {
     let mut pieces = Vec::new(alloc);
     for piece in STREAM.chunks(40) {
-        push_again(&mut pieces, piece_again(alloc, piece, refused)?, refused)?;
+        pieces.push(Vec::from_slice(alloc, piece)?)?;
     }
     Ok(pieces)
 }
 
-/// Reads the frames of the pieces, and again if it is out of memory. Returns how many there are, if
-/// they end without a fault.
-fn frames_again(
-    alloc: Global,
-    pieces: &[Vec<u8>],
-    refused: &mut usize,
-) -> Result<Option<usize>, Fail> {
+/// Returns how many frames the pieces have, if they end without a fault.
+fn frames_of(alloc: Global, refused: &mut usize) -> Result<Option<usize>, Fail> {
     let limits = narrow()?;
-    let frames = match read_frames(alloc, limits, pieces) {
-        Ok(frames) => frames,
-        Err(_) => {
-            *refused = refused.saturating_add(1);
-            read_frames(alloc, limits, pieces)?
-        }
-    };
-    if frames.fault.is_some() {
-        return Ok(None);
-    }
-    Ok(Some(frames.bodies.len()))
+    let pieces = again!(refused, AllocError, pieces(alloc))?;
+    let frames = again!(refused, AllocError, read_frames(alloc, limits, &pieces))?;
+    Ok(frames.fault.is_none().then_some(frames.bodies.len()))
 }
 
 #[test]
 fn refused_read_frames(rt: HostRuntime) -> Result<(), Fail> {
     let mut refused: usize = 0;
-    let pieces = pieces(rt.alloc(), &mut refused)?;
-    assert_eq!(rt; frames_again(rt.alloc(), &pieces, &mut refused)?, Some(2));
+    assert_eq!(rt; frames_of(rt.alloc(), &mut refused)?, Some(2));
     println!(rt; "refused {refused}")?;
     Ok(())
 }

@@ -1,29 +1,19 @@
-//! Calls that run out of memory once, and are repeated.
+//! Calls that run out of memory once, and are made again.
 
 use lsp_message::{
-    ChangeParams, ErrorCode, Id, Message, Outgoing, ParamsFault, ReadFault, params_change, read,
-    write,
+    ChangeParams, ErrorCode, Id, Message, Outgoing, ParamsFault, ReadFault, message_frame,
+    params_change, read, write,
 };
+use lsp_samples::again;
 use serde_json::Value;
 use std::alloc::{AllocError, Global};
 use std::test::Fail;
-
-/// Reads a body. Out of memory is counted, and the call repeated.
-fn read_again(alloc: Global, body: &[u8], refused: &mut usize) -> Result<Message, ReadFault> {
-    match read(alloc, body) {
-        Err(ReadFault::NoMemory) => {
-            *refused = refused.saturating_add(1);
-            read(alloc, body)
-        }
-        other => other,
-    }
-}
 
 /// Returns whether a request with a text as its id is read.
 fn request_is_read(alloc: Global, refused: &mut usize) -> bool {
     let body = b"{\"id\":\"q\",\"jsonrpc\":\"2.0\",\"method\":\"m\"}";
     matches!(
-        read_again(alloc, body, refused),
+        again!(refused, ReadFault::NoMemory, read(alloc, body)),
         Ok(Message::Request {
             id: Id::Text(_),
             params: None,
@@ -43,31 +33,16 @@ fn refused_read(rt: HostRuntime) -> Result<(), Fail> {
 const PARAMS: &str =
     "{\"contentChanges\":[{\"text\":\"a\"}],\"textDocument\":{\"uri\":\"u\",\"version\":2}}";
 
-/// Parses the params. Out of memory is counted, and the call repeated.
-fn value_again(alloc: Global, refused: &mut usize) -> Result<Value, serde_json::Error> {
+/// Parses the params and reads them, which consumes them.
+fn params_of(alloc: Global) -> Result<ChangeParams, ParamsFault> {
     match Value::from_str(alloc, PARAMS) {
-        Err(error) if error.is_memory() => {
-            *refused = refused.saturating_add(1);
-            Value::from_str(alloc, PARAMS)
-        }
-        other => other,
+        Ok(value) => params_change(alloc, Some(value)),
+        Err(_) => Err(ParamsFault::NoMemory),
     }
 }
 
-/// Reads the params. Out of memory is counted, and the call repeated, on newly parsed params: the
-/// call consumed them.
-fn params_again(alloc: Global, refused: &mut usize) -> Result<ChangeParams, Fail> {
-    match params_change(alloc, Some(value_again(alloc, refused)?)) {
-        Err(ParamsFault::NoMemory) => {
-            *refused = refused.saturating_add(1);
-            Ok(params_change(alloc, Some(Value::from_str(alloc, PARAMS)?))?)
-        }
-        other => Ok(other?),
-    }
-}
-
-fn change_is_read(alloc: Global, refused: &mut usize) -> Result<bool, Fail> {
-    let params = params_again(alloc, refused)?;
+fn change_is_read(alloc: Global, refused: &mut usize) -> Result<bool, ParamsFault> {
+    let params = again!(refused, ParamsFault::NoMemory, params_of(alloc))?;
     Ok(params.version == 2 && params.changes.len() == 1)
 }
 
@@ -79,51 +54,20 @@ fn refused_params_change(rt: HostRuntime) -> Result<(), Fail> {
     Ok(())
 }
 
-/// An id that doesn't fit into the buffer that a message starts with.
-const LONG_ID: &str = concat!(
-    "0123456789012345678901234567890123456789012345678901234567890123456789",
-    "0123456789012345678901234567890123456789012345678901234567890123456789",
-    "0123456789012345678901234567890123456789012345678901234567890123456789",
-    "0123456789012345678901234567890123456789012345678901234567890123456789",
-);
-
-/// Copies the id. Out of memory is counted, and the call repeated.
-fn id_again(alloc: Global, refused: &mut usize) -> Result<String, AllocError> {
-    match String::from_str(alloc, LONG_ID) {
-        Err(_) => {
-            *refused = refused.saturating_add(1);
-            String::from_str(alloc, LONG_ID)
-        }
-        copied => copied,
-    }
-}
-
-/// Writes a message. Out of memory is counted, and the call repeated.
-fn write_again(
-    alloc: Global,
-    message: &Outgoing,
-    refused: &mut usize,
-) -> Result<Vec<u8>, AllocError> {
-    match write(alloc, message) {
-        Err(_) => {
-            *refused = refused.saturating_add(1);
-            write(alloc, message)
-        }
-        written => written,
-    }
-}
-
-fn is_written(alloc: Global, message: &Outgoing, refused: &mut usize) -> Result<bool, AllocError> {
-    let body = write_again(alloc, message, refused)?;
-    Ok(body.ends_with(b"6789\",\"jsonrpc\":\"2.0\"}"))
-}
-
-fn reply_is_written(alloc: Global, refused: &mut usize) -> Result<bool, AllocError> {
-    let message = Outgoing::ErrorReply {
-        id: Some(Id::Text(id_again(alloc, refused)?)),
+/// Returns a reply whose id doesn't fit into the buffer that a message starts with.
+fn reply(alloc: Global) -> Result<Outgoing, AllocError> {
+    Ok(Outgoing::ErrorReply {
+        id: Some(Id::Text("0123456789".repeat(alloc, 28)?)),
         error: ErrorCode::InvalidRequest,
-    };
-    is_written(alloc, &message, refused)
+    })
+}
+
+/// Returns whether a reply is written alone and in its frame.
+fn reply_is_written(alloc: Global, refused: &mut usize) -> Result<bool, AllocError> {
+    let message = again!(refused, AllocError, reply(alloc))?;
+    let body = again!(refused, AllocError, write(alloc, &message))?;
+    let frame = again!(refused, AllocError, message_frame(alloc, &message))?;
+    Ok(body.ends_with(b"6789\",\"jsonrpc\":\"2.0\"}") && frame.ends_with(&body))
 }
 
 #[test]

@@ -1,6 +1,5 @@
 //! The body of each message.
 
-use lsp_edit::Change;
 use lsp_message::{
     ChangeParams, CloseParams, ErrorCode, Id, Offers, OpenParams, Outgoing, SyncKind, write,
 };
@@ -8,7 +7,8 @@ use lsp_samples::bodies::{
     ACCEPTED, CHANGE, CLOSE, EXIT, INITIALIZE, INITIALIZED, NO_ID, NOT_INITIALIZED, OPEN,
     PARSE_ERROR, SHUT_DOWN, SHUTDOWN, WHOLE,
 };
-use lsp_text::{Encoding, Position, Range};
+use lsp_samples::edits::{ALL, Edit, batch};
+use lsp_text::Encoding;
 use std::alloc::{AllocError, Global};
 use std::test::Fail;
 
@@ -19,10 +19,7 @@ enum Sent {
     Initialize(bool, bool),
     Initialized,
     Open,
-    /// A change of these characters of line 0, or of the whole text, to this text.
-    Change(Option<(u32, u32)>, &'static str),
-    /// A change with an empty list.
-    NoChange,
+    Change(&'static [Edit]),
     Close,
     Shutdown,
     Exit,
@@ -43,8 +40,7 @@ fn message(alloc: Global, sent: Sent) -> Result<Outgoing, AllocError> {
         Sent::Initialize(utf8, utf32) => Ok(Outgoing::Initialize(Offers::new(utf8, utf32))),
         Sent::Initialized => Ok(Outgoing::Initialized),
         Sent::Open => Ok(Outgoing::DidOpen(opened(alloc)?)),
-        Sent::Change(range, with) => Ok(Outgoing::DidChange(changed(alloc, range, with)?)),
-        Sent::NoChange => Ok(Outgoing::DidChange(unchanged(alloc)?)),
+        Sent::Change(edits) => Ok(Outgoing::DidChange(changed(alloc, edits)?)),
         Sent::Close => Ok(Outgoing::DidClose(closed(alloc)?)),
         Sent::Shutdown => Ok(Outgoing::Shutdown),
         Sent::Exit => Ok(Outgoing::Exit),
@@ -78,47 +74,8 @@ fn closed(alloc: Global) -> Result<CloseParams, AllocError> {
     })
 }
 
-/// Returns a range of line 0.
-fn in_line(start: u32, stop: u32) -> Range {
-    Range {
-        start: Position {
-            line: 0,
-            character: start,
-        },
-        stop: Position {
-            line: 0,
-            character: stop,
-        },
-    }
-}
-
-/// Returns a list of one change.
-fn one_change(
-    alloc: Global,
-    range: Option<(u32, u32)>,
-    with: &str,
-) -> Result<Vec<Change>, AllocError> {
-    let change = Change {
-        range: range.map(|(start, stop)| in_line(start, stop)),
-        text: text(alloc, with)?,
-    };
-    Ok(vec![in alloc; change]?)
-}
-
-/// Returns a change to version 2, of a range of line 0 or of the whole text.
-fn changed(
-    alloc: Global,
-    range: Option<(u32, u32)>,
-    with: &str,
-) -> Result<ChangeParams, AllocError> {
-    params_of(alloc, one_change(alloc, range, with)?)
-}
-
-fn unchanged(alloc: Global) -> Result<ChangeParams, AllocError> {
-    params_of(alloc, Vec::new(alloc))
-}
-
-fn params_of(alloc: Global, changes: Vec<Change>) -> Result<ChangeParams, AllocError> {
+fn changed(alloc: Global, edits: &[Edit]) -> Result<ChangeParams, AllocError> {
+    let changes = batch(alloc, edits)?;
     Ok(ChangeParams {
         uri: text(alloc, "file:///a")?,
         version: 2,
@@ -147,10 +104,10 @@ static TEXTS: [Row; 19] = [
     (Sent::Exit, EXIT),
     (Sent::Open, OPEN),
     (Sent::Close, CLOSE),
-    (Sent::Change(Some((1, 2)), "X"), CHANGE),
-    (Sent::Change(None, "aXc"), WHOLE),
+    (Sent::Change(&[(0, 1, 0, 2, "X")]), CHANGE),
+    (Sent::Change(&[(ALL, 0, 0, 0, "aXc")]), WHOLE),
     (
-        Sent::NoChange,
+        Sent::Change(&[]),
         concat!(
             r#"{"jsonrpc":"2.0","method":"textDocument/didChange","params":{"contentChanges":[],"#,
             r#""textDocument":{"uri":"file:///a","version":2}}}"#,
@@ -205,17 +162,20 @@ fn messages_have_their_texts(rt: HostRuntime) -> Result<(), Fail> {
 /// A change to a new text, and its member of the body. Only quotes, backslashes and bytes below 32
 /// are escaped.
 static ESCAPES: [(Sent, &str); 4] = [
-    (Sent::Change(None, "\"\\/"), r#"{"text":"\"\\/"}"#),
     (
-        Sent::Change(None, "\u{8}\t\n\u{c}\r"),
+        Sent::Change(&[(ALL, 0, 0, 0, "\"\\/")]),
+        r#"{"text":"\"\\/"}"#,
+    ),
+    (
+        Sent::Change(&[(ALL, 0, 0, 0, "\u{8}\t\n\u{c}\r")]),
         r#"{"text":"\b\t\n\f\r"}"#,
     ),
     (
-        Sent::Change(None, "\0\u{b}\u{1f} \u{7f}"),
+        Sent::Change(&[(ALL, 0, 0, 0, "\0\u{b}\u{1f} \u{7f}")]),
         "{\"text\":\"\\u0000\\u000b\\u001f \u{7f}\"}",
     ),
     (
-        Sent::Change(None, "\u{e9}\u{2028}\u{1f600}"),
+        Sent::Change(&[(ALL, 0, 0, 0, "\u{e9}\u{2028}\u{1f600}")]),
         "{\"text\":\"\u{e9}\u{2028}\u{1f600}\"}",
     ),
 ];

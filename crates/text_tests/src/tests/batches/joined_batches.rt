@@ -3,24 +3,19 @@
 ghost use Rattle.std.specs.Prelude.{◌≡◌, IfOk, OnErr};
 ghost use Rattle.lsp_edit.specs.Joined.{IsReached};
 
-use super::{kept, kept_again};
+use super::kept_again;
 use lsp_edit::{BatchFault, Change, IndexedText, Joined, MAX_OLD_TEXT, fits};
+use lsp_samples::again;
 use lsp_samples::edits::{Edit, batch_again};
 use lsp_text::Encoding;
 use std::alloc::{AllocError, Global};
 use std::test::Fail;
 
-/// Begins with a copy of a kept text. Out of memory is counted, and the call repeated.
+/// Begins with a copy of a kept text. Out of memory is counted, and the call made again.
 fn over_again(alloc: Global, kept: &IndexedText, refused: &mut usize) -> Result<Joined, AllocError>
     ensures { IfOk result (λ joined. IsReached joined kept.now) }
 {
-    match Joined::over(alloc, kept) {
-        Ok(joined) => Ok(joined),
-        Err(AllocError) => {
-            *refused = refused.saturating_add(1);
-            Joined::over(alloc, kept)
-        }
-    }
+    again!(refused, AllocError, Joined::over(alloc, kept))
 }
 
 /// Resolves a batch on the text that was reached, and joins it.
@@ -40,16 +35,9 @@ fn add_delta(
     Ok(())
 }
 
-/// Returns whether the batches have so many changes in their canonical batch. Out of memory is
-/// counted, and the call repeated.
+/// Returns whether the batches have so many changes in their canonical batch.
 fn has_changes(joined: &Joined, count: usize, refused: &mut usize) -> Result<bool, AllocError> {
-    let changes = match joined.canonical(Encoding::Utf16) {
-        Ok(changes) => changes,
-        Err(AllocError) => {
-            *refused = refused.saturating_add(1);
-            joined.canonical(Encoding::Utf16)?
-        }
-    };
+    let changes = again!(refused, AllocError, joined.canonical(Encoding::Utf16))?;
     Ok(changes.len() == count)
 }
 

@@ -1,9 +1,10 @@
 //! Text edits whose ranges all count in one old text: the text and the canonical batch that they
 //! leave, and their faults. In UTF-16.
 
-use super::{applied, kept};
-use lsp_edit::{BatchFault, Change, MAX_OLD_TEXT, Side, TextEdit, TextEditFault};
-use lsp_samples::edits::{Edit, batch, text_edits};
+use super::{is_changed, kept, kept_again};
+use lsp_edit::{BatchFault, Change, Side, TextEdit, TextEditFault};
+use lsp_samples::again;
+use lsp_samples::edits::{Edit, batch_again, text_edits};
 use lsp_text::Encoding;
 use std::alloc::{AllocError, Global};
 use std::test::Fail;
@@ -106,129 +107,54 @@ static FAULTS: [(&str, &[Edit], TextEditFault); 6] = [
     ),
 ];
 
-static TEXTS: [(TextEditFault, &str); 4] = [
-    (
-        TextEditFault::InsideCharacter {
-            edit: 3,
-            side: Side::Stop,
-        },
-        "edit at index 3: the end of its range lies inside a character",
-    ),
-    (
-        TextEditFault::ReversedRange { edit: 1 },
-        "edit at index 1: the range is reversed",
-    ),
-    (
-        TextEditFault::Overlap {
-            first: 4,
-            second: 2,
-        },
-        "edits at the indexes 4 and 2 overlap",
-    ),
-    (TextEditFault::NoMemory, "out of memory"),
-];
-
 /// Returns the batch of text edits.
 fn as_batch(alloc: Global, text: &str, edits: &[TextEdit]) -> Result<Vec<Change>, TextEditFault> {
     kept(alloc, text)?.batch_of_edits(Encoding::Utf16, edits)
 }
 
-/// Returns the text that a batch leaves of another.
-fn left(alloc: Global, text: &str, changes: &[Change]) -> Result<String, BatchFault> {
-    let mut kept = kept(alloc, text)?;
-    applied(&mut kept, changes, MAX_OLD_TEXT)?;
-    Ok(kept.text().to_string(alloc)?)
+/// Returns whether edits are one batch, and leave their text. Out of memory is counted, and the
+/// call made again.
+fn is_edited(alloc: Global, row: &Edited, refused: &mut usize) -> Result<bool, Fail> {
+    let (before, edits, after, canonical) = *row;
+    let edits = again!(refused, AllocError, text_edits(alloc, edits))?;
+    let changes = again!(
+        refused,
+        TextEditFault::NoMemory,
+        as_batch(alloc, before, &edits)
+    )?;
+    let wanted = batch_again(alloc, canonical, refused)?;
+    Ok(changes == wanted && is_text_left(alloc, &changes, (before, after), refused)?)
 }
 
-fn is_edited(alloc: Global, row: &Edited) -> Result<bool, AllocError> {
-    let edits = text_edits(alloc, row.1)?;
-    let Ok(changes) = as_batch(alloc, row.0, &edits) else {
-        return Ok(false);
-    };
-    if changes != batch(alloc, row.3)? {
-        return Ok(false);
+fn is_text_left(
+    alloc: Global,
+    changes: &[Change],
+    texts: (&str, &str),
+    refused: &mut usize,
+) -> Result<bool, BatchFault> {
+    let mut kept = kept_again(alloc, texts.0, refused)?;
+    is_changed(&mut kept, changes, texts, refused)
+}
+
+#[test]
+fn refused_edits_are_one_batch(rt: HostRuntime) -> Result<(), Fail> {
+    let mut refused: usize = 0;
+    for (index, row) in EDITED.iter().enumerate() {
+        assert!(rt; is_edited(rt.alloc(), row, &mut refused)?, "{index}");
     }
-    let Ok(text) = left(alloc, row.0, &changes) else {
-        return Ok(false);
-    };
-    Ok(text.as_str() == row.2)
+    println!(rt; "refused {refused}")?;
+    Ok(())
 }
 
-fn is_refused(alloc: Global, row: &(&str, &[Edit], TextEditFault)) -> Result<bool, AllocError> {
+fn is_faulty(alloc: Global, row: &(&str, &[Edit], TextEditFault)) -> Result<bool, AllocError> {
     let edits = text_edits(alloc, row.1)?;
     Ok(as_batch(alloc, row.0, &edits) == Err(row.2))
 }
 
-fn prints(alloc: Global, row: &(TextEditFault, &str)) -> Result<bool, AllocError> {
-    let fault = row.0;
-    let text = format!(in alloc; "{fault}")?;
-    Ok(text.as_str() == row.1)
-}
-
 #[test]
-fn edits_leave_their_text_and_are_one_batch(rt: HostRuntime) -> Result<(), Fail> {
-    for (index, row) in EDITED.iter().enumerate() {
-        assert!(rt; is_edited(rt.alloc(), row)?, "{index}");
-    }
-    Ok(())
-}
-
-#[test]
-fn faulty_edits_are_refused(rt: HostRuntime) -> Result<(), Fail> {
+fn faulty_edits_are_reported(rt: HostRuntime) -> Result<(), Fail> {
     for row in &FAULTS {
-        assert!(rt; is_refused(rt.alloc(), row)?, "{}", row.0);
+        assert!(rt; is_faulty(rt.alloc(), row)?, "{}", row.0);
     }
-    Ok(())
-}
-
-#[test]
-fn each_fault_of_edits_has_its_text(rt: HostRuntime) -> Result<(), Fail> {
-    for row in &TEXTS {
-        assert!(rt; prints(rt.alloc(), row)?, "{}", row.1);
-    }
-    Ok(())
-}
-
-/// Two edits of `abcdef`.
-static TWO_EDITS: &[Edit] = &[(0, 0, 0, 2, ""), (0, 3, 0, 4, "XYZ")];
-
-fn edits_again(
-    alloc: Global,
-    edits: &[Edit],
-    refused: &mut usize,
-) -> Result<Vec<TextEdit>, AllocError> {
-    let made = text_edits(alloc, edits);
-    if made.is_err() {
-        *refused = refused.saturating_add(1);
-        return text_edits(alloc, edits);
-    }
-    made
-}
-
-fn as_batch_again(
-    alloc: Global,
-    text: &str,
-    edits: &[TextEdit],
-    refused: &mut usize,
-) -> Result<Vec<Change>, TextEditFault> {
-    let answer = as_batch(alloc, text, edits);
-    if answer == Err(TextEditFault::NoMemory) {
-        *refused = refused.saturating_add(1);
-        return as_batch(alloc, text, edits);
-    }
-    answer
-}
-
-fn are_two_changes(alloc: Global, refused: &mut usize) -> Result<bool, TextEditFault> {
-    let edits = edits_again(alloc, TWO_EDITS, refused)?;
-    let changes = as_batch_again(alloc, "abcdef", &edits, refused)?;
-    Ok(changes.len() == 2)
-}
-
-#[test]
-fn refused_batch_of_edits(rt: HostRuntime) -> Result<(), Fail> {
-    let mut refused: usize = 0;
-    assert!(rt; are_two_changes(rt.alloc(), &mut refused)?);
-    println!(rt; "refused {refused}")?;
     Ok(())
 }

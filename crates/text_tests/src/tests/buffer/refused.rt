@@ -3,6 +3,7 @@
 
 use super::{MOST, same_chunks};
 use lsp_buffer::TextBuffer;
+use lsp_samples::again;
 use std::alloc::{AllocError, Global};
 use std::test::Fail;
 
@@ -73,17 +74,6 @@ fn two_texts(alloc: Global, kind: Kind) -> Result<Texts, AllocError> {
     })
 }
 
-/// Does the same, and again if it is out of memory, which is counted.
-fn texts_again(alloc: Global, kind: Kind, refused: &mut usize) -> Result<Texts, AllocError> {
-    match two_texts(alloc, kind) {
-        Ok(texts) => Ok(texts),
-        Err(_) => {
-            *refused = refused.saturating_add(1);
-            two_texts(alloc, kind)
-        }
-    }
-}
-
 /// Changes a text.
 fn put(text: &mut TextBuffer, (start, end, new): Change) -> Result<bool, AllocError> {
     let within = start <= end && text.len() <= MOST && new.len() <= MOST;
@@ -115,22 +105,6 @@ fn is_put(alloc: Global, texts: &Texts, (start, end, new): Change) -> Result<boo
     Ok(same_chunks(&texts.changed, &wanted) && same_chunks(&texts.buffer, &texts.plain))
 }
 
-/// Does the same, and again if it is out of memory.
-fn is_put_again(
-    alloc: Global,
-    texts: &Texts,
-    change: Change,
-    refused: &mut usize,
-) -> Result<bool, AllocError> {
-    match is_put(alloc, texts, change) {
-        Ok(answer) => Ok(answer),
-        Err(_) => {
-            *refused = refused.saturating_add(1);
-            is_put(alloc, texts, change)
-        }
-    }
-}
-
 /// Returns whether a change of the one text does what it does to a string, and leaves the other.
 fn is_put_apart(
     alloc: Global,
@@ -138,8 +112,11 @@ fn is_put_apart(
     change: Change,
     refused: &mut usize,
 ) -> Result<bool, AllocError> {
-    let mut texts = texts_again(alloc, kind, refused)?;
-    Ok(put_again(&mut texts, change, refused)? && is_put_again(alloc, &texts, change, refused)?)
+    let mut texts = again!(refused, AllocError, two_texts(alloc, kind))?;
+    Ok(
+        put_again(&mut texts, change, refused)?
+            && again!(refused, AllocError, is_put(alloc, &texts, change))?,
+    )
 }
 
 /// Returns the number of the first change of a text that goes wrong.
@@ -240,14 +217,7 @@ fn is_read(
     row: Row,
     refused: &mut usize,
 ) -> Result<bool, AllocError> {
-    let part = match part_of(alloc, &texts.changed, row) {
-        Ok(part) => part,
-        Err(_) => {
-            *refused = refused.saturating_add(1);
-            part_of(alloc, &texts.changed, row)?
-        }
-    };
-    let Some(part) = part else {
+    let Some(part) = again!(refused, AllocError, part_of(alloc, &texts.changed, row))? else {
         return Ok(false);
     };
     Ok(texts.plain.as_bytes().get(row.1..row.2) == Some(part.as_bytes()))
@@ -255,7 +225,7 @@ fn is_read(
 
 /// Returns the number of the first read that goes wrong.
 fn first_misread(alloc: Global, refused: &mut usize) -> Result<Option<usize>, AllocError> {
-    let texts = texts_again(alloc, Kind::Own, refused)?;
+    let texts = again!(refused, AllocError, two_texts(alloc, Kind::Own))?;
     for (number, row) in READS.iter().enumerate() {
         if !is_read(alloc, &texts, *row, refused)? {
             return Ok(Some(number));

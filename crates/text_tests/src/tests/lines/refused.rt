@@ -1,32 +1,12 @@
 //! Calls that run out of memory once, and are called again.
 ghost use Rattle.std.specs.Prelude.{◌≤◌, ◌+◌, IfOk, length, string_bytes};
+ghost use Rattle.lsp_text.specs.LineStarts.{AreLinesOf};
 ghost use Rattle.lsp_text.specs.Splice.{IsReplaced};
 
+use lsp_samples::again;
 use lsp_text::{Lines, Starts};
 use std::alloc::{AllocError, Global};
 use std::test::Fail;
-
-/// Texts and their line starts: enough that `new` takes memory more often than the edits below do.
-static TEXTS: [(&str, &[usize]); 6] = [
-    ("\n\n\n\n\n\n\n\n", &[0, 1, 2, 3, 4, 5, 6, 7, 8]),
-    ("\r\r\r\r\r\r\r\r", &[0, 1, 2, 3, 4, 5, 6, 7, 8]),
-    (
-        "\n\r\n\r\n\r\n\r\n\r\n\r\n\r",
-        &[0, 1, 3, 5, 7, 9, 11, 13, 14],
-    ),
-    (
-        "a\nb\r\nc\rd\n\n\r\n\u{1F600}\n\r",
-        &[0, 2, 5, 7, 9, 10, 12, 17, 18],
-    ),
-    (
-        "a\u{301}\nb\nc\nd\ne\nf\ng\nh\n",
-        &[0, 4, 6, 8, 10, 12, 14, 16, 18],
-    ),
-    (
-        "\r\n\r\n\r\n\r\n\r\n\r\n\r\n\r\n",
-        &[0, 2, 4, 6, 8, 10, 12, 14, 16],
-    ),
-];
 
 /// An edit, with the line starts before and after it.
 struct Edit {
@@ -40,12 +20,12 @@ struct Edit {
 
 static EDITS: [Edit; 3] = [
     Edit {
-        text: "a\nb",
-        starts: &[0, 2],
+        text: "a\nb\r\nc\rd\n\n\r\n\u{1F600}\n\r",
+        starts: &[0, 2, 5, 7, 9, 10, 12, 17, 18],
         from: 1,
         to: 1,
         inserted: "\r\n\n\r",
-        then: &[0, 3, 4, 6],
+        then: &[0, 3, 4, 6, 9, 11, 13, 14, 16, 21, 22],
     },
     Edit {
         text: "a\nb\nc",
@@ -102,54 +82,30 @@ fn starts_are(lines: &Lines, starts: &[usize]) -> bool {
     true
 }
 
-/// Finds the lines of a text, and again if it is out of memory, which is counted.
-fn made(alloc: Global, text: &str, refused: &mut usize) -> Result<Lines, AllocError>
+/// Finds the lines of a text. Out of memory is counted, and the call made again.
+fn lines_again(alloc: Global, text: &str, refused: &mut usize) -> Result<Lines, AllocError>
     requires { length text.now ≤ 1000 }
+    ensures { IfOk result (λ lines. AreLinesOf lines text.now) }
 {
-    match Lines::new(alloc, text) {
-        Ok(lines) => Ok(lines),
-        Err(_) => {
-            *refused = refused.saturating_add(1);
-            Lines::new(alloc, text)
-        }
-    }
-}
-
-/// Returns whether a text has these line starts.
-fn has_starts(
-    alloc: Global,
-    text: &str,
-    starts: &[usize],
-    refused: &mut usize,
-) -> Result<bool, AllocError> {
-    if text.len() > 1000 {
-        return Ok(false);
-    }
-    Ok(starts_are(&made(alloc, text, refused)?, starts))
-}
-
-#[test]
-fn refused_lines_new(rt: HostRuntime) -> Result<(), Fail> {
-    let mut refused: usize = 0;
-    for (text, starts) in &TEXTS {
-        assert!(rt;
-            has_starts(rt.alloc(), text, starts, &mut refused)?,
-            "{text:?}"
-        );
-    }
-    println!(rt; "refused {refused}")?;
-    Ok(())
+    again!(refused, AllocError, Lines::new(alloc, text))
 }
 
 /// Returns whether `splice` leaves the line starts of an edit. Out of memory changes nothing, and
-/// it is called again.
+/// the call is made again.
 fn is_spliced(alloc: Global, edit: &Edit, refused: &mut usize) -> Result<bool, AllocError> {
     let (old, from, to, len) = (edit.text, edit.from, edit.to, edit.inserted.len());
     if old.len() > 1000 || len > 1000 {
         return Ok(false);
     }
-    let text = edited(alloc, old, from, to, edit.inserted)?;
-    let mut lines = Lines::new(alloc, old)?;
+    let text = again!(
+        refused,
+        AllocError,
+        edited(alloc, old, from, to, edit.inserted)
+    )?;
+    let mut lines = lines_again(alloc, old, refused)?;
+    if !starts_are(&lines, edit.starts) {
+        return Ok(false);
+    }
     if lines.splice(&text, from, to, len).is_err() {
         *refused = refused.saturating_add(1);
         if !starts_are(&lines, edit.starts) {
@@ -160,23 +116,12 @@ fn is_spliced(alloc: Global, edit: &Edit, refused: &mut usize) -> Result<bool, A
     Ok(starts_are(&lines, edit.then))
 }
 
-/// Does the same, and once more from the start if anything else is out of memory.
-fn is_spliced_again(alloc: Global, edit: &Edit, refused: &mut usize) -> Result<bool, AllocError> {
-    match is_spliced(alloc, edit, refused) {
-        Ok(answer) => Ok(answer),
-        Err(_) => {
-            *refused = refused.saturating_add(1);
-            is_spliced(alloc, edit, refused)
-        }
-    }
-}
-
 #[test]
-fn refused_splice(rt: HostRuntime) -> Result<(), Fail> {
+fn refused_new_and_splice(rt: HostRuntime) -> Result<(), Fail> {
     let mut refused: usize = 0;
     for edit in &EDITS {
         assert!(rt;
-            is_spliced_again(rt.alloc(), edit, &mut refused)?,
+            is_spliced(rt.alloc(), edit, &mut refused)?,
             "{:?}",
             edit.text
         );

@@ -2,7 +2,7 @@ use Rattle.std.proofs.Common.{ap, string_bytes, sym, ◌∙◌}
 use Rattle.std.specs.Str.{chars}
 use Rattle.std.proofs.lemmas.Str.{IsUtf8-string_bytes, chars_from_encodes}
 use Rattle.lsp_edit.specs.Edited.{edited_text}
-use Rattle.text_tests.proofs.tests.batches.made_again.left_by_both_plainly.Goals as goal
+use Rattle.text_tests.proofs.tests.batches.plain.is_left_by_both.Goals as goal
 
 pub then-requires : goal.then-requires
 then-requires c =
