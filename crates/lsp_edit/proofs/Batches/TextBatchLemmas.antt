@@ -195,9 +195,12 @@ module _ (units : ℕ → ℕ) (number : ℕ) (before : List ℕ) (utf8 : IsUtf8
       (λ (memory : fault ≡ NoMemory). inl memory)
       (λ (t : (why : Fault) × (changed_in units (chars before) (plain (chars before)) (chars new) (Some range) ≡ Err why)
       × (fault ≡ fault_at number why)).
-      inr (t.0, rw plain_text at (change_text units (chars before) (plain (chars before)) (chars new) (Some range)
-      ∙ ap (text_result (chars before)) t.1), t.2))
-      (fault_told units (chars before) (plain (chars before)) (chars new) range number fault (inr (rw plain_text error)))
+      inr (t.0, subst (λ (s : List ℕ). ◌≡◌ {A = Result (List ℕ) Fault} (text_changed units s (chars new) (Some range))
+      (Err t.0)) (plain_text (chars before)) (change_text units (chars before) (plain (chars before)) (chars new)
+      (Some range) ∙ ap (text_result (chars before)) t.1), t.2))
+      (fault_told units (chars before) (plain (chars before)) (chars new) range number fault
+      (inr (subst (λ (s : List ℕ). ◌≡◌ {A = Result (ℕ × ℕ) EditFault} (Err fault)
+      (places_at number s (ends_of units s range))) (sym (plain_text (chars before))) error)))
 
 -- ---- a batch, change by change
 

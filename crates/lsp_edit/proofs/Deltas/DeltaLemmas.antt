@@ -76,13 +76,12 @@ module _ (units : ℕ → ℕ) (before : List ℕ) (start stop : ℕ) (new : Lis
     pub put_room : length (edited_bytes edited) + length new ≤ 2147483648
     put_room = omega (arith, first_bytes before edited p.utf8 is, p.size, p.short)
 
+    pub put_places : Ok (start, stop) ≡ places_at 0 (edited_text edited) (ends_of units (edited_text edited) p.range)
+    put_places = subst (λ (t : List ℕ). ◌≡◌ {A = Result (ℕ × ℕ) EditFault} (Ok (start, stop))
+        (places_at 0 t (ends_of units t p.range))) (sym (ap edited_text is ∙ plain_text (chars before))) p.places
+
     pub put_range : HasRange (edited_text edited) start stop
-    put_range = record {
-      units = units;
-      range = p.range;
-      ends = subst (λ (t : List ℕ). ◌≡◌ {A = Result (ℕ × ℕ) EditFault} (Ok (start, stop))
-          (places_at 0 t (ends_of units t p.range))) (sym (ap edited_text is ∙ plain_text (chars before))) p.places;
-    }
+    put_range = record { units = units; range = p.range; ends = put_places }
 
     pub put_made : (next : PlainData) → Applied units edited (record { range = Some p.range; text = chars new }) next
         → (next.before ≡ chars before) × (next.items ≡ put_items before start stop new)
