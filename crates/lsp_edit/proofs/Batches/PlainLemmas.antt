@@ -230,13 +230,6 @@ boundary_found bytes text index place utf8 same within is =
     subst (IsCharBoundary bytes) (ap (λ (t : List ℕ). place_of t index) same ∙ is)
     (place_boundary bytes index utf8 (omega (arith, ap length same)))
 
--- The places of a range in a text with these bytes.
-pub places_on : (number : ℕ) (units : ℕ → ℕ) (range : Range) (r : Result (ℕ × ℕ) EditFault) (seen bytes : List ℕ)
-    → seen ≡ bytes → r ≡ places_at number (chars seen) (ends_of units (chars seen) range)
-    → r ≡ places_at number (chars bytes) (ends_of units (chars bytes) range)
-places_on number units range r seen bytes same error =
-    subst (λ (b : List ℕ). r ≡ places_at number (chars b) (ends_of units (chars b) range)) same error
-
 -- Items put between others.
 pub between_is : (items made pushed now : List PlainItem) (start stop : ℕ) (text : List ℕ) → made ≡ take start items
     → items_in_order pushed ≡ items_in_order made ++ map New text → now ≡ pushed ++ take (length items - stop)
