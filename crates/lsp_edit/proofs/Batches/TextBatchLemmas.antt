@@ -193,11 +193,16 @@ module _ (units : ℕ → ℕ) (number : ℕ) (before : List ℕ) (utf8 : IsUtf8
   range_faulted fault error =
       ⊎_elim
       (λ (memory : fault ≡ NoMemory). inl memory)
-      (λ (t : (why : Fault) × (changed_in units (chars before) (plain (chars before)) (chars new) (Some range) ≡ Err why)
+      (λ (t : (why : Fault)
+      × (changed_in units (chars before) (plain (chars before)) (chars new) (Some range) ≡ Err why)
       × (fault ≡ fault_at number why)).
-      inr (t.0, subst (λ (s : List ℕ). ◌≡◌ {A = Result (List ℕ) Fault} (text_changed units s (chars new) (Some range))
-      (Err t.0)) (plain_text (chars before)) (change_text units (chars before) (plain (chars before)) (chars new)
-      (Some range) ∙ ap (text_result (chars before)) t.1), t.2))
+      inr (
+        t.0,
+        subst (λ (s : List ℕ). ◌≡◌ {A = Result (List ℕ) Fault} (text_changed units s (chars new) (Some range))
+            (Err t.0)) (plain_text (chars before)) (change_text units (chars before) (plain (chars before)) (chars new)
+            (Some range) ∙ ap (text_result (chars before)) t.1),
+        t.2,
+      ))
       (fault_told units (chars before) (plain (chars before)) (chars new) range number fault
       (inr (subst (λ (s : List ℕ). ◌≡◌ {A = Result (ℕ × ℕ) EditFault} (Err fault)
       (places_at number s (ends_of units s range))) (sym (plain_text (chars before))) error)))
@@ -239,9 +244,11 @@ module _ (units : ℕ → ℕ) (left : Result (List ℕ) (ℕ × Fault)) (AreAll
       record {
         same = ap (λ (m : ℕ). text_after_changes units m (chars next) (map content_change more)) n ∙ l;
         ends = λ others have.
-            let met : AreTextEnds units (chars draft) (content_change change ∷ map content_change more) (end ∷ others) =
-            (at, λ left made_too. let e : chars next ≡ left = cc in
-            subst (λ (t : List ℕ). AreTextEnds units t (map content_change more) others) e have) in
+            let met : AreTextEnds units (chars draft) (content_change change ∷ map content_change more) (end ∷ others) = (
+              at,
+              λ left made_too. let e : chars next ≡ left = cc in
+                  subst (λ (t : List ℕ). AreTextEnds units t (map content_change more) others) e have,
+            ) in
             let here : AreTextEnds units (chars draft) (map content_change rest) (end ∷ others) = rw is met in
             subst AreAll (sym (ap (λ (es : List (ℕ × ℕ)). es ++ others) all_is ∙ append_assoc found (end ∷ []) others))
             (drafting.ends (end ∷ others) here);

@@ -49,8 +49,8 @@ pub within_fits : (max_len : ℕ) (before : List ℕ) (meant : Result (List Item
 within_fits max_len before (Err fault) left e = absurd (cc)
 within_fits max_len before (Ok items) left e =
     ⊎_elim
-    (λ (above : nat_lt max_len (length (bytes_left before items)) ≡ true). let bad : ◌≡◌ {A = Result (List ℕ) BatchFault}
-    (Err TooLong) (Ok left) = rw above at e in absurd (cc))
+    (λ (above : nat_lt max_len (length (bytes_left before items)) ≡ true). let bad : ◌≡◌ {A = Result (List ℕ)
+    BatchFault} (Err TooLong) (Ok left) = rw above at e in absurd (cc))
     (λ (below : nat_lt max_len (length (bytes_left before items)) ≡ false). let same : ◌≡◌ {A = Result (List ℕ)
     BatchFault} (Ok (bytes_left before items)) (Ok left) = rw below at e in
     let bytes : bytes_left before items ≡ left = cc in
@@ -154,8 +154,12 @@ canonical_is encoding max_len before batch answered delta of same =
       utf8 = on_utf8 before delta of.on;
       items = w.items;
       means = w.means;
-      within = omega (arith, ap length w.is, within_fits max_len before (meaning (units_in encoding) (chars before) batch)
-          (bytes_after before delta) of.is);
+      within = omega (
+        arith,
+        ap length w.is,
+        within_fits max_len before
+            (meaning (units_in encoding) (chars before) batch) (bytes_after before delta) of.is,
+      );
       is = rw of.units_are at (same w.items (sym of.means ∙ w.means));
       law = canonical_law (units_in encoding) (units_some encoding) (chars before);
     }
@@ -201,8 +205,8 @@ module _ (units : ℕ → ℕ) (before : List ℕ) (meant : Result (List Item) (
     putting_ends = subst (λ (old : List ℕ). AreEndsIn units (text_of old edited.items) (content_change change) end)
         (sym putting.applying.same) first.0
 
-    pub putting_on : (next : PlainData) → done < 18446744073709551615 → Applied units edited (content_change change) next
-        → IsPutting units before meant (done + 1) more others next
+    pub putting_on : (next : PlainData) → done < 18446744073709551615
+        → Applied units edited (content_change change) next → IsPutting units before meant (done + 1) more others next
     putting_on next small applied = record {
       applying = applying_on units before meant done change rest more edited is putting.applying next small applied;
       ends_are = first.1 next.items (ap (λ (b : List ℕ). items_after units b edited.items (content_change change))

@@ -60,12 +60,7 @@ impl<'a> Pieces<'a> {
 
     /// Replaces the bytes from `start` to `stop` of the current text, which are the ends of a
     /// range. After an error everything is unchanged.
-    pub(crate) fn put(
-        &mut self,
-        start: usize,
-        stop: usize,
-        text: &'a str,
-    ) -> Result<(), AllocError>
+    pub(crate) fn put(&mut self, start: usize, stop: usize, text: &'a str) -> Result<(), AllocError>
         requires room { length (edited_bytes self.old.edited) + length text.now ≤ MAX_TEXT }
         requires ends { HasRange (edited_text self.old.edited) start stop }
         ensures applied { OnOk result ((units : ℕ → ℕ) (range : Range)

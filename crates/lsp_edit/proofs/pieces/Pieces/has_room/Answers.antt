@@ -13,7 +13,8 @@ returns c =
     let e : length
     (encode_utf8_all
     (text_of (chars (text_before c.self.inside.before))
-    (items_of (chars (text_before c.self.inside.before)) (parts_of (spans_in c.self.inside.spans))))) ≡ c.self.inside.len
+    (items_of (chars (text_before c.self.inside.before)) (parts_of (spans_in c.self.inside.spans)))))
+    ≡ c.self.inside.len
     = ap length (now_bytes _ _ _ _ c.self.invariant.0) ∙ sym c.self.invariant.0.long in
     rw (← (same_edited c.self.view_is), e)
     (λ t. omega (arith, leb-true _ _ t, c.len.ensures), λ t. le-leb _ _ (omega (arith, c.len.ensures)))

@@ -12,7 +12,8 @@ use Rattle.lsp_edit.proofs.pieces.Pieces.places.Goals as goal
 
 pub returns-then-self-eq0-clause-places : goal.returns-then-self-eq0-clause-places
 returns-then-self-eq0-clause-places c =
-    places_told (units_in c.args.encoding) c.args.range _ c.args.self.now.edited (chars (text_before c.self.inside.before)) 0
+    places_told (units_in c.args.encoding) c.args.range _ c.args.self.now.edited
+    (chars (text_before c.self.inside.before)) 0
     (sym (ap (λ (e : PlainData). e.changes) (same_edited c.self.view_is)) ∙ c.if-self-eq0.true)
     (sym (ap edited_text (same_edited c.self.view_is))
     ∙ sym (fresh_chars _ _ _ _ c.self.invariant.0 c.if-self-eq0.true))

@@ -13,7 +13,8 @@ pub returns-clause-are : goal.returns-clause-are
 returns-clause-are c =
     rw c.as_slice.ensures
     (subst (λ (bytes : List ℕ). AreParts bytes (parts_of (spans_in c.self.inside.spans)))
-    (sym (encodes-chars (text_before c.self.inside.before) (IsUtf8-from_is_utf8 (text_before c.self.inside.before) c.self.invariant.0.utf8))
+    (sym (encodes-chars (text_before c.self.inside.before)
+    (IsUtf8-from_is_utf8 (text_before c.self.inside.before) c.self.invariant.0.utf8))
     ∙ ap before_bytes (same_edited c.self.view_is)) c.self.invariant.0.are)
 
 pub returns-clause-order : goal.returns-clause-order

@@ -27,8 +27,8 @@ spans_through-requires-clause-order c =
 pub invariant_of-result : goal.invariant_of-result
 invariant_of-result c =
     let both : AreOver (text_before c.first.inside.before) (parts_of (spans_in c.first.inside.spans)) c.first.inside.len
-    c.first.inside.changes (text_before c.second.inside.before) (parts_of (spans_in c.second.inside.spans)) c.second.inside.len
-    c.second.inside.changes
+    c.first.inside.changes (text_before c.second.inside.before) (parts_of (spans_in c.second.inside.spans))
+    c.second.inside.len c.second.inside.changes
     = over_seen _ _ _ _ _ _ _ _ c.first.invariant.0 c.second.invariant.0 c.args.first.now.edited
     c.args.second.now.edited (same_edited c.first.view_is) (same_edited c.second.view_is) c.requires in
     let made : parts_of c.in_ok-spans.spans.items ≡ through_parts (parts_of (spans_in c.first.inside.spans))
@@ -52,8 +52,8 @@ invariant_of-result c =
 pub returns-clause-composed : goal.returns-clause-composed
 returns-clause-composed c =
     let both : AreOver (text_before c.first.inside.before) (parts_of (spans_in c.first.inside.spans)) c.first.inside.len
-    c.first.inside.changes (text_before c.second.inside.before) (parts_of (spans_in c.second.inside.spans)) c.second.inside.len
-    c.second.inside.changes
+    c.first.inside.changes (text_before c.second.inside.before) (parts_of (spans_in c.second.inside.spans))
+    c.second.inside.len c.second.inside.changes
     = over_seen _ _ _ _ _ _ _ _ c.first.invariant.0 c.second.invariant.0 c.args.first.now.edited
     c.args.second.now.edited (same_edited c.first.view_is) (same_edited c.second.view_is) c.requires in
     let made : parts_of c.in_ok-spans.spans.items ≡ through_parts (parts_of (spans_in c.first.inside.spans))

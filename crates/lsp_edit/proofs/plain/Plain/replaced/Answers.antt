@@ -19,7 +19,8 @@ returns-in_err-start c =
     (places_told (units_in c.args.encoding) c.args.range _ c.args.self.now (chars c.as_str-current.result.now)
     c.self.inside.changes
     (sym (ap (λ (e : PlainData). e.changes) c.self.view_is))
-    (sym (edited_chars c.args.self.now c.as_str-current.result.now c.as_str-current.utf8 (c.as_str-current.ensures ∙ c.in_ok-now.ensures)))
+    (sym (edited_chars c.args.self.now c.as_str-current.result.now c.as_str-current.utf8
+    (c.as_str-current.ensures ∙ c.in_ok-now.ensures)))
     c.in_err-start.ensures))
 
 pub index_of-requires : goal.index_of-requires
@@ -37,8 +38,8 @@ put_between-requires-clause-order c =
     let r : AreFound (units_in c.args.encoding) c.args.self.now.before c.args.self.now.items c.args.range
     c.as_str-current.result.now c.in_ok-start.start c.in_ok-start.stop
     = found (units_in c.args.encoding) c.args.self.now c.args.range c.self.inside.changes c.in_ok-start.start
-    c.in_ok-start.stop c.as_str-current.result.now c.as_str-current.utf8 (c.as_str-current.ensures ∙ c.in_ok-now.ensures)
-    c.in_ok-start.ensures in
+    c.in_ok-start.stop c.as_str-current.result.now c.as_str-current.utf8
+    (c.as_str-current.ensures ∙ c.in_ok-now.ensures) c.in_ok-start.ensures in
     let low : c.in_ok-low.low ≡ r.ends.low =
     c.in_ok-low.ensures ∙ r.low in
     let high : c.in_ok-high.high ≡ r.ends.high =
@@ -50,8 +51,8 @@ put_between-requires-clause-within c =
     let r : AreFound (units_in c.args.encoding) c.args.self.now.before c.args.self.now.items c.args.range
     c.as_str-current.result.now c.in_ok-start.start c.in_ok-start.stop
     = found (units_in c.args.encoding) c.args.self.now c.args.range c.self.inside.changes c.in_ok-start.start
-    c.in_ok-start.stop c.as_str-current.result.now c.as_str-current.utf8 (c.as_str-current.ensures ∙ c.in_ok-now.ensures)
-    c.in_ok-start.ensures in
+    c.in_ok-start.stop c.as_str-current.result.now c.as_str-current.utf8
+    (c.as_str-current.ensures ∙ c.in_ok-now.ensures) c.in_ok-start.ensures in
     let high : c.in_ok-high.high ≡ r.ends.high =
     c.in_ok-high.ensures ∙ r.high in
     omega (
@@ -67,8 +68,8 @@ returns c =
     let r : AreFound (units_in c.args.encoding) c.args.self.now.before c.args.self.now.items c.args.range
     c.as_str-current.result.now c.in_ok-start.start c.in_ok-start.stop
     = found (units_in c.args.encoding) c.args.self.now c.args.range c.self.inside.changes c.in_ok-start.start
-    c.in_ok-start.stop c.as_str-current.result.now c.as_str-current.utf8 (c.as_str-current.ensures ∙ c.in_ok-now.ensures)
-    c.in_ok-start.ensures in
+    c.in_ok-start.stop c.as_str-current.result.now c.as_str-current.utf8
+    (c.as_str-current.ensures ∙ c.in_ok-now.ensures) c.in_ok-start.ensures in
     range_put (units_in c.args.encoding) c.args.self.now.before c.args.self.now.items _ _ c.args.text.now c.args.range
     c.in_ok-start.start c.in_ok-start.stop c.in_ok-low.low c.in_ok-high.high r.ends
     (ap items_in_order c.deref.ensures.value ∙ ap (λ (e : PlainData). e.items) c.self.view_is)
