@@ -24,6 +24,7 @@ use Rattle.lsp_edit.specs.inside.TextBatch.{AreTextEnds, text_replaced, text_cha
 use Rattle.lsp_edit.specs.Faults.{fault_at, places_at}
 use Rattle.lsp_edit.specs.Edited.{content_change}
 use Rattle.lsp_edit.specs.Indexed.{bytes_left, text_within, batch_fault_of}
+use Rattle.lsp_edit.proofs.Parts.CutLemmas.{text_of-new}
 use Rattle.lsp_edit.proofs.Composing.AppliedLemmas.{AreEnds, bytes_put, ends_told, fault_told, places_any, text_put}
 use Rattle.lsp_edit.proofs.Composing.EditedLemmas.{plain_text}
 use Rattle.lsp_edit.proofs.Composing.RoomLemmas.{texts_len}

@@ -1,8 +1,11 @@
-use Rattle.std.proofs.Common.{subst, sym}
+use Rattle.std.proofs.Common.{◌≡◌, ℕ, Some, Result, Ok, subst, sym}
 use Rattle.std.specs.Str.{chars}
 use Rattle.std.proofs.lemmas.Result.{err_from_is_err_and}
 use Rattle.lsp_text.specs.Units.{units_in}
-use Rattle.lsp_edit.specs.Edited.{PiecesData, edited_text}
+use Rattle.lsp_edit.specs.declared.fault.EditFault.{EditFault}
+use Rattle.lsp_edit.specs.Batch.{ends_of}
+use Rattle.lsp_edit.specs.Edited.{Applied, PiecesData, edited_text}
+use Rattle.lsp_edit.specs.Faults.{places_at}
 use Rattle.lsp_edit.specs.inside.Faults.{HasRange}
 use Rattle.lsp_edit.proofs.Composing.AppliedLemmas.{fault_told, places_found}
 use Rattle.lsp_edit.proofs.pieces.Pieces.apply_to_range.Goals as goal
@@ -28,5 +31,11 @@ put-requires-clause-ends c =
 
 pub returns-clause-applied : goal.returns-clause-applied
 returns-clause-applied c =
-    rw c.in_ok-start.ensures.unchanged at c.in_ok-put.ensures.applied (units_in c.args.encoding) c.args.range
-    (rw c.in_ok-start.ensures.unchanged (places_found _ _ _ _ _ c.in_ok-start.ensures.places))
+    subst
+    (λ (p : PiecesData). Applied (units_in c.args.encoding) p.edited
+    (record { range = Some c.args.range; text = chars c.args.text.now }) c.put.new.self.edited)
+    c.in_ok-start.ensures.unchanged
+    (c.in_ok-put.ensures.applied (units_in c.args.encoding) c.args.range
+    (subst (λ (p : PiecesData). ◌≡◌ {A = Result (ℕ × ℕ) EditFault} (Ok (c.in_ok-start.start, c.in_ok-start.stop))
+    (places_at 0 (edited_text p.edited) (ends_of (units_in c.args.encoding) (edited_text p.edited) c.args.range)))
+    (sym c.in_ok-start.ensures.unchanged) (places_found _ _ _ _ _ c.in_ok-start.ensures.places)))

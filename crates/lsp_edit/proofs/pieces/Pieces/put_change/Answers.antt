@@ -13,8 +13,8 @@ put-requires-clause-ends c = record {
 
 pub returns-in_ok-put-in-Some-clause-applied : goal.returns-in_ok-put-in-Some-clause-applied
 returns-in_ok-put-in-Some-clause-applied c = λ units are.
-    subst (λ (change : ContentChange). Applied units c.args.self.now.edited change c.put-in-Some.new.self.edited)
-    (edit_is c.args.change.now (Some c.in-Some.field-0) _ c.in-Some.is c.deref.ensures)
+    subst (λ (change : ContentChange). Applied units c.args.self.now.edited change c.put.new.self.edited)
+    (edit_is c.args.change.now (Some c.in-Some.field-0) _ c.in-Some.is c.deref-in-Some.ensures)
     (c.in_ok-put-in-Some.ensures.applied units c.in-Some.field-0 (are c.in-Some.field-0 c.in-Some.is))
 
 pub returns-in-None-clause-applied : goal.returns-in-None-clause-applied

@@ -20,18 +20,18 @@ returns-in_err-start c =
     c.self.inside.changes
     (sym (ap (λ (e : PlainData). e.changes) c.self.view_is))
     (sym (edited_chars c.args.self.now c.as_str-current.result.now c.as_str-current.utf8
-    (c.as_str-current.ensures ∙ c.in_ok-now.ensures)))
+    (c.as_str-current.ensures.value ∙ c.in_ok-now.ensures)))
     c.in_err-start.ensures))
 
 pub index_of-requires : goal.index_of-requires
 index_of-requires c = (found (units_in c.args.encoding) c.args.self.now c.args.range
     c.self.inside.changes c.in_ok-start.start c.in_ok-start.stop c.as_str-current.result.now c.as_str-current.utf8
-    (c.as_str-current.ensures ∙ c.in_ok-now.ensures) c.in_ok-start.ensures).start_at
+    (c.as_str-current.ensures.value ∙ c.in_ok-now.ensures) c.in_ok-start.ensures).start_at
 
 pub index_of-requires-2 : goal.index_of-requires-2
 index_of-requires-2 c = (found (units_in c.args.encoding) c.args.self.now c.args.range
     c.self.inside.changes c.in_ok-start.start c.in_ok-start.stop c.as_str-current.result.now c.as_str-current.utf8
-    (c.as_str-current.ensures ∙ c.in_ok-now.ensures) c.in_ok-start.ensures).stop_at
+    (c.as_str-current.ensures.value ∙ c.in_ok-now.ensures) c.in_ok-start.ensures).stop_at
 
 pub put_between-requires-clause-order : goal.put_between-requires-clause-order
 put_between-requires-clause-order c =
@@ -39,7 +39,7 @@ put_between-requires-clause-order c =
     c.as_str-current.result.now c.in_ok-start.start c.in_ok-start.stop
     = found (units_in c.args.encoding) c.args.self.now c.args.range c.self.inside.changes c.in_ok-start.start
     c.in_ok-start.stop c.as_str-current.result.now c.as_str-current.utf8
-    (c.as_str-current.ensures ∙ c.in_ok-now.ensures) c.in_ok-start.ensures in
+    (c.as_str-current.ensures.value ∙ c.in_ok-now.ensures) c.in_ok-start.ensures in
     let low : c.in_ok-low.low ≡ r.ends.low =
     c.in_ok-low.ensures ∙ r.low in
     let high : c.in_ok-high.high ≡ r.ends.high =
@@ -52,7 +52,7 @@ put_between-requires-clause-within c =
     c.as_str-current.result.now c.in_ok-start.start c.in_ok-start.stop
     = found (units_in c.args.encoding) c.args.self.now c.args.range c.self.inside.changes c.in_ok-start.start
     c.in_ok-start.stop c.as_str-current.result.now c.as_str-current.utf8
-    (c.as_str-current.ensures ∙ c.in_ok-now.ensures) c.in_ok-start.ensures in
+    (c.as_str-current.ensures.value ∙ c.in_ok-now.ensures) c.in_ok-start.ensures in
     let high : c.in_ok-high.high ≡ r.ends.high =
     c.in_ok-high.ensures ∙ r.high in
     omega (
@@ -69,7 +69,7 @@ returns c =
     c.as_str-current.result.now c.in_ok-start.start c.in_ok-start.stop
     = found (units_in c.args.encoding) c.args.self.now c.args.range c.self.inside.changes c.in_ok-start.start
     c.in_ok-start.stop c.as_str-current.result.now c.as_str-current.utf8
-    (c.as_str-current.ensures ∙ c.in_ok-now.ensures) c.in_ok-start.ensures in
+    (c.as_str-current.ensures.value ∙ c.in_ok-now.ensures) c.in_ok-start.ensures in
     range_put (units_in c.args.encoding) c.args.self.now.before c.args.self.now.items _ _ c.args.text.now c.args.range
     c.in_ok-start.start c.in_ok-start.stop c.in_ok-low.low c.in_ok-high.high r.ends
     (ap items_in_order c.deref.ensures.value ∙ ap (λ (e : PlainData). e.items) c.self.view_is)
