@@ -1,23 +1,21 @@
 -- What changes leave of a text, by its characters alone, and by the items that stand for it.
-use Rattle.std.proofs.Common.{ℕ, suc, ◌≡◌, ◌+◌, ◌-◌, ◌<◌, ◌≤◌, ◌⊎◌, true, false, List, [], ◌∷◌, ◌++◌, length, map, take, drop, nat_le, refl, sym, ap, ap₂, ◌∙◌, subst, arith, encode_utf8_all, ⊎_elim, inl, inr, le-leb, Option, Some, None, Result, Ok, Err, string_len}
+use Rattle.std.proofs.Common.{ℕ, suc, ◌≡◌, ◌+◌, ◌-◌, ◌<◌, ◌≤◌, ◌⊎◌, true, false, List, [], ◌∷◌, ◌++◌, length, map, take, drop, nat_le, refl, sym, ap, ◌∙◌, subst, arith, encode_utf8_all, ⊎_elim, inl, inr, le-leb, Option, Some, None, Result, Ok, Err, string_len}
 use Rattle.std.proofs.lemmas.Bool.{cases_Bool, lt-ltb, le-ltb}
-use Rattle.std.proofs.lemmas.List.{append_assoc, append-nil, map-append, take-map, drop-map}
+use Rattle.std.proofs.lemmas.List.{append_assoc, append-nil}
 use Rattle.std.proofs.lemmas.List.Sums.{sum_by-cons}
-use Rattle.std.proofs.lemmas.Str.{encodes-append, encodes-chars, chars_from_encodes, IsUtf8-append, IsUtf8-take, IsUtf8-drop}
+use Rattle.std.proofs.lemmas.Str.{encodes-chars, chars_from_encodes, IsUtf8-append, IsUtf8-take, IsUtf8-drop}
 use Rattle.std.specs.List.{replace_range}
 use Rattle.std.specs.Str.{IsUtf8, IsCharBoundary, chars}
 use Rattle.lsp_text.specs.declared.position.Range.{Range}
 use Rattle.lsp_text.specs.Positions.{denoted}
-use Rattle.lsp_text.specs.Text.{place_of}
-use Rattle.lsp_text.proofs.Positions.PlaceLemmas.{take_place, drop_place}
 use Rattle.lsp_buffer.proofs.Changes.ChangeLemmas.{replaced_length}
 use Rattle.lsp_edit.specs.declared.change.Change.{Change}
 use Rattle.lsp_edit.specs.declared.fault.EditFault.{EditFault}
 use Rattle.lsp_edit.specs.declared.fault.EditFault.TheVariants.{NoMemory}
 use Rattle.lsp_edit.specs.declared.indexed.fault.BatchFault.{BatchFault}
-use Rattle.lsp_edit.specs.declared.indexed.fault.BatchFault.TheVariants.{Edit as EditOf, TooLong, NoMemory as OutOfMemory}
-use Rattle.lsp_edit.specs.Items.{Item, New, plain, character_of, text_of}
-use Rattle.lsp_edit.specs.Batch.{ContentChange, Fault, InsideStart, InsideStop, Reversed, changed_in, items_after, after_changes, continue_with, meaning, in_order, ends_of}
+use Rattle.lsp_edit.specs.declared.indexed.fault.BatchFault.TheVariants.{TooLong, NoMemory as OutOfMemory}
+use Rattle.lsp_edit.specs.Items.{Item, plain, text_of}
+use Rattle.lsp_edit.specs.Batch.{ContentChange, Fault, changed_in, items_after, after_changes, continue_with, meaning, ends_of}
 use Rattle.lsp_edit.specs.inside.Batch.{replaced}
 use Rattle.lsp_edit.specs.Delta.{AreEndsIn, AreEndsOf}
 use Rattle.lsp_edit.specs.inside.TextBatch.{AreTextEnds, text_replaced, text_changed, text_after_change, text_after_changes, text_continue_with, IsFaultOf, IsFaultOfBatch}

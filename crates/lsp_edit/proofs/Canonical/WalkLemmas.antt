@@ -7,7 +7,7 @@ use Rattle.std.proofs.lemmas.Str.{encodes-chars, chars-append, chars-nil, IsUtf8
 use Rattle.lsp_text.specs.Text.{place_of}
 use Rattle.lsp_text.specs.TextLines.{numbers_from, splits_crlf}
 use Rattle.lsp_text.specs.LineStarts.{IsPlace}
-use Rattle.lsp_text.proofs.Positions.PlaceLemmas.{place_end, IsIndexAt, index_at}
+use Rattle.lsp_text.proofs.Positions.PlaceLemmas.{IsIndexAt, index_at}
 use Rattle.lsp_text.specs.declared.position.Position.{Position}
 use Rattle.lsp_text.specs.Positions.{exact_position}
 use Rattle.lsp_edit.specs.declared.change.Change.{Change}

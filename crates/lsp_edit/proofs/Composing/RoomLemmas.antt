@@ -1,5 +1,5 @@
 -- How long a text gets by a batch: each change adds its own text at most.
-use Rattle.std.proofs.Common.{ℕ, suc, ◌≡◌, ◌+◌, ◌-◌, ◌<◌, ◌≤◌, true, false, List, ◌∷◌, ◌++◌, length, map, take, drop, nat_le, sym, ap, ap₂, ◌∙◌, subst, arith, drop-drop, encode_utf8_all, ⊎_elim, inl, inr, leb-true, Option, Some, None, Result, Ok, Err, sum_by, string_len, string_bytes}
+use Rattle.std.proofs.Common.{ℕ, suc, ◌≡◌, ◌+◌, ◌-◌, ◌<◌, ◌≤◌, true, false, List, ◌∷◌, ◌++◌, length, map, take, drop, nat_le, sym, ap, ◌∙◌, subst, arith, drop-drop, encode_utf8_all, ⊎_elim, inl, inr, leb-true, Option, Some, None, Result, Ok, Err, sum_by, string_len, string_bytes}
 use Rattle.std.specs.Str.{chars}
 use Rattle.std.proofs.lemmas.Bool.{cases_Bool}
 use Rattle.std.proofs.lemmas.List.{length-append}

@@ -1,5 +1,5 @@
 -- What was resolved once, read again.
-use Rattle.std.proofs.Common.{ℕ, ◌≡◌, ◌+◌, ◌-◌, ◌<◌, ◌≤◌, true, false, List, [], ◌∷◌, length, map, drop, refl, sym, ap, ap₂, ◌∙◌, subst, arith, encode_utf8_all, ⊎_elim, nat_lt, Some, Result, Ok, Err}
+use Rattle.std.proofs.Common.{ℕ, ◌≡◌, ◌+◌, ◌-◌, ◌<◌, ◌≤◌, true, false, List, ◌∷◌, length, map, drop, refl, sym, ap, ap₂, ◌∙◌, subst, arith, encode_utf8_all, ⊎_elim, nat_lt, Some, Result, Ok, Err}
 use Rattle.std.proofs.lemmas.Bool.{cases_Bool, cases_lt, ltb-false}
 use Rattle.std.proofs.lemmas.List.{drop_all}
 use Rattle.std.specs.List.{replace_range}

@@ -1,5 +1,4 @@
 use Rattle.std.proofs.Common.{◌≡◌, ◌<◌, ℕ, List, length, arith, sym, ap, ◌∙◌}
-use Rattle.std.specs.Str.{chars}
 use Rattle.std.specs.List.{replace_range}
 use Rattle.std.proofs.lemmas.List.{length-map}
 use Rattle.lsp_edit.specs.Parts.{Part, part_of, parts_of, bytes_of}
