@@ -1,47 +1,23 @@
 //! `compose`, which applies a whole batch of changes to a text.
 //!
-//! A batch of several changes is composed beside a copy that shares blocks with the text, so
-//! later changes are resolved without a joined copy. A single change, or a batch that begins
-//! with a whole text, makes none.
+//! Ranges are resolved here, for who has a text in one string. A batch on a text in blocks is
+//! resolved by `IndexedText::delta`, and composed of what that found.
 
-ghost use Rattle.std.specs.Prelude.{◌≡◌, ◌+◌, ◌≤◌, ℕ, IfOk, Ok, OnOk, MatchResult, length, map, string_len, sum_by};
-ghost use Rattle.std.specs.Str.{IsUtf8, chars};
+ghost use Rattle.std.specs.Prelude.{◌≡◌, ◌+◌, ◌≤◌, MatchResult, length, map, string_len, sum_by};
+ghost use Rattle.std.specs.Str.{chars};
 ghost use Rattle.lsp_text.specs.Units.{units_in};
 ghost use Rattle.lsp_edit.specs.Batch.{after_changes, meaning};
 ghost use Rattle.lsp_edit.specs.Edited.{Means, content_change, edited_bytes};
 ghost use Rattle.lsp_edit.specs.Faults.{IsFaultOfChanges};
-ghost use Rattle.lsp_edit.specs.Items.{plain};
 
 use crate::change::{Change, MAX_NEW_TEXT};
 use crate::fault::EditFault;
-use crate::old_text::OldText;
 use crate::pieces::{MAX_TEXT, Pieces};
 use lsp_text::Encoding;
-use std::alloc::{AllocError, Global};
+use std::alloc::Global;
 
 /// How many bytes a text may have to which a batch is applied.
 pub const MAX_OLD_TEXT: usize = 1_073_741_824;
-
-/// Makes the pieces that a batch begins with. A single change needs no current text, and neither
-/// does a batch whose first change replaces all.
-fn begun<'a>(
-    alloc: Global,
-    before: OldText<'a>,
-    changes: &[Change],
-) -> Result<Pieces<'a>, AllocError>
-    ensures begun { IfOk result (λ pieces. pieces.edited ≡ record {
-      before = chars before.entry;
-      items = plain (chars before.entry);
-      changes = 0;
-    }) }
-    ensures utf8 { IsUtf8 before.entry }
-{
-    let _ = before.len();
-    match changes {
-        [Change { range: Some(_), .. }, _, ..] => Pieces::begin_several(alloc, before),
-        _ => Ok(Pieces::begin(alloc, before)),
-    }
-}
 
 /// Applies the changes of a batch to pieces, one after another.
 fn apply_all<'a>(
@@ -86,26 +62,6 @@ pub fn compose<'a>(
         (λ fault. IsFaultOfChanges
         (meaning (units_in encoding) (chars before.now) (map content_change changes.now)) fault) }
 {
-    let before = OldText::new(alloc, before)?;
-    compose_old(alloc, before, encoding, changes)
-}
-
-/// Applies the changes of a batch to an old text in any form, as [`compose`] does.
-pub(crate) fn compose_old<'a>(
-    alloc: Global,
-    before: OldText<'a>,
-    encoding: Encoding,
-    changes: &'a [Change],
-) -> Result<Pieces<'a>, EditFault>
-    requires size { length before ≤ MAX_OLD_TEXT }
-    requires fits { sum_by (λ change. string_len change.text) changes.now ≤ MAX_NEW_TEXT }
-    ensures means { MatchResult result
-        (λ pieces. Means (chars before.entry) (meaning (units_in encoding) (chars before.entry)
-        (map content_change changes.now)) (length changes.now) pieces.edited)
-        (λ fault. IsFaultOfChanges
-        (meaning (units_in encoding) (chars before.entry) (map content_change changes.now)) fault) }
-    ensures utf8 { OnOk result (IsUtf8 before.entry) }
-{
-    let pieces = begun(alloc, before, changes)?;
+    let pieces = Pieces::start(alloc, before)?;
     apply_all(pieces, encoding, changes)
 }

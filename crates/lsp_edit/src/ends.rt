@@ -9,13 +9,13 @@ ghost use Rattle.lsp_edit.specs.Batch.{ends_of, in_order};
 ghost use Rattle.lsp_edit.specs.inside.Faults.{numbered};
 
 use crate::fault::{EditFault, Side};
-use crate::old_text::OldText;
+use lsp_buffer::TextBuffer;
 use lsp_text::{Encoding, InsideCharacter, Range};
 
 /// Returns the byte offsets of a range's two ends in a text. `change` is the number of the change
 /// that a fault reports.
 pub fn ends(
-    text: &OldText<'_>,
+    text: &TextBuffer,
     encoding: Encoding,
     range: Range,
     change: usize,

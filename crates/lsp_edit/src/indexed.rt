@@ -2,7 +2,7 @@
 //!
 //! One change of a range is made in place. A longer batch is made in a copy, which shares the
 //! blocks, and moved in: so a fault in a later change undoes nothing. One that begins with a
-//! whole text copies nothing. It keeps no spans: who wants them composes by `Pieces`.
+//! whole text copies nothing. It keeps no spans: who wants them composes the delta.
 
 ghost use Rattle.std.specs.Prelude.{◌≡◌, ◌≢◌, ◌≤◌, ◌↔◌, ℕ, List, IsTrue, IfErr, IfOk, IfSome, IsOk, OnErr, OnOk, Err, Ok, None, length, map, string_bytes, string_len, sum_by};
 ghost use Rattle.std.specs.Str.{IsUtf8, chars};
@@ -20,10 +20,9 @@ pub(crate) mod fault;
 
 use crate::change::{Change, MAX_NEW_TEXT};
 use crate::composed::MAX_OLD_TEXT;
-use crate::delta::{Delta, Put};
+use crate::delta::{Delta, Left, Put};
 use crate::ends::ends;
 use crate::indexed::fault::BatchFault;
-use crate::old_text::OldText;
 use crate::pieces::MAX_TEXT;
 use lsp_buffer::TextBuffer;
 use lsp_text::{Encoding, Range};
@@ -81,13 +80,6 @@ impl IndexedText {
     /// Returns the text's allocator.
     fn allocator(&self) -> &Global {
         self.text.allocator()
-    }
-
-    /// Returns the text as the one before any change.
-    pub(crate) fn as_old(&self) -> OldText<'_>
-        ensures { result ≡ self.now }
-    {
-        OldText::in_blocks(&self.text)
     }
 
     /// Returns a copy, which shares its blocks with this text. Fails only where memory runs out.
@@ -157,9 +149,9 @@ impl IndexedText {
             (alone range new.now)) }
         ensures memory { result ≢ Err NoMemory }
     {
-        let text = self.as_old();
+        let text = self.text();
         let len = text.len();
-        let (start, stop) = ends(&text, encoding, range, 0)?;
+        let (start, stop) = ends(text, encoding, range, 0)?;
         if len - (stop - start) + new.len() > max_len {
             return Err(BatchFault::TooLong);
         }
@@ -171,7 +163,7 @@ impl IndexedText {
         }))
     }
 
-    /// Resolves a batch by the text that it leaves.
+    /// Resolves a batch in a copy of the text.
     fn left_delta<'a>(
         &self,
         encoding: Encoding,
@@ -192,12 +184,13 @@ impl IndexedText {
         // States that the text is UTF-8.
         let _ = self.len();
         check_whole(changes, max_len)?;
-        let left = self.draft(encoding, changes, max_len)?;
-        Ok(Delta::Left {
+        let (text, ends) = self.draft(encoding, changes, max_len)?;
+        Ok(Delta::Left(Left {
             encoding,
             changes,
-            left,
-        })
+            ends,
+            text,
+        }))
     }
 
     /// Resolves a batch on the text (LSP 3.17, DidChangeTextDocumentParams), if the result has at
@@ -243,8 +236,8 @@ impl IndexedText {
     {
         match delta {
             Delta::Put(put) => self.text.replace_range(put.start, put.stop, put.new),
-            Delta::Left { left, .. } => {
-                *self = left;
+            Delta::Left(batch) => {
+                *self = batch.text;
                 Ok(())
             }
         }

@@ -1,8 +1,8 @@
 //! `Joined`, batches of changes on a text, one after another, as one.
 //!
 //! Batches are joined before a new one is added, so a join that fails leaves all as it was.
-//! 2,048 changes and more are composed in groups of 1,024, so a change moves its group's spans.
-//! A refused batch is composed once more, to name the change.
+//! 512 changes and more are composed in groups of 256: a change moves the spans of its group that
+//! follow it, some ten instructions each, and a level of joins costs less than 100 such moves.
 
 ghost use Rattle.std.specs.Prelude.{ℕ, ◌≡◌, ◌≤◌, List, IfOk, Ok, OnErr, OnOk, length, map, string_len, sum_by};
 ghost use Rattle.std.specs.Str.{chars};
@@ -32,7 +32,7 @@ use std::alloc::{AllocError, Global};
 use std::marker::Model;
 
 /// How many changes of a long batch are composed at once.
-pub(crate) const SERIES: usize = 1024;
+pub(crate) const SERIES: usize = 256;
 
 /// Batches of changes on a text, one after another, and their result as one.
 ///
@@ -89,19 +89,18 @@ impl Joined {
 
     /// Composes a batch series by series, so that a change moves only the spans of its series.
     ///
-    /// Fails if a change has no result, a text grows too long, or memory runs out; the error
-    /// doesn't reliably say which. Costs what the changes cost to apply, and for each series some
-    /// copies by [`IndexedText::clone_in`].
+    /// Fails if a change has no result, a text between two series grows too long, or memory runs
+    /// out. Costs what the changes cost to apply, and for each series a copy by
+    /// [`IndexedText::clone_in`].
     pub(crate) fn of_batch(
         alloc: Global,
         encoding: Encoding,
         before: &IndexedText,
         changes: &[Change],
-        max_len: usize,
     ) -> Result<Self, BatchFault>
         requires size { length before.now ≤ MAX_OLD_TEXT }
         requires fits { sum_by (λ change. string_len change.text) changes.now ≤ MAX_NEW_TEXT }
-        ensures { IfOk result (IsWhole (units_in encoding) max_len before.now
+        ensures { IfOk result (IsWhole (units_in encoding) before.now
             (map content_change changes.now)) }
     {
         let mut reached = before.clone_in(alloc)?;
@@ -109,9 +108,6 @@ impl Joined {
         for series in changes.chunks(SERIES) {
             let delta = reached.delta(encoding, series, MAX_OLD_TEXT)?;
             joined.change(&mut reached, delta)?;
-        }
-        if reached.len() > max_len {
-            return Err(BatchFault::TooLong);
         }
         Ok(joined)
     }
@@ -149,9 +145,8 @@ impl Joined {
 
     /// Adds a batch that was resolved on `reached`, the text after the batches before it.
     ///
-    /// Fails only where memory runs out, and then nothing changes. A range costs three spans and a
-    /// copy of its new text, any other batch is composed. Now and then there is a walk over the
-    /// spans of earlier batches.
+    /// Fails only where memory runs out, and then nothing changes. Costs the delta's spans, and a
+    /// copy of its new texts. Now and then there is a walk over the spans of earlier batches.
     pub fn add_delta(&mut self, reached: &IndexedText, delta: &Delta<'_>) -> Result<(), AllocError>
         requires reached { IsReached self.old reached.now }
         requires on { IsOn reached.now delta.now }
@@ -205,13 +200,13 @@ impl Joined {
             ≡ canonical (units_in encoding) (chars self.now.before) self.now.items) }
     {
         let alloc = *self.layers.allocator();
-        let text = self.before.as_old();
-        let whole = Spans::whole(alloc, &text);
+        let text = self.before.text();
+        let whole = Spans::whole(alloc, text);
         let mut spans = Vec::from_slice(alloc, whole.as_slice())?;
         for layer in &self.layers {
             let next = layer.borrowed(alloc)?;
             spans = spans_through(alloc, &spans, &next)?;
         }
-        canonical_of(alloc, &text, &spans, encoding)
+        canonical_of(alloc, text, &spans, encoding)
     }
 }

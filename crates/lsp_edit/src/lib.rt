@@ -3,16 +3,13 @@
 //!
 //! - `indexed`: `IndexedText`, a text in blocks, which a server changes batch by batch. `draft`
 //!   applies a batch to a copy, `canonical` returns canonical batches, `fault` is why a batch is
-//!   refused. `ends` has the byte offsets of a range.
-//! - `old_text`: `OldText`, the text before any change, as one string or in blocks. `form` is which
-//!   of the two, `indexed_str` one string with its lines, `kept_lines` whose lines these are.
+//!   refused. `ends` finds the byte offsets of a range.
 //! - `pieces`: `Pieces`, what became of an old text, in spans of it and of the changes' texts. Its
-//!   parts are `apply` (a change), `spans`, `span`, `row`, `replace`, `through` and `current` (the
-//!   text that later changes meet).
-//! - `composed`: `compose`, which makes the pieces of a whole batch. `canonical` writes their
-//!   canonical batch.
-//! - `delta`: `Delta`, a batch that was resolved once on a text. Applying it, its canonical batch
-//!   and its length are read from it.
+//!   parts are `apply` (a change), `before` (the old text), `spans`, `span`, `row`, `replace`,
+//!   `through`, `canonical` (their canonical batch) and `current` (the text that later changes meet).
+//! - `delta`: `Delta`, a batch that was resolved once on a text. Its text, length and canonical batch
+//!   are read from it, and its pieces are made of the offsets that it keeps.
+//! - `composed`: `compose`, which resolves a batch on a text in one string, by `Pieces` alone.
 //! - `change`, `fault`: a change as the protocol writes it, the limit on the texts of a batch, and
 //!   why a change has no result.
 //! - `joined`: `Joined`, many batches, one after another, as one. A `layer` is one of them.
@@ -31,7 +28,6 @@ mod fault;
 mod indexed;
 mod joined;
 mod laws;
-mod old_text;
 mod pieces;
 pub mod plain;
 mod text_edits;

@@ -12,11 +12,13 @@ ghost use Rattle.lsp_edit.specs.Parts.{AreParts, Ascend, NoneEmpty, NoneTouch, i
 ghost use Rattle.lsp_edit.specs.Compose.{then_items};
 ghost use Rattle.lsp_edit.specs.Edited.{before_bytes, both_counts, content_change, edited_bytes};
 ghost use Rattle.lsp_edit.specs.Edited.{edited_text};
+ghost use Rattle.lsp_edit.specs.inside.Before.{text_before};
 ghost use Rattle.lsp_edit.specs.Batch.{ContentChange, meaning};
 ghost use Rattle.lsp_edit.specs.Canonical.{canonical};
 ghost use Rattle.lsp_edit.specs.laws.Batches.{IsCanonical, KeepsPairs, RangesStay};
 
 mod apply;
+pub(crate) mod before;
 pub(crate) mod canonical;
 pub(crate) mod current;
 pub(crate) mod replace;
@@ -26,7 +28,7 @@ pub(crate) mod spans;
 pub(crate) mod through;
 
 use crate::change::Change;
-use crate::old_text::OldText;
+use crate::pieces::before::Before;
 use crate::pieces::canonical::canonical_of;
 use crate::pieces::current::text_of_spans;
 use crate::pieces::row::Row;
@@ -47,14 +49,14 @@ pub const MAX_TEXT: usize = 2_147_483_648;
 pub struct Pieces<'a> {
     alloc: Global,
     // The text before any change.
-    before: OldText<'a>,
+    before: Before<'a>,
     // What the result is, in parts of that text and of the changes' texts.
     spans: Spans<'a>,
     // How many bytes the result has.
     len: usize,
     // How many changes were applied.
     changes: usize,
-    // The result, if it was made: before the first of several changes, or for a later one.
+    // The result, if it was made to resolve a range in it.
     current: Option<TextBuffer>,
 }
 
@@ -63,36 +65,39 @@ impl<'a> Model for Pieces<'a> {
     ghost use Rattle.lsp_edit.specs.Parts.{items_of, parts_of, bytes_of};
     ghost use Rattle.lsp_edit.specs.Spans.{spans_in};
     ghost use Rattle.lsp_edit.specs.Edited.{PiecesData, ArePieces, IsCurrent};
+    ghost use Rattle.lsp_edit.specs.inside.Before.{text_before};
 
     ghost Value = { PiecesData };
 
     ghost view = { λ pieces. record {
       edited = record {
-        before = chars pieces.before;
-        items = items_of (chars pieces.before) (parts_of (spans_in pieces.spans));
+        before = chars (text_before pieces.before);
+        items = items_of (chars (text_before pieces.before)) (parts_of (spans_in pieces.spans));
         changes = pieces.changes;
       };
       parts = parts_of (spans_in pieces.spans);
     } };
 
     ghost invariant = { λ pieces.
-        ArePieces pieces.before (parts_of (spans_in pieces.spans)) pieces.len pieces.changes
-        × IsCurrent (bytes_of pieces.before (parts_of (spans_in pieces.spans)))
+        ArePieces (text_before pieces.before) (parts_of (spans_in pieces.spans)) pieces.len
+        pieces.changes
+        × IsCurrent (bytes_of (text_before pieces.before) (parts_of (spans_in pieces.spans)))
         pieces.current };
 }
 
 impl<'a> Pieces<'a> {
     /// Makes pieces of a text before any change. Takes no memory, and constant time.
-    pub(crate) fn begin(alloc: Global, before: OldText<'a>) -> Self
+    pub(crate) fn begin(alloc: Global, before: Before<'a>) -> Self
         ensures begun { result.edited ≡ record {
-          before = chars before.entry;
-          items = plain (chars before.entry);
+          before = chars (text_before before.entry);
+          items = plain (chars (text_before before.entry));
           changes = 0;
         } }
-        ensures utf8 { IsUtf8 before.entry }
+        ensures utf8 { IsUtf8 (text_before before.entry) }
     {
-        let len = before.len();
-        let spans = Spans::whole(alloc, &before);
+        let text = before.get();
+        let len = text.len();
+        let spans = Spans::whole(alloc, text);
         Pieces {
             alloc,
             before,
@@ -103,44 +108,21 @@ impl<'a> Pieces<'a> {
         }
     }
 
-    /// Makes pieces of a text before any change, ready for several changes: with a current text
-    /// that shares the blocks of a text in blocks. Fails only where memory runs out. Costs what
-    /// [`TextBuffer::clone_in`] costs; a text in one string is copied.
-    pub(crate) fn begin_several(alloc: Global, before: OldText<'a>) -> Result<Self, AllocError>
-        ensures begun { IfOk result (λ pieces. pieces.edited ≡ record {
-          before = chars before.entry;
-          items = plain (chars before.entry);
-          changes = 0;
-        }) }
-        ensures utf8 { OnOk result (IsUtf8 before.entry) }
-    {
-        let current = before.to_buffer(alloc)?;
-        let len = before.len();
-        let spans = Spans::whole(alloc, &before);
-        Ok(Pieces {
-            alloc,
-            before,
-            spans,
-            len,
-            changes: 0,
-            current: Some(current),
-        })
-    }
-
-    /// Makes pieces of a text before any change. Fails only where memory runs out. Costs a search
-    /// through the text for its lines.
+    /// Makes pieces of a text before any change. Fails only where memory runs out. Costs a copy of
+    /// the text in blocks, and a search through it for its lines.
     pub fn start(alloc: Global, before: &'a str) -> Result<Self, AllocError>
         requires { length before.now ≤ MAX_TEXT }
         ensures { IfOk result (λ pieces. pieces.edited
             ≡ record { before = chars before.now; items = plain (chars before.now); changes = 0 }) }
     {
-        Ok(Self::begin(alloc, OldText::new(alloc, before)?))
+        let before = Before::Own(TextBuffer::from_str(alloc, before)?);
+        Ok(Self::begin(alloc, before))
     }
 
     /// Composes two series of changes; `second` is over the text that `first` leaves. The result is
     /// over the old text of `first`, and counts the changes of both.
     ///
-    /// Fails only where memory runs out. Costs the spans of both, and borrows the lines of
+    /// Fails only where memory runs out. Costs the spans of both, and borrows the old text of
     /// `first`.
     pub fn then<'b, 'c>(
         alloc: Global,
@@ -167,7 +149,7 @@ impl<'a> Pieces<'a> {
         let spans = spans_through(alloc, first.spans.as_slice(), second.spans.as_slice())?;
         Ok(Pieces {
             alloc,
-            before: first.before.borrowed(),
+            before: Before::Borrowed(first.before.get()),
             spans: Spans::Many(Row::new(spans)),
             len: second.len,
             changes: first.changes.saturating_add(second.changes),
@@ -211,7 +193,8 @@ impl<'a> Pieces<'a> {
             → meaning (units_in encoding) self.now.edited.before batch ≡ Ok self.now.edited.items
             → IsCanonical (units_in encoding) self.now.edited.before batch self.now.edited.items }
     {
-        canonical_of(self.alloc, &self.before, self.spans.as_slice(), encoding)
+        let before = self.before.get();
+        canonical_of(self.alloc, before, self.spans.as_slice(), encoding)
     }
 
     /// Returns the spans of the current text: parts of the old text in order, and texts of the
@@ -236,6 +219,7 @@ impl<'a> Pieces<'a> {
     pub fn text(&self) -> Result<String, AllocError>
         ensures { IfOk result (λ text. string_bytes text ≡ edited_bytes self.now.edited) }
     {
-        text_of_spans(self.alloc, &self.before, self.spans.as_slice(), self.len)
+        let before = self.before.get();
+        text_of_spans(self.alloc, before, self.spans.as_slice(), self.len)
     }
 }

@@ -4,13 +4,14 @@
 
 ghost use Rattle.std.specs.Prelude.{◌≡◌, ◌+◌, ◌++◌, ◌≤◌, ◌<◌, ℕ, IfErr, IfOk, OnErr, OnOk, Ok, Some, MatchResult, List, map, length, string_bytes, string_len, sum_by};
 ghost use Rattle.std.specs.Str.{chars};
+ghost use Rattle.lsp_text.specs.LineStarts.{AreLinesOf};
 ghost use Rattle.lsp_text.specs.Units.{units_in};
 ghost use Rattle.lsp_edit.specs.Items.{Item as SpecItem, plain as plain_items};
-ghost use Rattle.lsp_edit.specs.Batch.{ContentChange, items_after, changed_in, meaning};
+ghost use Rattle.lsp_edit.specs.Batch.{ContentChange, items_after, changed_in, ends_of, meaning};
 ghost use Rattle.lsp_edit.specs.Canonical.{canonical as spec_canonical};
 ghost use Rattle.lsp_edit.specs.Compose.{then_items as spec_then_items, item_through as spec_item_through};
 ghost use Rattle.lsp_edit.specs.Edited.{Applied, Means, both_counts, content_change, edited_bytes, edited_text};
-ghost use Rattle.lsp_edit.specs.Faults.{IsFaultOfChanges, IsFaultOfChange};
+ghost use Rattle.lsp_edit.specs.Faults.{IsFaultOfChanges, IsFaultOfChange, places_at};
 ghost use Rattle.lsp_edit.specs.laws.Batches.{IsCanonical, KeepsPairs, RangesStay};
 ghost use Rattle.lsp_edit.specs.Plain.{item_of, items_in_order};
 
@@ -18,9 +19,8 @@ mod items;
 
 use crate::change::{Change, MAX_NEW_TEXT};
 use crate::composed::MAX_OLD_TEXT;
-use crate::ends::ends;
+use crate::ends::ends_in_order;
 use crate::fault::EditFault;
-use crate::old_text::OldText;
 use crate::pieces::MAX_TEXT;
 use crate::plain::items::{
     all_new, characters, encoded, gaps_written, index_of, numbered, put_between, text_of,
@@ -101,10 +101,11 @@ impl<'a> Plain<'a> {
             fault) }
     {
         let now = self.text()?;
-        let before = OldText::new(self.alloc, &now)?;
-        let (start, stop) = ends(&before, encoding, range, self.changes)?;
-        let low = index_of(self.alloc, &now, start)?;
-        let high = index_of(self.alloc, &now, stop)?;
+        let current = now.as_str();
+        let lines = Lines::new(self.alloc, current)?;
+        let (start, stop) = ends_by(&lines, current, encoding, range, self.changes)?;
+        let low = index_of(self.alloc, current, start)?;
+        let high = index_of(self.alloc, current, stop)?;
         Ok(put_between(self.alloc, &self.items, low, high, text)?)
     }
 
@@ -197,6 +198,24 @@ impl<'a> Plain<'a> {
             &self.items,
         )
     }
+}
+
+/// Returns the byte offsets of a range's two ends in a text with these lines. `change` is the number
+/// of the change that a fault reports.
+fn ends_by(
+    lines: &Lines,
+    text: &str,
+    encoding: Encoding,
+    range: Range,
+    change: usize,
+) -> Result<(usize, usize), EditFault>
+    requires { AreLinesOf lines.now text.now }
+    ensures { result
+        ≡ places_at change (chars text.now) (ends_of (units_in encoding) (chars text.now) range) }
+{
+    let start = lines.resolve(text, encoding, range.start);
+    let stop = lines.resolve(text, encoding, range.stop);
+    ends_in_order(start, stop, change)
 }
 
 /// Turns an item over the text of `first` into one over what `first` is over.

@@ -15,8 +15,8 @@ ghost use Rattle.lsp_edit.specs.inside.TextEdits.{AreApart, ArePlaced, DoOverlap
 
 use crate::ends::ends;
 use crate::fault::{EditFault, Side};
-use crate::old_text::OldText;
 use crate::pieces::span::Span;
+use lsp_buffer::TextBuffer;
 use lsp_text::{Encoding, Range};
 use std::alloc::{AllocError, Global};
 use thiserror::Error;
@@ -82,7 +82,7 @@ pub struct Placed<'a> {
 }
 
 /// Checks the ranges of edits: an error is the first faulty one. Takes no memory.
-fn check_ranges(text: &OldText<'_>, encoding: Encoding, edits: &[TextEdit]) -> Result<(), EditFault>
+fn check_ranges(text: &TextBuffer, encoding: Encoding, edits: &[TextEdit]) -> Result<(), EditFault>
     ensures ok { OnOk result (IsOk (located (units_in encoding) (chars text.now) 0 edits.now)) }
     ensures error { IfErr result (λ fault.
         HasRangeFault (units_in encoding) (chars text.now) edits.now (fault_of fault)) }
@@ -97,7 +97,7 @@ fn check_ranges(text: &OldText<'_>, encoding: Encoding, edits: &[TextEdit]) -> R
 /// Returns the fault of edits. In place of out of memory it is the first fault of a range, if one
 /// is faulty. Takes no memory.
 pub fn decided_fault(
-    text: &OldText<'_>,
+    text: &TextBuffer,
     encoding: Encoding,
     edits: &[TextEdit],
     fault: TextEditFault,
@@ -119,7 +119,7 @@ pub fn decided_fault(
 /// Returns the spans that edits leave of a text.
 pub fn spans_of_edits<'a>(
     alloc: Global,
-    text: &OldText<'_>,
+    text: &TextBuffer,
     encoding: Encoding,
     edits: &'a [TextEdit],
 ) -> Result<Vec<Span<'a>>, TextEditFault>
@@ -137,7 +137,7 @@ pub fn spans_of_edits<'a>(
 /// Finds the byte offsets of each edit in a text.
 fn place_all<'a>(
     alloc: Global,
-    text: &OldText<'_>,
+    text: &TextBuffer,
     encoding: Encoding,
     edits: &'a [TextEdit],
 ) -> Result<Vec<Placed<'a>>, TextEditFault>

@@ -139,7 +139,8 @@ module _ (blocks : List (List ℕ)) (are : AreBlocks blocks) (first count : ℕ)
       full_append [] ys full = full
       full_append (x ∷ xs) ys full = full_append xs ys full.1
 
-  some_text : concat (take (first + count) blocks) ≡ concat (take first blocks) ++ concat (take count (drop first blocks))
+  some_text : concat (take (first + count) blocks)
+      ≡ concat (take first blocks) ++ concat (take count (drop first blocks))
   some_text = ap concat fronts ∙ concat-append (take first blocks) (take count (drop first blocks))
 
   pub some_low : length (concat (take first blocks)) + length (concat (take count (drop first blocks)))
@@ -159,7 +160,8 @@ module _ (blocks : List (List ℕ)) (are : AreBlocks blocks) (first count : ℕ)
         before_is next_is (full_utf8 (take first blocks) first_full)
         (full_utf8 (take count (drop first blocks)) some_full) (omega (arith, some_low, size))
 
-    pub sum_some : (sum : Counts) → sum ≡ counts_sum before next → sum ≡ counts_of (concat (take (first + count) blocks))
+    pub sum_some : (sum : Counts) → sum ≡ counts_sum before next
+        → sum ≡ counts_of (concat (take (first + count) blocks))
     sum_some sum is =
         are_sum (concat (take first blocks)) (concat (take count (drop first blocks))) before next before_is next_is sum
         (full_utf8 (take first blocks) first_full) (full_closes (take first blocks) first_full) is ∙

@@ -98,12 +98,14 @@ module _ (blocks : List (List ℕ)) (groups : List Counts) (index : ℕ) (block 
             ⊎_elim
             (λ (less : g < group).
             get_or-set_other groups group g counts (counts_of []) (λ e. omega (arith, e, less)) ∙
-            (are.counts g inside ∙ ap (λ bs. counts_of (concat bs)) (same_group g (inl (omega (arith, less, group_is))))))
+            (are.counts g inside
+            ∙ ap (λ bs. counts_of (concat bs)) (same_group g (inl (omega (arith, less, group_is))))))
             (λ (least : group ≤ g).
             ⊎_elim
             (λ (more : group < g).
             get_or-set_other groups group g counts (counts_of []) (λ e. omega (arith, e, more)) ∙
-            (are.counts g inside ∙ ap (λ bs. counts_of (concat bs)) (same_group g (inr (omega (arith, more, group_is))))))
+            (are.counts g inside
+            ∙ ap (λ bs. counts_of (concat bs)) (same_group g (inr (omega (arith, more, group_is))))))
             (λ (most : g ≤ group).
             let at : g ≡ group = omega (arith, least, most) in
             ap (λ n. get_or (set groups group counts) n (counts_of [])) at ∙

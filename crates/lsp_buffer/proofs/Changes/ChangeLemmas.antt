@@ -150,7 +150,8 @@ module _ (blocks : List (List ℕ)) (from to : Found) (start stop : ℕ)
     order = range_order;
     within = is.to_is.begins.within;
     at_start = chunk_boundary (concat blocks) (concat (take from.index blocks)) (get_or blocks from.index [])
-        (concat (drop (from.index + 1) blocks)) start from.before.len (get_or blocks from.index []) refl one is.at_start;
+        (concat (drop (from.index + 1) blocks)) start from.before.len (get_or blocks from.index []) refl one
+        is.at_start;
     at_end = chunk_boundary (concat blocks) (concat (take to.index blocks)) (get_or blocks to.index [])
         (concat (drop (to.index + 1) blocks)) stop to.before.len (get_or blocks to.index []) refl two is.at_end;
     before_end = range_end;
@@ -229,7 +230,8 @@ module _ (blocks : List (List ℕ)) (range : BlockRange) (new : List ℕ) (chang
       + (length (get_or blocks range.last []) - range.end)
   left_length = omega (
     arith,
-    length-append (take range.start (get_or blocks range.first [])) (new ++ drop range.end (get_or blocks range.last [])),
+    length-append (take range.start (get_or blocks range.first []))
+        (new ++ drop range.end (get_or blocks range.last [])),
     length-append new (drop range.end (get_or blocks range.last [])),
     length-take-le range.start (get_or blocks range.first []) change.at_start.0,
     length-drop range.end (get_or blocks range.last []),
@@ -251,7 +253,8 @@ module _ (blocks : List (List ℕ)) (range : BlockRange) (new : List ℕ) (chang
 
   left_utf8 : IsUtf8 new → IsUtf8 (text_left blocks range new)
   left_utf8 utf8 =
-      IsUtf8-append (take range.start (get_or blocks range.first [])) (new ++ drop range.end (get_or blocks range.last []))
+      IsUtf8-append (take range.start (get_or blocks range.first []))
+      (new ++ drop range.end (get_or blocks range.last []))
       (IsUtf8-take (get_or blocks range.first []) range.start
       (IsUtf8-from_is_utf8 (get_or blocks range.first []) first_split.utf8) change.at_start)
       (IsUtf8-append new (drop range.end (get_or blocks range.last [])) utf8
@@ -273,7 +276,8 @@ module _ (blocks : List (List ℕ)) (range : BlockRange) (new : List ℕ) (chang
   left_ends : range.last + 1 < length blocks → EndsClear (text_left blocks range new)
   left_ends more =
       subst EndsClear
-      (append_assoc (take range.start (get_or blocks range.first [])) new (drop range.end (get_or blocks range.last [])))
+      (append_assoc (take range.start (get_or blocks range.first [])) new
+      (drop range.end (get_or blocks range.last [])))
       (back_ends (get_or blocks range.last []) (take range.start (get_or blocks range.first []) ++ new) range.end
       (change.before_end more) (last_full more).ends)
 
@@ -421,7 +425,8 @@ module _ (blocks : List (List ℕ)) (range : BlockRange) (new : List ℕ) (chang
       pub put_none : (fresh : List ℕ) → fresh ≡ block → set blocks range.first fresh ≡ blocks
       put_none fresh is = ap (set blocks range.first) (is ∙ sym front_is) ∙ set-get_or blocks range.first []
 
-      module _ (fresh : List ℕ) (next : List (List ℕ)) (fresh_is : fresh ≡ replace_range block range.start range.end new)
+      module _ (fresh : List ℕ) (next : List (List ℕ))
+          (fresh_is : fresh ≡ replace_range block range.start range.end new)
           (next_is : next ≡ set blocks range.first fresh) where
         next_parts : next ≡ take range.first blocks ++ (text_left blocks range new ∷ [] ++ drop (range.last + 1) blocks)
         next_parts =
@@ -454,4 +459,5 @@ module _ (blocks : List (List ℕ)) (range : BlockRange) (new : List ℕ) (chang
         put_size = omega (arith, change.room, ap length put_text)
 
         pub put_back : set next range.first block ≡ blocks
-        put_back = ap (λ bs. set bs range.first block) next_is ∙ (set-set blocks range.first fresh block ∙ put_none block refl)
+        put_back = ap (λ bs. set bs range.first block) next_is
+            ∙ (set-set blocks range.first fresh block ∙ put_none block refl)

@@ -85,7 +85,8 @@ begins_first blocks target before are is = record {
 
 -- One group more.
 module _ (blocks : List (List ℕ)) (groups : List Counts) (is : IsTextBuffer blocks groups) (target : Target)
-    (number : ℕ) (group before : Counts) (within : number < length groups) (group_is : group ≡ get_or groups number group)
+    (number : ℕ) (group before : Counts) (within : number < length groups)
+    (group_is : group ≡ get_or groups number group)
     (begins : BeginsBefore blocks target (record { index = 32 * number; before = before })) where
   group_within : 32 * number + 32 < length blocks
   group_within = omega (arith, within, is.groups_are.within)
@@ -102,7 +103,8 @@ module _ (blocks : List (List ℕ)) (groups : List Counts) (is : IsTextBuffer bl
   group_next next next_is reaches = record {
     within = omega (arith, group_within);
     before = sum_some blocks is.are (32 * number) 32 group_within before group begins.before group_counts next next_is
-        ∙ ap (λ (n : ℕ). counts_of (concat (take n blocks))) (let e : 32 * number + 32 ≡ 32 * (number + 1) = omega arith in e);
+        ∙ ap (λ (n : ℕ). counts_of (concat (take n blocks)))
+        (let e : 32 * number + 32 ≡ 32 * (number + 1) = omega arith in e);
     low = reaches;
   }
 

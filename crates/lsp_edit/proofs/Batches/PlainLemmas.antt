@@ -1,5 +1,5 @@
 -- The plain program's steps.
-use Rattle.std.proofs.Common.{ℕ, suc, ◌≡◌, ◌+◌, ◌-◌, ◌<◌, ◌≤◌, ◌⊎◌, true, false, nat_lt, List, [], ◌∷◌, ◌++◌, length, map, take, drop, get_or, refl, sym, ap, ap₂, ◌∙◌, subst, arith, ⊎_elim, append_assoc, append-nil, length-take-le, take_all, IsCharBoundary, sum_by, le-leb, lt-ltb, le-ltb, encode_utf8_all, string_bytes, string_len, Some, Ok, Result}
+use Rattle.std.proofs.Common.{ℕ, suc, ◌≡◌, ◌+◌, ◌-◌, ◌<◌, ◌≤◌, ◌⊎◌, true, false, nat_lt, List, [], ◌∷◌, ◌++◌, length, map, take, drop, get_or, refl, sym, ap, ap₂, ◌∙◌, subst, arith, ⊎_elim, append_assoc, append-nil, length-take-le, take_all, IsCharBoundary, sum_by, le-leb, lt-ltb, le-ltb, encode_utf8_all, string_bytes, string_len, Some, Ok}
 use Rattle.std.specs.Str.{chars, IsUtf8}
 use Rattle.std.proofs.lemmas.Bool.{or_from, or_left, or_right}
 use Rattle.std.proofs.lemmas.List.{drop_more, drop_all, map-append, length-map, length-drop, take-map, drop-map}
@@ -12,7 +12,6 @@ use Rattle.lsp_text.specs.Text.{place_of}
 use Rattle.lsp_text.specs.TextLines.{numbers_from, splits_crlf}
 use Rattle.lsp_text.proofs.Positions.PlaceLemmas.{place_boundary}
 use Rattle.lsp_edit.specs.declared.change.Change.{Change}
-use Rattle.lsp_edit.specs.declared.fault.EditFault.{EditFault}
 use Rattle.lsp_edit.specs.declared.plain.Item.{Item as PlainItem}
 use Rattle.lsp_edit.specs.Items.{Item, Old, New, plain, character_of, text_of}
 use Rattle.lsp_edit.specs.Batch.{ContentChange, items_after, after_changes, changed_in, meaning, ends_of}
@@ -229,13 +228,6 @@ pub boundary_found : (bytes text : List ℕ) (index place : ℕ) → IsUtf8 byte
 boundary_found bytes text index place utf8 same within is =
     subst (IsCharBoundary bytes) (ap (λ (t : List ℕ). place_of t index) same ∙ is)
     (place_boundary bytes index utf8 (omega (arith, ap length same)))
-
--- The places of a range in a text with these bytes.
-pub places_on : (number : ℕ) (units : ℕ → ℕ) (range : Range) (r : Result (ℕ × ℕ) EditFault) (seen bytes : List ℕ)
-    → seen ≡ bytes → r ≡ places_at number (chars seen) (ends_of units (chars seen) range)
-    → r ≡ places_at number (chars bytes) (ends_of units (chars bytes) range)
-places_on number units range r seen bytes same error =
-    subst (λ (b : List ℕ). r ≡ places_at number (chars b) (ends_of units (chars b) range)) same error
 
 -- Items put between others.
 pub between_is : (items made pushed now : List PlainItem) (start stop : ℕ) (text : List ℕ) → made ≡ take start items

@@ -1,32 +1,32 @@
 -- What changes leave of a text, by its characters alone, and by the items that stand for it.
-use Rattle.std.proofs.Common.{ℕ, suc, ◌≡◌, ◌+◌, ◌-◌, ◌<◌, ◌≤◌, ◌⊎◌, true, false, List, [], ◌∷◌, ◌++◌, length, map, take, drop, nat_le, refl, sym, ap, ap₂, ◌∙◌, subst, arith, encode_utf8_all, ⊎_elim, inl, inr, le-leb, Option, Some, None, Result, Ok, Err, string_len}
+use Rattle.std.proofs.Common.{ℕ, suc, ◌≡◌, ◌+◌, ◌-◌, ◌<◌, ◌≤◌, ◌⊎◌, true, false, List, [], ◌∷◌, ◌++◌, length, map, take, drop, nat_le, refl, sym, ap, ◌∙◌, subst, arith, encode_utf8_all, ⊎_elim, inl, inr, le-leb, Option, Some, None, Result, Ok, Err, string_len}
 use Rattle.std.proofs.lemmas.Bool.{cases_Bool, lt-ltb, le-ltb}
-use Rattle.std.proofs.lemmas.List.{append_assoc, map-append, take-map, drop-map}
+use Rattle.std.proofs.lemmas.List.{append_assoc, append-nil}
 use Rattle.std.proofs.lemmas.List.Sums.{sum_by-cons}
-use Rattle.std.proofs.lemmas.Str.{encodes-append, encodes-chars, chars_from_encodes, IsUtf8-append, IsUtf8-take, IsUtf8-drop}
+use Rattle.std.proofs.lemmas.Str.{encodes-chars, chars_from_encodes, IsUtf8-append, IsUtf8-take, IsUtf8-drop}
 use Rattle.std.specs.List.{replace_range}
 use Rattle.std.specs.Str.{IsUtf8, IsCharBoundary, chars}
 use Rattle.lsp_text.specs.declared.position.Range.{Range}
 use Rattle.lsp_text.specs.Positions.{denoted}
-use Rattle.lsp_text.specs.Text.{place_of}
-use Rattle.lsp_text.proofs.Positions.PlaceLemmas.{take_place, drop_place}
+use Rattle.lsp_buffer.proofs.Changes.ChangeLemmas.{replaced_length}
 use Rattle.lsp_edit.specs.declared.change.Change.{Change}
 use Rattle.lsp_edit.specs.declared.fault.EditFault.{EditFault}
 use Rattle.lsp_edit.specs.declared.fault.EditFault.TheVariants.{NoMemory}
 use Rattle.lsp_edit.specs.declared.indexed.fault.BatchFault.{BatchFault}
-use Rattle.lsp_edit.specs.declared.indexed.fault.BatchFault.TheVariants.{Edit as EditOf, TooLong, NoMemory as OutOfMemory}
-use Rattle.lsp_edit.specs.Items.{Item, New, plain, character_of, text_of}
-use Rattle.lsp_edit.specs.Batch.{ContentChange, Fault, InsideStart, InsideStop, Reversed, changed_in, items_after, after_changes, continue_with, meaning, in_order, ends_of}
+use Rattle.lsp_edit.specs.declared.indexed.fault.BatchFault.TheVariants.{TooLong, NoMemory as OutOfMemory}
+use Rattle.lsp_edit.specs.Items.{Item, plain, text_of}
+use Rattle.lsp_edit.specs.Batch.{ContentChange, Fault, changed_in, items_after, after_changes, continue_with, meaning, ends_of}
 use Rattle.lsp_edit.specs.inside.Batch.{replaced}
-use Rattle.lsp_edit.specs.inside.TextBatch.{text_replaced, text_changed, text_after_change, text_after_changes, text_continue_with, IsFaultOf, IsFaultOfBatch}
+use Rattle.lsp_edit.specs.Delta.{AreEndsIn, AreEndsOf}
+use Rattle.lsp_edit.specs.inside.TextBatch.{AreTextEnds, text_replaced, text_changed, text_after_change, text_after_changes, text_continue_with, IsFaultOf, IsFaultOfBatch}
 use Rattle.lsp_edit.specs.Faults.{fault_at, places_at}
 use Rattle.lsp_edit.specs.Edited.{content_change}
 use Rattle.lsp_edit.specs.Indexed.{bytes_left, text_within, batch_fault_of}
-use Rattle.lsp_edit.proofs.Composing.AppliedLemmas.{AreEnds, ends_told}
 use Rattle.lsp_edit.proofs.Parts.CutLemmas.{text_of-new}
+use Rattle.lsp_edit.proofs.Composing.AppliedLemmas.{AreEnds, bytes_put, ends_told, fault_told, places_any, text_put}
 use Rattle.lsp_edit.proofs.Composing.EditedLemmas.{plain_text}
 use Rattle.lsp_edit.proofs.Composing.RoomLemmas.{texts_len}
-use Rattle.lsp_edit.proofs.Deltas.InPlaceLemmas.{range_order, range_start, range_stop, replaced_len}
+use Rattle.lsp_edit.proofs.Deltas.InPlaceLemmas.{fault_edit, range_order, range_start, range_stop}
 
 -- the text that items stand for, where there are any
 abbrev pub text_result : {E : Type 0} → List ℕ → Result (List Item) E → Result (List ℕ) E
@@ -40,12 +40,7 @@ replaced_text : (old : List ℕ) (items : List Item) (new : List ℕ) (start sto
 replaced_text old items new None stop = refl
 replaced_text old items new (Some start) None = refl
 replaced_text old items new (Some start) (Some stop) =
-    let text : text_of old (take start items ++ (map New new ++ drop stop items)) ≡ take start (text_of old items)
-    ++ (new ++ drop stop (text_of old items))
-    = map-append (character_of old) (take start items) (map New new ++ drop stop items)
-    ∙ ap₂ (λ (x y : List ℕ). x ++ y) (sym (take-map (character_of old) start items))
-    (map-append (character_of old) (map New new) (drop stop items) ∙ ap₂ (λ (x y : List ℕ). x ++ y)
-    (text_of-new old new) (sym (drop-map (character_of old) stop items))) in
+    let text = text_put old items new start stop in
     ⊎_elim
     (λ (e : nat_le start stop ≡ true). rw e (ap (λ (t : List ℕ). Ok t) (sym text)))
     (λ (e : nat_le start stop ≡ false). rw e refl)
@@ -75,11 +70,6 @@ changes_text units old number items (change ∷ batch) =
         ≡ text_result old (continue_with (λ next. after_changes units old (suc number) next batch) number made)
     go_on_text (Ok next) more = more next
     go_on_text (Err fault) more = refl
-
-fault_edit : (number : ℕ) (why : Fault) → EditOf (fault_at number why) ≡ batch_fault_of (fault_at number why)
-fault_edit number InsideStart = refl
-fault_edit number InsideStop = refl
-fault_edit number Reversed = refl
 
 module _ (units : ℕ → ℕ) (before : List ℕ) (batch : List ContentChange) where
   batch_text : text_after_changes units 0 (chars before) batch ≡ text_result (chars before)
@@ -136,19 +126,6 @@ module _ (units : ℕ → ℕ) (before : List ℕ) (batch : List ContentChange) 
 
 -- ---- one change of a range
 
--- places are the same, whatever the number of the change
-pub places_any : (number : ℕ) (text : List ℕ) (start stop : ℕ) (ends : Result (ℕ × ℕ) Fault) → Ok (start, stop)
-    ≡ places_at number text ends → Ok (start, stop) ≡ places_at 0 text ends
-places_any number text start stop (Ok ends) e = cc
-places_any number text start stop (Err why) e = absurd (cc)
-
--- what was found of the places in a text, said of its bytes
-pub places_seen : (units : ℕ → ℕ) (number : ℕ) (range : Range) (r : Result (ℕ × ℕ) EditFault) (seen bytes : List ℕ)
-    → seen ≡ bytes → r ≡ places_at number (chars seen) (ends_of units (chars seen) range)
-    → r ≡ places_at number (chars bytes) (ends_of units (chars bytes) range)
-places_seen units number range r seen bytes same found =
-    subst (λ (b : List ℕ). r ≡ places_at number (chars b) (ends_of units (chars b) range)) same found
-
 -- A range's places in a text, and what a text in their place leaves.
 pub record IsRanged (units : ℕ → ℕ) (before : List ℕ) (range : Range) (new : List ℕ) (start stop : ℕ) : Type 0 where
   pub order : start ≤ stop
@@ -171,15 +148,9 @@ module _ (units : ℕ → ℕ) (number : ℕ) (before : List ℕ) (utf8 : IsUtf8
       let ends : AreEnds units (chars before) range start stop =
       ends_told units (chars before) range number start stop error in
       let cs : List ℕ = take ends.low (chars before) ++ (chars new ++ drop ends.high (chars before)) in
-      let front : encode_utf8_all (take ends.low (chars before)) ≡ take start before
-      = sym (take_place (chars before) ends.low) ∙ rw (ends.start_is, encodes-chars before utf8) refl in
-      let back : encode_utf8_all (drop ends.high (chars before)) ≡ drop stop before
-      = sym (drop_place (chars before) ends.high) ∙ rw (ends.stop_is, encodes-chars before utf8) refl in
-      let bytes : encode_utf8_all cs ≡ replace_range before start stop new
-      = encodes-append (take ends.low (chars before)) (chars new ++ drop ends.high (chars before))
-      ∙ (ap₂ (λ (x y : List ℕ). x ++ y) front (encodes-append (chars new) (drop ends.high (chars before))
-      ∙ ap₂ (λ (x y : List ℕ). x ++ y) (encodes-chars new new_utf8) back)
-      ∙ sym (assoc (take start before) new (drop stop before))) in
+      let bytes : encode_utf8_all cs ≡ replace_range before start stop new =
+      bytes_put (chars before) new ends.low ends.high start stop new_utf8 ends.start_is ends.stop_is
+      ∙ ap (λ (bs : List ℕ). replace_range bs start stop new) (encodes-chars before utf8) in
       let whole : IsUtf8 (replace_range before start stop new)
       = IsUtf8-append (take start before ++ new) (drop stop before)
       (IsUtf8-append (take start before) new (IsUtf8-take before start utf8 at_start) new_utf8)
@@ -189,9 +160,6 @@ module _ (units : ℕ → ℕ) (number : ℕ) (before : List ℕ) (utf8 : IsUtf8
         ends.high_is,
         le-leb ends.low ends.high ends.order,
       ) (ap (λ (t : List ℕ). Ok t) (chars_from_encodes cs (replace_range before start stop new) whole bytes))
-    where
-      assoc : (a b c : List ℕ) → a ++ b ++ c ≡ a ++ (b ++ c)
-      assoc a b c = simp append_assoc
 
   pub is_ranged : (start stop : ℕ) → Ok (
     start,
@@ -210,7 +178,7 @@ module _ (units : ℕ → ℕ) (number : ℕ) (before : List ℕ) (utf8 : IsUtf8
         left = range_left start stop error at_start at_stop;
         longer = omega (
           arith,
-          replaced_len before utf8 start stop new new_utf8 order at_start at_stop,
+          replaced_length before new start stop order at_stop.0,
           order,
           at_stop.0,
         );
@@ -222,34 +190,36 @@ module _ (units : ℕ → ℕ) (number : ℕ) (before : List ℕ) (utf8 : IsUtf8
       → IsFaultOf number (text_after_change units (chars before) (record { range = Some range; text = chars new }))
       fault
   range_faulted fault error =
-      by_ends (denoted units (chars before) range.start) (denoted units (chars before) range.stop) error
-    where
-      by_ends : (a b : Option ℕ) → ◌≡◌ {A = Result (ℕ × ℕ) EditFault} (Err fault)
-          (places_at number (chars before) (in_order a b))
-          → IsFaultOf number (text_replaced (chars before) (chars new) a b) fault
-      by_ends None b e = inr (InsideStart, refl, cc)
-      by_ends (Some a) None e = inr (InsideStop, refl, cc)
-      by_ends (Some a) (Some b) e =
-          ⊎_elim
-          (λ (o : nat_le a b ≡ true). absurd (let f : ◌≡◌ {A = Result (ℕ × ℕ) EditFault} (Err fault)
-          (Ok (place_of (chars before) a, place_of (chars before) b)) = rw o at e in cc))
-          (λ (o : nat_le a b ≡ false). inr (
-            Reversed,
-            rw o refl,
-            (let f : ◌≡◌ {A = Result (ℕ × ℕ) EditFault} (Err fault) (Err (fault_at number Reversed)) = rw o at e in cc),
-          ))
-          (cases_Bool (nat_le a b))
+      ⊎_elim
+      (λ (memory : fault ≡ NoMemory). inl memory)
+      (λ (t : (why : Fault)
+      × (changed_in units (chars before) (plain (chars before)) (chars new) (Some range) ≡ Err why)
+      × (fault ≡ fault_at number why)).
+      inr (
+        t.0,
+        subst (λ (s : List ℕ). ◌≡◌ {A = Result (List ℕ) Fault} (text_changed units s (chars new) (Some range))
+            (Err t.0)) (plain_text (chars before)) (change_text units (chars before) (plain (chars before)) (chars new)
+            (Some range) ∙ ap (text_result (chars before)) t.1),
+        t.2,
+      ))
+      (fault_told units (chars before) (plain (chars before)) (chars new) range number fault
+      (inr (subst (λ (s : List ℕ). ◌≡◌ {A = Result (ℕ × ℕ) EditFault} (Err fault)
+      (places_at number s (ends_of units s range))) (sym (plain_text (chars before))) error)))
 
 -- ---- a batch, change by change
 
 -- How far a batch was applied: what is left of it leaves the same text, and there is room for it.
-pub record Drafting (units : ℕ → ℕ) (left : Result (List ℕ) (ℕ × Fault)) (number : ℕ) (rest : List Change)
-    (draft : List ℕ) : Type 0 where
+-- With the ends of the others they are those of `AreAll`.
+pub record Drafting (units : ℕ → ℕ) (left : Result (List ℕ) (ℕ × Fault)) (AreAll : List (ℕ × ℕ) → Type 0)
+    (number : ℕ) (rest : List Change) (draft : List ℕ) (found : List (ℕ × ℕ)) : Type 0 where
   pub same : text_after_changes units number (chars draft) (map content_change rest) ≡ left
+  pub ends : (more : List (ℕ × ℕ)) → AreTextEnds units (chars draft) (map content_change rest) more
+      → AreAll (found ++ more)
   pub room : length draft + texts_len rest ≤ 2147483648
 
-module _ (units : ℕ → ℕ) (left : Result (List ℕ) (ℕ × Fault)) (number : ℕ) (change : Change) (rest more : List Change)
-    (draft : List ℕ) (is : rest ≡ change ∷ more) (drafting : Drafting units left number rest draft) where
+module _ (units : ℕ → ℕ) (left : Result (List ℕ) (ℕ × Fault)) (AreAll : List (ℕ × ℕ) → Type 0) (number : ℕ)
+    (change : Change) (rest more : List Change) (draft : List ℕ) (found : List (ℕ × ℕ)) (is : rest ≡ change ∷ more)
+    (drafting : Drafting units left AreAll number rest draft found) where
   same_here : text_continue_with (λ next. text_after_changes units (suc number) next (map content_change more)) number
       (text_after_change units (chars draft) (content_change change)) ≡ left
   same_here = rw is at drafting.same
@@ -262,14 +232,25 @@ module _ (units : ℕ → ℕ) (left : Result (List ℕ) (ℕ × Fault)) (number
     sum_by-cons (λ (c : Change). string_len c.text) change more,
   )
 
-  pub drafting_on : (next : List ℕ) → text_after_change units (chars draft) (content_change change) ≡ Ok (chars next)
-      → length next ≤ length draft + string_len change.text → Drafting units left (number + 1) more next
-  drafting_on next made longer =
+  pub drafting_on : (next : List ℕ) (end : ℕ × ℕ) (all : List (ℕ × ℕ))
+      → text_after_change units (chars draft) (content_change change) ≡ Ok (chars next)
+      → AreEndsIn units (chars draft) (content_change change) end → all ≡ found ++ end ∷ []
+      → length next ≤ length draft + string_len change.text → Drafting units left AreAll (number + 1) more next all
+  drafting_on next end all made at all_is longer =
       let n : number + 1 ≡ suc number = omega arith in
       let l : text_after_changes units (suc number) (chars next) (map content_change more)
       ≡ left = rw made at same_here in
       record {
         same = ap (λ (m : ℕ). text_after_changes units m (chars next) (map content_change more)) n ∙ l;
+        ends = λ others have.
+            let met : AreTextEnds units (chars draft) (content_change change ∷ map content_change more) (end ∷ others) = (
+              at,
+              λ left made_too. let e : chars next ≡ left = cc in
+                  subst (λ (t : List ℕ). AreTextEnds units t (map content_change more) others) e have,
+            ) in
+            let here : AreTextEnds units (chars draft) (map content_change rest) (end ∷ others) = rw is met in
+            subst AreAll (sym (ap (λ (es : List (ℕ × ℕ)). es ++ others) all_is ∙ append_assoc found (end ∷ []) others))
+            (drafting.ends (end ∷ others) here);
         room = omega (
           arith,
           drafting.room,
@@ -290,6 +271,41 @@ module _ (units : ℕ → ℕ) (left : Result (List ℕ) (ℕ × Fault)) (number
       let l : Err (number, t.0) ≡ left = rw t.1 at same_here in
       inr (number, t.0, sym l, t.2))
       error
+
+-- After the last change.
+pub drafted_ends : (units : ℕ → ℕ) (left : Result (List ℕ) (ℕ × Fault)) (AreAll : List (ℕ × ℕ) → Type 0) (number : ℕ)
+    (rest : List Change) (draft : List ℕ) (found : List (ℕ × ℕ)) → rest ≡ []
+    → Drafting units left AreAll number rest draft found → AreAll found
+drafted_ends units left AreAll number rest draft found none drafting =
+    subst AreAll (append-nil found) (drafting.ends [] (rw none tt))
+
+-- The same ends, said of items.
+pub ends_items : (units : ℕ → ℕ) (old : List ℕ) (items : List Item) (batch : List ContentChange)
+    (ends : List (ℕ × ℕ)) → AreTextEnds units (text_of old items) batch ends → AreEndsOf units old items batch ends
+ends_items units old items [] ends are = tt
+ends_items units old items (change ∷ batch) [] are = are
+ends_items units old items (change ∷ batch) (end ∷ ends) are = (
+  are.0,
+  λ next made. ends_items units old next batch ends (are.1 (text_of old next)
+      (change_text units old items change.text change.range ∙ ap (text_result old) made)),
+)
+
+-- The ends that were found for a range.
+pub ends_at : (units : ℕ → ℕ) (number : ℕ) (text new : List ℕ) (range : Range) (start stop : ℕ)
+    → Ok (start, stop) ≡ places_at number text (ends_of units text range)
+    → AreEndsIn units text (record { range = Some range; text = new }) (start, stop)
+ends_at units number text new range start stop found other is =
+    let same : range ≡ other = cc in
+    subst (λ (r : Range). ◌≡◌ {A = Result (ℕ × ℕ) EditFault} (Ok (start, stop))
+    (places_at 0 text (ends_of units text r))) same
+    (places_any number text start stop (ends_of units text range) found)
+
+-- A batch that begins with a whole text has the same ends in every text.
+pub any_ends : (units : ℕ → ℕ) (text other new : List ℕ) (batch : List ContentChange) (ends : List (ℕ × ℕ))
+    → AreTextEnds units text (record { range = None; text = new } ∷ batch) ends
+    → AreTextEnds units other (record { range = None; text = new } ∷ batch) ends
+any_ends units text other new batch [] are = are
+any_ends units text other new batch (end ∷ ends) are = (λ range is. absurd (cc), are.1)
 
 -- A batch that begins with a whole text leaves the same of every text.
 pub any_text : (units : ℕ → ℕ) (text other new : List ℕ) (batch : List ContentChange)

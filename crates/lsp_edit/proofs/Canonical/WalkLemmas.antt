@@ -7,7 +7,7 @@ use Rattle.std.proofs.lemmas.Str.{encodes-chars, chars-append, chars-nil, IsUtf8
 use Rattle.lsp_text.specs.Text.{place_of}
 use Rattle.lsp_text.specs.TextLines.{numbers_from, splits_crlf}
 use Rattle.lsp_text.specs.LineStarts.{IsPlace}
-use Rattle.lsp_text.proofs.Positions.PlaceLemmas.{place_end, IsIndexAt, index_at}
+use Rattle.lsp_text.proofs.Positions.PlaceLemmas.{IsIndexAt, index_at}
 use Rattle.lsp_text.specs.declared.position.Position.{Position}
 use Rattle.lsp_text.specs.Positions.{exact_position}
 use Rattle.lsp_edit.specs.declared.change.Change.{Change}
@@ -20,7 +20,7 @@ use Rattle.lsp_edit.specs.laws.Batches.{HasExactEnds, AllHaveExactEnds}
 use Rattle.lsp_edit.specs.Parts.{Part, OldPart, NewPart, index_of, part_of, parts_of, items_in, items_of, IsPartOf, AreParts}
 use Rattle.lsp_edit.specs.declared.pieces.span.Span.{Span}
 use Rattle.lsp_edit.proofs.Canonical.GapLemmas.{gap}
-use Rattle.lsp_edit.proofs.Composing.EditedLemmas.{index_first}
+use Rattle.lsp_edit.proofs.Composing.EditedLemmas.{index_first, index_last}
 use Rattle.lsp_edit.proofs.Parts.IndexLemmas.{index_of-place, index_rises, indexes_less}
 
 -- the changes of gaps, from the first to the last
@@ -173,12 +173,6 @@ module _ (units : ℕ → ℕ) (before : List ℕ) (utf8 : IsUtf8 before) where
           ∙ index_of-place (chars before) a.index a.within in
           (a.index, a.within, ap (splits_crlf (chars before)) (sym at_a) ∙ whole, a.place_is)
 
-  last_index : index_of (chars before) (length before) ≡ length (chars before)
-  last_index =
-      let e : place_of (chars before) (length (chars before)) ≡ length before =
-      place_end (chars before) ∙ ap length (encodes-chars before utf8) in
-      ap (index_of (chars before)) (sym e) ∙ index_of-place (chars before) (length (chars before)) (omega arith)
-
   module _ (all made : List ContentChange) (low : ℕ) (text : List ℕ) (text_utf8 : IsUtf8 text) (rest : List Part)
       (walks : Walks units before all made low text rest) where
     -- behind a part of a new text
@@ -296,7 +290,7 @@ module _ (units : ℕ → ℕ) (before : List ℕ) (utf8 : IsUtf8 before) where
 
       last_gap : gap (index_of (chars before) low) (length (chars before)) (chars text)
           ≡ gap_between before low (length before) text
-      last_gap = ap (λ (n : ℕ). gap (index_of (chars before) low) n (chars text)) (sym last_index)
+      last_gap = ap (λ (n : ℕ). gap (index_of (chars before) low) n (chars text)) (sym (index_last before utf8))
 
       pub walk_end : made ++ gap_change units before low (length before) text ≡ all
       walk_end =

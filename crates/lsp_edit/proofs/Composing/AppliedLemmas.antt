@@ -10,11 +10,12 @@ use Rattle.lsp_text.specs.Text.{place_of}
 use Rattle.lsp_text.specs.Positions.{denoted}
 use Rattle.lsp_text.proofs.Positions.PlaceLemmas.{place_rises, place_within, place_boundary, take_place, drop_place}
 use Rattle.lsp_text.proofs.Positions.PositionLemmas.{denoted_whole}
+use Rattle.lsp_buffer.proofs.Changes.ChangeLemmas.{replaced_length}
 use Rattle.lsp_edit.specs.declared.change.Change.{Change}
 use Rattle.lsp_edit.specs.declared.fault.EditFault.{EditFault}
 use Rattle.lsp_edit.specs.declared.fault.EditFault.TheVariants.{NoMemory}
 use Rattle.lsp_edit.specs.Items.{Item, New, character_of, text_of}
-use Rattle.lsp_edit.specs.Batch.{ContentChange, InsideStart, InsideStop, Reversed, items_after, in_order, ends_of}
+use Rattle.lsp_edit.specs.Batch.{ContentChange, Fault, InsideStart, InsideStop, Reversed, items_after, in_order, ends_of}
 use Rattle.lsp_edit.specs.inside.Batch.{replaced}
 use Rattle.lsp_edit.specs.Faults.{fault_at, IsFaultOfChange, places_at}
 use Rattle.lsp_edit.specs.inside.Faults.{IsPlaces}
@@ -96,6 +97,48 @@ fault_told units old items characters range number fault error =
           (let f : ◌≡◌ {A = Result (ℕ × ℕ) EditFault} (Err fault) (Err (fault_at number Reversed)) = rw o at e in cc),
         ))
         (cases_Bool (nat_le a b))
+
+-- Places that were told are the same, whatever the number of the change.
+pub places_any : (number : ℕ) (text : List ℕ) (start stop : ℕ) (ends : Result (ℕ × ℕ) Fault)
+    → Ok (start, stop) ≡ places_at number text ends → Ok (start, stop) ≡ places_at 0 text ends
+places_any number text start stop (Ok ends) e = cc
+places_any number text start stop (Err why) e = absurd (cc)
+
+pub places_found : (number : ℕ) (text : List ℕ) (start stop : ℕ) (ends : Result (ℕ × ℕ) Fault)
+    → IsPlaces (Ok (start, stop)) (places_at number text ends) → Ok (start, stop) ≡ places_at 0 text ends
+places_found number text start stop ends told =
+    ⊎_elim
+    (λ (e : Ok (start, stop) ≡ Err NoMemory). absurd (cc))
+    (λ (e : Ok (start, stop) ≡ places_at number text ends). places_any number text start stop ends e)
+    told
+
+-- What was found of the places in a text, said of its bytes.
+pub places_seen : (units : ℕ → ℕ) (number : ℕ) (range : Range) (r : Result (ℕ × ℕ) EditFault) (seen bytes : List ℕ)
+    → seen ≡ bytes → r ≡ places_at number (chars seen) (ends_of units (chars seen) range)
+    → r ≡ places_at number (chars bytes) (ends_of units (chars bytes) range)
+places_seen units number range r seen bytes same found =
+    subst (λ (b : List ℕ). r ≡ places_at number (chars b) (ends_of units (chars b) range)) same found
+
+-- The text of items in which some are replaced.
+pub text_put : (old : List ℕ) (items : List Item) (new : List ℕ) (low high : ℕ)
+    → text_of old (take low items ++ (map New new ++ drop high items))
+    ≡ take low (text_of old items) ++ (new ++ drop high (text_of old items))
+text_put old items new low high =
+    map-append (character_of old) (take low items) (map New new ++ drop high items)
+    ∙ ap₂ (λ (x y : List ℕ). x ++ y) (sym (take-map (character_of old) low items))
+    (map-append (character_of old) (map New new) (drop high items)
+    ∙ ap₂ (λ (x y : List ℕ). x ++ y) (text_of-new old new) (sym (drop-map (character_of old) high items)))
+
+-- Its bytes: those between two places are replaced.
+pub bytes_put : (text new : List ℕ) (low high start stop : ℕ) → IsUtf8 new → place_of text low ≡ start
+    → place_of text high ≡ stop → encode_utf8_all (take low text ++ (chars new ++ drop high text))
+    ≡ replace_range (encode_utf8_all text) start stop new
+bytes_put text new low high start stop utf8 at_start at_stop =
+    rw (← at_start, ← at_stop, take_place, drop_place)
+    (encodes-append (take low text) (chars new ++ drop high text)
+    ∙ (ap (λ (bs : List ℕ). encode_utf8_all (take low text) ++ bs) (encodes-append (chars new) (drop high text)
+    ∙ ap (λ (bs : List ℕ). bs ++ encode_utf8_all (drop high text)) (encodes-chars new utf8))
+    ∙ sym (append_assoc (encode_utf8_all (take low text)) new (encode_utf8_all (drop high text)))))
 
 pub bytes_split : (text : List ℕ) (k : ℕ) → length (encode_utf8_all (take k text))
     + length (encode_utf8_all (drop k text)) ≡ length (encode_utf8_all text)
@@ -217,13 +260,7 @@ module _ (units : ℕ → ℕ) (before : List ℕ) (parts : List Part) (len chan
         ++ (chars new ++ drop ends.high (text_of (chars before) (items_of (chars before) parts)))
     text =
         ap (text_of (chars before)) items
-        ∙ (map-append (character_of (chars before)) (take ends.low (items_of (chars before) parts))
-        (map New (chars new) ++ drop ends.high (items_of (chars before) parts))
-        ∙ ap₂ (λ (x y : List ℕ). x ++ y)
-        (sym (take-map (character_of (chars before)) ends.low (items_of (chars before) parts)))
-        (map-append (character_of (chars before)) (map New (chars new)) (drop ends.high (items_of (chars before) parts))
-        ∙ ap₂ (λ (x y : List ℕ). x ++ y) (text_of-new (chars before) (chars new))
-        (sym (drop-map (character_of (chars before)) ends.high (items_of (chars before) parts)))))
+        ∙ text_put (chars before) (items_of (chars before) parts) (chars new) ends.low ends.high
 
     now_bytes_are : bytes_of before parts ≡ encode_utf8_all (text_of (chars before) (items_of (chars before) parts))
     now_bytes_are = parts_bytes before (IsUtf8-from_is_utf8 before are.utf8) parts are.are
@@ -232,23 +269,10 @@ module _ (units : ℕ → ℕ) (before : List ℕ) (parts : List Part) (len chan
     pub range_bytes : bytes_of before (replaced_parts parts start stop new) ≡ replace_range (bytes_of before parts)
         start stop new
     range_bytes =
-        let now : List ℕ = text_of (chars before) (items_of (chars before) parts) in
-        let all : bytes_of before (replaced_parts parts start stop new)
-        ≡ encode_utf8_all (take ends.low now ++ (chars new ++ drop ends.high now))
-        = parts_bytes before (IsUtf8-from_is_utf8 before are.utf8) (replaced_parts parts start stop new) are_parts
-        ∙ ap encode_utf8_all text in
-        let front : take start (bytes_of before parts) ≡ encode_utf8_all (take ends.low now) =
-        ap₂ (λ (n : ℕ) (bs : List ℕ). take n bs) (sym ends.start_is) now_bytes_are ∙ take_place now ends.low in
-        let back : drop stop (bytes_of before parts) ≡ encode_utf8_all (drop ends.high now) =
-        ap₂ (λ (n : ℕ) (bs : List ℕ). drop n bs) (sym ends.stop_is) now_bytes_are ∙ drop_place now ends.high in
-        let own : encode_utf8_all (chars new) ≡ new = encodes-chars new utf8 in
-        all
-        ∙ (encodes-append (take ends.low now) (chars new ++ drop ends.high now)
-        ∙ (ap (λ (bs : List ℕ). encode_utf8_all (take ends.low now) ++ bs)
-        (encodes-append (chars new) (drop ends.high now)
-        ∙ ap (λ (bs : List ℕ). bs ++ encode_utf8_all (drop ends.high now)) own)
-        ∙ (sym (append_assoc (encode_utf8_all (take ends.low now)) new (encode_utf8_all (drop ends.high now)))
-        ∙ sym (ap₂ (λ (fs bs : List ℕ). (fs ++ new) ++ bs) front back))))
+        parts_bytes before (IsUtf8-from_is_utf8 before are.utf8) (replaced_parts parts start stop new) are_parts
+        ∙ (ap encode_utf8_all text
+        ∙ (bytes_put (text_of (chars before) (items_of (chars before) parts)) new ends.low ends.high start stop utf8
+        ends.start_is ends.stop_is ∙ ap (λ (bs : List ℕ). replace_range bs start stop new) (sym now_bytes_are)))
 
     module _ (bytes : List ℕ) (bytes_utf8 : IsUtf8 bytes) (same : bytes ≡ bytes_of before parts) where
       now_text : chars bytes ≡ text_of (chars before) (items_of (chars before) parts)
@@ -266,35 +290,14 @@ module _ (units : ℕ → ℕ) (before : List ℕ) (parts : List Part) (len chan
           (place_boundary bytes ends.high bytes_utf8 (omega (arith, ap length now_text, ends.within)))
 
     long : len - (stop - start) + length new ≡ length (bytes_of before (replaced_parts parts start stop new))
-    long =
-        let now : List ℕ = text_of (chars before) (items_of (chars before) parts) in
-        let bytes : bytes_of before (replaced_parts parts start stop new)
-        ≡ encode_utf8_all (take ends.low now ++ (chars new ++ drop ends.high now))
-        = parts_bytes before (IsUtf8-from_is_utf8 before are.utf8) (replaced_parts parts start stop new) are_parts
-        ∙ ap encode_utf8_all text in
-        let front : length (encode_utf8_all (take ends.low now ++ (chars new ++ drop ends.high now)))
-        ≡ length (encode_utf8_all (take ends.low now)) + length (encode_utf8_all (chars new ++ drop ends.high now))
-        = ap length (encodes-append (take ends.low now) (chars new ++ drop ends.high now))
-        ∙ length-append (encode_utf8_all (take ends.low now)) (encode_utf8_all (chars new ++ drop ends.high now)) in
-        let back : length (encode_utf8_all (chars new ++ drop ends.high now)) ≡ length (encode_utf8_all (chars new))
-        + length (encode_utf8_all (drop ends.high now))
-        = ap length (encodes-append (chars new) (drop ends.high now)) ∙ length-append (encode_utf8_all (chars new))
-        (encode_utf8_all (drop ends.high now)) in
-        let n : length (encode_utf8_all (chars new)) ≡ length new = ap length (encodes-chars new utf8) in
-        let all : length (bytes_of before (replaced_parts parts start stop new))
-        ≡ length (encode_utf8_all (take ends.low now ++ (chars new ++ drop ends.high now))) = ap length bytes in
-        omega (
-          arith,
-          front,
-          back,
-          n,
-          all,
-          bytes_split now ends.high,
-          ends.start_is,
-          ends.stop_is,
-          now_long,
-          in_order_places,
-        )
+    long = omega (
+      arith,
+      ap length range_bytes,
+      are.long,
+      in_order_places,
+      replaced_length (bytes_of before parts) new start stop in_order_places.0
+          (omega (arith, are.long, in_order_places)),
+    )
 
     pub range_short : (bytes : List ℕ) → bytes ≡ bytes_of before parts → length (replace_range bytes start stop new)
         ≤ 2147483648
@@ -351,20 +354,12 @@ next_holds units before parts changes change next len is made same count counted
 -- What was told of a range's places, told of the fields.
 module _ (units : ℕ → ℕ) (range : Range) (before : List ℕ) (parts : List Part) (len changes : ℕ)
     (are : ArePieces before parts len changes) (edited : PlainData) (view : seen before parts changes ≡ edited) where
-  pub ends_seen : (start stop : ℕ)
-      → IsPlaces (Ok (
-        start,
-        stop,
-      )) (places_at edited.changes (edited_text edited) (ends_of units (edited_text edited) range))
+  pub ends_seen : (start stop : ℕ) → Ok (start, stop) ≡ places_at 0 (edited_text edited)
+      (ends_of units (edited_text edited) range)
       → AreEnds units (text_of (chars before) (items_of (chars before) parts)) range start stop
-  ends_seen start stop error =
-      ⊎_elim
-      (λ (e : Ok (start, stop) ≡ Err NoMemory). absurd (cc))
-      (λ (e : Ok (start, stop) ≡ places_at edited.changes (edited_text edited)
-      (ends_of units (edited_text edited) range)).
+  ends_seen start stop found =
       subst (λ (text : List ℕ). AreEnds units text range start stop) (sym (ap edited_text view))
-      (ends_told units (edited_text edited) range edited.changes start stop e))
-      error
+      (ends_told units (edited_text edited) range 0 start stop found)
 
   -- a range whose places were told may be replaced
   pub record IsRanged (new : List ℕ) (start stop : ℕ) : Type 0 where
@@ -384,10 +379,7 @@ module _ (units : ℕ → ℕ) (range : Range) (before : List ℕ) (parts : List
         (replaced_parts parts start stop new) (len - (stop - start) + length new)
 
   pub ranged : (new : List ℕ) → IsUtf8 new → length (edited_bytes edited) + length new ≤ 2147483648 → (start stop : ℕ)
-      → IsPlaces (Ok (
-        start,
-        stop,
-      )) (places_at edited.changes (edited_text edited) (ends_of units (edited_text edited) range))
+      → Ok (start, stop) ≡ places_at 0 (edited_text edited) (ends_of units (edited_text edited) range)
       → IsRanged new start stop
   ranged new utf8 room start stop error =
       let fits : len + length new ≤ 2147483648 = room_told before parts len changes (length new) edited are view room in

@@ -26,7 +26,7 @@ pub index_first : (text : List ℕ) → index_of text 0 ≡ 0
 index_first [] = refl
 index_first (c ∷ text) = refl
 
-index_last : (bytes : List ℕ) → IsUtf8 bytes → index_of (chars bytes) (length bytes) ≡ length (chars bytes)
+pub index_last : (bytes : List ℕ) → IsUtf8 bytes → index_of (chars bytes) (length bytes) ≡ length (chars bytes)
 index_last bytes utf8 =
     let e : place_of (chars bytes) (length (chars bytes)) ≡ length bytes =
     place_end (chars bytes) ∙ ap length (encodes-chars bytes utf8) in

@@ -1,21 +1,21 @@
 -- How long a text gets by a batch: each change adds its own text at most.
-use Rattle.std.proofs.Common.{ℕ, suc, ◌≡◌, ◌+◌, ◌-◌, ◌<◌, ◌≤◌, true, false, List, ◌∷◌, ◌++◌, length, map, take, drop, nat_le, sym, ap, ap₂, ◌∙◌, subst, arith, drop-drop, encode_utf8_all, ⊎_elim, inl, inr, leb-true, Option, Some, None, Result, Ok, Err, sum_by, string_len, string_bytes}
+use Rattle.std.proofs.Common.{ℕ, suc, ◌≡◌, ◌+◌, ◌-◌, ◌<◌, ◌≤◌, true, false, List, ◌∷◌, ◌++◌, length, map, take, drop, nat_le, sym, ap, ◌∙◌, subst, arith, drop-drop, encode_utf8_all, ⊎_elim, inl, inr, leb-true, Option, Some, None, Result, Ok, Err, sum_by, string_len, string_bytes}
 use Rattle.std.specs.Str.{chars}
 use Rattle.std.proofs.lemmas.Bool.{cases_Bool}
-use Rattle.std.proofs.lemmas.List.{length-append, map-append, take-map, drop-map}
+use Rattle.std.proofs.lemmas.List.{length-append}
 use Rattle.std.proofs.lemmas.List.Sums.{sum_by-cons}
 use Rattle.std.proofs.lemmas.Str.{encodes-append, encodes-chars, IsUtf8-string_bytes}
 use Rattle.lsp_text.specs.declared.position.Range.{Range}
 use Rattle.lsp_text.specs.Positions.{denoted}
 use Rattle.lsp_edit.specs.declared.change.Change.{Change}
 use Rattle.lsp_edit.specs.declared.fault.EditFault.{EditFault}
-use Rattle.lsp_edit.specs.Items.{Item, New, character_of, text_of}
+use Rattle.lsp_edit.specs.Items.{Item, New, text_of}
 use Rattle.lsp_edit.specs.Batch.{ContentChange, Fault, Reversed, changed_in, items_after, after_changes, continue_with}
 use Rattle.lsp_edit.specs.inside.Batch.{replaced}
 use Rattle.lsp_edit.specs.Faults.{IsFaultOfChange, IsFaultOfChanges, fault_at}
 use Rattle.lsp_edit.specs.Edited.{Applied, PlainData, content_change, edited_bytes}
 use Rattle.lsp_edit.proofs.Parts.CutLemmas.{text_of-new}
-use Rattle.lsp_edit.proofs.Composing.AppliedLemmas.{bytes_split}
+use Rattle.lsp_edit.proofs.Composing.AppliedLemmas.{bytes_split, text_put}
 
 replaced_longer : (text characters : List ℕ) (a b : ℕ) → a ≤ b
     → length (encode_utf8_all (take a text ++ (characters ++ drop b text))) ≤ length (encode_utf8_all text)
@@ -23,20 +23,16 @@ replaced_longer : (text characters : List ℕ) (a b : ℕ) → a ≤ b
 replaced_longer text characters a b order =
     let e : a + (b - a) ≡ b = omega arith in
     let back : drop (b - a) (drop a text) ≡ drop b text = drop-drop (b - a) a text ∙ ap (λ (n : ℕ). drop n text) e in
-    let rest : length (encode_utf8_all (take (b - a) (drop a text)))
-    + length (encode_utf8_all (drop (b - a) (drop a text))) ≡ length (encode_utf8_all (drop a text)) =
-    bytes_split (drop a text) (b - a) in
-    let all : length (encode_utf8_all (take a text)) + length (encode_utf8_all (drop a text))
-    ≡ length (encode_utf8_all text) = bytes_split text a in
-    let one : length (encode_utf8_all (take a text ++ (characters ++ drop b text)))
-    ≡ length (encode_utf8_all (take a text)) + length (encode_utf8_all (characters ++ drop b text))
-    = ap length (encodes-append (take a text) (characters ++ drop b text))
-    ∙ length-append (encode_utf8_all (take a text)) (encode_utf8_all (characters ++ drop b text)) in
-    let two : length (encode_utf8_all (characters ++ drop b text)) ≡ length (encode_utf8_all characters)
-    + length (encode_utf8_all (drop b text))
-    = ap length (encodes-append characters (drop b text)) ∙ length-append (encode_utf8_all characters)
-    (encode_utf8_all (drop b text)) in
-    omega (arith, ap (λ (cs : List ℕ). length (encode_utf8_all cs)) back)
+    omega (
+      arith,
+      bytes_split text a,
+      bytes_split (drop a text) (b - a),
+      ap (λ (cs : List ℕ). length (encode_utf8_all cs)) back,
+      ap length (encodes-append (take a text) (characters ++ drop b text)
+          ∙ ap (λ (bs : List ℕ). encode_utf8_all (take a text) ++ bs) (encodes-append characters (drop b text))),
+      length-append (encode_utf8_all (take a text)) (encode_utf8_all characters ++ encode_utf8_all (drop b text)),
+      length-append (encode_utf8_all characters) (encode_utf8_all (drop b text)),
+    )
 
 pub change_longer : (units : ℕ → ℕ) (old : List ℕ) (items next : List Item) (change : ContentChange)
     → items_after units old items change ≡ Ok next → length (encode_utf8_all (text_of old next))
@@ -56,12 +52,7 @@ change_longer units old items next change is = by_range change.range is
         let made : ◌≡◌ {A = Result (List Item) Fault} (Ok (take a items ++ (map New change.text ++ drop b items)))
         (Ok next) = rw e at r in
         let is_next : take a items ++ (map New change.text ++ drop b items) ≡ next = cc in
-        let text : text_of old (take a items ++ (map New change.text ++ drop b items)) ≡ take a (text_of old items)
-        ++ (change.text ++ drop b (text_of old items))
-        = map-append (character_of old) (take a items) (map New change.text ++ drop b items)
-        ∙ ap₂ (λ (x y : List ℕ). x ++ y) (sym (take-map (character_of old) a items))
-        (map-append (character_of old) (map New change.text) (drop b items) ∙ ap₂ (λ (x y : List ℕ). x ++ y)
-        (text_of-new old change.text) (sym (drop-map (character_of old) b items))) in
+        let text = text_put old items change.text a b in
         subst Longer is_next
         (subst (λ (cs : List ℕ). length (encode_utf8_all cs) ≤ length (encode_utf8_all (text_of old items))
         + length (encode_utf8_all change.text)) (sym text) (replaced_longer (text_of old items) change.text a b

@@ -1,32 +1,31 @@
 -- What was resolved once, read again.
-use Rattle.std.proofs.Common.{ℕ, ◌≡◌, ◌+◌, ◌-◌, ◌≤◌, true, false, List, length, map, refl, sym, ap, ◌∙◌, subst, arith, ⊎_elim, nat_lt, Some, Result, Ok, Err, IfOk}
-use Rattle.std.proofs.lemmas.Bool.{cases_Bool}
+use Rattle.std.proofs.Common.{ℕ, ◌≡◌, ◌+◌, ◌-◌, ◌<◌, ◌≤◌, true, false, List, ◌∷◌, length, map, drop, refl, sym, ap, ap₂, ◌∙◌, subst, arith, encode_utf8_all, ⊎_elim, nat_lt, Some, Result, Ok, Err}
+use Rattle.std.proofs.lemmas.Bool.{cases_Bool, cases_lt, ltb-false}
+use Rattle.std.proofs.lemmas.List.{drop_all}
 use Rattle.std.specs.List.{replace_range}
-use Rattle.std.specs.Str.{IsCharBoundary, chars}
-use Rattle.lsp_edit.specs.declared.indexed.fault.BatchFault.TheVariants.{TooLong}
-use Rattle.lsp_edit.specs.Items.{Item, plain, text_of}
-use Rattle.lsp_edit.specs.Batch.{ContentChange, Fault, items_after, continue_with, meaning}
-use Rattle.lsp_edit.specs.Canonical.{gaps}
-use Rattle.lsp_edit.specs.Edited.{ArePieces, content_change}
-use Rattle.lsp_edit.specs.Indexed.{alone, bytes_left, text_within}
-use Rattle.lsp_edit.specs.laws.Batches.{AllHaveExactEnds}
+use Rattle.std.specs.Str.{IsCharBoundary, IsUtf8, chars}
+use Rattle.lsp_text.specs.declared.encoding.Encoding.{Encoding}
+use Rattle.lsp_text.specs.Units.{units_in}
+use Rattle.lsp_buffer.proofs.Changes.ChangeLemmas.{replaced_length}
+use Rattle.lsp_edit.specs.declared.change.Change.{Change}
 use Rattle.lsp_edit.specs.declared.delta.Delta.{Delta}
 use Rattle.lsp_edit.specs.declared.delta.Delta.TheVariants.{Put, Left}
-use Rattle.lsp_edit.specs.Delta.{IsOn, IsPut, meant_by, put_items}
-use Rattle.lsp_text.specs.Units.{units_in}
-use Rattle.lsp_edit.specs.Parts.{AreParts, Part, items_of}
-use Rattle.lsp_edit.specs.inside.Layers.{AreSameItems, IsLayer}
-use Rattle.lsp_edit.specs.inside.Parts.{AreCut, AreOrdered, replaced_parts, whole_parts}
-use Rattle.lsp_edit.proofs.Composing.AppliedLemmas as applied
-use Rattle.lsp_edit.proofs.Composing.AppliedLemmas.{AreEnds, IsNext, ends_told}
-use Rattle.lsp_edit.proofs.Composing.EditedLemmas.{begun, plain_text, whole_is}
-use Rattle.lsp_edit.proofs.Canonical.GapLemmas.{ends_exact}
-use Rattle.lsp_edit.proofs.Deltas.InPlaceLemmas.{replaced_len, range_means, range_order, range_start, range_stop}
-use Rattle.lsp_edit.proofs.Parts.PutLemmas.{replaced_few}
-
-pub if_ok : {A E : Type 0} {P Q : A → Type 0} (r : Result A E) → ((a : A) → P a → Q a) → IfOk r P → IfOk r Q
-if_ok (Ok a) then p = then a p
-if_ok (Err e) then p = tt
+use Rattle.lsp_edit.specs.declared.fault.EditFault.{EditFault}
+use Rattle.lsp_edit.specs.declared.indexed.fault.BatchFault.{BatchFault}
+use Rattle.lsp_edit.specs.declared.indexed.fault.BatchFault.TheVariants.{TooLong}
+use Rattle.lsp_edit.specs.Items.{Item, plain, text_of}
+use Rattle.lsp_edit.specs.Batch.{ContentChange, Fault, items_after, continue_with, ends_of, meaning}
+use Rattle.lsp_edit.specs.Canonical.{canonical}
+use Rattle.lsp_edit.specs.Delta.{AreEndsIn, AreEndsOf, IsDeltaOf, IsLeft, IsOn, IsPut, bytes_after, delta_encoding, meant_by, put_items}
+use Rattle.lsp_edit.specs.Edited.{Applied, PlainData, content_change, edited_bytes, edited_text}
+use Rattle.lsp_edit.specs.Faults.{places_at}
+use Rattle.lsp_edit.specs.Indexed.{IsCanonicalBatch, alone, bytes_left, text_within}
+use Rattle.lsp_edit.specs.inside.Faults.{HasRange}
+use Rattle.lsp_edit.proofs.Batches.LawLemmas.{canonical_law, units_some}
+use Rattle.lsp_edit.proofs.Batches.PlainLemmas.{applying_begins}
+use Rattle.lsp_edit.proofs.Composing.EditedLemmas.{first_bytes, plain_text}
+use Rattle.lsp_edit.proofs.Composing.RoomLemmas.{Applying, applying_on}
+use Rattle.lsp_edit.proofs.Deltas.InPlaceLemmas.{range_bytes_left, range_means, range_order, range_start, range_stop}
 
 -- A text that is within a limit is what a batch leaves.
 pub record IsWithin (before : List ℕ) (meant : Result (List Item) (ℕ × Fault)) (left : List ℕ) : Type 0 where
@@ -45,6 +44,19 @@ within_told max_len before (Ok items) left e =
     ≡ Ok left = rw below at e in record { items = items; means = refl; is = cc })
     (cases_Bool (nat_lt max_len (length (bytes_left before items))))
 
+pub within_fits : (max_len : ℕ) (before : List ℕ) (meant : Result (List Item) (ℕ × Fault)) (left : List ℕ)
+    → text_within max_len before meant ≡ Ok left → length left ≤ max_len
+within_fits max_len before (Err fault) left e = absurd (cc)
+within_fits max_len before (Ok items) left e =
+    ⊎_elim
+    (λ (above : nat_lt max_len (length (bytes_left before items)) ≡ true). let bad : ◌≡◌ {A = Result (List ℕ)
+    BatchFault} (Err TooLong) (Ok left) = rw above at e in absurd (cc))
+    (λ (below : nat_lt max_len (length (bytes_left before items)) ≡ false). let same : ◌≡◌ {A = Result (List ℕ)
+    BatchFault} (Ok (bytes_left before items)) (Ok left) = rw below at e in
+    let bytes : bytes_left before items ≡ left = cc in
+    omega (arith, ap length bytes, ltb-false max_len (length (bytes_left before items)) below))
+    (cases_Bool (nat_lt max_len (length (bytes_left before items))))
+
 module _ (units : ℕ → ℕ) (before : List ℕ) (start stop : ℕ) (new : List ℕ) (p : IsPut units before start stop new) where
   pub put_order : start ≤ stop
   put_order = range_order units before p.utf8 p.range new p.new_utf8 start stop p.places
@@ -55,91 +67,48 @@ module _ (units : ℕ → ℕ) (before : List ℕ) (start stop : ℕ) (new : Lis
   pub put_stop : IsCharBoundary before stop
   put_stop = range_stop units before p.utf8 p.range new p.new_utf8 start stop p.places
 
-  pub put_len : length (replace_range before start stop new) ≡ start + length new + (length before - stop)
-  put_len = replaced_len before p.utf8 start stop new p.new_utf8 put_order put_start put_stop
+  pub put_len : length (replace_range before start stop new) ≡ length before - (stop - start) + length new
+  put_len = replaced_length before new start stop put_order put_stop.0
 
-  are : ArePieces before (whole_parts before) (length before) 0
-  are = begun before (whole_parts before) p.utf8 (omega (arith, p.size)) (whole_is before p.utf8)
+  -- What callers see of pieces of the text before any change.
+  module _ (edited : PlainData)
+      (is : edited ≡ record { before = chars before; items = plain (chars before); changes = 0 }) where
+    pub put_room : length (edited_bytes edited) + length new ≤ 2147483648
+    put_room = omega (arith, first_bytes before edited p.utf8 is, p.size, p.short)
 
-  text_now : text_of (chars before) (items_of (chars before) (whole_parts before)) ≡ chars before
-  text_now = ap (text_of (chars before)) (whole_is before p.utf8).items ∙ plain_text (chars before)
+    pub put_places : Ok (start, stop) ≡ places_at 0 (edited_text edited) (ends_of units (edited_text edited) p.range)
+    put_places = subst (λ (t : List ℕ). ◌≡◌ {A = Result (ℕ × ℕ) EditFault} (Ok (start, stop))
+        (places_at 0 t (ends_of units t p.range))) (sym (ap edited_text is ∙ plain_text (chars before))) p.places
 
-  ends : AreEnds units (text_of (chars before) (items_of (chars before) (whole_parts before))) p.range start stop
-  ends = subst (λ (t : List ℕ). AreEnds units t p.range start stop) (sym text_now)
-      (ends_told units (chars before) p.range 0 start stop p.places)
+    pub put_range : HasRange (edited_text edited) start stop
+    put_range = record { units = units; range = p.range; ends = put_places }
 
-  room : length before + length new ≤ 2147483648
-  room = omega (arith, p.size, p.short)
+    pub put_made : (next : PlainData) → Applied units edited (record { range = Some p.range; text = chars new }) next
+        → (next.before ≡ chars before) × (next.items ≡ put_items before start stop new)
+    put_made next applied =
+        let made : items_after units (chars before) (plain (chars before)) (record {
+          range = Some p.range;
+          text = chars new;
+        }) ≡ Ok next.items =
+        subst (λ (e : PlainData). items_after units e.before e.items (record {
+          range = Some p.range;
+          text = chars new;
+        }) ≡ Ok next.items) is applied.changed in
+        let all : meaning units (chars before) (alone p.range new) ≡ Ok next.items =
+        ap (continue_with (λ items. Ok items) 0) made in
+        let means : meaning units (chars before) (alone p.range new) ≡ Ok (put_items before start stop new) =
+        range_means units before p.utf8 p.range new p.new_utf8 start stop p.places in
+        let same : Ok next.items ≡ Ok (put_items before start stop new) = sym all ∙ means in
+        (applied.same ∙ ap (λ (e : PlainData). e.before) is, cc)
 
-  pub put_start_cut : AreCut (whole_parts before) start
-  put_start_cut = applied.start_cut units before (whole_parts before) (length before) 0 are new p.new_utf8 room p.range
-      start stop ends
+  pub put_bytes : bytes_left before (put_items before start stop new) ≡ replace_range before start stop new
+  put_bytes = range_bytes_left units before p.utf8 p.range new p.new_utf8 start stop p.places
 
-  pub put_stop_cut : AreCut (whole_parts before) stop
-  put_stop_cut = applied.stop_cut units before (whole_parts before) (length before) 0 are new p.new_utf8 room p.range
-      start stop ends
-
-  pub put_ordered : AreOrdered (whole_parts before)
-  put_ordered = applied.parts_ordered units before (whole_parts before) (length before) 0 are new p.new_utf8 room
-
-  next : IsNext units before (whole_parts before) 0 (record { range = Some p.range; text = chars new })
-      (replaced_parts (whole_parts before) start stop new) (length before - (stop - start) + length new)
-  next =
-      applied.range_next units before (whole_parts before) (length before) 0 are new p.new_utf8 room p.range start stop
-      ends
-      (omega (arith, replaced_few (whole_parts before) start stop new put_order, (whole_is before p.utf8).few))
-
-  pub put_are : AreParts before (replaced_parts (whole_parts before) start stop new)
-  put_are = next.are.are
-
-  pub put_exact : AllHaveExactEnds (chars before)
-      (gaps (chars before) (items_of (chars before) (replaced_parts (whole_parts before) start stop new)))
-  put_exact = ends_exact _ _ next.are.keeps
-
-  pub put_items_are : items_of (chars before) (replaced_parts (whole_parts before) start stop new)
-      ≡ put_items before start stop new
-  put_items_are =
-      let made : items_after units (chars before) (plain (chars before)) (record {
-        range = Some p.range;
-        text = chars new;
-      }) ≡ Ok (items_of (chars before) (replaced_parts (whole_parts before) start stop new))
-      =
-      subst
-      (λ (i : List Item). items_after units (chars before) i (record { range = Some p.range; text = chars new })
-      ≡ Ok (items_of (chars before) (replaced_parts (whole_parts before) start stop new)))
-      (whole_is before p.utf8).items
-      next.made in
-      let all : meaning units (chars before) (alone p.range new)
-      ≡ Ok (items_of (chars before) (replaced_parts (whole_parts before) start stop new)) =
-      ap (continue_with (λ items. Ok items) 0) made in
-      let means : meaning units (chars before) (alone p.range new) ≡ Ok (put_items before start stop new) =
-      range_means units before p.utf8 p.range new p.new_utf8 start stop p.places in
-      let same : Ok (items_of (chars before) (replaced_parts (whole_parts before) start stop new))
-      ≡ Ok (put_items before start stop new) = sym all ∙ means in
-      cc
-
-  -- ---- as a delta of its own spans
-
-  pub layer_start : AreCut (whole_parts before) start
-  layer_start = put_start_cut
-
-  pub layer_stop : AreCut (whole_parts before) stop
-  layer_stop = put_stop_cut
-
-  pub layer_ordered : AreOrdered (whole_parts before)
-  layer_ordered = put_ordered
-
-  pub layer_is : (parts owned : List Part) → parts ≡ replaced_parts (whole_parts before) start stop new
-      → AreSameItems owned parts → IsLayer (Ok (put_items before start stop new)) before owned
-  layer_is parts owned made same =
-      let kept : AreParts before owned × (items_of (chars before) owned ≡ items_of (chars before) parts) =
-      same before (subst (AreParts before) (sym made) (put_are)) in
-      record {
-        utf8 = p.utf8;
-        are = kept.0;
-        means = ap (λ (items : List Item). Ok items)
-            (sym (kept.1 ∙ (ap (items_of (chars before)) made ∙ put_items_are)));
-      }
+-- The bytes of pieces with these items.
+pub left_bytes : (before left : List ℕ) (items : List Item) (edited : PlainData) → edited.before ≡ chars before
+    → edited.items ≡ items → bytes_left before items ≡ left → edited_bytes edited ≡ left
+left_bytes before left items edited old_is items_are is =
+    ap₂ (λ (old : List ℕ) (made : List Item). encode_utf8_all (text_of old made)) old_is items_are ∙ is
 
 -- A delta means what some batch means.
 pub record HasBatch (before : List ℕ) (delta : Delta) : Type 0 where
@@ -154,8 +123,92 @@ has_batch before (Put put) on = record {
   means = range_means (units_in put.encoding) before on.utf8 on.range put.new.now on.new_utf8 put.start put.stop
       on.places;
 }
-has_batch before (Left encoding changes left) on = record {
-  units = units_in encoding;
-  batch = map content_change changes.now;
+has_batch before (Left left) on = record {
+  units = units_in left.encoding;
+  batch = map content_change left.changes.now;
   means = refl;
 }
+
+-- A delta is of a text in UTF-8.
+on_utf8 : (before : List ℕ) (delta : Delta) → IsOn before delta → IsUtf8 before
+on_utf8 before (Put put) on = on.utf8
+on_utf8 before (Left left) on = on.utf8
+
+-- The canonical batch of items is that of what is meant.
+pub same_canonical : (units : ℕ → ℕ) (text old : List ℕ) (meant : Result (List Item) (ℕ × Fault)) (made : List Item)
+    (answered : List ContentChange) → old ≡ text → meant ≡ Ok made → answered ≡ canonical units old made
+    → (items : List Item) → meant ≡ Ok items → answered ≡ canonical units text items
+same_canonical units text old meant made answered old_is made_is is items items_are =
+    let e : made ≡ items = cc in is ∙ ap₂ (canonical units) old_is e
+
+-- The canonical batch of a delta is that of its batch.
+pub canonical_is : (encoding : Encoding) (max_len : ℕ) (before : List ℕ) (batch answered : List ContentChange)
+    (delta : Delta) → IsDeltaOf (units_in encoding) max_len before batch delta
+    → ((items : List Item) → meant_by before delta ≡ Ok items → answered
+    ≡ canonical (units_in (delta_encoding delta)) (chars before) items)
+    → IsCanonicalBatch (units_in encoding) max_len before batch answered
+canonical_is encoding max_len before batch answered delta of same =
+    let w : IsWithin before (meaning (units_in encoding) (chars before) batch) (bytes_after before delta)
+    = within_told max_len before (meaning (units_in encoding) (chars before) batch) (bytes_after before delta) of.is in
+    record {
+      utf8 = on_utf8 before delta of.on;
+      items = w.items;
+      means = w.means;
+      within = omega (
+        arith,
+        ap length w.is,
+        within_fits max_len before
+            (meaning (units_in encoding) (chars before) batch) (bytes_after before delta) of.is,
+      );
+      is = rw of.units_are at (same w.items (sym of.means ∙ w.means));
+      law = canonical_law (units_in encoding) (units_some encoding) (chars before);
+    }
+
+-- ---- the changes of a batch, put one after another
+
+-- How far the changes were put: their batch is applied so far, and the ends of the others are known.
+pub record IsPutting (units : ℕ → ℕ) (before : List ℕ) (meant : Result (List Item) (ℕ × Fault)) (done : ℕ)
+    (rest : List Change) (ends : List (ℕ × ℕ)) (edited : PlainData) : Type 0 where
+  pub applying : Applying units before meant done rest edited
+  pub ends_are : AreEndsOf units before edited.items (map content_change rest) ends
+
+pub putting_begins : (units : ℕ → ℕ) (before : List ℕ) (changes : List Change) (ends : List (ℕ × ℕ)) (left : List ℕ)
+    (edited : PlainData) → IsLeft units before changes ends left
+    → edited ≡ record { before = chars before; items = plain (chars before); changes = 0 }
+    → IsPutting units (chars before) (meaning units (chars before) (map content_change changes)) 0 changes ends edited
+putting_begins units before changes ends left edited on is = record {
+  applying = applying_begins units before changes edited on.utf8 is on.size on.fits;
+  ends_are = subst (λ (items : List Item). AreEndsOf units (chars before) items (map content_change changes) ends)
+      (sym (ap (λ (e : PlainData). e.items) is)) on.ends_are;
+}
+
+module _ (units : ℕ → ℕ) (before : List ℕ) (meant : Result (List Item) (ℕ × Fault)) (done : ℕ) (change : Change)
+    (rest more : List Change) (ends : List (ℕ × ℕ)) (edited : PlainData) (is : rest ≡ change ∷ more)
+    (putting : IsPutting units before meant done rest ends edited) where
+  here : AreEndsOf units before edited.items (content_change change ∷ map content_change more) ends
+  here = rw is at putting.ends_are
+
+  pub putting_bounds : (all : List (ℕ × ℕ)) → ends ≡ drop done all → done < length all
+  putting_bounds all rest_is =
+      ⊎_elim
+      (λ (l : done < length all). l)
+      (λ (l : length all ≤ done). absurd (subst
+      (AreEndsOf units before edited.items (content_change change ∷ map content_change more))
+      (rest_is ∙ drop_all done all l) here))
+      (cases_lt done (length all))
+
+  module _ (end : ℕ × ℕ) (others : List (ℕ × ℕ)) (ends_is : ends ≡ end ∷ others) where
+    first : AreEndsOf units before edited.items (content_change change ∷ map content_change more) (end ∷ others)
+    first = subst (AreEndsOf units before edited.items (content_change change ∷ map content_change more)) ends_is here
+
+    pub putting_ends : AreEndsIn units (edited_text edited) (content_change change) end
+    putting_ends = subst (λ (old : List ℕ). AreEndsIn units (text_of old edited.items) (content_change change) end)
+        (sym putting.applying.same) first.0
+
+    pub putting_on : (next : PlainData) → done < 18446744073709551615
+        → Applied units edited (content_change change) next → IsPutting units before meant (done + 1) more others next
+    putting_on next small applied = record {
+      applying = applying_on units before meant done change rest more edited is putting.applying next small applied;
+      ends_are = first.1 next.items (ap (λ (b : List ℕ). items_after units b edited.items (content_change change))
+          (sym putting.applying.same) ∙ applied.changed);
+    }

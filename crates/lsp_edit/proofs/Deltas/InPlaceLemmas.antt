@@ -1,30 +1,30 @@
 -- What a change of a range makes of the bytes of a text, and of its lines.
-use Rattle.std.proofs.Common.{ℕ, ◌≡◌, ◌+◌, ◌-◌, ◌<◌, ◌≤◌, ◌⊎◌, List, ◌++◌, length, map, take, drop, refl, sym, ap, ap₂, ◌∙◌, subst, arith, encode_utf8_all, ⊎_elim, inl, inr, le-leb, Some, Result, Ok, Err}
+use Rattle.std.proofs.Common.{ℕ, ◌≡◌, ◌<◌, ◌≤◌, ◌⊎◌, List, ◌++◌, length, map, take, drop, refl, sym, ap, ◌∙◌, subst, arith, encode_utf8_all, ⊎_elim, inl, inr, le-leb, Some, Result, Ok, Err}
 use Rattle.std.proofs.lemmas.Bool.{lt-ltb, le-ltb}
-use Rattle.std.proofs.lemmas.List.{length-append, length-drop, length-take-le, map-append, take-map, drop-map, append_assoc}
-use Rattle.std.proofs.lemmas.Str.{encodes-append, encodes-chars}
+use Rattle.std.proofs.lemmas.Str.{encodes-chars}
 use Rattle.std.specs.List.{replace_range}
 use Rattle.std.specs.Str.{IsCharBoundary, IsUtf8, chars}
 use Rattle.lsp_text.specs.declared.position.Range.{Range}
 use Rattle.lsp_text.specs.Text.{place_of}
-use Rattle.lsp_text.proofs.Positions.PlaceLemmas.{take_place, drop_place, place_boundary, place_rises}
+use Rattle.lsp_text.proofs.Positions.PlaceLemmas.{place_boundary, place_rises}
 use Rattle.lsp_edit.specs.declared.fault.EditFault.{EditFault}
 use Rattle.lsp_edit.specs.declared.fault.EditFault.TheVariants as edit
 use Rattle.lsp_edit.specs.declared.indexed.fault.BatchFault.{BatchFault}
 use Rattle.lsp_edit.specs.declared.indexed.fault.BatchFault.TheVariants.{Edit as EditOf, TooLong, NoMemory}
-use Rattle.lsp_edit.specs.Items.{Item, New, plain, character_of, text_of}
+use Rattle.lsp_edit.specs.Items.{Item, New, plain, text_of}
 use Rattle.lsp_edit.specs.Batch.{Fault, InsideStart, InsideStop, Reversed, items_after, meaning, ends_of}
 use Rattle.lsp_edit.specs.Faults.{fault_at, places_at}
 use Rattle.lsp_edit.specs.Indexed.{alone, bytes_left, text_within, batch_fault_of}
 use Rattle.lsp_edit.specs.Delta.{put_items}
 use Rattle.lsp_edit.specs.Parts.{index_of}
 use Rattle.lsp_edit.proofs.Parts.IndexLemmas.{index_of-place}
-use Rattle.lsp_edit.proofs.Composing.AppliedLemmas.{AreEnds, ends_told, fault_told}
-use Rattle.lsp_edit.proofs.Parts.CutLemmas.{text_of-new}
+use Rattle.lsp_edit.proofs.Composing.AppliedLemmas.{AreEnds, bytes_put, ends_told, fault_told, text_put}
 use Rattle.lsp_edit.proofs.Composing.EditedLemmas.{plain_text}
 
-assoc : (a b c : List ℕ) → a ++ b ++ c ≡ a ++ (b ++ c)
-assoc a b c = simp append_assoc
+pub fault_edit : (number : ℕ) (why : Fault) → EditOf (fault_at number why) ≡ batch_fault_of (fault_at number why)
+fault_edit number InsideStart = refl
+fault_edit number InsideStop = refl
+fault_edit number Reversed = refl
 
 module _ (units : ℕ → ℕ) (before : List ℕ) (utf8 : IsUtf8 before) (range : Range) (new : List ℕ)
     (new_utf8 : IsUtf8 new) where
@@ -57,29 +57,14 @@ module _ (units : ℕ → ℕ) (before : List ℕ) (utf8 : IsUtf8 before) (range
     meant = rw (ends.low_is, ends.high_is, le-leb ends.low ends.high ends.order) refl
 
     text : text_of (chars before) items ≡ take ends.low (chars before) ++ (chars new ++ drop ends.high (chars before))
-    text =
-        map-append (character_of (chars before)) (take ends.low (plain (chars before)))
-        (map New (chars new) ++ drop ends.high (plain (chars before)))
-        ∙ ap₂ (λ (x y : List ℕ). x ++ y)
-        (sym (take-map (character_of (chars before)) ends.low (plain (chars before)))
-        ∙ ap (take ends.low) (plain_text (chars before)))
-        (map-append (character_of (chars before)) (map New (chars new)) (drop ends.high (plain (chars before)))
-        ∙ ap₂ (λ (x y : List ℕ). x ++ y) (text_of-new (chars before) (chars new))
-        (sym (drop-map (character_of (chars before)) ends.high (plain (chars before)))
-        ∙ ap (drop ends.high) (plain_text (chars before))))
+    text = text_put (chars before) (plain (chars before)) (chars new) ends.low ends.high
+        ∙ ap (λ (t : List ℕ). take ends.low t ++ (chars new ++ drop ends.high t)) (plain_text (chars before))
 
     left : bytes_left before items ≡ replace_range before start stop new
     left =
         ap encode_utf8_all text
-        ∙ (encodes-append (take ends.low (chars before)) (chars new ++ drop ends.high (chars before))
-        ∙ (ap₂ (λ (x y : List ℕ). x ++ y) (sym (take_place (chars before) ends.low))
-        (encodes-append (chars new) (drop ends.high (chars before)) ∙ ap₂ (λ (x y : List ℕ). x ++ y)
-        (encodes-chars new new_utf8) (sym (drop_place (chars before) ends.high)))
-        ∙ rw (
-          low_place,
-          high_place,
-          encodes-chars before utf8,
-        ) (sym (assoc (take start before) new (drop stop before)))))
+        ∙ (bytes_put (chars before) new ends.low ends.high start stop new_utf8 low_place high_place
+        ∙ ap (λ (bs : List ℕ). replace_range bs start stop new) (encodes-chars before utf8))
 
     pub range_within : (max_len : ℕ) → length (replace_range before start stop new) ≤ max_len
         → text_within max_len before (meaning units (chars before) (alone range new))
@@ -124,11 +109,6 @@ module _ (units : ℕ → ℕ) (before : List ℕ) (utf8 : IsUtf8 before) (range
       high_place,
     )
 
-  fault_edit : (number : ℕ) (why : Fault) → EditOf (fault_at number why) ≡ batch_fault_of (fault_at number why)
-  fault_edit number InsideStart = refl
-  fault_edit number InsideStop = refl
-  fault_edit number Reversed = refl
-
   pub range_fault : (max_len : ℕ) (fault : EditFault) → Err fault ≡ places_at 0 (chars before)
       (ends_of units (chars before) range)
       → (batch_fault_of fault ≡ NoMemory) ⊎ (text_within max_len before (meaning units (chars before) (alone range new))
@@ -143,23 +123,3 @@ module _ (units : ℕ → ℕ) (before : List ℕ) (utf8 : IsUtf8 before) (range
       (fault_told units (chars before) (plain (chars before)) (chars new) range 0 fault
       (inr (subst (λ (t : List ℕ). ◌≡◌ {A = Result (ℕ × ℕ) EditFault} (Err fault)
       (places_at 0 t (ends_of units t range))) (sym (plain_text (chars before))) error)))
-
--- ---- the bytes after it
-
-module _ (old : List ℕ) (utf8 : IsUtf8 old) (start stop : ℕ) (new : List ℕ) (new_utf8 : IsUtf8 new)
-    (order : start ≤ stop) (at_start : IsCharBoundary old start) (at_stop : IsCharBoundary old stop) where
-  front_len : length (take start old) ≡ start
-  front_len = length-take-le start old at_start.0
-
-  both_len : length (take start old ++ new) ≡ start + length new
-  both_len = omega (arith, length-append (take start old) new, front_len)
-
-  pub replaced_len : length (replace_range old start stop new) ≡ start + length new + (length old - stop)
-  replaced_len = omega (arith, length-append (take start old ++ new) (drop stop old), both_len, length-drop stop old)
-
--- what was told of the places in a text, told of its bytes
-pub places_of_bytes : (units : ℕ → ℕ) (range : Range) (r : Result (ℕ × ℕ) EditFault) (seen bytes : List ℕ)
-    → seen ≡ bytes → r ≡ places_at 0 (chars seen) (ends_of units (chars seen) range)
-    → r ≡ places_at 0 (chars bytes) (ends_of units (chars bytes) range)
-places_of_bytes units range r seen bytes same error =
-    subst (λ (b : List ℕ). r ≡ places_at 0 (chars b) (ends_of units (chars b) range)) same error

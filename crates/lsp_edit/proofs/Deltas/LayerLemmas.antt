@@ -1,5 +1,5 @@
 -- Layers that are joined, and how they are folded into one row.
-use Rattle.std.proofs.Common.{ℕ, ◌≡◌, ◌+◌, ◌-◌, ◌<◌, ◌≤◌, true, List, [], ◌∷◌, ◌++◌, length, map, drop, get_or, refl, sym, ap, ◌∙◌, subst, arith, ⊎_elim, nat_lt, false, encode_utf8_all, Result, Ok, Err}
+use Rattle.std.proofs.Common.{ℕ, ◌≡◌, ◌+◌, ◌<◌, ◌≤◌, true, List, [], ◌∷◌, ◌++◌, length, map, drop, get_or, refl, sym, ap, ◌∙◌, subst, arith, ⊎_elim, nat_lt, false, encode_utf8_all, Result, Ok, Err}
 use Rattle.std.specs.Str.{chars, IsUtf8}
 use Rattle.std.proofs.lemmas.Bool.{cases_Bool}
 use Rattle.std.proofs.lemmas.List.{drop_more, drop_all, map-append}
@@ -22,7 +22,7 @@ use Rattle.lsp_edit.proofs.Parts.CutPartsLemmas.{parts_bytes}
 use Rattle.lsp_edit.proofs.Composing.EditedLemmas.{index_first, plain_text, whole_is}
 use Rattle.lsp_edit.proofs.Canonical.KeepsLemmas.{meaning_keeps, plain_keeps}
 use Rattle.lsp_edit.proofs.Parts.ThroughLemmas.{are_through, ascending, through_items}
-use Rattle.lsp_edit.proofs.Deltas.OwnedLemmas.{items_over-append, all_both, over, rows}
+use Rattle.lsp_edit.proofs.Deltas.OwnedLemmas.{items_over-append, all_both, rows}
 
 -- what callers see of the fields
 abbrev pub joined_seen : List ℕ → List Layer → JoinedData

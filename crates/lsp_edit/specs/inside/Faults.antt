@@ -1,13 +1,20 @@
 -- What only proofs and private contracts use of `Faults`.
-use Rattle.std.specs.Prelude.{ℕ, ◌≡◌, ◌⊎◌, Result, Ok, Err}
+use Rattle.std.specs.Prelude.{ℕ, ◌≡◌, ◌⊎◌, List, Result, Ok, Err}
+use Rattle.lsp_text.specs.declared.position.Range.{Range}
 use Rattle.lsp_edit.specs.declared.fault.EditFault.{EditFault}
 use Rattle.lsp_edit.specs.declared.fault.EditFault.TheVariants.{NoMemory}
-use Rattle.lsp_edit.specs.Batch.{Fault}
-use Rattle.lsp_edit.specs.Faults.{fault_at}
+use Rattle.lsp_edit.specs.Batch.{Fault, ends_of}
+use Rattle.lsp_edit.specs.Faults.{fault_at, places_at}
 
 -- The answer is the wanted one, or out of memory.
 abbrev pub IsPlaces : Result (ℕ × ℕ) EditFault → Result (ℕ × ℕ) EditFault → Type 0
 IsPlaces answer wanted = (answer ≡ Err NoMemory) ⊎ (answer ≡ wanted)
+
+-- Some range has these ends in a text.
+pub record HasRange (text : List ℕ) (start stop : ℕ) : Type 0 where
+  pub units : ℕ → ℕ
+  pub range : Range
+  pub ends : Ok (start, stop) ≡ places_at 0 text (ends_of units text range)
 
 -- The two ends, or the fault with the number of its change.
 abbrev pub numbered : ℕ → Result (ℕ × ℕ) Fault → Result (ℕ × ℕ) EditFault

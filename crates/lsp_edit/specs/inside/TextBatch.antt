@@ -6,6 +6,7 @@ use Rattle.lsp_text.specs.Positions.{denoted}
 use Rattle.lsp_edit.specs.declared.fault.EditFault.{EditFault}
 use Rattle.lsp_edit.specs.declared.fault.EditFault.TheVariants.{NoMemory}
 use Rattle.lsp_edit.specs.Batch.{ContentChange, Fault, InsideStart, InsideStop, Reversed}
+use Rattle.lsp_edit.specs.Delta.{AreEndsIn}
 use Rattle.lsp_edit.specs.Faults.{fault_at}
 
 -- The text with the characters between two indexes replaced by new ones.
@@ -39,6 +40,15 @@ text_after_changes units number text [] = Ok text
 text_after_changes units number text (change ∷ changes) =
     text_continue_with (λ next. text_after_changes units (suc number) next changes) number
     (text_after_change units text change)
+
+-- These are the byte offsets of the changes' ranges, each in the text that its change meets.
+abbrev pub AreTextEnds : (ℕ → ℕ) → List ℕ → List ContentChange → List (ℕ × ℕ) → Type 0
+AreTextEnds units text [] ends = Unit {0}
+AreTextEnds units text (change ∷ changes) [] = ⊥
+AreTextEnds units text (change ∷ changes) (end ∷ ends) =
+    AreEndsIn units text change end
+    × ((next : List ℕ) → text_after_change units text change ≡ Ok next
+    → AreTextEnds units next changes ends)
 
 -- The fault is out of memory, or why the change of this number has no result.
 abbrev pub IsFaultOf : ℕ → Result (List ℕ) Fault → EditFault → Type 0

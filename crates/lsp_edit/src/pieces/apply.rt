@@ -1,6 +1,6 @@
 //! A change of pieces: its places in the current text, and the spans after it.
 
-ghost use Rattle.std.specs.Prelude.{◌≡◌, ◌≢◌, ◌+◌, ◌≤◌, ℕ, IfErr, OnErr, OnOk, Err, IsOk, length, string_len};
+ghost use Rattle.std.specs.Prelude.{◌≡◌, ◌≢◌, ◌+◌, ◌≤◌, ℕ, IfErr, OnErr, OnOk, Ok, Err, IsOk, Some, None, length, string_len};
 ghost use Rattle.std.specs.Str.{chars};
 ghost use Rattle.lsp_text.specs.Units.{units_in};
 ghost use Rattle.lsp_edit.specs.declared.fault.EditFault.TheVariants.{NoMemory};
@@ -8,7 +8,9 @@ ghost use Rattle.lsp_edit.specs.Edited.{Applied, content_change, edited_bytes};
 ghost use Rattle.lsp_edit.specs.Edited.{edited_text};
 ghost use Rattle.lsp_edit.specs.Faults.{IsFaultOfChange, places_at};
 ghost use Rattle.lsp_edit.specs.Batch.{ends_of, items_after};
-ghost use Rattle.lsp_edit.specs.inside.Faults.{IsPlaces};
+ghost use Rattle.lsp_edit.specs.Delta.{AreEndsIn};
+ghost use Rattle.lsp_edit.specs.inside.Faults.{HasRange, IsPlaces};
+ghost use Rattle.lsp_text.specs.declared.position.Range.{Range};
 
 use crate::change::Change;
 use crate::ends::ends;
@@ -17,6 +19,7 @@ use crate::pieces::current::{current_or_new, ends_in, replaced};
 use crate::pieces::spans::Spans;
 use crate::pieces::{MAX_TEXT, Pieces};
 use lsp_text::{Encoding, Range};
+use std::alloc::AllocError;
 
 impl<'a> Pieces<'a> {
     /// Returns the byte offsets of a range's two ends in the current text. A fault reports the
@@ -29,12 +32,12 @@ impl<'a> Pieces<'a> {
             (edited_text self.old.edited) range)) }
     {
         if self.changes == 0 {
-            return ends(&self.before, encoding, range, 0);
+            return ends(self.before.get(), encoding, range, 0);
         }
         let current = current_or_new(
             self.current.take(),
             self.alloc,
-            &self.before,
+            self.before.get(),
             self.spans.as_slice(),
             self.len,
         )?;
@@ -53,6 +56,52 @@ impl<'a> Pieces<'a> {
         self.len = text.len();
         self.current = None;
         self.changes = self.changes.saturating_add(1);
+    }
+
+    /// Replaces the bytes from `start` to `stop` of the current text, which are the ends of a
+    /// range. After an error everything is unchanged.
+    pub(crate) fn put(&mut self, start: usize, stop: usize, text: &'a str) -> Result<(), AllocError>
+        requires room { length (edited_bytes self.old.edited) + length text.now ≤ MAX_TEXT }
+        requires ends { HasRange (edited_text self.old.edited) start stop }
+        ensures applied { OnOk result ((units : ℕ → ℕ) (range : Range)
+            → Ok (start, stop) ≡ places_at 0 (edited_text self.old.edited)
+            (ends_of units (edited_text self.old.edited) range)
+            → Applied units self.old.edited
+            (record { range = Some range; text = chars text.now }) self.new.edited) }
+        ensures unchanged { OnErr result (self.new ≡ self.old) }
+    {
+        let current = match self.current.take() {
+            None => None,
+            Some(current) => Some(replaced(current, start, stop, text)?),
+        };
+        self.spans.replace(self.alloc, start, stop, text)?;
+        self.len = self.len - (stop - start) + text.len();
+        self.current = current;
+        self.changes = self.changes.saturating_add(1);
+        Ok(())
+    }
+
+    /// Applies a change whose range, if it has one, has these two ends in the current text. After
+    /// an error everything is unchanged.
+    pub(crate) fn put_change(
+        &mut self,
+        ends: (usize, usize),
+        change: &'a Change,
+    ) -> Result<(), AllocError>
+        requires room { length (edited_bytes self.old.edited) + string_len change.now.text
+            ≤ MAX_TEXT }
+        requires ends { (units : ℕ → ℕ)
+            × AreEndsIn units (edited_text self.old.edited) (content_change change.now) ends }
+        ensures applied { OnOk result ((units : ℕ → ℕ)
+            → AreEndsIn units (edited_text self.old.edited) (content_change change.now) ends
+            → Applied units self.old.edited (content_change change.now) self.new.edited) }
+        ensures unchanged { OnErr result (self.new ≡ self.old) }
+    {
+        match change.range {
+            None => self.apply_to_all(&change.text),
+            Some(_) => self.put(ends.0, ends.1, &change.text)?,
+        }
+        Ok(())
     }
 
     /// Replaces a range by a new text.
@@ -74,14 +123,7 @@ impl<'a> Pieces<'a> {
             (record { range = Some range; text = chars text.now })) }
     {
         let (start, stop) = self.places(encoding, range)?;
-        let current = match self.current.take() {
-            None => None,
-            Some(current) => Some(replaced(current, start, stop, text)?),
-        };
-        self.spans.replace(self.alloc, start, stop, text)?;
-        self.len = self.len - (stop - start) + text.len();
-        self.current = current;
-        self.changes = self.changes.saturating_add(1);
+        self.put(start, stop, text)?;
         Ok(())
     }
 

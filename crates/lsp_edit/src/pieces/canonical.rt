@@ -11,8 +11,8 @@ ghost use Rattle.lsp_edit.specs.laws.Batches.{AllHaveExactEnds};
 ghost use Rattle.lsp_edit.specs.Parts.{AreParts, items_of, parts_of};
 
 use crate::change::Change;
-use crate::old_text::OldText;
 use crate::pieces::span::Span;
+use lsp_buffer::TextBuffer;
 use lsp_text::{Encoding, Range};
 use std::alloc::{AllocError, Global};
 use std::mem;
@@ -21,7 +21,7 @@ use std::mem;
 /// `low` to `high`.
 fn put_gap(
     changes: &mut Vec<Change>,
-    before: &OldText<'_>,
+    before: &TextBuffer,
     encoding: Encoding,
     low: usize,
     high: usize,
@@ -49,7 +49,7 @@ fn put_gap(
 /// changed gap.
 pub fn canonical_of(
     alloc: Global,
-    before: &OldText<'_>,
+    before: &TextBuffer,
     spans: &[Span<'_>],
     encoding: Encoding,
 ) -> Result<Vec<Change>, AllocError>

@@ -14,7 +14,6 @@ ghost use Rattle.lsp_edit.specs.Parts.{AreParts, bytes_of, parts_of};
 
 use crate::ends::ends;
 use crate::fault::EditFault;
-use crate::old_text::OldText;
 use crate::pieces::span::Span;
 use lsp_buffer::TextBuffer;
 use lsp_text::{Encoding, Range};
@@ -24,7 +23,7 @@ use std::alloc::{AllocError, Global};
 pub fn current_or_new(
     current: Option<TextBuffer>,
     alloc: Global,
-    before: &OldText<'_>,
+    before: &TextBuffer,
     spans: &[Span<'_>],
     len: usize,
 ) -> Result<TextBuffer, AllocError>
@@ -62,7 +61,7 @@ pub fn replaced(
 /// Returns the text of spans, of `len` bytes.
 pub fn text_of_spans(
     alloc: Global,
-    before: &OldText<'_>,
+    before: &TextBuffer,
     spans: &[Span<'_>],
     len: usize,
 ) -> Result<String, AllocError>
@@ -88,7 +87,6 @@ pub fn ends_in(
     ensures value { result
         ≡ places_at change (chars text.now) (ends_of (units_in encoding) (chars text.now) range) }
 {
-    let text = OldText::in_blocks(text);
     let _ = text.len();
-    ends(&text, encoding, range, change)
+    ends(text, encoding, range, change)
 }

@@ -4,7 +4,7 @@ ghost use Rattle.std.specs.Prelude.{◌≡◌, ◌++◌, ◌≤◌, ◌<◌, ℕ
 ghost use Rattle.lsp_edit.specs.Parts.{IsPartOf, bytes_in, part_len, part_of, parts_of};
 ghost use Rattle.lsp_edit.specs.inside.Parts.{IsCutAt, joined, back_part, front_part, put_part, IsOrdered};
 
-use crate::old_text::OldText;
+use lsp_buffer::TextBuffer;
 use std::alloc::AllocError;
 
 /// A part of a text after changes. It isn't empty.
@@ -76,7 +76,7 @@ impl<'a> Span<'a> {
     }
 
     /// Appends its bytes to a string; `before` is the old text.
-    pub(crate) fn push_to(self, before: &OldText<'_>, out: &mut String) -> Result<(), AllocError>
+    pub(crate) fn push_to(self, before: &TextBuffer, out: &mut String) -> Result<(), AllocError>
         requires { IsPartOf before.now (part_of self) }
         ensures { OnOk result (string_bytes out.new
             ≡ string_bytes out.old ++ bytes_in before.now (part_of self.entry)) }

@@ -6,9 +6,9 @@ ghost use Rattle.lsp_edit.specs.Parts.{new_parts, parts_of};
 ghost use Rattle.lsp_edit.specs.inside.Parts.{AreCut, AreOrdered, replaced_parts, whole_parts};
 ghost use Rattle.lsp_edit.specs.Spans.{spans_in};
 
-use crate::old_text::OldText;
 use crate::pieces::row::Row;
 use crate::pieces::span::Span;
+use lsp_buffer::TextBuffer;
 use std::alloc::{AllocError, Global};
 use std::slice;
 
@@ -28,7 +28,7 @@ impl<'a> Spans<'a> {
     }
 
     /// Makes the span of a text before any change, if the text isn't empty.
-    pub fn whole(alloc: Global, before: &OldText<'_>) -> Self
+    pub fn whole(alloc: Global, before: &TextBuffer) -> Self
         ensures parts { parts_of (spans_in result) ≡ whole_parts before.now }
         ensures utf8 { IsUtf8 before.now }
     {

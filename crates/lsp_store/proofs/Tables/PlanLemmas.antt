@@ -66,11 +66,11 @@ ok_from (Err e) then p = tt
 
 pub on_utf8 : (before : List ℕ) (delta : Delta) → IsOn before delta → IsUtf8 before
 on_utf8 before (Put put) on = on.utf8
-on_utf8 before (Left encoding batch left) on = on.utf8
+on_utf8 before (Left left) on = on.utf8
 
 pub on_short : (before : List ℕ) (delta : Delta) → IsOn before delta → length before ≤ 1073741824
 on_short before (Put put) on = on.size
-on_short before (Left encoding batch left) on = on.size
+on_short before (Left left) on = on.size
 
 -- ---- a document at an index
 

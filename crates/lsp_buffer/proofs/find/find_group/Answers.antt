@@ -3,7 +3,8 @@ use Rattle.lsp_buffer.proofs.Queries.FoundLemmas.{begins_first, group_next, grou
 use Rattle.lsp_buffer.proofs.find.find_group.Goals as goal
 
 pub loop-number-init : goal.loop-number-init
-loop-number-init c = begins_first c.args.blocks.now c.args.target c.none-before.result c.requires.are c.none-before.ensures
+loop-number-init c =
+    begins_first c.args.blocks.now c.args.target c.none-before.result c.requires.are c.none-before.ensures
 
 pub plus-next-requires : goal.plus-next-requires
 plus-next-requires c = group_room c.args.blocks.now c.args.groups.now c.requires c.args.target c.loop-number.number _

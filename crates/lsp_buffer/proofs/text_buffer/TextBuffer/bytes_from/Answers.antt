@@ -4,13 +4,13 @@ use Rattle.lsp_buffer.proofs.text_buffer.TextBuffer.bytes_from.Goals as goal
 
 pub split_at-requires : goal.split_at-requires
 split_at-requires c =
-    let found : IsPlaceFound c.args.self.now c.part_at.ensures.front c.part_at.result.block.now c.part_at.ensures.rest c.args.offset
-    c.part_at.result.before.len =
+    let found : IsPlaceFound c.args.self.now c.part_at.ensures.front c.part_at.result.block.now c.part_at.ensures.rest
+    c.args.offset c.part_at.result.before.len =
     (place_part c.args.self.now c.part_at.result.block.now c.part_at.result.before c.args.offset c.part_at.ensures) in
     omega (
       arith,
-      found_within c.args.self.now c.part_at.ensures.front c.part_at.result.block.now c.part_at.ensures.rest c.args.offset
-          c.part_at.result.before.len found c.requires,
+      found_within c.args.self.now c.part_at.ensures.front c.part_at.result.block.now c.part_at.ensures.rest
+          c.args.offset c.part_at.result.before.len found c.requires,
       found.from_is,
       ap length (c.as_bytes-bytes.ensures.value ∙ c.text.ensures),
     )

@@ -6,14 +6,16 @@ pub overflow_sub-back : goal.overflow_sub-back
 overflow_sub-back c = omega (
   arith,
   c.len.ensures,
-  (last_at c.args.blocks.now c.args.range c.args.new.now c.requires c.index-blocks-range.result c.index-blocks-range.is).0,
+  (last_at c.args.blocks.now c.args.range c.args.new.now c.requires c.index-blocks-range.result
+      c.index-blocks-range.is).0,
 )
 
 pub overflow_add-result : goal.overflow_add-result
 overflow_add-result c = omega (
   arith,
   c.len.ensures,
-  left_here c.args.blocks.now c.args.range c.args.new.now c.requires c.index-blocks-range.result c.index-blocks-range.is,
+  left_here c.args.blocks.now c.args.range c.args.new.now c.requires c.index-blocks-range.result
+      c.index-blocks-range.is,
   left_small c.args.blocks.now c.args.range c.args.new.now c.requires,
 )
 
@@ -21,7 +23,8 @@ pub overflow_add-result-2 : goal.overflow_add-result-2
 overflow_add-result-2 c = omega (
   arith,
   c.len.ensures,
-  left_here c.args.blocks.now c.args.range c.args.new.now c.requires c.index-blocks-range.result c.index-blocks-range.is,
+  left_here c.args.blocks.now c.args.range c.args.new.now c.requires c.index-blocks-range.result
+      c.index-blocks-range.is,
   left_small c.args.blocks.now c.args.range c.args.new.now c.requires,
 )
 
@@ -29,5 +32,6 @@ pub returns : goal.returns
 returns c = omega (
   arith,
   c.len.ensures,
-  left_here c.args.blocks.now c.args.range c.args.new.now c.requires c.index-blocks-range.result c.index-blocks-range.is,
+  left_here c.args.blocks.now c.args.range c.args.new.now c.requires c.index-blocks-range.result
+      c.index-blocks-range.is,
 )

@@ -15,9 +15,10 @@ pub blocks_of-requires : goal.blocks_of-requires
 blocks_of-requires c = omega (
   arith,
   ap length c.deref-2.ensures,
-  taken_small c.args.blocks.now.items c.args.range c.args.new.now c.requires.change (string_bytes c.in_ok-taken.taken.text)
-      c.in_ok-taken.taken.past (subst (λ (bs : List (List ℕ)). IsTaken bs c.args.range c.args.new.now
-      (string_bytes c.in_ok-taken.taken.text) c.in_ok-taken.taken.past) c.deref.ensures.value c.in_ok-taken.ensures),
+  taken_small c.args.blocks.now.items c.args.range c.args.new.now c.requires.change
+      (string_bytes c.in_ok-taken.taken.text) c.in_ok-taken.taken.past
+      (subst (λ (bs : List (List ℕ)). IsTaken bs c.args.range c.args.new.now (string_bytes c.in_ok-taken.taken.text)
+      c.in_ok-taken.taken.past) c.deref.ensures.value c.in_ok-taken.ensures),
 )
 
 pub replace_blocks-requires-clause-order : goal.replace_blocks-requires-clause-order

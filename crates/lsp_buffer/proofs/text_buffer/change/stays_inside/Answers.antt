@@ -21,7 +21,8 @@ returns-then-joins c = (
   λ inside.
       absurd
       (inside.2
-      (subst (JoinsNext c.args.blocks.now (c.args.range.last + 1)) c.left-len.ensures (c.joins.ensures.0 c.if-joins.true))),
+      (subst (JoinsNext c.args.blocks.now (c.args.range.last + 1)) c.left-len.ensures
+      (c.joins.ensures.0 c.if-joins.true))),
 )
 
 pub returns : goal.returns

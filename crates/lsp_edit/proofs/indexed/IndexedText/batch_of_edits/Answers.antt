@@ -8,5 +8,5 @@ pub returns-in-Err-clause-error : goal.returns-in-Err-clause-error
 returns-in-Err-clause-error c =
     subst
     (λ (t : List ℕ). IsEditsFault (units_in c.args.encoding) (chars t) c.args.edits.now c.in-Err.fault
-    → IsEditsFault (units_in c.args.encoding) (chars t) c.args.edits.now c.decided_fault-in-Err.result)
-    c.as_old.ensures c.decided_fault-in-Err.ensures.error c.in-Err.ensures.error
+    → IsEditsFault (units_in c.args.encoding) (chars t) c.args.edits.now c.decided_fault.result)
+    c.text.ensures c.decided_fault.ensures.error c.in-Err.ensures.error

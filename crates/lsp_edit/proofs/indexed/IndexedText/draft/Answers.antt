@@ -1,8 +1,11 @@
 use Rattle.std.proofs.Common.{inr, map}
 use Rattle.std.proofs.lemmas.Result.{err_from_is_err_and}
 use Rattle.lsp_text.specs.Units.{units_in}
+use Rattle.std.specs.Str.{chars}
 use Rattle.lsp_edit.specs.Edited.{content_change}
-use Rattle.lsp_edit.proofs.Batches.TextBatchLemmas.{left_fault, left_too_long, left_within}
+use Rattle.lsp_edit.specs.Items.{plain}
+use Rattle.lsp_edit.proofs.Batches.TextBatchLemmas.{ends_items, left_fault, left_too_long, left_within}
+use Rattle.lsp_edit.proofs.Composing.EditedLemmas.{plain_text}
 use Rattle.lsp_edit.proofs.indexed.IndexedText.draft.Goals as goal
 
 pub returns-in_err-draft-clause-error : goal.returns-in_err-draft-clause-error
@@ -27,3 +30,9 @@ pub returns-clause-ok : goal.returns-clause-ok
 returns-clause-ok c =
     left_within (units_in c.args.encoding) c.args.self.now (map content_change c.args.changes.now) c.in_ok-draft.draft
     c.in_ok-may_be_left.ensures.utf8 c.in_ok-draft.ensures.ok c.args.max_len c.in_ok-may_be_left.ensures.ok
+
+pub returns-clause-ends : goal.returns-clause-ends
+returns-clause-ends c =
+    ends_items (units_in c.args.encoding) (chars c.args.self.now) (plain (chars c.args.self.now))
+    (map content_change c.args.changes.now) c.in_ok-draft.ends.items
+    (rw plain_text c.in_ok-draft.ensures.ends)

@@ -2,41 +2,41 @@ use Rattle.std.proofs.Common.{◌≡◌, refl, length, IsUtf8, ap, inr, subst, a
 use Rattle.std.proofs.lemmas.Result.{err_from_is_err_and}
 use Rattle.std.specs.Str.{chars}
 use Rattle.lsp_text.specs.Units.{units_in}
+use Rattle.lsp_buffer.proofs.Changes.ChangeLemmas.{replaced_length}
 use Rattle.lsp_edit.specs.Faults.{places_at}
 use Rattle.lsp_edit.specs.Batch.{ends_of}
-use Rattle.lsp_edit.proofs.Deltas.InPlaceLemmas.{places_of_bytes, range_fault, range_means, range_order, range_start, range_stop, range_too_long, range_within, replaced_len}
+use Rattle.lsp_edit.proofs.Composing.AppliedLemmas.{places_seen}
+use Rattle.lsp_edit.proofs.Deltas.InPlaceLemmas.{range_fault, range_means, range_order, range_stop, range_too_long, range_within}
 use Rattle.lsp_edit.proofs.indexed.IndexedText.put_delta.Goals as goal
 
 pub returns-in_err-start-clause-error : goal.returns-in_err-start-clause-error
 returns-in_err-start-clause-error c =
     let p = err_from_is_err_and c.from_residual.result c.from_residual.ensures.1 in
     rw (p.1, p.2)
-    (range_fault (units_in c.args.encoding) c.args.self.now (subst IsUtf8 c.as_old-text.ensures c.len-len.ensures.utf8)
+    (range_fault (units_in c.args.encoding) c.args.self.now (subst IsUtf8 c.text-text.ensures c.len-len.ensures.utf8)
     c.args.range c.args.new.now c.utf8.new c.args.max_len _
-    (places_of_bytes (units_in c.args.encoding) c.args.range _ _ _ c.as_old-text.ensures c.in_err-start.ensures))
+    (places_seen (units_in c.args.encoding) 0 c.args.range _ _ _ c.text-text.ensures c.in_err-start.ensures))
 
 pub overflow_sub-stop : goal.overflow_sub-stop
 overflow_sub-stop c =
-    range_order (units_in c.args.encoding) c.as_old-text.result c.len-len.ensures.utf8 c.args.range c.args.new.now
+    range_order (units_in c.args.encoding) c.text-text.result.now c.len-len.ensures.utf8 c.args.range c.args.new.now
     c.utf8.new c.in_ok-start.start c.in_ok-start.stop c.in_ok-start.ensures
 
 pub overflow_sub-len : goal.overflow_sub-len
 overflow_sub-len c =
-    let stop = range_stop (units_in c.args.encoding) c.as_old-text.result c.len-len.ensures.utf8 c.args.range
+    let stop = range_stop (units_in c.args.encoding) c.text-text.result.now c.len-len.ensures.utf8 c.args.range
     c.args.new.now c.utf8.new c.in_ok-start.start c.in_ok-start.stop c.in_ok-start.ensures in
     omega (arith, stop.0, c.len-len.ensures.len)
 
 pub returns-then-len-stop-clause-error : goal.returns-then-len-stop-clause-error
 returns-then-len-stop-clause-error c =
-    let utf8 : IsUtf8 c.args.self.now = subst IsUtf8 c.as_old-text.ensures c.len-len.ensures.utf8 in
+    let utf8 : IsUtf8 c.args.self.now = subst IsUtf8 c.text-text.ensures c.len-len.ensures.utf8 in
     let error : Ok (
       c.in_ok-start.start,
       c.in_ok-start.stop,
     ) ≡ places_at 0 (chars c.args.self.now) (ends_of (units_in c.args.encoding) (chars c.args.self.now) c.args.range) =
-    places_of_bytes (units_in c.args.encoding) c.args.range _ _ _ c.as_old-text.ensures c.in_ok-start.ensures in
+    places_seen (units_in c.args.encoding) 0 c.args.range _ _ _ c.text-text.ensures c.in_ok-start.ensures in
     let order = range_order (units_in c.args.encoding) c.args.self.now utf8 c.args.range c.args.new.now c.utf8.new
-    c.in_ok-start.start c.in_ok-start.stop error in
-    let start = range_start (units_in c.args.encoding) c.args.self.now utf8 c.args.range c.args.new.now c.utf8.new
     c.in_ok-start.start c.in_ok-start.stop error in
     let stop = range_stop (units_in c.args.encoding) c.args.self.now utf8 c.args.range c.args.new.now c.utf8.new
     c.in_ok-start.start c.in_ok-start.stop error in
@@ -45,26 +45,23 @@ returns-then-len-stop-clause-error c =
     c.in_ok-start.start c.in_ok-start.stop error c.args.max_len
     (omega (
       arith,
-      replaced_len c.args.self.now utf8 c.in_ok-start.start c.in_ok-start.stop c.args.new.now c.utf8.new order start
-          stop,
+      replaced_length c.args.self.now c.args.new.now c.in_ok-start.start c.in_ok-start.stop order stop.0,
       order,
       stop.0,
       c.if-len-stop.true,
       c.len-len.ensures.len,
-      ap length c.as_old-text.ensures,
+      ap length c.text-text.ensures,
     )))
 
 pub returns-clause-ok : goal.returns-clause-ok
 returns-clause-ok c =
-    let utf8 : IsUtf8 c.args.self.now = subst IsUtf8 c.as_old-text.ensures c.len-len.ensures.utf8 in
+    let utf8 : IsUtf8 c.args.self.now = subst IsUtf8 c.text-text.ensures c.len-len.ensures.utf8 in
     let error : Ok (
       c.in_ok-start.start,
       c.in_ok-start.stop,
     ) ≡ places_at 0 (chars c.args.self.now) (ends_of (units_in c.args.encoding) (chars c.args.self.now) c.args.range) =
-    places_of_bytes (units_in c.args.encoding) c.args.range _ _ _ c.as_old-text.ensures c.in_ok-start.ensures in
+    places_seen (units_in c.args.encoding) 0 c.args.range _ _ _ c.text-text.ensures c.in_ok-start.ensures in
     let order = range_order (units_in c.args.encoding) c.args.self.now utf8 c.args.range c.args.new.now c.utf8.new
-    c.in_ok-start.start c.in_ok-start.stop error in
-    let start = range_start (units_in c.args.encoding) c.args.self.now utf8 c.args.range c.args.new.now c.utf8.new
     c.in_ok-start.start c.in_ok-start.stop error in
     let stop = range_stop (units_in c.args.encoding) c.args.self.now utf8 c.args.range c.args.new.now c.utf8.new
     c.in_ok-start.start c.in_ok-start.stop error in
@@ -85,12 +82,11 @@ returns-clause-ok c =
           c.in_ok-start.start c.in_ok-start.stop error c.args.max_len
           (omega (
             arith,
-            replaced_len c.args.self.now utf8 c.in_ok-start.start c.in_ok-start.stop c.args.new.now c.utf8.new order
-                start stop,
+            replaced_length c.args.self.now c.args.new.now c.in_ok-start.start c.in_ok-start.stop order stop.0,
             order,
             stop.0,
             c.if-len-stop.false,
             c.len-len.ensures.len,
-            ap length c.as_old-text.ensures,
+            ap length c.text-text.ensures,
           ));
     }

@@ -3,7 +3,8 @@ use Rattle.std.proofs.lemmas.Result.{err_from_is_err_and}
 use Rattle.std.specs.List.{replace_range}
 use Rattle.std.specs.Str.{IsCharBoundary, chars}
 use Rattle.lsp_text.specs.Units.{units_in}
-use Rattle.lsp_edit.proofs.Batches.TextBatchLemmas.{is_ranged, places_seen, range_faulted}
+use Rattle.lsp_edit.proofs.Batches.TextBatchLemmas.{ends_at, is_ranged, range_faulted}
+use Rattle.lsp_edit.proofs.Composing.AppliedLemmas.{places_seen}
 use Rattle.lsp_edit.proofs.indexed.IndexedText.with_range.Goals as goal
 
 pub returns-in_err-start-clause-error : goal.returns-in_err-start-clause-error
@@ -12,11 +13,11 @@ returns-in_err-start-clause-error c =
     rw (p.1, p.2)
     (range_faulted (units_in c.args.encoding) c.args.number c.args.self c.len.ensures.utf8 c.args.range c.args.new.now
     c.utf8.new _
-    (places_seen (units_in c.args.encoding) c.args.number c.args.range _ _ _ c.as_old.ensures c.in_err-start.ensures))
+    (places_seen (units_in c.args.encoding) c.args.number c.args.range _ _ _ c.text.ensures c.in_err-start.ensures))
 
 pub replace_range-requires-clause-order : goal.replace_range-requires-clause-order
 replace_range-requires-clause-order c =
-    let found = places_seen (units_in c.args.encoding) c.args.number c.args.range _ _ _ c.as_old.ensures
+    let found = places_seen (units_in c.args.encoding) c.args.number c.args.range _ _ _ c.text.ensures
     c.in_ok-start.ensures in
     let r = is_ranged (units_in c.args.encoding) c.args.number c.args.self c.len.ensures.utf8 c.args.range
     c.args.new.now c.utf8.new c.in_ok-start.start c.in_ok-start.stop found in
@@ -24,7 +25,7 @@ replace_range-requires-clause-order c =
 
 pub replace_range-requires-clause-at_start : goal.replace_range-requires-clause-at_start
 replace_range-requires-clause-at_start c =
-    let found = places_seen (units_in c.args.encoding) c.args.number c.args.range _ _ _ c.as_old.ensures
+    let found = places_seen (units_in c.args.encoding) c.args.number c.args.range _ _ _ c.text.ensures
     c.in_ok-start.ensures in
     let r = is_ranged (units_in c.args.encoding) c.args.number c.args.self c.len.ensures.utf8 c.args.range
     c.args.new.now c.utf8.new c.in_ok-start.start c.in_ok-start.stop found in
@@ -32,7 +33,7 @@ replace_range-requires-clause-at_start c =
 
 pub replace_range-requires-clause-at_end : goal.replace_range-requires-clause-at_end
 replace_range-requires-clause-at_end c =
-    let found = places_seen (units_in c.args.encoding) c.args.number c.args.range _ _ _ c.as_old.ensures
+    let found = places_seen (units_in c.args.encoding) c.args.number c.args.range _ _ _ c.text.ensures
     c.in_ok-start.ensures in
     let r = is_ranged (units_in c.args.encoding) c.args.number c.args.self c.len.ensures.utf8 c.args.range
     c.args.new.now c.utf8.new c.in_ok-start.start c.in_ok-start.stop found in
@@ -40,7 +41,7 @@ replace_range-requires-clause-at_end c =
 
 pub replace_range-requires-clause-room : goal.replace_range-requires-clause-room
 replace_range-requires-clause-room c =
-    let found = places_seen (units_in c.args.encoding) c.args.number c.args.range _ _ _ c.as_old.ensures
+    let found = places_seen (units_in c.args.encoding) c.args.number c.args.range _ _ _ c.text.ensures
     c.in_ok-start.ensures in
     let r = is_ranged (units_in c.args.encoding) c.args.number c.args.self c.len.ensures.utf8 c.args.range
     c.args.new.now c.utf8.new c.in_ok-start.start c.in_ok-start.stop found in
@@ -54,7 +55,7 @@ replace_range-requires-clause-room c =
 
 pub returns-clause-ok : goal.returns-clause-ok
 returns-clause-ok c =
-    let found = places_seen (units_in c.args.encoding) c.args.number c.args.range _ _ _ c.as_old.ensures
+    let found = places_seen (units_in c.args.encoding) c.args.number c.args.range _ _ _ c.text.ensures
     c.in_ok-start.ensures in
     let r = is_ranged (units_in c.args.encoding) c.args.number c.args.self c.len.ensures.utf8 c.args.range
     c.args.new.now c.utf8.new c.in_ok-start.start c.in_ok-start.stop found in
@@ -66,7 +67,7 @@ returns-clause-ok c =
 
 pub returns-clause-longer : goal.returns-clause-longer
 returns-clause-longer c =
-    let found = places_seen (units_in c.args.encoding) c.args.number c.args.range _ _ _ c.as_old.ensures
+    let found = places_seen (units_in c.args.encoding) c.args.number c.args.range _ _ _ c.text.ensures
     c.in_ok-start.ensures in
     let r = is_ranged (units_in c.args.encoding) c.args.number c.args.self c.len.ensures.utf8 c.args.range
     c.args.new.now c.utf8.new c.in_ok-start.start c.in_ok-start.stop found in
@@ -75,3 +76,9 @@ returns-clause-longer c =
     = c.in_ok-replace_range.ensures.changed
     ∙ ap (λ (bs : List ℕ). replace_range bs c.in_ok-start.start c.in_ok-start.stop c.args.new.now) c.self.view_is in
     omega (arith, r.longer, ap length bytes)
+
+pub returns-clause-ends : goal.returns-clause-ends
+returns-clause-ends c =
+    ends_at (units_in c.args.encoding) c.args.number (chars c.args.self) (chars c.args.new.now) c.args.range
+    c.in_ok-start.start c.in_ok-start.stop
+    (places_seen (units_in c.args.encoding) c.args.number c.args.range _ _ _ c.text.ensures c.in_ok-start.ensures)

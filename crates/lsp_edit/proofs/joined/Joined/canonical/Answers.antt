@@ -8,8 +8,8 @@ use Rattle.lsp_edit.proofs.joined.Joined.canonical.Goals as goal
 pub loop-layer-init : goal.loop-layer-init
 loop-layer-init c =
     rw c.deref-layer-items.ensures.value
-    (folded_start c.as_old-text.result c.self.inside.before c.self.inside.layers.items _ c.args.self.now
-    c.whole-whole.ensures.utf8 c.as_old-text.ensures c.self.view_is c.self.invariant
+    (folded_start c.text-text.result.now c.self.inside.before c.self.inside.layers.items _ c.args.self.now
+    c.whole-whole.ensures.utf8 c.text-text.ensures c.self.view_is c.self.invariant
     (ap parts_of (c.in_ok-spans.ensures.items ∙ c.as_slice.ensures) ∙ c.whole-whole.ensures.parts))
 
 pub spans_through-requires-clause-through : goal.spans_through-requires-clause-through
@@ -37,13 +37,13 @@ loop-layer-preserved c =
 
 pub canonical_of-requires-clause-ends : goal.canonical_of-requires-clause-ends
 canonical_of-requires-clause-ends c =
-    rw (c.as_old-text.ensures ∙ ap (λ (j : JoinedData). j.before) c.self.view_is, c.deref-2.ensures.value)
+    rw (c.text-text.ensures ∙ ap (λ (j : JoinedData). j.before) c.self.view_is, c.deref-2.ensures.value)
     (ends_exact _ _ c.loop-layer.invariant.keeps)
 
 pub returns : goal.returns
 returns c =
     rw (
-      c.as_old-text.ensures ∙ ap (λ (j : JoinedData). j.before) c.self.view_is,
+      c.text-text.ensures ∙ ap (λ (j : JoinedData). j.before) c.self.view_is,
       c.deref-2.ensures.value,
       folded_end c.args.self.now.before (parts_of c.loop-layer.spans.items) c.deref-layer-items.result.now
           c.loop-layer.layer-index c.args.self.now.items c.loop-layer-test.false c.loop-layer.invariant,

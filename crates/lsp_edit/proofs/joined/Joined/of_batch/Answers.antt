@@ -24,7 +24,7 @@ loop-series-init c =
           c.in_ok-reached.reached (map content_change r)) (sym rest)
           (series_begins (units_in c.args.encoding) c.args.before.now batch c.in_ok-joined.joined
           c.in_ok-reached.reached
-          c.in_ok-reached.ensures.utf8 c.in_ok-joined.ensures.joined at
+          c.in_ok-joined.ensures.joined at
           (omega (arith, ap length c.in_ok-reached.ensures.copy, c.requires.size))),
     )
 
@@ -57,8 +57,7 @@ loop-series-preserved c =
 
 pub returns : goal.returns
 returns c =
-    series_ends (units_in c.args.encoding) c.args.before.now (map content_change c.args.changes.now) c.args.max_len
+    series_ends (units_in c.args.encoding) c.args.before.now (map content_change c.args.changes.now)
     c.loop-series.joined c.loop-series.reached (map content_change (chunks_rest c.loop-series.series-iterator))
     c.loop-series.invariant.2
     (ap (map content_change) (nil_from_length _ c.in-None.ensures.steps.1.0))
-    (omega (arith, c.if-len-max_len.false, c.len.ensures.len))

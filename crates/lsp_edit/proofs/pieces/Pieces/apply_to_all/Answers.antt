@@ -2,6 +2,7 @@ use Rattle.std.proofs.Common.{length, arith, None}
 use Rattle.std.specs.Str.{chars}
 use Rattle.lsp_edit.specs.Parts.{parts_of, new_parts}
 use Rattle.lsp_edit.specs.Spans.{spans_in}
+use Rattle.lsp_edit.specs.inside.Before.{text_before}
 use Rattle.lsp_edit.proofs.Parts.PutLemmas.{new_few}
 use Rattle.lsp_edit.proofs.Composing.AppliedLemmas.{IsNext, all_next, room_told, next_told, next_holds}
 use Rattle.lsp_edit.proofs.Composing.SpannedLemmas.{same_edited}
@@ -9,8 +10,9 @@ use Rattle.lsp_edit.proofs.pieces.Pieces.apply_to_all.Goals as goal
 
 pub invariant_of-self : goal.invariant_of-self
 invariant_of-self c =
-    let next : IsNext (λ x. 1) c.self.inside.before (parts_of (spans_in c.self.inside.spans)) c.self.inside.changes
-    (record { range = None; text = chars c.args.text.now }) (new_parts c.args.text.now) (length c.args.text.now)
+    let next : IsNext (λ x. 1) (text_before c.self.inside.before) (parts_of (spans_in c.self.inside.spans))
+    c.self.inside.changes (record { range = None; text = chars c.args.text.now }) (new_parts c.args.text.now)
+    (length c.args.text.now)
     = all_next (λ x. 1) _ _ _ _ c.self.invariant.0 c.args.text.now c.utf8.text
     (room_told _ _ _ _ _ c.args.self.now.edited c.self.invariant.0 (same_edited c.self.view_is) c.requires)
     (omega (arith, new_few c.args.text.now)) in

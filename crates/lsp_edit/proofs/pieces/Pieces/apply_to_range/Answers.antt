@@ -1,18 +1,14 @@
-use Rattle.std.proofs.Common.{◌≡◌, ◌<◌, ℕ, List, length, arith, sym, ap, ◌∙◌}
+use Rattle.std.proofs.Common.{◌≡◌, ℕ, Some, Result, Ok, subst, sym}
 use Rattle.std.specs.Str.{chars}
-use Rattle.std.specs.List.{replace_range}
-use Rattle.std.proofs.lemmas.List.{length-map}
 use Rattle.std.proofs.lemmas.Result.{err_from_is_err_and}
 use Rattle.lsp_text.specs.Units.{units_in}
-use Rattle.lsp_edit.specs.Parts.{Part, part_of, parts_of, bytes_of}
-use Rattle.lsp_edit.specs.inside.Parts.{replaced_parts}
-use Rattle.lsp_edit.specs.Spans.{spans_in}
-use Rattle.lsp_edit.specs.Edited.{IsCurrent}
-use Rattle.lsp_edit.proofs.Composing.CurrentLemmas.{current_is, current_utf8}
-use Rattle.lsp_edit.proofs.Composing.AppliedLemmas.{fault_told, IsRanged, ranged, next_told, next_holds}
-use Rattle.lsp_edit.proofs.Composing.SpannedLemmas.{same_edited}
+use Rattle.lsp_edit.specs.declared.fault.EditFault.{EditFault}
+use Rattle.lsp_edit.specs.Batch.{ends_of}
+use Rattle.lsp_edit.specs.Edited.{Applied, PiecesData, edited_text}
+use Rattle.lsp_edit.specs.Faults.{places_at}
+use Rattle.lsp_edit.specs.inside.Faults.{HasRange}
+use Rattle.lsp_edit.proofs.Composing.AppliedLemmas.{fault_told, places_found}
 use Rattle.lsp_edit.proofs.pieces.Pieces.apply_to_range.Goals as goal
-use Rattle.lsp_edit.proofs.pieces.Pieces.apply_to_range.Goals.{in-None, in-Some+in_ok-replaced-in-Some}
 
 pub returns-in_err-start-clause-error : goal.returns-in_err-start-clause-error
 returns-in_err-start-clause-error c =
@@ -23,123 +19,23 @@ returns-in_err-start-clause-error c =
     ) (fault_told (units_in c.args.encoding) c.args.self.now.edited.before c.args.self.now.edited.items
     (chars c.args.text.now) c.args.range c.args.self.now.edited.changes _ c.in_err-start.ensures.places)
 
-pub replace-requires-clause-at_start : goal.replace-requires-clause-at_start
-replace-requires-clause-at_start c =
-    (ranged (units_in c.args.encoding) c.args.range _ _ _ _ c.self.invariant.0 c.args.self.now.edited
-    (same_edited (c.self.view_is ∙ c.in_ok-start.ensures.unchanged)) c.args.text.now c.utf8.text c.requires _ _
-    c.in_ok-start.ensures.places).start_cut
-
-pub replace-requires-clause-at_stop : goal.replace-requires-clause-at_stop
-replace-requires-clause-at_stop c =
-    (ranged (units_in c.args.encoding) c.args.range _ _ _ _ c.self.invariant.0 c.args.self.now.edited
-    (same_edited (c.self.view_is ∙ c.in_ok-start.ensures.unchanged)) c.args.text.now c.utf8.text c.requires _ _
-    c.in_ok-start.ensures.places).stop_cut
-
-pub overflow_sub-self : goal.overflow_sub-self
-overflow_sub-self c =
-    (ranged (units_in c.args.encoding) c.args.range _ _ _ _ c.self.invariant.0 c.args.self.now.edited
-    (same_edited (c.self.view_is ∙ c.in_ok-start.ensures.unchanged)) c.args.text.now c.utf8.text c.requires _ _
-    c.in_ok-start.ensures.places).order
-
-pub overflow_sub-self-2 : goal.overflow_sub-self-2
-overflow_sub-self-2 c =
-    omega (
-      arith,
-      (ranged (units_in c.args.encoding) c.args.range _ _ _ _ c.self.invariant.0 c.args.self.now.edited
-          (same_edited (c.self.view_is ∙ c.in_ok-start.ensures.unchanged)) c.args.text.now c.utf8.text c.requires _ _
-          c.in_ok-start.ensures.places).within,
-    )
-
-pub replaced-requires-clause-order : goal.replaced-requires-clause-order
-replaced-requires-clause-order c =
-    (ranged (units_in c.args.encoding) c.args.range _ _ _ _ c.self.invariant.0 c.args.self.now.edited
-    (same_edited (c.self.view_is ∙ c.in_ok-start.ensures.unchanged)) c.args.text.now c.utf8.text c.requires _ _
-    c.in_ok-start.ensures.places).order
-
-pub replaced-requires-clause-at_start : goal.replaced-requires-clause-at_start
-replaced-requires-clause-at_start c =
-    (ranged (units_in c.args.encoding) c.args.range _ _ _ _ c.self.invariant.0 c.args.self.now.edited
-    (same_edited (c.self.view_is ∙ c.in_ok-start.ensures.unchanged)) c.args.text.now c.utf8.text c.requires _ _
-    c.in_ok-start.ensures.places).start_at
-    c.in-Some.current (current_utf8 _ _ _ _ c.self.invariant.0 c.in-Some.current
-    (current_is _ _ _ c.self.invariant.1 (sym c.take.ensures.value ∙ c.in-Some.is)))
-    (current_is _ _ _ c.self.invariant.1 (sym c.take.ensures.value ∙ c.in-Some.is))
-
-pub replaced-requires-clause-at_stop : goal.replaced-requires-clause-at_stop
-replaced-requires-clause-at_stop c =
-    (ranged (units_in c.args.encoding) c.args.range _ _ _ _ c.self.invariant.0 c.args.self.now.edited
-    (same_edited (c.self.view_is ∙ c.in_ok-start.ensures.unchanged)) c.args.text.now c.utf8.text c.requires _ _
-    c.in_ok-start.ensures.places).stop_at
-    c.in-Some.current (current_utf8 _ _ _ _ c.self.invariant.0 c.in-Some.current
-    (current_is _ _ _ c.self.invariant.1 (sym c.take.ensures.value ∙ c.in-Some.is)))
-    (current_is _ _ _ c.self.invariant.1 (sym c.take.ensures.value ∙ c.in-Some.is))
-
-pub replaced-requires-clause-room : goal.replaced-requires-clause-room
-replaced-requires-clause-room c =
-    (ranged (units_in c.args.encoding) c.args.range _ _ _ _ c.self.invariant.0 c.args.self.now.edited
-    (same_edited (c.self.view_is ∙ c.in_ok-start.ensures.unchanged)) c.args.text.now c.utf8.text c.requires _ _
-    c.in_ok-start.ensures.places).short
-    c.in-Some.current (current_is _ _ _ c.self.invariant.1 (sym c.take.ensures.value ∙ c.in-Some.is))
-
-pub replace-requires-clause-order : goal.replace-requires-clause-order
-replace-requires-clause-order c =
-    (ranged (units_in c.args.encoding) c.args.range _ _ _ _ c.self.invariant.0 c.args.self.now.edited
-    (same_edited (c.self.view_is ∙ c.in_ok-start.ensures.unchanged)) c.args.text.now c.utf8.text c.requires _ _
-    c.in_ok-start.ensures.places).order
-
-pub replace-requires-clause-ordered : goal.replace-requires-clause-ordered
-replace-requires-clause-ordered c =
-    (ranged (units_in c.args.encoding) c.args.range _ _ _ _ c.self.invariant.0 c.args.self.now.edited
-    (same_edited (c.self.view_is ∙ c.in_ok-start.ensures.unchanged)) c.args.text.now c.utf8.text c.requires _ _
-    c.in_ok-start.ensures.places).ordered
-
-pub invariant_of-self : goal.invariant_of-self
-invariant_of-self c = (c.self.invariant.0, rw c.take.ensures.after tt)
-
-pub invariant_of-self-2 : goal.invariant_of-self-2
-invariant_of-self-2 c =
-    let r : IsRanged (units_in c.args.encoding) c.args.range c.self.inside.before
-    (parts_of (spans_in c.self.inside.spans)) c.self.inside.len c.self.inside.changes c.self.invariant.0
-    c.args.self.now.edited (same_edited (c.self.view_is ∙ c.in_ok-start.ensures.unchanged)) c.args.text.now
-    c.in_ok-start.start c.in_ok-start.stop
-    = ranged (units_in c.args.encoding) c.args.range _ _ _ _ c.self.invariant.0 c.args.self.now.edited
-    (same_edited (c.self.view_is ∙ c.in_ok-start.ensures.unchanged)) c.args.text.now c.utf8.text c.requires _ _
-    c.in_ok-start.ensures.places in
-    let made : parts_of (spans_in c.replace.new.self) ≡ replaced_parts (parts_of (spans_in c.self.inside.spans))
-    c.in_ok-start.start c.in_ok-start.stop c.args.text.now = c.in_ok-replace.ensures.ok in
-    let n : length (parts_of (spans_in c.replace.new.self)) ≡ length (spans_in c.replace.new.self) =
-    length-map (spans_in c.replace.new.self) part_of in
-    let small : length (replaced_parts (parts_of (spans_in c.self.inside.spans)) c.in_ok-start.start c.in_ok-start.stop
-    c.args.text.now) < 18446744073709551616 = omega (arith, n, ap length made, c.in_ok-replace.ensures.few) in
-    let current : IsCurrent (bytes_of c.self.inside.before (parts_of (spans_in c.replace.new.self)))
-    c.match-take.current
-    = elim c.match-take.branch [
-      | in-None w ↦ rw w.current-is tt
-      | in-Some+in_ok-replaced-in-Some w ↦
-          rw w.current-is
-          (w.in_ok-replaced-in-Some.ensures
-          ∙ (ap (λ (bytes : List ℕ). replace_range bytes c.in_ok-start.start c.in_ok-start.stop c.args.text.now)
-          (current_is _ _ _ c.self.invariant.1 (sym c.take.ensures.value ∙ w.in-Some.is))
-          ∙ (sym r.bytes ∙ ap (λ (parts : List Part). bytes_of c.self.inside.before parts) (sym made))))
-    ] in (
-      next_holds (units_in c.args.encoding) _ _ _ _ _ _ (r.next small) _ made _ c.saturating_add-self-inside.ensures,
-      current,
-    )
+pub put-requires-clause-ends : goal.put-requires-clause-ends
+put-requires-clause-ends c =
+    subst (λ (p : PiecesData). HasRange (edited_text p.edited) c.in_ok-start.start c.in_ok-start.stop)
+    (sym c.in_ok-start.ensures.unchanged)
+    (record {
+      units = units_in c.args.encoding;
+      range = c.args.range;
+      ends = places_found _ _ _ _ _ c.in_ok-start.ensures.places;
+    })
 
 pub returns-clause-applied : goal.returns-clause-applied
 returns-clause-applied c =
-    let r : IsRanged (units_in c.args.encoding) c.args.range c.self.inside.before
-    (parts_of (spans_in c.self.inside.spans)) c.self.inside.len c.self.inside.changes c.self.invariant.0
-    c.args.self.now.edited (same_edited (c.self.view_is ∙ c.in_ok-start.ensures.unchanged)) c.args.text.now
-    c.in_ok-start.start c.in_ok-start.stop
-    = ranged (units_in c.args.encoding) c.args.range _ _ _ _ c.self.invariant.0 c.args.self.now.edited
-    (same_edited (c.self.view_is ∙ c.in_ok-start.ensures.unchanged)) c.args.text.now c.utf8.text c.requires _ _
-    c.in_ok-start.ensures.places in
-    let made : parts_of (spans_in c.replace.new.self) ≡ replaced_parts (parts_of (spans_in c.self.inside.spans))
-    c.in_ok-start.start c.in_ok-start.stop c.args.text.now = c.in_ok-replace.ensures.ok in
-    let n : length (parts_of (spans_in c.replace.new.self)) ≡ length (spans_in c.replace.new.self) =
-    length-map (spans_in c.replace.new.self) part_of in
-    let small : length (replaced_parts (parts_of (spans_in c.self.inside.spans)) c.in_ok-start.start c.in_ok-start.stop
-    c.args.text.now) < 18446744073709551616 = omega (arith, n, ap length made, c.in_ok-replace.ensures.few) in
-    next_told (units_in c.args.encoding) _ _ _ _ _ _ (r.next small) c.args.self.now.edited
-    (same_edited (c.self.view_is ∙ c.in_ok-start.ensures.unchanged)) _ made _ c.saturating_add-self-inside.ensures
+    subst
+    (λ (p : PiecesData). Applied (units_in c.args.encoding) p.edited
+    (record { range = Some c.args.range; text = chars c.args.text.now }) c.put.new.self.edited)
+    c.in_ok-start.ensures.unchanged
+    (c.in_ok-put.ensures.applied (units_in c.args.encoding) c.args.range
+    (subst (λ (p : PiecesData). ◌≡◌ {A = Result (ℕ × ℕ) EditFault} (Ok (c.in_ok-start.start, c.in_ok-start.stop))
+    (places_at 0 (edited_text p.edited) (ends_of (units_in c.args.encoding) (edited_text p.edited) c.args.range)))
+    (sym c.in_ok-start.ensures.unchanged) (places_found _ _ _ _ _ c.in_ok-start.ensures.places)))

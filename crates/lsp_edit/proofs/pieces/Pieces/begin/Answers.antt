@@ -1,4 +1,4 @@
-use Rattle.std.proofs.Common.{refl}
+use Rattle.std.proofs.Common.{IsUtf8, refl, subst}
 use Rattle.lsp_edit.proofs.Composing.EditedLemmas.{whole_is, begun}
 use Rattle.lsp_edit.proofs.pieces.Pieces.begin.Goals as goal
 
@@ -7,10 +7,16 @@ invariant_of-result c = (
   rw (
     c.whole-spans.ensures.parts,
     c.len-len.ensures.len,
-  ) (begun c.args.before _ c.len-len.ensures.utf8 c.len-len.ensures.size
-      (whole_is c.args.before c.len-len.ensures.utf8)),
+    ← c.get-text.ensures,
+  ) (begun c.get-text.result.now _ c.len-len.ensures.utf8 c.len-len.ensures.size
+      (whole_is c.get-text.result.now c.len-len.ensures.utf8)),
   tt,
 )
 
 pub returns-clause-begun : goal.returns-clause-begun
-returns-clause-begun c = rw c.whole-spans.ensures.parts (rw (whole_is c.args.before c.len-len.ensures.utf8).items refl)
+returns-clause-begun c =
+    rw (c.whole-spans.ensures.parts, ← c.get-text.ensures)
+    (rw (whole_is c.get-text.result.now c.len-len.ensures.utf8).items refl)
+
+pub returns-clause-utf8 : goal.returns-clause-utf8
+returns-clause-utf8 c = subst IsUtf8 c.get-text.ensures c.len-len.ensures.utf8

@@ -8,7 +8,8 @@ use Rattle.lsp_edit.proofs.Composing.SpannedLemmas.{same_edited}
 use Rattle.lsp_edit.proofs.pieces.Pieces.canonical.Goals as goal
 
 pub canonical_of-requires-clause-ends : goal.canonical_of-requires-clause-ends
-canonical_of-requires-clause-ends c = rw c.as_slice.ensures (ends_exact _ _ c.self.invariant.0.keeps)
+canonical_of-requires-clause-ends c =
+    rw (c.get-before.ensures, c.as_slice.ensures) (ends_exact _ _ c.self.invariant.0.keeps)
 
 pub returns-clause-means : goal.returns-clause-means
 returns-clause-means c =

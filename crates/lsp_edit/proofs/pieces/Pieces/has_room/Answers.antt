@@ -3,6 +3,7 @@ use Rattle.std.specs.Str.{chars}
 use Rattle.lsp_edit.specs.Items.{text_of}
 use Rattle.lsp_edit.specs.Parts.{parts_of, items_of}
 use Rattle.lsp_edit.specs.Spans.{spans_in}
+use Rattle.lsp_edit.specs.inside.Before.{text_before}
 use Rattle.lsp_edit.proofs.Composing.EditedLemmas.{now_bytes}
 use Rattle.lsp_edit.proofs.Composing.SpannedLemmas.{same_edited}
 use Rattle.lsp_edit.proofs.pieces.Pieces.has_room.Goals as goal
@@ -11,8 +12,9 @@ pub returns : goal.returns
 returns c =
     let e : length
     (encode_utf8_all
-    (text_of (chars c.self.inside.before)
-    (items_of (chars c.self.inside.before) (parts_of (spans_in c.self.inside.spans))))) ≡ c.self.inside.len
+    (text_of (chars (text_before c.self.inside.before))
+    (items_of (chars (text_before c.self.inside.before)) (parts_of (spans_in c.self.inside.spans)))))
+    ≡ c.self.inside.len
     = ap length (now_bytes _ _ _ _ c.self.invariant.0) ∙ sym c.self.invariant.0.long in
     rw (← (same_edited c.self.view_is), e)
     (λ t. omega (arith, leb-true _ _ t, c.len.ensures), λ t. le-leb _ _ (omega (arith, c.len.ensures)))

@@ -3,6 +3,7 @@ use Rattle.std.proofs.lemmas.Str.{IsUtf8-from_is_utf8, encodes-chars}
 use Rattle.lsp_edit.specs.Edited.{before_bytes}
 use Rattle.lsp_edit.specs.Parts.{AreParts, parts_of}
 use Rattle.lsp_edit.specs.Spans.{spans_in}
+use Rattle.lsp_edit.specs.inside.Before.{text_before}
 use Rattle.lsp_edit.proofs.Batches.LawLemmas.{none_empty}
 use Rattle.lsp_edit.proofs.Composing.ThenLemmas.{pieces_ascend}
 use Rattle.lsp_edit.proofs.Composing.SpannedLemmas.{same_edited}
@@ -12,7 +13,8 @@ pub returns-clause-are : goal.returns-clause-are
 returns-clause-are c =
     rw c.as_slice.ensures
     (subst (λ (bytes : List ℕ). AreParts bytes (parts_of (spans_in c.self.inside.spans)))
-    (sym (encodes-chars c.self.inside.before (IsUtf8-from_is_utf8 c.self.inside.before c.self.invariant.0.utf8))
+    (sym (encodes-chars (text_before c.self.inside.before)
+    (IsUtf8-from_is_utf8 (text_before c.self.inside.before) c.self.invariant.0.utf8))
     ∙ ap before_bytes (same_edited c.self.view_is)) c.self.invariant.0.are)
 
 pub returns-clause-order : goal.returns-clause-order

@@ -4,6 +4,7 @@ use Rattle.lsp_edit.specs.Batch.{meaning}
 use Rattle.lsp_edit.specs.Parts.{part_of, parts_of}
 use Rattle.lsp_edit.specs.inside.Parts.{through_parts}
 use Rattle.lsp_edit.specs.Spans.{spans_in}
+use Rattle.lsp_edit.specs.inside.Before.{text_before}
 use Rattle.lsp_edit.proofs.Batches.ComposeLemmas.{then_means, then_associative}
 use Rattle.lsp_edit.proofs.Composing.ThenLemmas.{AreOver, over_seen, over_through, over_order, then_holds, then_told}
 use Rattle.lsp_edit.proofs.Composing.SpannedLemmas.{same_edited}
@@ -25,9 +26,9 @@ spans_through-requires-clause-order c =
 
 pub invariant_of-result : goal.invariant_of-result
 invariant_of-result c =
-    let both : AreOver c.first.inside.before (parts_of (spans_in c.first.inside.spans)) c.first.inside.len
-    c.first.inside.changes c.second.inside.before (parts_of (spans_in c.second.inside.spans)) c.second.inside.len
-    c.second.inside.changes
+    let both : AreOver (text_before c.first.inside.before) (parts_of (spans_in c.first.inside.spans)) c.first.inside.len
+    c.first.inside.changes (text_before c.second.inside.before) (parts_of (spans_in c.second.inside.spans))
+    c.second.inside.len c.second.inside.changes
     = over_seen _ _ _ _ _ _ _ _ c.first.invariant.0 c.second.invariant.0 c.args.first.now.edited
     c.args.second.now.edited (same_edited c.first.view_is) (same_edited c.second.view_is) c.requires in
     let made : parts_of c.in_ok-spans.spans.items ≡ through_parts (parts_of (spans_in c.first.inside.spans))
@@ -37,7 +38,7 @@ invariant_of-result c =
     length-map c.in_ok-spans.spans.items part_of in
     let same : parts_of c.new.result ≡ parts_of c.in_ok-spans.spans.items = ap parts_of c.new.ensures in
     let m : length (parts_of c.new.result) ≡ length (parts_of c.in_ok-spans.spans.items) = ap length same in
-    rw c.borrowed.ensures (
+    rw c.get.ensures (
       then_holds _ _ _ _ _ _ _ _ both _ (same ∙ made) (omega (
         arith,
         n,
@@ -50,9 +51,9 @@ invariant_of-result c =
 
 pub returns-clause-composed : goal.returns-clause-composed
 returns-clause-composed c =
-    let both : AreOver c.first.inside.before (parts_of (spans_in c.first.inside.spans)) c.first.inside.len
-    c.first.inside.changes c.second.inside.before (parts_of (spans_in c.second.inside.spans)) c.second.inside.len
-    c.second.inside.changes
+    let both : AreOver (text_before c.first.inside.before) (parts_of (spans_in c.first.inside.spans)) c.first.inside.len
+    c.first.inside.changes (text_before c.second.inside.before) (parts_of (spans_in c.second.inside.spans))
+    c.second.inside.len c.second.inside.changes
     = over_seen _ _ _ _ _ _ _ _ c.first.invariant.0 c.second.invariant.0 c.args.first.now.edited
     c.args.second.now.edited (same_edited c.first.view_is) (same_edited c.second.view_is) c.requires in
     let made : parts_of c.in_ok-spans.spans.items ≡ through_parts (parts_of (spans_in c.first.inside.spans))
@@ -62,7 +63,7 @@ returns-clause-composed c =
     length-map c.in_ok-spans.spans.items part_of in
     let same : parts_of c.new.result ≡ parts_of c.in_ok-spans.spans.items = ap parts_of c.new.ensures in
     let m : length (parts_of c.new.result) ≡ length (parts_of c.in_ok-spans.spans.items) = ap length same in
-    rw c.borrowed.ensures
+    rw c.get.ensures
     (then_told _ _ _ _ _ _ _ _ both _ (same ∙ made) (omega (
       arith,
       n,

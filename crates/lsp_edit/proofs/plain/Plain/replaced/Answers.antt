@@ -1,4 +1,4 @@
-use Rattle.std.proofs.Common.{ℕ, List, ◌≡◌, length, take, subst, IsCharBoundary, sym, ap, ◌∙◌, arith}
+use Rattle.std.proofs.Common.{◌≡◌, length, sym, ap, ◌∙◌, arith}
 use Rattle.std.specs.Str.{chars}
 use Rattle.std.proofs.lemmas.List.{length-map}
 use Rattle.std.proofs.lemmas.Result.{err_from_is_err_and}
@@ -7,7 +7,7 @@ use Rattle.lsp_edit.specs.Edited.{PlainData}
 use Rattle.lsp_edit.specs.Plain.{item_of, items_in_order}
 use Rattle.lsp_edit.proofs.Composing.AppliedLemmas.{fault_told}
 use Rattle.lsp_edit.proofs.Composing.EditedLemmas.{edited_chars, places_told}
-use Rattle.lsp_edit.proofs.Batches.PlainLemmas.{AreFound, found, places_on, range_put}
+use Rattle.lsp_edit.proofs.Batches.PlainLemmas.{AreFound, found, range_put}
 use Rattle.lsp_edit.proofs.plain.Plain.replaced.Goals as goal
 
 pub returns-in_err-start : goal.returns-in_err-start
@@ -16,58 +16,49 @@ returns-in_err-start c =
     rw (p.1, p.2)
     (fault_told (units_in c.args.encoding) c.args.self.now.before c.args.self.now.items c.args.text.now c.args.range
     c.args.self.now.changes _
-    (places_told (units_in c.args.encoding) c.args.range _ c.args.self.now (chars c.deref.result.now)
+    (places_told (units_in c.args.encoding) c.args.range _ c.args.self.now (chars c.as_str-current.result.now)
     c.self.inside.changes
     (sym (ap (λ (e : PlainData). e.changes) c.self.view_is))
-    (sym (edited_chars c.args.self.now c.deref.result.now c.deref.utf8 (c.deref.ensures ∙ c.in_ok-now.ensures)))
-    (places_on c.self.inside.changes (units_in c.args.encoding) c.args.range _ _ _ c.in_ok-before.ensures
-    c.in_err-start.ensures)))
+    (sym (edited_chars c.args.self.now c.as_str-current.result.now c.as_str-current.utf8
+    (c.as_str-current.ensures.value ∙ c.in_ok-now.ensures)))
+    c.in_err-start.ensures))
 
 pub index_of-requires : goal.index_of-requires
-index_of-requires c = subst (λ (bytes : List ℕ). IsCharBoundary bytes c.in_ok-start.start)
-    (c.deref.ensures ∙ sym c.deref-2.ensures) (found (units_in c.args.encoding) c.args.self.now c.args.range
-    c.self.inside.changes c.in_ok-start.start c.in_ok-start.stop c.deref.result.now c.deref.utf8
-    (c.deref.ensures ∙ c.in_ok-now.ensures) (places_on c.self.inside.changes (units_in c.args.encoding) c.args.range _ _
-    _ c.in_ok-before.ensures c.in_ok-start.ensures)).start_at
+index_of-requires c = (found (units_in c.args.encoding) c.args.self.now c.args.range
+    c.self.inside.changes c.in_ok-start.start c.in_ok-start.stop c.as_str-current.result.now c.as_str-current.utf8
+    (c.as_str-current.ensures.value ∙ c.in_ok-now.ensures) c.in_ok-start.ensures).start_at
 
 pub index_of-requires-2 : goal.index_of-requires-2
-index_of-requires-2 c = subst (λ (bytes : List ℕ). IsCharBoundary bytes c.in_ok-start.stop)
-    (c.deref.ensures ∙ sym c.deref-3.ensures) (found (units_in c.args.encoding) c.args.self.now c.args.range
-    c.self.inside.changes c.in_ok-start.start c.in_ok-start.stop c.deref.result.now c.deref.utf8
-    (c.deref.ensures ∙ c.in_ok-now.ensures) (places_on c.self.inside.changes (units_in c.args.encoding) c.args.range _ _
-    _ c.in_ok-before.ensures c.in_ok-start.ensures)).stop_at
+index_of-requires-2 c = (found (units_in c.args.encoding) c.args.self.now c.args.range
+    c.self.inside.changes c.in_ok-start.start c.in_ok-start.stop c.as_str-current.result.now c.as_str-current.utf8
+    (c.as_str-current.ensures.value ∙ c.in_ok-now.ensures) c.in_ok-start.ensures).stop_at
 
 pub put_between-requires-clause-order : goal.put_between-requires-clause-order
 put_between-requires-clause-order c =
     let r : AreFound (units_in c.args.encoding) c.args.self.now.before c.args.self.now.items c.args.range
-    c.deref.result.now c.in_ok-start.start c.in_ok-start.stop
+    c.as_str-current.result.now c.in_ok-start.start c.in_ok-start.stop
     = found (units_in c.args.encoding) c.args.self.now c.args.range c.self.inside.changes c.in_ok-start.start
-    c.in_ok-start.stop c.deref.result.now c.deref.utf8 (c.deref.ensures ∙ c.in_ok-now.ensures)
-    (places_on c.self.inside.changes (units_in c.args.encoding) c.args.range _ _ _ c.in_ok-before.ensures
-    c.in_ok-start.ensures) in
+    c.in_ok-start.stop c.as_str-current.result.now c.as_str-current.utf8
+    (c.as_str-current.ensures.value ∙ c.in_ok-now.ensures) c.in_ok-start.ensures in
     let low : c.in_ok-low.low ≡ r.ends.low =
-    c.in_ok-low.ensures ∙ (ap (λ (bytes : List ℕ). length (chars (take c.in_ok-start.start bytes))) (c.deref-2.ensures
-    ∙ sym c.deref.ensures) ∙ r.low) in
+    c.in_ok-low.ensures ∙ r.low in
     let high : c.in_ok-high.high ≡ r.ends.high =
-    c.in_ok-high.ensures ∙ (ap (λ (bytes : List ℕ). length (chars (take c.in_ok-start.stop bytes))) (c.deref-3.ensures
-    ∙ sym c.deref.ensures) ∙ r.high) in
+    c.in_ok-high.ensures ∙ r.high in
     omega (arith, r.ends.order)
 
 pub put_between-requires-clause-within : goal.put_between-requires-clause-within
 put_between-requires-clause-within c =
     let r : AreFound (units_in c.args.encoding) c.args.self.now.before c.args.self.now.items c.args.range
-    c.deref.result.now c.in_ok-start.start c.in_ok-start.stop
+    c.as_str-current.result.now c.in_ok-start.start c.in_ok-start.stop
     = found (units_in c.args.encoding) c.args.self.now c.args.range c.self.inside.changes c.in_ok-start.start
-    c.in_ok-start.stop c.deref.result.now c.deref.utf8 (c.deref.ensures ∙ c.in_ok-now.ensures)
-    (places_on c.self.inside.changes (units_in c.args.encoding) c.args.range _ _ _ c.in_ok-before.ensures
-    c.in_ok-start.ensures) in
+    c.in_ok-start.stop c.as_str-current.result.now c.as_str-current.utf8
+    (c.as_str-current.ensures.value ∙ c.in_ok-now.ensures) c.in_ok-start.ensures in
     let high : c.in_ok-high.high ≡ r.ends.high =
-    c.in_ok-high.ensures ∙ (ap (λ (bytes : List ℕ). length (chars (take c.in_ok-start.stop bytes))) (c.deref-3.ensures
-    ∙ sym c.deref.ensures) ∙ r.high) in
+    c.in_ok-high.ensures ∙ r.high in
     omega (
       arith,
       r.within,
-      ap length c.deref-4.ensures.value,
+      ap length c.deref.ensures.value,
       length-map c.self.inside.items.items item_of,
       ap (λ (e : PlainData). length e.items) c.self.view_is,
     )
@@ -75,16 +66,13 @@ put_between-requires-clause-within c =
 pub returns : goal.returns
 returns c =
     let r : AreFound (units_in c.args.encoding) c.args.self.now.before c.args.self.now.items c.args.range
-    c.deref.result.now c.in_ok-start.start c.in_ok-start.stop
+    c.as_str-current.result.now c.in_ok-start.start c.in_ok-start.stop
     = found (units_in c.args.encoding) c.args.self.now c.args.range c.self.inside.changes c.in_ok-start.start
-    c.in_ok-start.stop c.deref.result.now c.deref.utf8 (c.deref.ensures ∙ c.in_ok-now.ensures)
-    (places_on c.self.inside.changes (units_in c.args.encoding) c.args.range _ _ _ c.in_ok-before.ensures
-    c.in_ok-start.ensures) in
+    c.in_ok-start.stop c.as_str-current.result.now c.as_str-current.utf8
+    (c.as_str-current.ensures.value ∙ c.in_ok-now.ensures) c.in_ok-start.ensures in
     range_put (units_in c.args.encoding) c.args.self.now.before c.args.self.now.items _ _ c.args.text.now c.args.range
     c.in_ok-start.start c.in_ok-start.stop c.in_ok-low.low c.in_ok-high.high r.ends
-    (ap items_in_order c.deref-4.ensures.value ∙ ap (λ (e : PlainData). e.items) c.self.view_is)
-    (c.in_ok-low.ensures ∙ (ap (λ (bytes : List ℕ). length (chars (take c.in_ok-start.start bytes))) (c.deref-2.ensures
-    ∙ sym c.deref.ensures) ∙ r.low))
-    (c.in_ok-high.ensures ∙ (ap (λ (bytes : List ℕ). length (chars (take c.in_ok-start.stop bytes))) (c.deref-3.ensures
-    ∙ sym c.deref.ensures) ∙ r.high))
+    (ap items_in_order c.deref.ensures.value ∙ ap (λ (e : PlainData). e.items) c.self.view_is)
+    (c.in_ok-low.ensures ∙ r.low)
+    (c.in_ok-high.ensures ∙ r.high)
     c.in_ok-put_between.ensures

@@ -1,0 +1,13 @@
+use Rattle.std.proofs.Common.{drop, map}
+use Rattle.std.specs.Str.{chars}
+use Rattle.lsp_text.specs.Units.{units_in}
+use Rattle.lsp_edit.specs.Batch.{meaning}
+use Rattle.lsp_edit.specs.Edited.{content_change}
+use Rattle.lsp_edit.proofs.Deltas.DeltaLemmas.{IsPutting}
+use Rattle.lsp_edit.proofs.delta.Left.pieces.Given as goal
+
+abbrev pub invariant-loop-index : goal.invariant-loop-index
+invariant-loop-index l =
+    IsPutting (units_in l.self.encoding) (chars l.text)
+    (meaning (units_in l.self.encoding) (chars l.text) (map content_change l.changes)) l.index (drop l.index l.changes)
+    (drop l.index l.self.ends.items) l.pieces.edited
