@@ -40,7 +40,8 @@ impl Client {
     ///
     /// After `BadServer` the phase is Failed, and the documents are as before. Nothing else
     /// changes. After [`ClientFault::NoMemory`] the client is unchanged, and a caller can deliver
-    /// the same body again. It never comes for a body that isn't UTF-8. Costs one parse of the body, and the bytes of what is to be sent.
+    /// the same body again. It never comes for a body that isn't UTF-8. Costs one parse of the
+    /// body, and the bytes of what is to be sent.
     pub fn deliver(&mut self, body: &[u8]) -> Result<Delivered, ClientFault>
         ensures ok { IfOk result (λ delivered.
             IsDelivered (delivery_result self.old (reading body.now))
