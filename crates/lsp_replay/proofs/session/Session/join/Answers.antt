@@ -22,11 +22,9 @@ returns-in_default c =
     let store : c.store-store.result.now ≡ store_of c.args.self.now.server = rw (c.store-store.ensures, server) refl in
     let refused = message_none (IsMessageFault (store_of c.args.self.now.server) c.args.plan.now)
     c.planned_message.result c.unless_refused.result c.unless_refused.ensures.ok c.unless_refused.ensures.refused
-    (rw c.in_default.is at c.in_ok-frame.was) (rw store at c.planned_message.ensures.error) in (
-      c.requires.planned.accepted,
-      plan_too_long c.args.self.now.server (change_view c.args.params.now) c.args.plan.now c.requires.planned
-          refused.fault refused.other refused.why,
-    )
+    (rw c.in_default.is at c.in_ok-frame.was) (rw store at c.planned_message.ensures.error) in
+    plan_too_long c.args.self.now.server (change_view c.args.params.now) c.args.plan.now c.requires.planned
+    refused.fault refused.other refused.why
 
 pub returns-in_default-series : goal.returns-in_default-series
 returns-in_default-series c =
@@ -37,7 +35,6 @@ returns-in_default-series c =
     let framed : IsFramed c.args.self.now.server (change_view c.args.params.now) c.in-Some.frame.items =
     plan_framed c.args.self.now.server (change_view c.args.params.now) c.args.plan.now c.requires.planned
     c.in-Some.frame.items (rw (made, store) at c.planned_message.ensures.framed) in (
-      c.requires.planned.accepted,
       framed,
       rw c.in_default-series.is tt,
       sym c.in_default-series.is,
@@ -77,7 +74,7 @@ returns-then-eq c =
     let both = plan_continued c.args.self.now.server (change_view c.args.params.now) c.args.plan.now c.requires.planned
     c.store-store.result.now store c.in-Some-series.batches c.add_plan.new.self at same c.in_ok-add_plan.ensures.added
     in
-    (c.requires.planned.accepted, framed, rw c.in-Some-series.is both.0, both.1)
+    (framed, rw c.in-Some-series.is both.0, both.1)
 
 pub returns : goal.returns
 returns c =
@@ -89,7 +86,6 @@ returns c =
     plan_framed c.args.self.now.server (change_view c.args.params.now) c.args.plan.now c.requires.planned
     c.in-Some.frame.items (rw (made, store) at c.planned_message.ensures.framed) in
     let differ : c.in-Some-series.batches.uri ≢ string_bytes c.args.params.now.uri = search rules in (
-      c.requires.planned.accepted,
       framed,
       rw c.in-Some-series.is (not_same (string_bytes c.args.params.now.uri) c.in-Some-series.batches.uri differ),
       sym c.in-Some-series.is,
