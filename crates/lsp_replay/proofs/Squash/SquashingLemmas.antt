@@ -65,13 +65,6 @@ step_too_long server r front series change verdict p is accepted over =
     ∙ ap (λ (v : Verdict). step_if server r front series (Some p) v) accepted
     ∙ rw (lt-ltb server.config.limits.max_body (length (canonical_change_body server p)) over) refl
 
-pub step_bad : (server : ServerData) (r : Record) (front : List ℕ) (series : Option OpenSeries) (change : Option
-    ChangeData)
-    (verdict : Verdict) → verdict ≡ bad
-    → step_if server r front series change verdict ≡ faulty (BadLog r.head.place)
-step_bad server r front series None verdict e = rw e refl
-step_bad server r front series (Some p) verdict e = rw e refl
-
 -- it goes on with the open series
 pub gives_longer : (server : ServerData) (p : ChangeData) (front single old_front singles : List ℕ)
     (series : Option SquashData) (batches : SquashData) → IsLonger series p batches
