@@ -15,7 +15,7 @@ use Rattle.lsp_message.specs.Message.{IdData}
 use Rattle.lsp_replay.specs.Documents.{Kept, Selection, after_kept, after_left_out, is_due, kept_in, output_of_kept, record_stays, waiting_after, with_due, with_line}
 use Rattle.lsp_replay.specs.Commands.{View, followed_by, output_in}
 use Rattle.lsp_replay.specs.Run.{IsEngineRun}
-use Rattle.lsp_replay.specs.RunOutput.{RunOutput, stopped}
+use Rattle.lsp_replay.specs.RunOutput.{RunOutput, stopped, written_first}
 use Rattle.lsp_replay.specs.Session.{Session, judge}
 use Rattle.lsp_replay.specs.inside.Bodies.{BodyData, body_read}
 use Rattle.lsp_replay.specs.inside.Engine.{IsLoopRun}

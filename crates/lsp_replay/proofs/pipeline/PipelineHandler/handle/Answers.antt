@@ -5,7 +5,7 @@ use Rattle.lsp_replay.proofs.pipeline.PipelineHandler.handle.Goals as goal
 
 pub print-requires-clause-is_read : goal.print-requires-clause-is_read
 print-requires-clause-is_read g c =
-    let admitted = rw c.in-Some.is at (c.in_ok-admit.ensures.admitted c.args.body.now c.in_ok-read.ensures) in
+    let admitted = rw c.in-Some.is at (c.in_ok-head.ensures.admitted c.args.body.now c.in_ok-read.ensures) in
     read_again (g.P.Printer.reached c.args.self.now.printer) c.args.head c.args.raw.now c.args.body.now
     c.args.self.now.selection c.admit.new.self.selection c.in-Some.head admitted (body_view c.in_ok-read.read)
     c.in_ok-read.ensures
@@ -13,7 +13,7 @@ print-requires-clause-is_read g c =
 -- The record is left out.
 pub returns-in_default-clause-ok : goal.returns-in_default-clause-ok
 returns-in_default-clause-ok g c = λ more.
-    let admitted = rw c.in_default.is at (c.in_ok-admit.ensures.admitted c.args.body.now c.in_ok-read.ensures) in
+    let admitted = rw c.in_default.is at (c.in_ok-head.ensures.admitted c.args.body.now c.in_ok-read.ensures) in
     rw (c.more.ensures, c.admit.ensures.printer)
     (left_out (g.P.Printer.reached c.args.self.now.printer) c.args.head c.args.raw.now c.args.body.now
     c.args.self.now.selection c.admit.new.self.selection admitted (g.P.Printer.run_output c.args.self.now.printer)
@@ -21,7 +21,7 @@ returns-in_default-clause-ok g c = λ more.
 
 pub returns-clause-ok : goal.returns-clause-ok
 returns-clause-ok g c =
-    let admitted = rw c.in-Some.is at (c.in_ok-admit.ensures.admitted c.args.body.now c.in_ok-read.ensures) in
+    let admitted = rw c.in-Some.is at (c.in_ok-head.ensures.admitted c.args.body.now c.in_ok-read.ensures) in
     when_ok c.print.result
     (λ session given step.
     printed (g.P.Printer.reached c.args.self.now.printer) c.args.head c.args.raw.now c.args.body.now
@@ -33,7 +33,7 @@ returns-clause-ok g c =
 
 pub returns-clause-error : goal.returns-clause-error
 returns-clause-error g c =
-    let admitted = rw c.in-Some.is at (c.in_ok-admit.ensures.admitted c.args.body.now c.in_ok-read.ensures) in
+    let admitted = rw c.in-Some.is at (c.in_ok-head.ensures.admitted c.args.body.now c.in_ok-read.ensures) in
     when_err c.print.result
     (λ fault is.
     failed (g.P.Printer.reached c.args.self.now.printer) c.args.head c.args.raw.now c.args.body.now

@@ -13,12 +13,12 @@ change-requires-clause-known g c = c.in-Ok.ensures.known
 pub returns-in_ok-verdict-in-Ok-clause-taken : goal.returns-in_ok-verdict-in-Ok-clause-taken
 returns-in_ok-verdict-in-Ok-clause-taken g c =
     change_taken c.args.self.now (body_view c.args.read) (change_view c.in-Ok.params) c.in-Ok.ensures
-    c.change.new.self _ c.in_ok-verdict.ensures.taken refl refl
+    c.change.new.self _ c.in_ok-verdict-in-Ok.ensures.taken refl refl
 
 pub returns-in_ok-verdict-in-Ok-clause-witnessed : goal.returns-in_ok-verdict-in-Ok-clause-witnessed
 returns-in_ok-verdict-in-Ok-clause-witnessed g c =
     change_witnessed c.args.self.now (body_view c.args.read) (change_view c.in-Ok.params) c.in-Ok.ensures
-    c.change.new.self _ _ c.in_ok-verdict.ensures.witnessed
+    c.change.new.self _ _ c.in_ok-verdict-in-Ok.ensures.witnessed
 
 pub returns-in_ok-take_other-in-Err-clause-taken : goal.returns-in_ok-take_other-in-Err-clause-taken
 returns-in_ok-take_other-in-Err-clause-taken g c =
@@ -29,4 +29,5 @@ returns-in_ok-take_other-in-Err-clause-taken g c =
 
 pub returns-in_ok-take_other-in-Err-clause-witnessed : goal.returns-in_ok-take_other-in-Err-clause-witnessed
 returns-in_ok-take_other-in-Err-clause-witnessed g c =
-    other_witnessed c.args.self.now (body_view c.args.read) c.in-Err.ensures.1 c.take_other.new.self _ _ refl
+    other_witnessed c.args.self.now (body_view c.args.read) c.in-Err.ensures.1 c.take_other.new.self _
+    (g.W.Witness.HasSeen c.args.witness.now c.args.witness.now) refl
