@@ -3,7 +3,9 @@ use Rattle.std.proofs.Common.{◌≡◌, ◌≢◌, ℕ, Bool, false, List, [], 
 use Rattle.std.specs.Prelude.{◌⊎◌}
 use Rattle.lsp_message.specs.Message.{reading}
 use Rattle.lsp_message.specs.Seen.{change_view}
+use Rattle.lsp_message.specs.Params.{ChangeData}
 use Rattle.lsp_server.specs.Incoming.{IncomingData, incoming_of}
+use Rattle.lsp_server.specs.Step.{ServerData}
 use Rattle.lsp_log.specs.declared.record.Head.{Head}
 use Rattle.lsp_log.specs.declared.record.Sender.{Sender}
 use Rattle.lsp_log.specs.declared.record.Sender.TheVariants.{Client, Server}
@@ -79,41 +81,42 @@ module _ (s : Session) (body : List ℕ) where
 module _ (known : Known) (s : Session) (head : Head) (body : List ℕ) (read : BodyData)
     (is_read : read ≡ body_read head.version head.side body)
     (about : About) (is_about : IsAbout s.server known.ranged (reading body) read about) (t : Session) (taken : Taken)
-    (is_taken : IsTaken s t head body taken) where
-  uri_is : option_map string_bytes about.uri ≡ uri_of head.side (incoming_of (reading body))
-  uri_is = is_about.uri ∙ ap uri_read is_read ∙ uri_at s body head.version head.side
+    {Same : Type 0} {HasSeen : ServerData → ChangeData → Type 0} (is_taken : IsTaken Same HasSeen s t head body taken)
+  where
+    uri_is : option_map string_bytes about.uri ≡ uri_of head.side (incoming_of (reading body))
+    uri_is = is_about.uri ∙ ap uri_read is_read ∙ uri_at s body head.version head.side
 
-  mention_is : is_mention about.is_change (verdict_view taken.verdict)
-      ≡ is_mention (is_change (incoming_of (reading body))) (judge_at s head body).verdict
-  mention_is = ap₂ is_mention (is_about.is_change ∙ ap is_change_read is_read) is_taken.judged
-      ∙ mention_at s body head.version head.side
+    mention_is : is_mention about.is_change (verdict_view taken.verdict)
+        ≡ is_mention (is_change (incoming_of (reading body))) (judge_at s head body).verdict
+    mention_is = ap₂ is_mention (is_about.is_change ∙ ap is_change_read is_read) is_taken.judged
+        ∙ mention_at s body head.version head.side
 
-  notes_are : notes_if about.notes.items (verdict_view taken.verdict) ≡ notes_of s known.ranged body
-      (judge_at s head body).verdict
-  notes_are =
-      ap₂ notes_if (is_about.notes ∙ ap (notes_on_read s.server known.ranged (reading body)) is_read) is_taken.judged
-      ∙ notes_at s body known.ranged head.version head.side
+    notes_are : notes_if about.notes.items (verdict_view taken.verdict) ≡ notes_of s known.ranged body
+        (judge_at s head body).verdict
+    notes_are =
+        ap₂ notes_if (is_about.notes ∙ ap (notes_on_read s.server known.ranged (reading body)) is_read) is_taken.judged
+        ∙ notes_at s body known.ranged head.version head.side
 
-  ranged_is : ranged_with known.ranged taken.ranged ≡ ranged_after known.ranged s head.side body
-  ranged_is = is_taken.heard known.ranged ∙ ranged_at s body known.ranged head.version head.side
+    ranged_is : ranged_with known.ranged taken.ranged ≡ ranged_after known.ranged s head.side body
+    ranged_is = is_taken.heard known.ranged ∙ ranged_at s body known.ranged head.version head.side
 
-  module _ (number : ℕ) (number_is : number ≡ t.records) where
-    counted : number ≡ (judge_at s head body).session.records
-    counted = number_is ∙ ap (λ (u : Session). u.records) is_taken.session
+    module _ (number : ℕ) (number_is : number ≡ t.records) where
+      counted : number ≡ (judge_at s head body).session.records
+      counted = number_is ∙ ap (λ (u : Session). u.records) is_taken.session
 
-    pub facts_are : (facts : Facts) → IsLearned known number about taken facts → AreFacts known s head body facts
-    facts_are facts learned = record {
-      number = learned.number ∙ counted;
-      verdict = ap verdict_view learned.verdict ∙ is_taken.judged;
-      uri = ap (option_map string_bytes) learned.uri ∙ uri_is;
-      change = ap (option_map change_view) learned.change ∙ is_taken.change;
-      last = learned.last ∙ ap₂ (last_for known.mentions) uri_is is_taken.judged;
-      notes = learned.notes ∙ notes_are;
-    }
+      pub facts_are : (facts : Facts) → IsLearned known number about taken facts → AreFacts known s head body facts
+      facts_are facts learned = record {
+        number = learned.number ∙ counted;
+        verdict = ap verdict_view learned.verdict ∙ is_taken.judged;
+        uri = ap (option_map string_bytes) learned.uri ∙ uri_is;
+        change = ap (option_map change_view) learned.change ∙ is_taken.change;
+        last = learned.last ∙ ap₂ (last_for known.mentions) uri_is is_taken.judged;
+        notes = learned.notes ∙ notes_are;
+      }
 
-    pub known_is : (next : Known) → next ≡ known_by known number about taken
-        → next ≡ known_after known s head body (judge_at s head body)
-    known_is next is = is ∙ rw (mention_is, notes_are, uri_is, is_taken.judged, ranged_is, counted) refl
+      pub known_is : (next : Known) → next ≡ known_by known number about taken
+          → next ≡ known_after known s head body (judge_at s head body)
+      known_is next is = is ∙ rw (mention_is, notes_are, uri_is, is_taken.judged, ranged_is, counted) refl
 
 -- ---- a line, and the output after it
 

@@ -7,11 +7,10 @@ ghost use Rattle.std.specs.Prelude.{◌≡◌, ◌≢◌, ◌⊎◌, IfErr, IfOk
 ghost use Rattle.lsp_replay.specs.Lines.{has_notes, is_strict_refusal, known_after, nothing_known};
 ghost use Rattle.lsp_replay.specs.Mentions.{is_mention, last_for};
 ghost use Rattle.lsp_replay.specs.Session.{bad};
-ghost use Rattle.lsp_replay.specs.inside.Bodies.{body_view};
 ghost use Rattle.lsp_replay.specs.inside.Facts.{AreFacts, IsLearned, known_by};
 ghost use Rattle.lsp_replay.specs.inside.Reads.{IsReadOf};
 ghost use Rattle.lsp_replay.specs.inside.Session.{judge_at};
-ghost use Rattle.lsp_replay.specs.inside.Taken.{IsWitnessed, ranged_with};
+ghost use Rattle.lsp_replay.specs.inside.Taken.{IsShown, accepted_of, ranged_with};
 ghost use Rattle.lsp_replay.specs.inside.Verdicts.{verdict_view};
 
 pub(crate) mod asked;
@@ -129,8 +128,9 @@ impl Known {
         ensures session { OnOk result (session.new ≡ (judge_at session.old head body.now).session) }
         ensures known { OnOk result (self.new ≡ known_after self.old session.old head body.now
             (judge_at session.old head body.now)) }
-        ensures witnessed { OnOk result (IsWitnessed (witness.new ≡ witness.old)
-            (W.HasSeen witness.old witness.new) session.old session.new (body_view read.entry)) }
+        ensures shown { OnOk result (IsShown (witness.new ≡ witness.old)
+            (W.HasSeen witness.old witness.new) session.old session.new
+            (accepted_of session.old head body.now)) }
         ensures error { IfErr result (λ fault. (fault ≡ EngineFault.NoMemory)
             ⊎ ((fault ≡ EngineFault.BadLog head.place)
             × ((judge_at session.old head body.now).verdict ≡ bad))) }

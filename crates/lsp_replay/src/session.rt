@@ -19,7 +19,7 @@ ghost use Rattle.lsp_replay.specs.Session.{bad, counted, opened, judge_client, i
 ghost use Rattle.lsp_replay.specs.inside.Bodies.{IsReceived, body_view, judge_read};
 ghost use Rattle.lsp_replay.specs.inside.Reads.{IsReadOf};
 ghost use Rattle.lsp_replay.specs.inside.Session.{judge_at};
-ghost use Rattle.lsp_replay.specs.inside.Taken.{IsHeard, IsTakenAs, IsWitnessed};
+ghost use Rattle.lsp_replay.specs.inside.Taken.{IsHeard, IsTakenAs};
 ghost use Rattle.lsp_replay.specs.inside.Verdicts.{verdict_view};
 
 pub(crate) mod canonical;
@@ -179,8 +179,7 @@ impl Session {
         witness: &mut W,
     ) -> Result<Taken, AllocError>
         requires fits { W.Fits witness.old self.old.server }
-        ensures taken { IfOk result (IsTakenAs self.old self.new (body_view read.entry)) }
-        ensures witnessed { OnOk result (IsWitnessed (witness.new ≡ witness.old)
+        ensures { IfOk result (IsTakenAs (witness.new ≡ witness.old)
             (W.HasSeen witness.old witness.new) self.old self.new (body_view read.entry)) }
     {
         match self.received(read) {

@@ -11,7 +11,7 @@ use Rattle.lsp_replay.specs.declared.session.Taken.{Taken}
 use Rattle.lsp_replay.specs.Commands.{change_in}
 use Rattle.lsp_replay.specs.Notes.{ranged_for}
 use Rattle.lsp_replay.specs.Session.{Session, Verdict, answered, is_running}
-use Rattle.lsp_replay.specs.inside.Bodies.{BodyData, body_read, change_of, from_client, from_server}
+use Rattle.lsp_replay.specs.inside.Bodies.{BodyData, IsChangeTaken, body_read, change_of, from_client, from_server}
 use Rattle.lsp_replay.specs.inside.Joining.{refusal_of, server_after}
 use Rattle.lsp_replay.specs.inside.Session.{judge_at}
 use Rattle.lsp_replay.specs.inside.Verdicts.{verdict_view}
@@ -35,20 +35,6 @@ abbrev pub IsHeard : Session → BodyData → Taken → Type 0
 IsHeard s read taken =
     (before : Bool) → ranged_with before taken.ranged ≡ ranged_read before s read
 
--- A record with this head and body was taken.
-pub record IsTaken (old new : Session) (head : Head) (body : List ℕ) (taken : Taken) : Type 0 where
-  pub judged : verdict_view taken.verdict ≡ (judge_at old head body).verdict
-  pub session : new ≡ (judge_at old head body).session
-  pub change : option_map change_view taken.change
-      ≡ received_of old (body_read head.version head.side body)
-  pub heard : IsHeard old (body_read head.version head.side body) taken
-
--- So it was, whatever record this was read of.
-abbrev pub IsTakenAs : Session → Session → BodyData → Taken → Type 0
-IsTakenAs old new read taken =
-    (head : Head) (body : List ℕ) → read ≡ body_read head.version head.side body
-    → IsTaken old new head body taken
-
 -- ---- what is shown to a witness
 
 -- The params of a change that is accepted.
@@ -68,16 +54,29 @@ IsShown Same HasSeen old new None = Same
 IsShown Same HasSeen old new (Some p) =
     HasSeen old.server p × (new.server ≡ server_after old.server p)
 
--- The same of a record, whatever record this was read of.
-abbrev pub IsWitnessed : Type 0 → (ServerData → ChangeData → Type 0) → Session → Session → BodyData
-    → Type 0
-IsWitnessed Same HasSeen old new read =
-    (head : Head) (body : List ℕ) → read ≡ body_read head.version head.side body
-    → IsShown Same HasSeen old new (accepted_of old head body)
+-- ---- what became of a record
 
--- The same of a change that a running server receives.
+-- A record with this head and body was taken, and shown to a witness.
+pub record IsTaken (Same : Type 0) (HasSeen : ServerData → ChangeData → Type 0) (old new : Session)
+    (head : Head) (body : List ℕ) (taken : Taken) : Type 0 where
+  pub judged : verdict_view taken.verdict ≡ (judge_at old head body).verdict
+  pub session : new ≡ (judge_at old head body).session
+  pub change : option_map change_view taken.change
+      ≡ received_of old (body_read head.version head.side body)
+  pub heard : IsHeard old (body_read head.version head.side body) taken
+  pub shown : IsShown Same HasSeen old new (accepted_of old head body)
+
+-- So it was, whatever record this was read of.
+abbrev pub IsTakenAs : Type 0 → (ServerData → ChangeData → Type 0) → Session → Session → BodyData
+    → Taken → Type 0
+IsTakenAs Same HasSeen old new read taken =
+    (head : Head) (body : List ℕ) → read ≡ body_read head.version head.side body
+    → IsTaken Same HasSeen old new head body taken
+
+-- A change that a running server receives was judged, and shown to a witness if it is accepted.
 pub record IsChangeWitnessed (Same : Type 0) (HasSeen : ServerData → ChangeData → Type 0)
-    (old new : Session) (p : ChangeData) : Type 0 where
+    (old new : Session) (p : ChangeData) (verdict : Verdict) : Type 0 where
+  pub taken : IsChangeTaken old p verdict new
   pub accepted : refusal_of old.server p ≡ None →
       HasSeen old.server p × (new.server ≡ server_after old.server p)
   pub refused : refusal_of old.server p ≢ None → Same

@@ -3,7 +3,7 @@
 //! A change of one range is resolved once. A plan of several changes is composed again for its
 //! canonical message, and once more for a squash.
 
-ghost use Rattle.std.specs.Prelude.{◌≡◌, ◌≢◌, Err, IfErr, IfOk, OnErr, OnOk, None, Ok, Some};
+ghost use Rattle.std.specs.Prelude.{◌≡◌, ◌≢◌, Err, IfErr, IfOk, OnErr, None, Ok, Some};
 ghost use Rattle.lsp_message.specs.Params.{ChangeData};
 ghost use Rattle.lsp_message.specs.Seen.{change_view};
 ghost use Rattle.lsp_store.specs.declared.fault.StoreFault.TheVariants.{NoMemory};
@@ -49,10 +49,9 @@ impl Session {
         requires running { self.old.server.phase ≡ Running }
         requires known { self.old.expected ≡ None }
         requires fits { W.Fits witness.old self.old.server }
-        ensures taken { IfOk result (λ v.
-            IsChangeTaken self.old (change_view params.now) (verdict_view v) self.new) }
-        ensures witnessed { OnOk result (IsChangeWitnessed (witness.new ≡ witness.old)
-            (W.HasSeen witness.old witness.new) self.old self.new (change_view params.now)) }
+        ensures { IfOk result (λ v. IsChangeWitnessed (witness.new ≡ witness.old)
+            (W.HasSeen witness.old witness.new) self.old self.new (change_view params.now)
+            (verdict_view v)) }
     {
         match self.server.plan(params)? {
             PlannedChange::Accepted(plan) => {

@@ -9,9 +9,10 @@ use crate::session::Session;
 use crate::session::changes::unless_refused;
 use crate::session::witness::Witness;
 use lsp_message::ChangeParams;
+use lsp_server::Server;
 use lsp_store::{Batches, Plan};
 use lsp_text::Encoding;
-use std::alloc::AllocError;
+use std::alloc::{AllocError, Global};
 
 /// How an accepted change is written with squash, and which batches are open after it.
 #[derive(Drop)]
@@ -58,53 +59,57 @@ impl Witness for Joiner {
         plan: &Plan<'_>,
     ) -> Result<(), AllocError> {
         let series = self.batches.take();
-        self.writing = Some(session.join(params, plan, series)?);
+        let writing = join(session.alloc, session.server(), params, plan, series)?;
+        self.writing = Some(writing);
         Ok(())
     }
 }
 
-impl Session {
-    /// Joins an accepted change to the batches of the open series if they are of its document. Else
-    /// batches of its own begin.
-    fn join(
-        &self,
-        params: &ChangeParams,
-        plan: &Plan<'_>,
-        series: Option<Batches>,
-    ) -> Result<Writing, AllocError>
-        requires planned { IsPlanOfChange self.now.server (change_view params.now) plan.now }
-        requires may_be_open { MayBeOpenIn self.now.server series }
-        ensures { IfOk result (IsChangeWriting self.now.server series (change_view params.now)) }
-    {
-        let store = self.server.store();
-        let Some(frame) = unless_refused(store.planned_message(plan))? else {
-            return Ok(Writing::TooLong);
-        };
-        let Some(mut batches) = series else {
-            let begun = self.begin(params, plan)?;
-            return Ok(Writing::Begins(frame, None, begun));
-        };
-        if batches.uri() == params.uri.as_str() {
-            batches.add_plan(store, plan)?;
-            return Ok(Writing::Continues(frame, batches));
-        }
-        let begun = self.begin(params, plan)?;
-        Ok(Writing::Begins(frame, Some(batches), begun))
-    }
-
-    /// Starts batches with an accepted change.
-    fn begin(&self, _params: &ChangeParams, plan: &Plan<'_>) -> Result<Batches, AllocError>
-        requires planned { IsPlanOfChange self.now.server (change_view _params.now) plan.now }
-        ensures begun { IfOk result (IsBegun self.now.server (change_view _params.now)) }
-        ensures reached { IfOk result
-            (IsOpenIn (server_after self.now.server (change_view _params.now))) }
-    {
-        let encoding = self.server.encoding().unwrap_or(Encoding::Utf16);
-        let store = self.server.store();
-        let document = store.planned_document(plan);
-        let limits = store.limits();
-        let mut batches = Batches::start(self.alloc, limits, &document, encoding)?;
+/// Joins an accepted change to the batches of the open series if they are of its document. Else
+/// batches of its own begin.
+fn join(
+    alloc: Global,
+    server: &Server,
+    params: &ChangeParams,
+    plan: &Plan<'_>,
+    series: Option<Batches>,
+) -> Result<Writing, AllocError>
+    requires planned { IsPlanOfChange server.now (change_view params.now) plan.now }
+    requires may_be_open { MayBeOpenIn server.now series }
+    ensures { IfOk result (IsChangeWriting server.now series (change_view params.now)) }
+{
+    let store = server.store();
+    let Some(frame) = unless_refused(store.planned_message(plan))? else {
+        return Ok(Writing::TooLong);
+    };
+    let Some(mut batches) = series else {
+        let begun = begin(alloc, server, params, plan)?;
+        return Ok(Writing::Begins(frame, None, begun));
+    };
+    if batches.uri() == params.uri.as_str() {
         batches.add_plan(store, plan)?;
-        Ok(batches)
+        return Ok(Writing::Continues(frame, batches));
     }
+    let begun = begin(alloc, server, params, plan)?;
+    Ok(Writing::Begins(frame, Some(batches), begun))
+}
+
+/// Starts batches with an accepted change.
+fn begin(
+    alloc: Global,
+    server: &Server,
+    _params: &ChangeParams,
+    plan: &Plan<'_>,
+) -> Result<Batches, AllocError>
+    requires planned { IsPlanOfChange server.now (change_view _params.now) plan.now }
+    ensures { IfOk result (λ batches. IsBegun server.now (change_view _params.now) batches
+        × IsOpenIn (server_after server.now (change_view _params.now)) batches) }
+{
+    let encoding = server.encoding().unwrap_or(Encoding::Utf16);
+    let store = server.store();
+    let document = store.planned_document(plan);
+    let limits = store.limits();
+    let mut batches = Batches::start(alloc, limits, &document, encoding)?;
+    batches.add_plan(store, plan)?;
+    Ok(batches)
 }

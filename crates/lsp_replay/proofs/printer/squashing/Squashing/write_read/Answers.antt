@@ -10,14 +10,10 @@ pub returns-in_default-clause-ok : goal.returns-in_default-clause-ok
 returns-in_default-clause-ok c =
     rw (← c.self.view_is)
     (let not_bad : verdict_view c.in_ok-taken.taken.verdict ≢ bad = c.in_ok-in_log.ensures.in_log in
-    let taken = c.in_ok-taken.ensures.taken c.args.head c.args._body.now c.requires.is_read in
-    let shown = c.in_ok-taken.ensures.witnessed c.args.head c.args._body.now c.requires.is_read in
+    let taken = c.in_ok-taken.ensures c.args.head c.args._body.now c.requires.is_read in
     let s = c.self.inside.session in
-    let begins = c.new-joiner.ensures in
-    let writing = seen_joined s c.take-2.new.self c.take.result c.args.head c.args._body.now c.new-joiner.result
-    c.take-2.new.witness begins shown in
-    let ended = unjoined s c.take-2.new.self c.take.result c.args.head c.args._body.now c.new-joiner.result
-    c.take-2.new.witness begins shown c.in_default.is in
+    let writing = seen_joined c.new-joiner.ensures taken in
+    let ended = unjoined c.new-joiner.ensures taken c.in_default.is in
     record {
       session = taken.session;
       step = told_as_it_is s c.self.inside.texts.front.items c.self.inside.texts.singles.items c.self.inside.batches
@@ -34,11 +30,9 @@ returns-in_default-clause-ok c =
 pub returns-in-TooLong-clause-error : goal.returns-in-TooLong-clause-error
 returns-in-TooLong-clause-error c =
     rw (← c.self.view_is)
-    (let taken = c.in_ok-taken.ensures.taken c.args.head c.args._body.now c.requires.is_read in
-    let shown = c.in_ok-taken.ensures.witnessed c.args.head c.args._body.now c.requires.is_read in
+    (let taken = c.in_ok-taken.ensures c.args.head c.args._body.now c.requires.is_read in
     let s = c.self.inside.session in
-    let writing = rw (c.in-Some.is, c.in-TooLong.is, ← taken.judged) at (seen_joined s c.take-2.new.self
-    c.take.result c.args.head c.args._body.now c.new-joiner.result c.take-2.new.witness c.new-joiner.ensures shown) in
+    let writing = rw (c.in-Some.is, c.in-TooLong.is, ← taken.judged) at (seen_joined c.new-joiner.ensures taken) in
     inr (
       tt,
       told_too_long s c.self.inside.texts.front.items c.self.inside.texts.singles.items c.self.inside.batches
@@ -49,11 +43,9 @@ returns-in-TooLong-clause-error c =
 pub returns-in-Continues-clause-ok : goal.returns-in-Continues-clause-ok
 returns-in-Continues-clause-ok c =
     rw (← c.self.view_is)
-    (let taken = c.in_ok-taken.ensures.taken c.args.head c.args._body.now c.requires.is_read in
-    let shown = c.in_ok-taken.ensures.witnessed c.args.head c.args._body.now c.requires.is_read in
+    (let taken = c.in_ok-taken.ensures c.args.head c.args._body.now c.requires.is_read in
     let s = c.self.inside.session in
-    let writing = rw (c.in-Some.is, c.in-Continues.is, ← taken.judged) at (seen_joined s c.take-2.new.self
-    c.take.result c.args.head c.args._body.now c.new-joiner.result c.take-2.new.witness c.new-joiner.ensures shown) in
+    let writing = rw (c.in-Some.is, c.in-Continues.is, ← taken.judged) at (seen_joined c.new-joiner.ensures taken) in
     record {
       session = taken.session;
       step = told_more s c.self.inside.texts.front.items c.self.inside.texts.singles.items c.self.inside.batches
@@ -69,11 +61,9 @@ returns-in-Continues-clause-ok c =
 pub returns-clause-ok : goal.returns-clause-ok
 returns-clause-ok c =
     rw (← c.self.view_is)
-    (let taken = c.in_ok-taken.ensures.taken c.args.head c.args._body.now c.requires.is_read in
-    let shown = c.in_ok-taken.ensures.witnessed c.args.head c.args._body.now c.requires.is_read in
+    (let taken = c.in_ok-taken.ensures c.args.head c.args._body.now c.requires.is_read in
     let s = c.self.inside.session in
-    let writing = rw (c.in-Some.is, c.in-Begins.is, ← taken.judged) at (seen_joined s c.take-2.new.self
-    c.take.result c.args.head c.args._body.now c.new-joiner.result c.take-2.new.witness c.new-joiner.ensures shown) in
+    let writing = rw (c.in-Some.is, c.in-Begins.is, ← taken.judged) at (seen_joined c.new-joiner.ensures taken) in
     record {
       session = taken.session;
       step = told_next s c.self.inside.texts.front.items c.self.inside.texts.singles.items c.self.inside.batches
@@ -90,14 +80,10 @@ returns-clause-ok c =
 -- the batches that are open then
 pub invariant_of-self-in-Continues : goal.invariant_of-self-in-Continues
 invariant_of-self-in-Continues c =
-    let shown = c.in_ok-taken.ensures.witnessed c.args.head c.args._body.now c.requires.is_read in
-    rw c.in-Continues.is at (seen_open c.self.inside.session c.take-2.new.self c.take.result c.args.head
-    c.args._body.now c.new-joiner.result c.take-2.new.witness c.new-joiner.ensures shown c.in-Some.writing
-    c.in-Some.is)
+    let taken = c.in_ok-taken.ensures c.args.head c.args._body.now c.requires.is_read in
+    rw c.in-Continues.is at (seen_open c.new-joiner.ensures taken c.in-Some.writing c.in-Some.is)
 
 pub invariant_of-self : goal.invariant_of-self
 invariant_of-self c =
-    let shown = c.in_ok-taken.ensures.witnessed c.args.head c.args._body.now c.requires.is_read in
-    rw c.in-Begins.is at (seen_open c.self.inside.session c.take-2.new.self c.take.result c.args.head
-    c.args._body.now c.new-joiner.result c.take-2.new.witness c.new-joiner.ensures shown c.in-Some.writing
-    c.in-Some.is)
+    let taken = c.in_ok-taken.ensures c.args.head c.args._body.now c.requires.is_read in
+    rw c.in-Begins.is at (seen_open c.new-joiner.ensures taken c.in-Some.writing c.in-Some.is)

@@ -17,9 +17,8 @@ returns-clause-ok c = λ more.
     let facts = c.in_ok-facts.ensures.facts in
     let session = c.in_ok-facts.ensures.session in
     let before = c.clear.new.self in
-    let shown = c.in_ok-facts.ensures.witnessed c.args.head c.args.body.now c.requires.is_read in
     let written = seen_written s t c.args.head c.args.body.now before c.take.new.witness c.in_ok-clear.ensures.nothing
-    shown in
+    c.in_ok-facts.ensures.shown in
     rw c.more.ensures
     (line_first (tracing details) known s r (λ e. c.in_ok-facts.ensures.in_log (facts.verdict ∙ e))
     c.push_facts.new.buffer.items
