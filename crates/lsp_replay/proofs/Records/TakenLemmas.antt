@@ -156,23 +156,23 @@ module _ {s : Session} {read : BodyData} {p : ChangeData} (received : IsReceived
   judged_here : judge_read s read ≡ judge_client s version (did_change (Some p))
   judged_here = ap (judge_read s) (asked_in read p received.is).1
 
-  module _ {Same : Type 0} {HasSeen : ServerData → ChangeData → Type 0} {new : Session} {taken : Taken}
-      (w : IsChangeWitnessed Same HasSeen s new p (verdict_view taken.verdict)) where
+  module _ {Same : Type 0} {HasSeen : ServerData → ChangeData → Type 0} {new : Session} where
     -- The witness saw the change if it is accepted.
-    shown_by : (refusal : Option Refusal) → refusal_of s.server p ≡ refusal
+    shown_by : {verdict : Verdict} → IsChangeWitnessed Same HasSeen s new p verdict → (refusal : Option Refusal)
+        → refusal_of s.server p ≡ refusal
         → IsShown Same HasSeen s new (accepted_if (Some p) (judge_client s version (did_change (Some p))).verdict)
-    shown_by None is =
+    shown_by w None is =
         subst (λ (v : Verdict). IsShown Same HasSeen s new (accepted_if (Some p) v))
         (sym (running_accepted s version p received.running received.known is)) (w.accepted is)
-    shown_by (Some refusal) is =
+    shown_by w (Some refusal) is =
         subst (λ (j : Judged). IsShown Same HasSeen s new (accepted_if (Some p) j.verdict))
         (sym (refused_by s p received.running received.known version refusal is))
         (w.refused (λ (none : refusal_of s.server p ≡ None). let wrong : None ≡ Some refusal = sym none ∙ is in cc))
 
     -- whatever record this was read of
-    pub change_taken : option_map change_view taken.change ≡ Some p → taken.ranged ≡ None
-        → IsTakenAs Same HasSeen s new read taken
-    change_taken change quiet head body is = record {
+    pub change_taken : {taken : Taken} → IsChangeWitnessed Same HasSeen s new p (verdict_view taken.verdict)
+        → option_map change_view taken.change ≡ Some p → taken.ranged ≡ None → IsTakenAs Same HasSeen s new read taken
+    change_taken w change quiet head body is = record {
       judged = w.taken.judged version ∙ ap (λ (j : Judged). j.verdict) (sym judged_here)
           ∙ ap (λ (j : Judged). j.verdict) (judged_at s head body s read refl is);
       session = w.taken.session version ∙ ap (λ (j : Judged). (counted j).session) (sym judged_here)
@@ -184,7 +184,7 @@ module _ {s : Session} {read : BodyData} {p : ChangeData} (received : IsReceived
           ∙ ap (λ (b : BodyData). ranged_read before s b) is;
       shown = subst (IsShown Same HasSeen s new) (accepted_read s head body read is)
           (subst (λ (b : BodyData). IsShown Same HasSeen s new (accepted_if (change_of b) (judge_read s b).verdict))
-          (sym (asked_in read p received.is).1) (shown_by (refusal_of s.server p) refl));
+          (sym (asked_in read p received.is).1) (shown_by w (refusal_of s.server p) refl));
     }
 
 -- A change that is accepted, or refused, by what the server planned.
@@ -425,10 +425,13 @@ module _ (server : ServerData) (p : ChangeData) {plan : Plan} (q : IsPlanOfChang
       → ((on : IsPlanOn store plan) → document ≡ on.entry) → before ≡ squash_of limits encoding document
       → IsSquashOfPlan store plan before next
       → IsBegun server p next × IsOpenIn (server_after server p) next
-  plan_begun {next = next} limits_is encoding_is document_is begun added =
+  plan_begun {encoding = encoding} {document = document} {before = before} {next = next} limits_is encoding_is document_is begun added =
       let same_limits : store.limits ≡ server.config.limits = ap (λ (d : StoreData). d.limits) same in
-      let from_here : IsSquashOfPlan store plan (squash_of server.config.limits (session_encoding server) entry) next =
-      rw (begun, limits_is, same_limits, encoding_is, document_is plan_at.on) at added in
+      let is : before ≡ squash_of server.config.limits (session_encoding server) entry =
+      begun ∙ ap (λ (l : LimitsData). squash_of l encoding document) (limits_is ∙ same_limits)
+      ∙ ap (λ (e : Encoding). squash_of server.config.limits e document) encoding_is
+      ∙ ap (squash_of server.config.limits (session_encoding server)) (document_is plan_at.on) in
+      let from_here = subst (λ (k : SquashData). IsSquashOfPlan store plan k next) is added in
       let both = from_here p.uri p.version (session_encoding server) changes plan_at refl (sym same_limits) in (
         is_begun server p entry is_open next both.0,
         begun_open server p entry is_open next both.0 both.1,

@@ -273,7 +273,7 @@ even_on : (out : List ℕ) (end : Option (Result Outcome EngineFault)) (c : RunO
     (answer : Result Outcome EngineFault) → (followed_by out end c).stop ≡ Some answer
     → (c.stop ≡ Some answer → IsEven c) → IsEven (followed_by out end c)
 even_on out None c answer e even = λ due other. ap (written_first out) (even e due other)
-even_on out (Some given) c answer e even = λ due other. refl
+even_on out (Some ended) c answer e even = λ due other. refl
 
 even : {State : Type 0} (view : View State) (state : State) (s : Session) (rs : List Record)
     (answer : Result Outcome EngineFault) → (output_in view state s rs).stop ≡ Some answer
