@@ -1,10 +1,11 @@
 -- What `replay` of a part gives for a record, and over all records.
-use Rattle.std.proofs.Common.{◌≡◌, ◌≢◌, ℕ, Bool, true, false, List, [], ◌∷◌, Option, refl, sym, ap, ◌∙◌}
+use Rattle.std.proofs.Common.{◌≡◌, ◌≢◌, ℕ, Bool, true, false, List, [], ◌∷◌, Option, Some, None, refl, sym, ap, ◌∙◌}
 use Rattle.std.specs.Prelude.{Ok, if◌then◌else◌}
 use Rattle.lsp_replay.specs.declared.outcome.Outcome.{Outcome}
 use Rattle.lsp_log.specs.Log.{Record}
 use Rattle.lsp_replay.specs.RunOutput.{RunOutput, written_first, stopped}
-use Rattle.lsp_replay.specs.Session.{Session, Verdict, answered, recorded, bad, judge, session_outcome}
+use Rattle.lsp_server.specs.declared.config.Config.{Config}
+use Rattle.lsp_replay.specs.Session.{Session, Verdict, answered, recorded, bad, judge, opened, session_outcome}
 use Rattle.lsp_replay.specs.Commands.{RecordOutput, writes, ends, followed_by, unless_bad}
 use Rattle.lsp_replay.specs.Parts.{PartData, last_text_in, part_bytes, part_outcome, part_step, next_text, is_last}
 use Rattle.lsp_replay.specs.inside.Parts.{replayed_in}
@@ -36,14 +37,6 @@ module _ (part : PartData) (old : Option (List ℕ)) (s : Session) (r : Record) 
       (last_text_in part.uri old u.server.table) u more) (sym session)
       ∙ ap (λ (l : Option (List ℕ)). step_with (part_step part l t) l t more) (sym kept)
 
-  pub part_continues : (bytes : List ℕ) → bytes ≡ [] → is_last part.at t.records ≡ false → (more : List Record)
-      → replayed_in part old s (r ∷ more) ≡ written_first bytes (replayed_in part last t more)
-  part_continues bytes empty other more =
-      goes more
-      ∙ ap (λ (b : Bool). step_with (if b then ends (part_bytes part.uri last t.server.table)
-      (Ok (part_outcome part.uri last (session_outcome t))) else writes []) last t more) other
-      ∙ ap (λ (b : List ℕ). written_first b (replayed_in part last t more)) (sym empty)
-
   pub part_ends : (bytes : List ℕ) (outcome : Outcome) → is_last part.at t.records ≡ true
       → bytes ≡ part_bytes part.uri last t.server.table → outcome ≡ part_outcome part.uri last (session_outcome t)
       → (more : List Record) → replayed_in part old s (r ∷ more) ≡ stopped bytes (Ok outcome)
@@ -53,3 +46,8 @@ module _ (part : PartData) (old : Option (List ℕ)) (s : Session) (r : Record) 
       (Ok (part_outcome part.uri last (session_outcome t))) else writes []) last t more) here
       ∙ ap (λ (o : Outcome). stopped (part_bytes part.uri last t.server.table) (Ok o)) (sym outcome_is)
       ∙ ap (λ (b : List ℕ). stopped b (Ok outcome)) (sym bytes_are)
+
+-- Before the first record no document is open, and none was.
+pub nothing_kept : (uri : Option (List ℕ)) (config : Config) → last_text_in uri None (opened config).server.table ≡ None
+nothing_kept None config = refl
+nothing_kept (Some uri) config = refl
