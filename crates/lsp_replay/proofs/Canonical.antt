@@ -2,4 +2,5 @@
 pub mod CanonicalChangeLemmas
 pub mod CanonicalLogLemmas
 pub mod NormalisedLemmas
+pub mod PrintedLemmas
 pub mod SettledLemmas

@@ -1,41 +1,35 @@
--- What is returned of a record and known after it, and the output of `trace` and `check --explain` from the record on.
-use Rattle.std.proofs.Common.{◌≡◌, ◌≢◌, ℕ, Bool, false, List, [], ◌∷◌, option_map, string_bytes, refl, sym, ap, ap₂, ◌∙◌, inl, inr, IfOk, OnOk}
-use Rattle.std.specs.Prelude.{◌⊎◌, Result, Ok, Err}
+-- The facts of a record, what is known after it, and the output of `trace` and `check --explain` from the record on.
+use Rattle.std.proofs.Common.{◌≡◌, ◌≢◌, ℕ, Bool, false, List, [], ◌∷◌, option_map, string_bytes, refl, sym, ap, ap₂, ◌∙◌, inl, inr}
+use Rattle.std.specs.Prelude.{◌⊎◌}
 use Rattle.lsp_message.specs.Message.{reading}
+use Rattle.lsp_message.specs.Seen.{change_view}
+use Rattle.lsp_message.specs.Params.{ChangeData}
 use Rattle.lsp_server.specs.Incoming.{IncomingData, incoming_of}
+use Rattle.lsp_server.specs.Step.{ServerData}
 use Rattle.lsp_log.specs.declared.record.Head.{Head}
 use Rattle.lsp_log.specs.declared.record.Sender.{Sender}
 use Rattle.lsp_log.specs.declared.record.Sender.TheVariants.{Client, Server}
 use Rattle.lsp_log.specs.declared.record.Version.{Version}
 use Rattle.lsp_log.specs.Log.{Record}
+use Rattle.lsp_replay.specs.declared.facts.About.{About}
+use Rattle.lsp_replay.specs.declared.facts.Facts.{Facts}
 use Rattle.lsp_replay.specs.declared.notes.Note.{Note}
-use Rattle.lsp_replay.specs.declared.session.Verdict as declared
-use Rattle.lsp_replay.specs.declared.session.known.About.{About}
-use Rattle.lsp_replay.specs.declared.session.known.Noted.{Noted}
+use Rattle.lsp_replay.specs.declared.session.Taken.{Taken}
 use Rattle.lsp_replay.specs.RunOutput.{written_first}
-use Rattle.lsp_replay.specs.Commands.{RecordOutput, followed_by, writes}
-use Rattle.lsp_replay.specs.Lines.{Known, LineView, known_after, uri_of}
+use Rattle.lsp_replay.specs.Commands.{writes}
+use Rattle.lsp_replay.specs.Lines.{Known, LineView, known_after, lines, uri_of}
 use Rattle.lsp_replay.specs.inside.Lines.{lines_in}
 use Rattle.lsp_replay.specs.Mentions.{is_mention, last_for}
 use Rattle.lsp_replay.specs.Notes.{notes_if, notes_of, notes_on, ranged_after}
 use Rattle.lsp_replay.specs.Session.{Session, Verdict, recorded, bad, encoding_for, judge_server, is_change, judge, judge_from}
 use Rattle.lsp_replay.specs.inside.Bodies.{BodyData, body_read}
-use Rattle.lsp_replay.specs.inside.Known.{IsAbout, IsLearned, IsNoted, is_change_read, known_by, uri_read}
+use Rattle.lsp_replay.specs.inside.Facts.{AreFacts, IsAbout, IsLearned, is_change_read, known_by, uri_read}
 use Rattle.lsp_replay.specs.inside.Noting.{notes_on_read}
 use Rattle.lsp_replay.specs.inside.Session.{judge_at}
+use Rattle.lsp_replay.specs.inside.Taken.{IsTaken, ranged_read, ranged_with}
 use Rattle.lsp_replay.specs.inside.Verdicts.{verdict_view}
 use Rattle.lsp_replay.proofs.Canonical.CanonicalLogLemmas.{heard_as}
-use Rattle.lsp_replay.proofs.Reports.PartLemmas.{unless_not}
-
--- ---- results
-
-pub if_ok : {A E : Type 0} {P Q : A → Type 0} (r : Result A E) → ((a : A) → P a → Q a) → IfOk r P → IfOk r Q
-if_ok (Ok a) then p = then a p
-if_ok (Err e) then p = tt
-
-pub any_ok : {A E P : Type 0} (r : Result A E) → P → OnOk r P
-any_ok (Ok a) p = p
-any_ok (Err e) p = tt
+use Rattle.lsp_replay.proofs.Records.OutputLemmas.{output_after, unless_not}
 
 -- ---- what was read of a record's body, and the body itself
 
@@ -46,6 +40,11 @@ module _ (s : Session) (body : List ℕ) where
   uri_at : (version : Version) (side : Sender) → uri_read (body_read version side body) ≡ uri_of side asked
   uri_at version Client = refl
   uri_at version Server = refl
+
+  ranged_at : (ranged : Bool) (version : Version) (side : Sender)
+      → ranged_read ranged s (body_read version side body) ≡ ranged_after ranged s side body
+  ranged_at ranged version Client = refl
+  ranged_at ranged version Server = refl
 
   -- a server's record opens, closes and refuses no document, and has no notes
   no_mention : (change : Bool) (verdict : Verdict) → (verdict ≡ recorded) ⊎ (verdict ≡ bad) → is_mention change verdict
@@ -77,40 +76,47 @@ module _ (s : Session) (body : List ℕ) where
       no_notes [] (judge_server s announced).verdict heard
       ∙ sym (no_notes (notes_on s.server ranged (reading body) asked) (judge_server s announced).verdict heard)
 
--- ---- a record, by what was read of it, what it is about, and the verdict
+-- ---- a record, by what was read of it, what it is about, and what became of it
 
-module _ (known : Known) (s : Session) (head : Head) (body : List ℕ) (t : Session) (read : BodyData) (same : t ≡ s)
+module _ (known : Known) (s : Session) (head : Head) (body : List ℕ) (read : BodyData)
     (is_read : read ≡ body_read head.version head.side body)
-    (about : About) (is_about : IsAbout t.server known.ranged (reading body) read about) (verdict : declared.Verdict)
-    (judged : verdict_view verdict ≡ (judge_at s head body).verdict) where
-  uri_is : option_map string_bytes about.uri ≡ uri_of head.side (incoming_of (reading body))
-  uri_is = is_about.uri ∙ ap uri_read is_read ∙ uri_at s body head.version head.side
+    (about : About) (is_about : IsAbout s.server known.ranged (reading body) read about) (t : Session) (taken : Taken)
+    {Same : Type 0} {HasSeen : ServerData → ChangeData → Type 0} (is_taken : IsTaken Same HasSeen s t head body taken)
+  where
+    uri_is : option_map string_bytes about.uri ≡ uri_of head.side (incoming_of (reading body))
+    uri_is = is_about.uri ∙ ap uri_read is_read ∙ uri_at s body head.version head.side
 
-  mention_is : is_mention about.is_change (verdict_view verdict) ≡ is_mention (is_change (incoming_of (reading body)))
-      (judge_at s head body).verdict
-  mention_is = ap₂ is_mention (is_about.is_change ∙ ap is_change_read is_read) judged ∙ mention_at s body head.version
-      head.side
+    mention_is : is_mention about.is_change (verdict_view taken.verdict)
+        ≡ is_mention (is_change (incoming_of (reading body))) (judge_at s head body).verdict
+    mention_is = ap₂ is_mention (is_about.is_change ∙ ap is_change_read is_read) is_taken.judged
+        ∙ mention_at s body head.version head.side
 
-  notes_are : notes_if about.notes.items (verdict_view verdict) ≡ notes_of s known.ranged body
-      (judge_at s head body).verdict
-  notes_are =
-      ap₂ notes_if (is_about.notes ∙ ap (λ (u : Session). notes_on_read u.server known.ranged (reading body) read) same
-      ∙ ap (notes_on_read s.server known.ranged (reading body)) is_read) judged
-      ∙ notes_at s body known.ranged head.version head.side
+    notes_are : notes_if about.notes.items (verdict_view taken.verdict) ≡ notes_of s known.ranged body
+        (judge_at s head body).verdict
+    notes_are =
+        ap₂ notes_if (is_about.notes ∙ ap (notes_on_read s.server known.ranged (reading body)) is_read) is_taken.judged
+        ∙ notes_at s body known.ranged head.version head.side
 
-  pub noted_is : (noted : Noted) → IsLearned known about verdict noted → IsNoted known s head body noted
-  noted_is noted learned = record {
-    verdict = ap verdict_view learned.verdict ∙ judged;
-    uri = ap (option_map string_bytes) learned.uri ∙ uri_is;
-    last = learned.last ∙ ap₂ (last_for known.mentions) uri_is judged;
-    notes = learned.notes ∙ notes_are;
-  }
+    ranged_is : ranged_with known.ranged taken.ranged ≡ ranged_after known.ranged s head.side body
+    ranged_is = is_taken.heard known.ranged ∙ ranged_at s body known.ranged head.version head.side
 
-  pub known_is : (ranged : Bool) (number : ℕ) (next : Known) → ranged ≡ ranged_after known.ranged s head.side body
-      → number ≡ (judge_at s head body).session.records
-      → next ≡ known_by known ranged number about verdict → next ≡ known_after known s head body (judge_at s head body)
-  known_is ranged number next ranged_is number_is is =
-      is ∙ rw (mention_is, notes_are, uri_is, judged, ranged_is, number_is) refl
+    module _ (number : ℕ) (number_is : number ≡ t.records) where
+      counted : number ≡ (judge_at s head body).session.records
+      counted = number_is ∙ ap (λ (u : Session). u.records) is_taken.session
+
+      pub facts_are : (facts : Facts) → IsLearned known number about taken facts → AreFacts known s head body facts
+      facts_are facts learned = record {
+        number = learned.number ∙ counted;
+        verdict = ap verdict_view learned.verdict ∙ is_taken.judged;
+        uri = ap (option_map string_bytes) learned.uri ∙ uri_is;
+        change = ap (option_map change_view) learned.change ∙ is_taken.change;
+        last = learned.last ∙ ap₂ (last_for known.mentions) uri_is is_taken.judged;
+        notes = learned.notes ∙ notes_are;
+      }
+
+      pub known_is : (next : Known) → next ≡ known_by known number about taken
+          → next ≡ known_after known s head body (judge_at s head body)
+      known_is next is = is ∙ rw (mention_is, notes_are, uri_is, is_taken.judged, ranged_is, counted) refl
 
 -- ---- a line, and the output after it
 
@@ -124,9 +130,6 @@ module _ (view : LineView) (known : Known) (s : Session) (r : Record) where
   pub line_first : (judge s r).verdict ≢ bad → (bytes : List ℕ) → bytes ≡ line → (t : Session) → t ≡ (judge s r).session
       → (kept : Known) → kept ≡ next → (more : List Record)
       → lines_in view known s (r ∷ more) ≡ written_first bytes (lines_in view kept t more)
-  line_first not_bad bytes is t session kept kept_is more =
-      ap (λ (given : RecordOutput). followed_by given.out given.end (lines_in view next (judge s r).session more))
-      (unless_not r (judge s r).verdict (writes line) not_bad)
-      ∙ ap (λ (u : Session). written_first line (lines_in view next u more)) (sym session)
-      ∙ ap (λ (k : Known). written_first line (lines_in view k t more)) (sym kept_is)
-      ∙ ap (λ (b : List ℕ). written_first b (lines_in view kept t more)) (sym is)
+  line_first not_bad bytes is t session kept kept_is =
+      output_after (lines view) known s r (writes bytes)
+      (unless_not r (judge s r).verdict (writes line) not_bad ∙ ap writes (sym is)) kept kept_is t session

@@ -8,3 +8,4 @@ pub mod TraceLemmas
 pub mod TraceLawLemmas
 pub mod ExplainLemmas
 pub mod NoteLemmas
+pub mod ReasonLemmas

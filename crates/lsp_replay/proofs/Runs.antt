@@ -5,5 +5,4 @@ pub mod PieceLemmas
 pub mod RunLemmas
 pub mod ReportedLemmas
 pub mod RunReportLemmas
-pub mod SomeRecordsLemmas
 pub mod WroteLemmas

@@ -9,10 +9,8 @@ use Rattle.lsp_message.specs.declared.outgoing.ErrorCode.TheVariants.{ParseError
 use Rattle.lsp_message.specs.Message.{reading}
 use Rattle.lsp_message.specs.Outgoing.{document_text}
 use Rattle.lsp_message.specs.Params.{DocumentItem, ChangeData}
-use Rattle.lsp_store.specs.Faults.{fault_code}
 use Rattle.lsp_store.specs.Message.{canonical_body}
-use Rattle.lsp_server.specs.declared.answer.Refusal.{Refusal}
-use Rattle.lsp_server.specs.declared.answer.Refusal.TheVariants.{InvalidParams as BadParams, Store}
+use Rattle.lsp_server.specs.Codes.{server_refusal_code}
 use Rattle.lsp_server.specs.Incoming.{IncomingData, incoming_of, did_change}
 use Rattle.lsp_server.specs.Step.{ServerData, session_encoding, content_change_from_data}
 use Rattle.lsp_server.specs.Answer.{AnswerData, reply, changed, dropped, ignored, refused, exits, already_ended, Sent}
@@ -111,18 +109,13 @@ code_word (Some MethodNotFound) = codes "error -32601"
 code_word (Some InvalidParams) = codes "error -32602"
 code_word (Some ServerNotInitialized) = codes "error -32002"
 
--- The code of a refusal, as docs/PROTOCOL.md lists them.
-abbrev pub label : Refusal → List ℕ
-label BadParams = codes "M4"
-label (Store fault) = fault_code fault
-
 -- The word of what a server answers to a message.
 abbrev pub word_of : AnswerData Sent → List ℕ
 word_of (reply m) = code_word m.code
 word_of changed = codes "changed"
 word_of dropped = codes "dropped"
 word_of ignored = codes "ignored"
-word_of (refused refusal) = codes "refused " ++ label refusal
+word_of (refused refusal) = codes "refused " ++ server_refusal_code refusal
 word_of (exits status) = codes "exit " ++ decimal status
 word_of already_ended = []
 

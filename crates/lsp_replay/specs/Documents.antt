@@ -18,7 +18,7 @@ use Rattle.lsp_replay.specs.declared.outcome.Outcome.{Outcome}
 use Rattle.lsp_replay.specs.RunOutput.{RunOutput}
 use Rattle.lsp_replay.specs.Commands.{as_log, log_config, report}
 use Rattle.lsp_replay.specs.laws.Written.{LeavesAlike}
-use Rattle.lsp_replay.specs.Run.{Engine}
+use Rattle.lsp_replay.specs.Run.{Engine, log_engine}
 use Rattle.lsp_replay.specs.Session.{Session, is_ended, is_running, judge, opened, same_id}
 use Rattle.lsp_replay.specs.Squashed.{normalised}
 
@@ -133,15 +133,9 @@ kept_records settings records = kept_in (opened (log_config settings)) nothing_s
 abbrev pub documents : Settings → List Record → RunOutput
 documents settings records = output_of_kept (normalised settings) (kept_records settings records)
 
--- `normalise --documents` reads logs of both versions.
+-- The engine of `normalise --documents`.
 abbrev pub documents_engine : Settings → Engine
-documents_engine settings
-    = record {
-      log_rules = as_log settings;
-      run_output = documents settings;
-      flushes = false;
-      in_parts = false;
-    }
+documents_engine settings = log_engine settings (documents settings)
 
 -- ---- what it writes
 

@@ -9,12 +9,12 @@ use Rattle.lsp_log.specs.Log.{Record}
 use Rattle.lsp_replay.specs.declared.commands.Settings.{Settings}
 use Rattle.lsp_replay.specs.declared.notes.Note.{Note}
 use Rattle.lsp_replay.specs.RunOutput.{RunOutput}
-use Rattle.lsp_replay.specs.Commands.{as_log, change_in, log_config, output_in, verdict_word}
+use Rattle.lsp_replay.specs.Commands.{change_in, log_config, output_in, verdict_word}
 use Rattle.lsp_replay.specs.Lines.{Known, LineView, lines, nothing_known, uri_of}
 use Rattle.lsp_replay.specs.Mentions.{last_for}
 use Rattle.lsp_replay.specs.Notes.{notes_of, notes_words}
 use Rattle.lsp_replay.specs.Reasons.{reason_words}
-use Rattle.lsp_replay.specs.Run.{Engine}
+use Rattle.lsp_replay.specs.Run.{Engine, log_engine}
 use Rattle.lsp_replay.specs.Session.{Session, Judged, Verdict, answered, is_refused, opened}
 use Rattle.lsp_replay.specs.Trace.{json_string}
 
@@ -86,12 +86,6 @@ explaining = record {
 abbrev pub explained : Settings → List Record → RunOutput
 explained settings = output_in (lines explaining) nothing_known (opened (log_config settings))
 
--- `check --explain` reads logs of both versions.
+-- The engine of `check --explain`.
 abbrev pub explain_engine : Settings → Engine
-explain_engine settings
-    = record {
-      log_rules = as_log settings;
-      run_output = explained settings;
-      flushes = false;
-      in_parts = false;
-    }
+explain_engine settings = log_engine settings (explained settings)

@@ -10,8 +10,8 @@ use Rattle.lsp_replay.specs.declared.outcome.Missing.{Missing}
 use Rattle.lsp_replay.specs.declared.outcome.Missing.TheVariants as missing
 use Rattle.lsp_replay.specs.declared.outcome.Outcome.{Outcome}
 use Rattle.lsp_replay.specs.RunOutput.{RunOutput}
-use Rattle.lsp_replay.specs.Commands.{RecordOutput, View, writes, ends, output_in, unless_bad, report_from, as_log, log_config}
-use Rattle.lsp_replay.specs.Run.{Engine}
+use Rattle.lsp_replay.specs.Commands.{RecordOutput, View, writes, ends, output_in, unless_bad, report_from, log_config}
+use Rattle.lsp_replay.specs.Run.{Engine, log_engine}
 use Rattle.lsp_replay.specs.Session.{Session, Judged, opened, session_outcome}
 
 -- The part of a log that is replayed, and what is printed of it.
@@ -100,10 +100,4 @@ part_report settings part = output_in (replaying_part part) None (opened (log_co
 
 -- The engine that replays a part of a log. Its report is written at once.
 abbrev pub part_engine : Settings → Part → Engine
-part_engine settings part
-    = record {
-      log_rules = as_log settings;
-      run_output = part_report settings (part_data part);
-      flushes = false;
-      in_parts = false;
-    }
+part_engine settings part = log_engine settings (part_report settings (part_data part))

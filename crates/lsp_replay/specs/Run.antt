@@ -62,45 +62,32 @@ serve_engine config
       in_parts = false;
     }
 
--- `check` reads logs of both versions.
+-- A command over a log of either version, with this output.
+abbrev pub log_engine : Settings → (List Record → RunOutput) → Engine
+log_engine settings run_output
+    = record {
+      log_rules = as_log settings;
+      run_output = run_output;
+      flushes = false;
+      in_parts = false;
+    }
+
+-- `check`.
 abbrev pub check_engine : Settings → Engine
-check_engine settings
-    = record {
-      log_rules = as_log settings;
-      run_output = verdicts settings;
-      flushes = false;
-      in_parts = false;
-    }
+check_engine settings = log_engine settings (verdicts settings)
 
--- `replay` reads logs of both versions, and writes its report document by document.
+-- `replay` writes its report document by document.
 abbrev pub replay_engine : Settings → Engine
-replay_engine settings
-    = record {
-      log_rules = as_log settings;
-      run_output = report settings;
-      flushes = false;
-      in_parts = true;
-    }
+replay_engine settings = record (log_engine settings (report settings)) { in_parts = true }
 
--- `normalise` reads logs of both versions.
+-- `normalise`.
 abbrev pub normalise_engine : Settings → Engine
-normalise_engine settings
-    = record {
-      log_rules = as_log settings;
-      run_output = normalised settings;
-      flushes = false;
-      in_parts = false;
-    }
+normalise_engine settings = log_engine settings (normalised settings)
 
--- `convert` reads logs of both versions, and refuses version 2.
+-- `convert` refuses version 2.
 abbrev pub convert_engine : Settings → Engine
-convert_engine settings
-    = record {
-      log_rules = as_converted settings;
-      run_output = converted settings;
-      flushes = false;
-      in_parts = false;
-    }
+convert_engine settings =
+    record (log_engine settings (converted settings)) { log_rules = as_converted settings }
 
 -- ---- what `normalise` and `convert` write
 

@@ -17,12 +17,12 @@ use Rattle.lsp_replay.specs.declared.commands.Settings.{Settings}
 use Rattle.lsp_replay.specs.declared.commands.traced.Details.{Details}
 use Rattle.lsp_replay.specs.declared.notes.Note.{Note}
 use Rattle.lsp_replay.specs.RunOutput.{RunOutput}
-use Rattle.lsp_replay.specs.Commands.{as_log, canonical_of_record, change_in, log_config, output_in, verdict_word}
+use Rattle.lsp_replay.specs.Commands.{canonical_of_record, change_in, log_config, output_in, verdict_word}
 use Rattle.lsp_replay.specs.Lines.{Known, LineView, lines, nothing_known, uri_of}
 use Rattle.lsp_replay.specs.Mentions.{last_for}
 use Rattle.lsp_replay.specs.Notes.{notes_of, notes_words}
 use Rattle.lsp_replay.specs.Reasons.{reason_words}
-use Rattle.lsp_replay.specs.Run.{Engine}
+use Rattle.lsp_replay.specs.Run.{Engine, log_engine}
 use Rattle.lsp_replay.specs.Session.{Session, Judged, Verdict, answered, is_refused, opened}
 
 -- ---- members of a line
@@ -178,12 +178,6 @@ abbrev pub traced : Settings → Details → List Record → RunOutput
 traced settings details =
     output_in (lines (tracing details)) nothing_known (opened (log_config settings))
 
--- `trace` reads logs of both versions.
+-- The engine of `trace`.
 abbrev pub trace_engine : Settings → Details → Engine
-trace_engine settings details
-    = record {
-      log_rules = as_log settings;
-      run_output = traced settings details;
-      flushes = false;
-      in_parts = false;
-    }
+trace_engine settings details = log_engine settings (traced settings details)

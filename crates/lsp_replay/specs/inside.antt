@@ -1,16 +1,16 @@
 -- Definitions that only private contracts speak of.
 pub mod Bodies
 pub mod Joining
-pub mod Explained
 pub mod Kept
-pub mod Known
+pub mod Facts
+pub mod Piped
+pub mod Taken
 pub mod Lines
 pub mod Mentions
 pub mod Noting
 pub mod Parts
 pub mod Progress
 pub mod Verdicts
-pub mod Documents
 pub mod Engine
 pub mod AllRecords
 pub mod Run
@@ -18,5 +18,4 @@ pub mod Reads
 pub mod RunOutput
 pub mod Session
 pub mod Squashed
-pub mod Tracing
 pub mod Commands

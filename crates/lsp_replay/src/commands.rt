@@ -10,24 +10,25 @@ ghost use Rattle.lsp_replay.specs.Commands.{log_config};
 ghost use Rattle.lsp_replay.specs.laws.Written.{IsConverted};
 ghost use Rattle.lsp_replay.specs.Run.{IsEngineRun, WritesLog};
 ghost use Rattle.lsp_replay.specs.Run.{serve_engine, check_engine, replay_engine, convert_engine};
+ghost use Rattle.lsp_replay.specs.Session.{opened};
 
-mod documents;
 mod explained;
 mod normalised;
 mod parts;
 mod traced;
 
-pub use crate::commands::documents::normalise_documents;
 pub use crate::commands::explained::explain;
-pub use crate::commands::normalised::normalise;
+pub use crate::commands::normalised::{normalise, normalise_documents};
 pub use crate::commands::parts::{Part, replay_part};
 pub use crate::commands::traced::{Details, trace};
-use crate::engine::{InputRules, run_engine, run_on};
-use crate::handler::checking::Check;
-use crate::handler::converting::Convert;
-use crate::handler::replaying::Replay;
-use crate::handler::serving::Serve;
+use crate::engine::{InputRules, run_on};
 use crate::outcome::Outcome;
+use crate::pipeline::{Pipeline, run};
+use crate::printer::checking::Check;
+use crate::printer::converting::Convert;
+use crate::printer::replaying::Replay;
+use crate::printer::serving::Serve;
+use crate::session::Session;
 use lsp_frame::Limits;
 use lsp_server::{ChangeForm, Config, EncodingChoice};
 use lsp_stream::{Duplex, EngineFault, Sink, Source};
@@ -73,6 +74,14 @@ impl Settings {
             choice: EncodingChoice::Fixed(self.encoding),
             sync: ChangeForm::Incremental,
         }
+    }
+
+    /// Starts a session over the server of a log command.
+    fn session(&self, alloc: Global) -> Session
+        ensures value { result ≡ opened (log_config self.now) }
+        ensures in_range { AreInRange self.now.limits }
+    {
+        Session::new(alloc, self.config())
     }
 
     /// Returns whether the changes of a series are written as one message.
@@ -145,8 +154,11 @@ pub fn serve_on<R: Source, W: Sink>(
         versions: false,
         refuses_two: false,
     };
-    let mut serve = Serve::new(alloc, config);
-    run_on(alloc, ends, &mut serve, rules, max_turns)
+    let serve = Serve {
+        session: Session::new(alloc, config),
+    };
+    let mut pipeline = Pipeline::new(alloc, serve, None);
+    run_on(alloc, ends, &mut pipeline, rules, max_turns)
 }
 
 /// Writes a line for each record of a log, with its number, from 1, and a word for what a server
@@ -166,8 +178,10 @@ pub fn check<R: Source, W: Sink>(
         (ports (R.seen reader.new) (W.seen writer.new)) result }
 {
     let rules = settings.rules(false);
-    let mut check = Check::new(alloc, settings.config());
-    run_engine(alloc, reader, writer, &mut check, rules, max_turns)
+    let check = Check {
+        session: settings.session(alloc),
+    };
+    run(alloc, reader, writer, check, None, rules, max_turns)
 }
 
 /// Writes the documents that are open at the end of a log: a line of JSON for each, in order of
@@ -187,8 +201,11 @@ pub fn replay<R: Source, W: Sink>(
         (ports (R.seen reader.new) (W.seen writer.new)) result }
 {
     let rules = settings.rules(false);
-    let mut replay = Replay::new(alloc, settings.config());
-    run_engine(alloc, reader, writer, &mut replay, rules, max_turns)
+    let replay = Replay {
+        session: settings.session(alloc),
+        next: 0,
+    };
+    run(alloc, reader, writer, replay, None, rules, max_turns)
 }
 
 /// Makes a log of version 2 of a log of version 1. Writes the line of version 2, then each record
@@ -213,6 +230,8 @@ pub fn convert<R: Source, W: Sink>(
         (ports (R.seen reader.new) (W.seen writer.new)) result }
 {
     let rules = settings.rules(true);
-    let mut convert = Convert::new(alloc, settings.config());
-    run_engine(alloc, reader, writer, &mut convert, rules, max_turns)
+    let convert = Convert {
+        session: settings.session(alloc),
+    };
+    run(alloc, reader, writer, convert, None, rules, max_turns)
 }

@@ -197,29 +197,3 @@ pub fn run_on<R: Source, W: Sink, H: Handler>(
         ended = to == 0;
     }
 }
-
-/// [`run_on`] over a reader and a writer.
-pub fn run_engine<R: Source, W: Sink, H: Handler>(
-    alloc: Global,
-    reader: &mut R,
-    writer: &mut W,
-    handler: &mut H,
-    rules: InputRules,
-    max_turns: u64,
-) -> Result<Outcome, EngineFault>
-    ensures run { IsLoopRun (reading_by rules) (H.run_output handler.old) H.FLUSHES max_turns
-        (ports (R.seen reader.old) (W.seen writer.old))
-        (ports (R.seen reader.new) (W.seen writer.new)) result }
-    // Where the end has one part, what is written when memory runs out is the output of records,
-    // each whole.
-    ensures whole { ((h : H) → H.parts h ≡ 0) → result ≡ Err EngineFault.NoMemory →
-        WroteRecords (reading_by rules) (H.run_output handler.old)
-        (R.seen reader.old).left (R.seen reader.new).left
-        (W.seen writer.old).written (W.seen writer.new).written }
-    // What its callers take from `lsp_log`.
-    ensures version { VersionLaw }
-    ensures first { FirstLaw }
-{
-    let mut ends = Duplex::new(reader, writer);
-    run_on(alloc, &mut ends, handler, rules, max_turns)
-}

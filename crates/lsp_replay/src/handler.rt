@@ -1,27 +1,10 @@
-//! What an engine writes for the records of a log and for its end: a handler for each command.
-//!
-//! `front` writes what comes before a record's frame, `reasons` why a record was refused, and
-//! `noted` what is suspicious of one that was accepted.
+//! What the loop writes for the records of a log and for its end.
 
 ghost use Rattle.std.specs.Prelude.{◌≡◌, ◌<◌, ◌++◌, ◌∷◌, ◌⊎◌, [], ℕ, Bool, List, None, false, IfOk, IfErr, MatchOption};
 ghost use Rattle.lsp_frame.specs.Frame.{IsFrameOf};
 ghost use Rattle.lsp_log.specs.Log.{Record};
 ghost use Rattle.lsp_replay.specs.RunOutput.{RunOutput, stopped};
 ghost use Rattle.lsp_replay.specs.inside.RunOutput.{after, output_of, IsRecordFault};
-
-pub(crate) mod checking;
-pub(crate) mod converting;
-pub(crate) mod documents;
-pub(crate) mod explaining;
-mod front;
-pub(crate) mod normalising;
-pub(crate) mod noted;
-pub(crate) mod partial;
-pub(crate) mod reasons;
-pub(crate) mod replaying;
-pub(crate) mod serving;
-pub(crate) mod squashing;
-pub(crate) mod tracing;
 
 use crate::outcome::Outcome;
 use lsp_log::Head;

@@ -3,11 +3,12 @@
 //!
 //! - `commands`: `serve` and `serve_on`, `check` and `explain`, `trace`, `replay` and
 //!   `replay_part`, `normalise` and `normalise_documents`, and `convert`.
-//! - `engine`: the one loop from a reader to a writer.
+//! - `engine`: the one loop from a reader to a writer; `handler` is what it hands records to.
+//! - `pipeline`: the one handler: it reads a record's body once, leaves out what doesn't stay, and
+//!   hands the rest to a command's printer.
+//! - `printer`: what each command writes of a record and at the end.
 //! - `session`: a server over the records of a log, and what is counted.
-//! - `handler`: what is written for each record and for the end. Its modules are the handlers,
-//!   `serving`, `checking`, `explaining`, `tracing`, `replaying`, `partial` (of a part of a log),
-//!   `normalising`, `squashing`, `documents` (of records that stay) and `converting`.
+//! - `facts`: what `trace` and `check --explain` say of a record.
 //! - `members`: what a line of JSON is put together from.
 //! - `mentions`: which record opened, closed or refused a document last.
 //! - `notes`: what of an accepted message is suspicious.
@@ -17,12 +18,15 @@
 
 mod commands;
 mod engine;
+mod facts;
 mod handler;
 mod laws;
 mod members;
 mod mentions;
 mod notes;
 mod outcome;
+mod pipeline;
+mod printer;
 mod session;
 
 pub use commands::{

@@ -1,40 +1,42 @@
-//! A server over the records of a log: each record is read once and judged.
+//! A server over the records of a log: each record is read once, and taken.
 //!
-//! - `planning`: changes, each of which is planned once.
-//! - `writing`: the canonical bodies of accepted changes.
+//! - `witness`: what is made of an accepted change, before it is applied.
+//! - `changes`: changes that the server receives, each of which is planned once.
+//! - `canonical`: the canonical bodies of accepted changes.
 //! - `joining`: the open series of accepted changes.
 //! - `selecting`: the records that stay where others are left out.
 //! - `results`: the result of `initialize`.
 //! - `counting`: what counts as refused.
-//! - `keeping`: the text of a document, kept when it is closed.
-//! - `noting`: what is suspicious of a message.
-//! - `known`: what is known of the records before one.
-//! - `tracing`: what a record is, whatever is answered.
+//! - `closing`: the text of a document that a record may close.
 
-ghost use Rattle.std.specs.Prelude.{◌≡◌, ◌≢◌, ◌⊎◌, IfErr, IfOk, OnErr, OnOk, MatchOption, Some, None};
+ghost use Rattle.std.specs.Prelude.{ℕ, ◌≡◌, ◌≢◌, ◌⊎◌, IfErr, IfOk, List, MatchResult, OnErr, OnOk, MatchOption, None, Some};
+ghost use Rattle.lsp_message.specs.Message.{reading};
+ghost use Rattle.lsp_message.specs.Params.{ChangeData};
 ghost use Rattle.lsp_message.specs.Seen.{change_view, id_view};
+ghost use Rattle.lsp_server.specs.Incoming.{incoming_of};
 ghost use Rattle.lsp_server.specs.Seen.{incoming_view};
 ghost use Rattle.lsp_replay.specs.Session.{bad, counted, opened, judge_client, is_early, expected_after, session_outcome};
-ghost use Rattle.lsp_replay.specs.inside.Bodies.{IsReceived, body_read, body_view, canonical_read, judge_read};
+ghost use Rattle.lsp_replay.specs.inside.Bodies.{IsReceived, body_view, judge_read};
+ghost use Rattle.lsp_replay.specs.inside.Reads.{IsReadOf};
 ghost use Rattle.lsp_replay.specs.inside.Session.{judge_at};
+ghost use Rattle.lsp_replay.specs.inside.Taken.{IsHeard, IsTakenAs};
 ghost use Rattle.lsp_replay.specs.inside.Verdicts.{verdict_view};
 
+pub(crate) mod canonical;
+pub(crate) mod changes;
+pub(crate) mod closing;
 pub(crate) mod counting;
 pub(crate) mod joining;
-mod keeping;
-pub(crate) mod known;
-pub(crate) mod noting;
-pub(crate) mod planning;
 pub(crate) mod results;
 pub(crate) mod selecting;
-pub(crate) mod tracing;
-pub(crate) mod writing;
+pub(crate) mod witness;
 
 use crate::outcome::Outcome;
 use crate::session::counting::{is_refused, one_more};
 use crate::session::results::copied;
+use crate::session::witness::{Nothing, Witness};
 use lsp_log::{Head, Sender, Version};
-use lsp_message::{ChangeParams, Id};
+use lsp_message::{ChangeParams, Id, Scratch};
 use lsp_server::{Answer, Config, Incoming, Phase, Server, ServerFault};
 use lsp_stream::EngineFault;
 use std::alloc::{AllocError, Global};
@@ -53,11 +55,42 @@ pub enum Verdict {
 
 /// The body of a record, read once.
 #[derive(Drop)]
-pub(crate) enum RecordBody<'a> {
+pub enum RecordBody<'a> {
     /// What a client's record in a log of this version asks of the server.
     Client(Version, Incoming),
     /// The body of a server's record.
     Server(&'a [u8]),
+}
+
+impl<'a> RecordBody<'a> {
+    /// Reads the body of a record, with a scratch that is kept from body to body. A server's body
+    /// is read where it matters alone.
+    pub fn read(
+        alloc: Global,
+        head: Head,
+        body: &'a [u8],
+        scratch: &mut Scratch,
+    ) -> Result<RecordBody<'a>, AllocError>
+        ensures { IfOk result (IsReadOf head body.now) }
+    {
+        match head.side {
+            Sender::Client => {
+                let incoming = Incoming::read_with(alloc, body, scratch)?;
+                Ok(RecordBody::Client(head.version, incoming))
+            }
+            Sender::Server => Ok(RecordBody::Server(body)),
+        }
+    }
+}
+
+/// What became of a record.
+#[derive(Drop)]
+pub struct Taken {
+    pub verdict: Verdict,
+    /// The params of a change that a running server received, whatever it answered.
+    pub change: Option<ChangeParams>,
+    /// Whether ranges are asked for, if the record is the result of `initialize`.
+    pub ranged: Option<bool>,
 }
 
 /// A server over the records of a log, and what is counted.
@@ -103,7 +136,7 @@ impl Session {
         }
     }
 
-    /// Returns how many records were judged.
+    /// Returns how many records were taken.
     pub fn records(&self) -> u64
         ensures { result ≡ self.now.records }
     {
@@ -115,13 +148,6 @@ impl Session {
         ensures { result.now ≡ self.now.server }
     {
         &self.server
-    }
-
-    /// Returns how many bodies were handled.
-    pub fn messages(&self) -> u64
-        ensures { result ≡ self.now.messages }
-    {
-        self.messages
     }
 
     /// Returns how many of the handled bodies were refused.
@@ -143,84 +169,95 @@ impl Session {
         }
     }
 
-    /// Judges a record: hands a client's to the server, and reads the encoding in a server's. Fails
-    /// only where memory runs out.
-    pub fn judge(&mut self, head: Head, body: &[u8]) -> Result<Verdict, AllocError>
-        ensures verdict { IfOk result
-            (λ v. verdict_view v ≡ (judge_at self.old head body.now).verdict) }
-        ensures session { OnOk result (self.new ≡ (judge_at self.old head body.now).session) }
-    {
-        let read = self.read(head, body)?;
-        self.take(read)
-    }
-
-    /// Judges a record as [`Session::judge`] does. If it can't be in a log, it is
-    /// [`EngineFault::BadLog`], at its first byte.
-    pub fn accept(&mut self, head: Head, body: &[u8]) -> Result<Verdict, EngineFault>
-        ensures verdict { IfOk result
-            (λ v. verdict_view v ≡ (judge_at self.old head body.now).verdict) }
-        ensures in_log { IfOk result (λ v. verdict_view v ≢ bad) }
-        ensures session { OnOk result (self.new ≡ (judge_at self.old head body.now).session) }
-        ensures error { IfErr result (λ fault. (fault ≡ EngineFault.NoMemory)
-            ⊎ ((fault ≡ EngineFault.BadLog head.place)
-            × ((judge_at self.old head body.now).verdict ≡ bad))) }
-    {
-        let verdict = self.judge(head, body)?;
-        in_log(&verdict, head.place)?;
-        Ok(verdict)
-    }
-
-    /// Reads the body of the next record.
-    pub(crate) fn read<'a>(
+    /// Takes the record that was read: hands a client's to the server, reads the encoding in a
+    /// server's, and counts it. An accepted change is shown to the witness before it is applied.
+    /// Fails only where memory runs out.
+    pub fn take<W: Witness>(
         &mut self,
-        head: Head,
-        body: &'a [u8],
-    ) -> Result<RecordBody<'a>, AllocError>
-        ensures body { IfOk result
-            (λ read. body_view read ≡ body_read head.version head.side body.now) }
-        ensures unchanged { self.new ≡ self.old }
+        read: RecordBody<'_>,
+        witness: &mut W,
+    ) -> Result<Taken, AllocError>
+        requires fits { W.Fits witness.old self.old.server }
+        ensures { IfOk result (IsTakenAs (witness.new ≡ witness.old)
+            (W.HasSeen witness.old witness.new) self.old self.new (body_view read.entry)) }
     {
-        match head.side {
-            Sender::Client => Ok(RecordBody::Client(head.version, self.server.read(body)?)),
-            Sender::Server => Ok(RecordBody::Server(body)),
+        match self.received(read) {
+            Ok(params) => {
+                let verdict = self.change(&params, witness)?;
+                Ok(Taken {
+                    verdict,
+                    change: Some(params),
+                    ranged: None,
+                })
+            }
+            Err(read) => Ok(self.take_other(read)?),
         }
     }
 
-    /// Judges the record that was read, and counts it.
-    fn take(&mut self, read: RecordBody<'_>) -> Result<Verdict, AllocError>
+    /// Takes the record that was read as [`Session::take`] does. If it can't be in a log, it is
+    /// [`EngineFault::BadLog`], at its first byte.
+    pub fn accept(&mut self, head: Head, read: RecordBody<'_>) -> Result<Verdict, EngineFault>
+        ensures taken { (body : List ℕ) → IsReadOf head body read.entry → IfOk result
+            (λ v. verdict_view v ≡ (judge_at self.old head body).verdict) }
+        ensures in_log { IfOk result (λ v. verdict_view v ≢ bad) }
+        ensures session { (body : List ℕ) → IsReadOf head body read.entry → OnOk result
+            (self.new ≡ (judge_at self.old head body).session) }
+        ensures error { (body : List ℕ) → IsReadOf head body read.entry → IfErr result
+            (λ fault. (fault ≡ EngineFault.NoMemory) ⊎ ((fault ≡ EngineFault.BadLog head.place)
+            × ((judge_at self.old head body).verdict ≡ bad))) }
+    {
+        let mut witness = Nothing;
+        let taken = self.take(read, &mut witness)?;
+        in_log(&taken.verdict, head.place)?;
+        Ok(taken.verdict)
+    }
+
+    /// Reads what a server's body asks.
+    pub fn read_incoming(&mut self, body: &[u8]) -> Result<Incoming, AllocError>
+        ensures incoming { IfOk result
+            (λ incoming. incoming_view incoming ≡ incoming_of (reading body.now)) }
+        ensures unchanged { self.new ≡ self.old }
+    {
+        self.server.read(body)
+    }
+
+    /// Returns the params of a change that a running server is to receive, else the body again. A
+    /// change that comes before the result of `initialize`, which says its encoding, is never
+    /// received.
+    fn received<'a>(&self, read: RecordBody<'a>) -> Result<ChangeParams, RecordBody<'a>>
+        ensures { MatchResult result
+            (λ params. IsReceived self.now (body_view read.entry) (change_view params))
+            (λ other. (body_view other ≡ body_view read.entry)
+            × ((p : ChangeData) → IsReceived self.now (body_view read.entry) p → ⊥)) }
+    {
+        if self.server.phase() != Phase::Running || self.expected.is_some() {
+            return Err(read);
+        }
+        match read {
+            RecordBody::Client(_, Incoming::DidChange(Some(params))) => Ok(params),
+            other => Err(other),
+        }
+    }
+
+    /// Takes a record that is no change which a running server receives.
+    fn take_other(&mut self, read: RecordBody<'_>) -> Result<Taken, AllocError>
         ensures verdict { IfOk result
-            (λ v. verdict_view v ≡ (judge_read self.old (body_view read.entry)).verdict) }
+            (λ t. verdict_view t.verdict ≡ (judge_read self.old (body_view read.entry)).verdict) }
         ensures session { OnOk result
             (self.new ≡ (counted (judge_read self.old (body_view read.entry))).session) }
+        ensures change { IfOk result (λ t. t.change ≡ None) }
+        ensures ranged { IfOk result (IsHeard self.old (body_view read.entry)) }
     {
-        let verdict = match read {
-            RecordBody::Client(version, incoming) => self.answer(version, incoming)?,
+        let taken = match read {
+            RecordBody::Client(version, incoming) => Taken {
+                verdict: self.answer(version, incoming)?,
+                change: None,
+                ranged: None,
+            },
             RecordBody::Server(body) => self.hear(body)?,
         };
         self.records = one_more(self.records);
-        Ok(verdict)
-    }
-
-    /// Returns the parameters of a change that a running server is to receive. A change that comes
-    /// before the result of `initialize`, which says its encoding, is never received.
-    #[tactic(auto, using(crate::proofs::Squash::JoiningLemmas::idle, crate::proofs::Squash::JoiningLemmas::early))]
-    fn received_change<'a>(&self, read: &'a RecordBody<'_>) -> Option<&'a ChangeParams>
-        ensures { MatchOption result (canonical_read self.now (body_view read.now) ≡ None)
-            (λ params. IsReceived self.now (body_view read.now) (change_view params.now)) }
-    {
-        let RecordBody::Client(_, incoming) = read else {
-            return None;
-        };
-        let Incoming::DidChange(params) = incoming else {
-            return None;
-        };
-        let Some(params) = params else {
-            return None;
-        };
-        if self.server.phase() != Phase::Running || self.expected.is_some() {
-            return None;
-        }
-        Some(params)
+        Ok(taken)
     }
 
     /// Judges a client's record in a log of this version.

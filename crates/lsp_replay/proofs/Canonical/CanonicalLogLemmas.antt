@@ -24,7 +24,7 @@ use Rattle.lsp_replay.specs.Commands.{canonical_if, written, writes, ends}
 use Rattle.lsp_log.specs.declared.record.Version.{Version}
 use Rattle.lsp_log.specs.Log.{Record}
 use Rattle.lsp_replay.specs.inside.Verdicts.{IsAppended}
-use Rattle.lsp_replay.specs.declared.session.writing.Appended.TheVariants.{Body, TooLong}
+use Rattle.lsp_replay.specs.declared.session.canonical.Appended.TheVariants.{Body, TooLong}
 use Rattle.lsp_frame.specs.Frame.{frame}
 use Rattle.lsp_stream.specs.declared.fault.EngineFault.TheVariants as fault
 

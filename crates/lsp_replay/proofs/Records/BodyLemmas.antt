@@ -1,25 +1,24 @@
--- A record that is read once is judged, appended and joined as one that is judged from its bytes.
-use Rattle.std.proofs.Common.{◌≡◌, ℕ, List, Option, Some, None, refl, sym, ap, ◌∙◌, subst}
-use Rattle.lsp_edit.specs.Edited as given
+-- A record that is read once is judged as one that is judged from its bytes.
+use Rattle.std.proofs.Common.{◌≡◌, ◌≢◌, ◌⊎◌, inl, inr, ℕ, Bool, true, false, List, Option, Some, None, refl, sym, ap, ◌∙◌, subst}
+use Rattle.std.specs.Prelude.{◌&&◌, is_none, if◌then◌else◌}
 use Rattle.lsp_log.specs.declared.record.Version.{Version}
 use Rattle.lsp_log.specs.declared.record.Head.{Head}
 use Rattle.lsp_log.specs.declared.record.Sender.{Sender}
 use Rattle.lsp_log.specs.declared.record.Sender.TheVariants.{Client, Server}
-use Rattle.lsp_message.specs.Message.{reading}
+use Rattle.lsp_message.specs.Message.{IdData, reading}
 use Rattle.lsp_message.specs.Params.{ChangeData}
+use Rattle.lsp_server.specs.declared.phase.Phase.{Phase}
+use Rattle.lsp_server.specs.declared.phase.Phase.TheVariants.{New, Running, Down, Ended}
+use Rattle.lsp_server.specs.Answer.{changed, reply, dropped, ignored, already_ended, refused, exits}
 use Rattle.lsp_server.specs.Incoming.{incoming_of, did_change}
-use Rattle.lsp_store.specs.Squash.{SquashData}
-use Rattle.lsp_replay.specs.declared.session.joining.Writing.{Writing}
-use Rattle.lsp_replay.specs.declared.session.joining.Writing.TheVariants.{AsItIs, TooLong, Continues, Begins}
-use Rattle.lsp_replay.specs.declared.session.writing.Appended.{Appended}
-use Rattle.lsp_replay.specs.Commands.{canonical_if, canonical_of_record, change_in}
-use Rattle.lsp_replay.specs.Session.{Session, encoding_for, judge_from}
-use Rattle.lsp_replay.specs.inside.Bodies.{BodyData, from_client, from_server, body_read, canonical_read, change_of, judge_read}
-use Rattle.lsp_replay.specs.inside.Joining.{IsWriting}
-use Rattle.lsp_replay.specs.inside.Session.{judge_at}
-use Rattle.lsp_replay.specs.inside.Verdicts.{IsAppended}
-use Rattle.lsp_replay.proofs.Canonical.CanonicalLogLemmas.{heard_has_none}
+use Rattle.lsp_server.specs.Step.{ServerData}
+use Rattle.lsp_replay.specs.Commands.{canonical_change_body, canonical_if, change_in}
+use Rattle.lsp_replay.specs.Session.{Session, Verdict, answered, recorded, bad, encoding_for, is_running, judge_client, judge_from, judge_server}
+use Rattle.lsp_replay.specs.inside.Bodies.{BodyData, IsReceived, from_client, from_server, body_read, change_of, judge_read}
+use Rattle.lsp_replay.specs.inside.Taken.{accepted_if, accepted_of, received_of}
+use Rattle.lsp_replay.proofs.Canonical.CanonicalLogLemmas.{heard_as}
 use Rattle.lsp_replay.proofs.Records.JudgeLemmas.{asks_change}
+use Rattle.lsp_replay.proofs.Squash.JoiningLemmas.{early, idle}
 
 -- ---- a record is judged as its bytes are
 
@@ -28,52 +27,12 @@ judged_of : (s : Session) (version : Version) (side : Sender) (body : List ℕ) 
 judged_of s version Client body = refl
 judged_of s version Server body = refl
 
-canonical_of : (s : Session) (version : Version) (side : Sender) (body : List ℕ)
-    → canonical_read s (body_read version side body) ≡ canonical_if s.server (change_in (incoming_of (reading body)))
-    (judge_from s version side body).verdict
-canonical_of s version Client body = refl
-canonical_of s version Server body =
-    sym (heard_has_none s.server (change_in (incoming_of (reading body))) s (encoding_for s.expected (reading body)))
-
-writing_of : (s : Session) (series : Option SquashData) (version : Version) (side : Sender) (body : List ℕ) (w : Writing)
-    → IsWriting s.server series (change_of (body_read version side body))
-    (judge_read s (body_read version side body)).verdict w
-    → IsWriting s.server series (change_in (incoming_of (reading body))) (judge_from s version side body).verdict w
-writing_of s series version Client body w is = is
-writing_of s series version Server body (AsItIs ended) is =
-    (heard_has_none s.server (change_in (incoming_of (reading body))) s (encoding_for s.expected (reading body)), is.1)
-writing_of s series version Server body TooLong is = absurd (let none : None ≡ Some is.0 = is.1 in cc)
-writing_of s series version Server body (Continues canonical batches) is =
-    absurd (let none : None ≡ Some is.0.params = is.0.is in cc)
-writing_of s series version Server body (Begins canonical ended batches) is =
-    absurd (let none : None ≡ Some is.0.params = is.0.is in cc)
-
 -- a session, the same after it read a record's body, and what it read
 module _ (s : Session) (head : Head) (body : List ℕ) (t : Session) (read : BodyData) (same : t ≡ s)
     (is_read : read ≡ body_read head.version head.side body) where
   pub judged_at : judge_read t read ≡ judge_from s head.version head.side body
   judged_at = ap (λ (u : Session). judge_read u read) same ∙ ap (judge_read s) is_read
       ∙ judged_of s head.version head.side body
-
-  pub server_at : t.server ≡ s.server
-  server_at = ap (λ (u : Session). u.server) same
-
-  pub appended_at : (a : Option Appended) (old new : List ℕ) → IsAppended t.server.config.limits.max_body
-      (canonical_read t read) a old new
-      → IsAppended s.server.config.limits.max_body (canonical_of_record s body (judge_at s head body).verdict) a old new
-  appended_at a old new appended =
-      subst (λ (c : Option (List ℕ)). IsAppended s.server.config.limits.max_body c a old new)
-      (ap (canonical_read s) is_read ∙ canonical_of s head.version head.side body)
-      (subst (λ (u : Session). IsAppended u.server.config.limits.max_body (canonical_read u read) a old new) same
-      appended)
-
-  pub writing_at : (series : Option SquashData) (w : Writing) → IsWriting t.server series (change_of read)
-      (judge_read t read).verdict w
-      → IsWriting s.server series (change_in (incoming_of (reading body))) (judge_at s head body).verdict w
-  writing_at series w writing =
-      writing_of s series head.version head.side body w
-      (subst (λ (b : BodyData). IsWriting s.server series (change_of b) (judge_read s b).verdict w) is_read
-      (subst (λ (u : Session). IsWriting u.server series (change_of read) (judge_read u read).verdict w) same writing))
 
 -- ---- a change that a running server is to receive
 
@@ -82,3 +41,121 @@ pub asked_in : (read : BodyData) (p : ChangeData) → change_of read ≡ Some p 
     × (read ≡ from_client version (did_change (Some p)))
 asked_in (from_client version m) p is = (version, ap (from_client version) (asks_change m p is))
 asked_in (from_server body) p is = absurd (let none : None ≡ Some p = is in cc)
+
+pub received_is : (s : Session) (read : BodyData) (p : ChangeData) → IsReceived s read p → received_of s read ≡ Some p
+received_is s read p received = rw (received.running, received.known) received.is
+
+runs : (phase : Phase) → is_running phase ≡ true → phase ≡ Running
+runs New e = absurd (let wrong : false ≡ true = e in cc)
+runs Running e = refl
+runs Down e = absurd (let wrong : false ≡ true = e in cc)
+runs Ended e = absurd (let wrong : false ≡ true = e in cc)
+
+unknown : (expected : Option IdData) → is_none expected ≡ true → expected ≡ None
+unknown None e = refl
+unknown (Some id) e = absurd (let wrong : false ≡ true = e in cc)
+
+both_true : (a b : Bool) → (a && b) ≡ true → (a ≡ true) × (b ≡ true)
+both_true true true e = (refl, refl)
+both_true true false e = absurd (let wrong : false ≡ true = e in cc)
+both_true false b e = absurd (let wrong : false ≡ true = e in cc)
+
+-- what isn't received
+module _ (s : Session) (read : BodyData) (never : (p : ChangeData) → IsReceived s read p → ⊥) where
+  pub not_received : received_of s read ≡ None
+  not_received = by (is_running s.server.phase && is_none s.expected) refl (change_of read) refl
+    where
+      by : (b : Bool) → (is_running s.server.phase && is_none s.expected) ≡ b → (change : Option ChangeData)
+          → change_of read ≡ change → (if b then change else None) ≡ None
+      by false e change is = refl
+      by true e None is = refl
+      by true e (Some p) is =
+          let both = both_true (is_running s.server.phase) (is_none s.expected) e in
+          absurd (never p (record {
+            is = is;
+            running = runs s.server.phase both.0;
+            known = unknown s.expected both.1;
+          }))
+
+-- ---- a change that is accepted
+
+none_heard : (change : Option ChangeData) (verdict : Verdict) → (verdict ≡ recorded) ⊎ (verdict ≡ bad)
+    → accepted_if change verdict ≡ None
+none_heard None verdict way = refl
+none_heard (Some p) verdict (inl e) = rw e refl
+none_heard (Some p) verdict (inr e) = rw e refl
+
+accepted_in : (s : Session) (version : Version) (side : Sender) (body : List ℕ)
+    → accepted_if (change_of (body_read version side body)) (judge_read s (body_read version side body)).verdict
+    ≡ accepted_if (change_in (incoming_of (reading body))) (judge_from s version side body).verdict
+accepted_in s version Client body = refl
+accepted_in s version Server body =
+    let announced = encoding_for s.expected (reading body) in
+    sym (none_heard (change_in (incoming_of (reading body))) (judge_server s announced).verdict (heard_as s announced))
+
+pub accepted_read : (s : Session) (head : Head) (body : List ℕ) (read : BodyData)
+    → read ≡ body_read head.version head.side body
+    → accepted_if (change_of read) (judge_read s read).verdict ≡ accepted_of s head body
+accepted_read s head body read is =
+    ap (λ (b : BodyData). accepted_if (change_of b) (judge_read s b).verdict) is
+    ∙ accepted_in s head.version head.side body
+
+-- a change that isn't received isn't accepted
+module _ (s : Session) (version : Version) (p : ChangeData) where
+  unless_received : (phase : Phase) → s.server.phase ≡ phase → (expected : Option IdData) → s.expected ≡ expected
+      → (s.server.phase ≡ Running → s.expected ≡ None → ⊥)
+      → accepted_if (Some p) (judge_client s version (did_change (Some p))).verdict ≡ None
+  unless_received Running at None waits never = absurd (never at waits)
+  unless_received Running at (Some id) waits never =
+      early s version p (λ (e : s.expected ≡ None). let wrong : None ≡ Some id = sym e ∙ waits in cc)
+  unless_received New at expected waits never =
+      idle s version p (λ (e : s.server.phase ≡ Running). let wrong : New ≡ Running = sym at ∙ e in cc)
+  unless_received Down at expected waits never =
+      idle s version p (λ (e : s.server.phase ≡ Running). let wrong : Down ≡ Running = sym at ∙ e in cc)
+  unless_received Ended at expected waits never =
+      idle s version p (λ (e : s.server.phase ≡ Running). let wrong : Ended ≡ Running = sym at ∙ e in cc)
+
+module _ (s : Session) (read : BodyData) (never : (p : ChangeData) → IsReceived s read p → ⊥) where
+  pub not_accepted : accepted_if (change_of read) (judge_read s read).verdict ≡ None
+  not_accepted = by (change_of read) refl
+    where
+      by : (change : Option ChangeData) → change_of read ≡ change
+          → accepted_if (change_of read) (judge_read s read).verdict ≡ None
+      by None is = ap (λ (change : Option ChangeData). accepted_if change (judge_read s read).verdict) is
+      by (Some p) is =
+          let asked = asked_in read p is in
+          ap (λ (b : BodyData). accepted_if (change_of b) (judge_read s b).verdict) asked.1
+          ∙ unless_received s asked.0 p s.server.phase refl s.expected refl
+          (λ running known. never p (record { is = is; running = running; known = known }))
+
+-- what a change that is accepted is, and its canonical body
+pub accepted_is : (change : Option ChangeData) (verdict : Verdict) (p : ChangeData)
+    → accepted_if change verdict ≡ Some p → (change ≡ Some p) × (verdict ≡ answered changed)
+accepted_is (Some q) (answered changed) p e =
+    let some : Some q ≡ Some p = e in let same : q ≡ p = cc in (ap Some same, refl)
+accepted_is None verdict p e = absurd (let wrong : None ≡ Some p = e in cc)
+accepted_is (Some q) recorded p e = absurd (let wrong : None ≡ Some p = e in cc)
+accepted_is (Some q) bad p e = absurd (let wrong : None ≡ Some p = e in cc)
+accepted_is (Some q) (answered (reply m)) p e = absurd (let wrong : None ≡ Some p = e in cc)
+accepted_is (Some q) (answered dropped) p e = absurd (let wrong : None ≡ Some p = e in cc)
+accepted_is (Some q) (answered ignored) p e = absurd (let wrong : None ≡ Some p = e in cc)
+accepted_is (Some q) (answered already_ended) p e = absurd (let wrong : None ≡ Some p = e in cc)
+accepted_is (Some q) (answered (refused why)) p e = absurd (let wrong : None ≡ Some p = e in cc)
+accepted_is (Some q) (answered (exits status)) p e = absurd (let wrong : None ≡ Some p = e in cc)
+
+abbrev pub body_of : ServerData → Option ChangeData → Option (List ℕ)
+body_of server None = None
+body_of server (Some p) = Some (canonical_change_body server p)
+
+pub canonical_is : (server : ServerData) (change : Option ChangeData) (verdict : Verdict)
+    → canonical_if server change verdict ≡ body_of server (accepted_if change verdict)
+canonical_is server None verdict = refl
+canonical_is server (Some p) recorded = refl
+canonical_is server (Some p) bad = refl
+canonical_is server (Some p) (answered changed) = refl
+canonical_is server (Some p) (answered (reply m)) = refl
+canonical_is server (Some p) (answered dropped) = refl
+canonical_is server (Some p) (answered ignored) = refl
+canonical_is server (Some p) (answered already_ended) = refl
+canonical_is server (Some p) (answered (refused why)) = refl
+canonical_is server (Some p) (answered (exits status)) = refl

@@ -78,8 +78,5 @@ judged_alike s t r is =
 pub alike_self : (s : Session) → IsAlike s s
 alike_self s = (s.records, s.messages, refl)
 
-pub alike_on : (s t u : Session) → IsAlike s t → IsAlike t u → IsAlike s u
-alike_on s t u one two = (two.0, two.1, two.2 ∙ ap (numbered two.0 two.1) one.2)
-
 pub alike_both : (x s t : Session) → IsAlike x s → IsAlike x t → IsAlike s t
 alike_both x s t one two = (two.0, two.1, two.2 ∙ sym (ap (numbered two.0 two.1) one.2))

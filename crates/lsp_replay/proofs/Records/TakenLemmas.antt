@@ -1,7 +1,8 @@
 -- A change that a running server receives: what becomes of it by its plan, or by why it is refused.
-use Rattle.std.proofs.Common.{arith, ◌≡◌, ◌≢◌, ◌<◌, ◌≤◌, length, ℕ, ℤ, List, map, Option, Some, None, Result, Ok, Err, IfOk, IfErr, OnErr, OnOk, refl, sym, ap, ◌∙◌, subst}
+use Rattle.std.proofs.Common.{arith, ◌≡◌, ◌≢◌, ◌<◌, ◌≤◌, length, ℕ, ℤ, List, map, Option, Some, None, option_map, Result, Ok, Err, IfOk, IfErr, OnErr, OnOk, refl, sym, ap, ◌∙◌, subst}
 use Rattle.std.proofs.lemmas.List.{length-append}
 use Rattle.std.specs.declared.alloc.AllocError.{AllocError}
+use Rattle.lsp_frame.specs.Limits.{LimitsData}
 use Rattle.lsp_log.specs.declared.record.Version.{Version}
 use Rattle.lsp_log.specs.declared.record.Head.{Head}
 use Rattle.lsp_message.specs.Message.{reading}
@@ -15,7 +16,7 @@ use Rattle.lsp_store.specs.Plan.{IsBodyOfPlan, IsMessageFault, IsMessageOfPlan, 
 use Rattle.lsp_store.specs.Message.{canonical_body}
 use Rattle.lsp_edit.specs.Batch.{ContentChange}
 use Rattle.lsp_store.specs.Squash.{HasReached, IsSquashOfPlan, SquashData, squash_of}
-use Rattle.lsp_store.specs.Table.{Refusal, changed as changed_entry}
+use Rattle.lsp_store.specs.Table.{Refusal, changed as changed_entry, entry_at}
 use Rattle.lsp_text.specs.Units.{units_in}
 use Rattle.lsp_text.specs.declared.encoding.Encoding.{Encoding}
 use Rattle.lsp_server.specs.declared.answer.Answer.{Answer}
@@ -30,19 +31,26 @@ use Rattle.lsp_server.specs.Planned.{IsNotObeyed, IsPlanOfChange, IsPlannedAs, a
 use Rattle.lsp_server.specs.Seen.{answer_view}
 use Rattle.lsp_server.specs.Step.{ServerData, content_change_from_data, session_encoding, step_on}
 use Rattle.lsp_stream.specs.Ports.{one_more}
+use Rattle.lsp_log.specs.declared.record.Version.TheVariants.{One}
+use Rattle.lsp_message.specs.Seen.{change_view}
+use Rattle.lsp_replay.specs.declared.session.Taken.{Taken}
+use Rattle.lsp_replay.specs.declared.session.canonical.Appended.{Appended}
+use Rattle.lsp_replay.specs.declared.session.canonical.Appended.TheVariants.{Body, TooLong as BodyIsTooLong}
+use Rattle.lsp_replay.specs.declared.session.canonical.Canonical.{Canonical}
+use Rattle.lsp_replay.specs.declared.session.joining.Joiner.{Joiner}
 use Rattle.lsp_replay.specs.declared.session.joining.Writing.{Writing}
-use Rattle.lsp_replay.specs.declared.session.writing.Appended.{Appended}
-use Rattle.lsp_replay.specs.declared.session.writing.Appended.TheVariants.{Body}
-use Rattle.lsp_replay.specs.Commands.{canonical_change_body, canonical_if, canonical_of_record, change_in}
+use Rattle.lsp_replay.specs.declared.session.joining.Writing.TheVariants.{TooLong, Continues, Begins}
+use Rattle.lsp_replay.specs.Commands.{canonical_change_body, canonical_of_record, change_in}
 use Rattle.lsp_replay.specs.Session.{Session, Judged, Verdict, answered, counted, judge_client, judged}
-use Rattle.lsp_replay.specs.inside.Bodies.{BodyData, IsChangeTaken, IsReceived, body_read, canonical_read, change_of, judge_read}
-use Rattle.lsp_replay.specs.inside.Joining.{IsBegun, IsChangeWriting, IsFramed, IsLonger, IsOpenAfter, IsOpenIn, IsWriting, body_unless, change_body_if, refusal_of, server_after}
+use Rattle.lsp_replay.specs.inside.Bodies.{BodyData, IsChangeTaken, IsReceived, change_of, judge_read}
+use Rattle.lsp_replay.specs.inside.Joining.{IsBegun, IsChangeWriting, IsFramed, IsJoined, IsLonger, IsOpenAfter, IsOpenIn, IsWriting, refusal_of, server_after}
 use Rattle.lsp_replay.specs.inside.Session.{judge_at}
-use Rattle.lsp_replay.specs.inside.Verdicts.{IsAppended}
-use Rattle.lsp_replay.proofs.Records.BodyLemmas.{appended_at, asked_in, judged_at, writing_at}
+use Rattle.lsp_replay.specs.inside.Taken.{IsChangeWitnessed, IsHeard, IsShown, IsTaken, IsTakenAs, accepted_if, accepted_of, ranged_read, ranged_with, received_of}
+use Rattle.lsp_replay.specs.inside.Verdicts.{IsAppended, verdict_view}
+use Rattle.lsp_replay.proofs.Records.BodyLemmas.{accepted_is, accepted_read, asked_in, body_of, canonical_is, judged_at, not_accepted, not_received, received_is}
 use Rattle.lsp_replay.proofs.Canonical.CanonicalLogLemmas.{over, within}
 use Rattle.lsp_replay.proofs.Records.ChangeLemmas.{done_session}
-use Rattle.lsp_replay.proofs.Squash.JoiningLemmas.{begun_open, change_open, change_writing, is_begun, is_longer, longer_open, running_accepted, running_refused, same_entry}
+use Rattle.lsp_replay.proofs.Squash.JoiningLemmas.{begun_open, is_begun, is_longer, longer_open, running_accepted, running_leaves, same_entry}
 
 -- ---- what a running server answers to a change
 
@@ -71,18 +79,11 @@ answered_some server p running a why =
     (is_changed a (why.answer ∙ ap as_sent (step_accepted server p running none)))
 
 -- What the server planned, as a session sees its server.
-module _ (inside server : ServerData) (same : inside ≡ server) (p : ChangeData) (planned : PlannedChange)
-    (by : IsPlannedAs inside p planned) where
-  planned_at : (found : PlannedChange) → planned ≡ found → IsPlannedAs server p found
-  planned_at found is =
-      subst (λ (s : ServerData). IsPlannedAs s p found) same (subst (λ (x : PlannedChange). IsPlannedAs inside p x) is
-      by)
-
-  pub accepted_at : (plan : Plan) → planned ≡ Accepted plan → IsPlanOfChange server p plan
-  accepted_at plan is = (planned_at (Accepted plan) is).1
-
-  pub answered_at : (a : Answer) → planned ≡ Answered a → IsNotObeyed server (step_on server (did_change (Some p))) a
-  answered_at a is = planned_at (Answered a) is
+module _ {inside server : ServerData} (same : inside ≡ server) (p : ChangeData) {planned found : PlannedChange}
+    (by : IsPlannedAs inside p planned) (is : planned ≡ found) where
+  pub planned_at : IsPlannedAs server p found
+  planned_at = subst (λ (s : ServerData). IsPlannedAs s p found) same (subst (λ (x : PlannedChange). IsPlannedAs inside
+      p x) is by)
 
 module _ (s : Session) (p : ChangeData) (running : s.server.phase ≡ Running) (known : s.expected ≡ None) where
   -- A plan that was applied is the change.
@@ -146,106 +147,196 @@ module _ (s : Session) (p : ChangeData) (running : s.server.phase ≡ Running) (
         refusals = refusals;
       }) (rw (records_is, messages_is, refusals_is, same) refl)
 
-  -- Which body it has.
-  canonical_by : (version : Version) (r : Option Refusal) → refusal_of s.server p ≡ r
-      → canonical_if s.server (Some p) (judge_client s version (did_change (Some p))).verdict
-      ≡ body_unless r (canonical_change_body s.server p)
-  canonical_by version None is = ap (canonical_if s.server (Some p)) (running_accepted s version p running known is)
-  canonical_by version (Some refusal) is =
-      running_refused s version p running known (Some refusal) is (λ (e : Some refusal ≡ None). cc)
-
-  pub change_canonical : (version : Version)
-      → canonical_if s.server (Some p) (judge_client s version (did_change (Some p))).verdict
-      ≡ change_body_if s.server p
-  change_canonical version = canonical_by version (refusal_of s.server p) refl
-
--- A change that is refused has no canonical body.
-refused_none : (r : Option Refusal) (body : List ℕ) → r ≢ None → body_unless r body ≡ None
-refused_none None body some = absurd (some refl)
-refused_none (Some refusal) body some = refl
-
-pub refused_written : (server : ServerData) (p : ChangeData) → refusal_of server p ≢ None → (old new : List ℕ)
-    → IsAppended server.config.limits.max_body (change_body_if server p) None old new
-refused_written server p some old new =
-    subst (λ (b : Option (List ℕ)). IsAppended server.config.limits.max_body b None old new)
-    (sym (refused_none (refusal_of server p) (canonical_change_body server p) some)) refl
-
 -- ---- a record that is a change which a running server receives
 
-module _ (s : Session) (head : Head) (body : List ℕ) (t : Session) (read : BodyData) (same : t ≡ s)
-    (is_read : read ≡ body_read head.version head.side body) (p : ChangeData) (received : IsReceived t read p) where
+module _ {s : Session} {read : BodyData} {p : ChangeData} (received : IsReceived s read p) where
   abbrev version : Version
   version = (asked_in read p received.is).0
 
-  judged_here : judge_read t read ≡ judge_client t version (did_change (Some p))
-  judged_here = ap (judge_read t) (asked_in read p received.is).1
+  judged_here : judge_read s read ≡ judge_client s version (did_change (Some p))
+  judged_here = ap (judge_read s) (asked_in read p received.is).1
 
-  pub taken_verdict : (v : Verdict) (u : Session) → IsChangeTaken t p v u → v ≡ (judge_at s head body).verdict
-  taken_verdict v u taken =
-      taken.judged version ∙ (ap (λ (j : Judged). j.verdict) (sym judged_here) ∙ ap (λ (j : Judged). j.verdict)
-      (judged_at s head body t read same is_read))
+  module _ {Same : Type 0} {HasSeen : ServerData → ChangeData → Type 0} {new : Session} where
+    -- The witness saw the change if it is accepted.
+    shown_by : {verdict : Verdict} → IsChangeWitnessed Same HasSeen s new p verdict → (refusal : Option Refusal)
+        → refusal_of s.server p ≡ refusal
+        → IsShown Same HasSeen s new (accepted_if (Some p) (judge_client s version (did_change (Some p))).verdict)
+    shown_by w None is =
+        subst (λ (v : Verdict). IsShown Same HasSeen s new (accepted_if (Some p) v))
+        (sym (running_accepted s version p received.running received.known is)) (w.accepted is)
+    shown_by w (Some refusal) is =
+        subst (λ (j : Judged). IsShown Same HasSeen s new (accepted_if (Some p) j.verdict))
+        (sym (refused_by s p received.running received.known version refusal is))
+        (w.refused (λ (none : refusal_of s.server p ≡ None). let wrong : None ≡ Some refusal = sym none ∙ is in cc))
 
-  pub taken_session : (v : Verdict) (u : Session) → IsChangeTaken t p v u → u ≡ (judge_at s head body).session
-  taken_session v u taken =
-      taken.session version ∙ (ap (λ (j : Judged). (counted j).session) (sym judged_here)
-      ∙ ap (λ (j : Judged). (counted j).session) (judged_at s head body t read same is_read))
+    -- whatever record this was read of
+    pub change_taken : {taken : Taken} → IsChangeWitnessed Same HasSeen s new p (verdict_view taken.verdict)
+        → option_map change_view taken.change ≡ Some p → taken.ranged ≡ None → IsTakenAs Same HasSeen s new read taken
+    change_taken w change quiet head body is = record {
+      judged = w.taken.judged version ∙ ap (λ (j : Judged). j.verdict) (sym judged_here)
+          ∙ ap (λ (j : Judged). j.verdict) (judged_at s head body s read refl is);
+      session = w.taken.session version ∙ ap (λ (j : Judged). (counted j).session) (sym judged_here)
+          ∙ ap (λ (j : Judged). (counted j).session) (judged_at s head body s read refl is);
+      change = change ∙ sym (received_is s read p received) ∙ ap (received_of s) is;
+      heard = λ before.
+          ap (ranged_with before) quiet
+          ∙ ap (λ (b : BodyData). ranged_read before s b) (sym (asked_in read p received.is).1)
+          ∙ ap (λ (b : BodyData). ranged_read before s b) is;
+      shown = subst (IsShown Same HasSeen s new) (accepted_read s head body read is)
+          (subst (λ (b : BodyData). IsShown Same HasSeen s new (accepted_if (change_of b) (judge_read s b).verdict))
+          (sym (asked_in read p received.is).1) (shown_by w (refusal_of s.server p) refl));
+    }
 
-  canonical_here : canonical_read t read ≡ change_body_if t.server p
-  canonical_here = ap (canonical_read t) (asked_in read p received.is).1 ∙ change_canonical t p received.running
-      received.known version
+-- A change that is accepted, or refused, by what the server planned.
+module _ {s new : Session} {p : ChangeData} {verdict : Verdict} (running : s.server.phase ≡ Running)
+    (known : s.expected ≡ None) (v : IsChangeTaken s p verdict new) {Same : Type 0}
+    {HasSeen : ServerData → ChangeData → Type 0} where
+  pub accepted_witnessed : refusal_of s.server p ≡ None → HasSeen s.server p
+      → IsChangeWitnessed Same HasSeen s new p verdict
+  accepted_witnessed may seen = record {
+    taken = v;
+    accepted = λ is. (
+      seen,
+      ap (λ (u : Session). u.server) (v.session One) ∙ running_leaves s One p running known may,
+    );
+    refused = λ is. absurd (is may);
+  }
 
-  pub written_at : (a : Option Appended) (old new : List ℕ) → IsAppended t.server.config.limits.max_body
-      (change_body_if t.server p) a old new
-      → IsAppended s.server.config.limits.max_body (canonical_of_record s body (judge_at s head body).verdict) a old new
-  written_at a old new written =
-      appended_at s head body t read same is_read a old new
-      (subst (λ (c : Option (List ℕ)). IsAppended t.server.config.limits.max_body c a old new) (sym canonical_here)
-      written)
-
-  pub change_writing_at : (series : Option SquashData) (w : Writing) → IsChangeWriting t.server series p w
-      → IsWriting s.server series (change_in (incoming_of (reading body))) (judge_at s head body).verdict w
-  change_writing_at series w writing =
-      writing_at s head body t read same is_read series w
-      (subst (λ (b : BodyData). IsWriting t.server series (change_of b) (judge_read t b).verdict w)
-      (sym (asked_in read p received.is).1) (change_writing t version series p w received.running received.known
-      writing))
-
-  pub change_open_at : (series : Option SquashData) (w : Writing) → IsChangeWriting t.server series p w
-      → IsOpenAfter (judge_at s head body).session.server w
-  change_open_at series w writing =
-      subst (λ (j : Judged). IsOpenAfter j.session.server w) (sym judged_here ∙ judged_at s head body t read same
-      is_read)
-      (change_open t version series p w received.running received.known writing)
+  pub refused_witnessed : refusal_of s.server p ≢ None → Same → IsChangeWitnessed Same HasSeen s new p verdict
+  refused_witnessed some same = record {
+    taken = v;
+    accepted = λ may. absurd (some may);
+    refused = λ is. same;
+  }
 
 -- ---- any other record
 
-module _ (s : Session) (head : Head) (body : List ℕ) (t : Session) (read : BodyData) (same : t ≡ s)
-    (is_read : read ≡ body_read head.version head.side body) (none : canonical_read t read ≡ None) where
-  pub none_written : (old new : List ℕ) → IsAppended s.server.config.limits.max_body
-      (canonical_of_record s body (judge_at s head body).verdict) None old new
-  none_written old new =
-      appended_at s head body t read same is_read None old new
-      (subst (λ (c : Option (List ℕ)). IsAppended t.server.config.limits.max_body c None old new) (sym none) refl)
+module _ {s new : Session} {read again : BodyData} (never : (p : ChangeData) → IsReceived s read p → ⊥)
+    (same : again ≡ read) {Same : Type 0} {HasSeen : ServerData → ChangeData → Type 0} {taken : Taken} where
+  pub other_taken : verdict_view taken.verdict ≡ (judge_read s again).verdict
+      → new ≡ (counted (judge_read s again)).session → taken.change ≡ None → IsHeard s again taken → Same
+      → IsTakenAs Same HasSeen s new read taken
+  other_taken judged session change heard unseen head body is = record {
+    judged = judged ∙ ap (λ (j : Judged). j.verdict) (judged_at s head body s again refl (same ∙ is));
+    session = session ∙ ap (λ (j : Judged). (counted j).session) (judged_at s head body s again refl (same ∙ is));
+    change = ap (option_map change_view) change ∙ sym (not_received s read never) ∙ ap (received_of s) is;
+    heard = λ before. heard before ∙ ap (λ (b : BodyData). ranged_read before s b) (same ∙ is);
+    shown = subst (IsShown Same HasSeen s new) (sym (not_accepted s read never) ∙ accepted_read s head body read is)
+        unseen;
+  }
 
-  pub none_writing : (series : Option SquashData) (w : Writing) → IsWriting t.server series (change_of read)
-      (judge_read t read).verdict w → IsWriting s.server series (change_in (incoming_of (reading body)))
-      (judge_at s head body).verdict w
-  none_writing series w writing = writing_at s head body t read same is_read series w writing
+-- ---- what a witness has seen of a record
+
+-- the canonical body of a change that is accepted
+module _ (s new : Session) (head : Head) (body : List ℕ) (before after : Canonical) (nothing : before.appended ≡ None)
+  where
+    abbrev HasBody : ServerData → ChangeData → Type 0
+    HasBody server p = IsAppended server.config.limits.max_body (Some (canonical_change_body server p)) after.appended
+        before.bytes.items after.bytes.items
+
+    body_seen : (a : Option ChangeData) → IsShown (after ≡ before) HasBody s new a
+        → IsAppended s.server.config.limits.max_body (body_of s.server a) after.appended before.bytes.items
+        after.bytes.items
+    body_seen None same = ap (λ (c : Canonical). c.appended) same ∙ nothing
+    body_seen (Some p) seen = seen.0
+
+    pub seen_written : IsShown (after ≡ before) HasBody s new (accepted_of s head body)
+        → IsAppended s.server.config.limits.max_body (canonical_of_record s body (judge_at s head body).verdict)
+        after.appended before.bytes.items after.bytes.items
+    seen_written shown =
+        subst (λ (c : Option (List ℕ)). IsAppended s.server.config.limits.max_body c after.appended before.bytes.items
+        after.bytes.items)
+        (sym (canonical_is s.server (change_in (incoming_of (reading body))) (judge_at s head body).verdict))
+        (body_seen (accepted_of s head body) shown)
+
+-- the room before it stays
+pub room_kept : (max_body : ℕ) (canonical : Option (List ℕ)) (appended : Option Appended) (old new : List ℕ) (room : ℕ)
+    → length old ≡ room → IsAppended max_body canonical appended old new → appended ≡ Some Body → room ≤ length new
+room_kept max_body None appended old new room len none some =
+    let wrong : None ≡ Some Body = sym none ∙ some in absurd (cc)
+room_kept max_body (Some body) None old new room len never some = absurd never
+room_kept max_body (Some body) (Some Body) old new room len both some =
+    omega (arith, ap length both.0, length-append old body, len)
+room_kept max_body (Some body) (Some BodyIsTooLong) old new room len over some =
+    let wrong : Some BodyIsTooLong ≡ Some Body = some in absurd (cc)
+
+-- how a change that is accepted is joined
+module _ {s new : Session} {series : Option SquashData} {head : Head} {body : List ℕ} {before after : Joiner}
+    {taken : Taken} (begins : before ≡ record { batches = series; writing = None })
+    (is : IsTaken (after ≡ before) (λ server p. IsJoined server before.batches p after.writing) s new head body taken)
+  where
+    abbrev HasJoined : ServerData → ChangeData → Type 0
+    HasJoined server p = IsJoined server before.batches p after.writing
+
+    abbrev change : Option ChangeData
+    change = change_in (incoming_of (reading body))
+
+    abbrev verdict : Verdict
+    verdict = (judge_at s head body).verdict
+
+    joined_writing : (p : ChangeData) → change ≡ Some p → verdict ≡ answered changed → (w : Option Writing)
+        → IsJoined s.server series p w → IsWriting s.server series change verdict w
+    joined_writing p is accepted None never = absurd never
+    joined_writing p is accepted (Some TooLong) over = (p, is, accepted, over)
+    joined_writing p is accepted (Some (Continues canonical batches)) joined =
+        (record { params = p; is = is; accepted = accepted; framed = joined.0 }, joined.1)
+    joined_writing p is accepted (Some (Begins canonical ended batches)) joined = (
+      record { params = p; is = is; accepted = accepted; framed = joined.0 },
+      joined.1,
+      joined.2,
+      joined.3,
+    )
+
+    seen_by : (a : Option ChangeData) → accepted_of s head body ≡ a → IsShown (after ≡ before) HasJoined s new a
+        → IsWriting s.server series change verdict after.writing
+    seen_by None none same =
+        subst (λ (w : Option Writing). IsWriting s.server series change verdict w)
+        (sym (ap (λ (j : Joiner). j.writing) (same ∙ begins)))
+        (canonical_is s.server change verdict ∙ ap (body_of s.server) none)
+    seen_by (Some p) is seen =
+        let both = accepted_is change verdict p is in
+        joined_writing p both.0 both.1 after.writing
+        (subst (λ (j : Joiner). IsJoined s.server j.batches p after.writing) begins seen.0)
+
+    pub seen_joined : IsWriting s.server series change verdict after.writing
+    seen_joined = seen_by (accepted_of s head body) refl is.shown
+
+    -- the batches of the open series, where nothing was joined
+    unjoined_by : (a : Option ChangeData) → IsShown (after ≡ before) HasJoined s new a → after.writing ≡ None
+        → after.batches ≡ series
+    unjoined_by None same none = ap (λ (j : Joiner). j.batches) (same ∙ begins)
+    unjoined_by (Some p) seen none =
+        absurd (subst (λ (w : Option Writing). IsJoined s.server before.batches p w) none seen.0)
+
+    pub unjoined : after.writing ≡ None → after.batches ≡ series
+    unjoined none = unjoined_by (accepted_of s head body) is.shown none
+
+    -- the batches that are open then lead to the document that is open then
+    open_by : (server : ServerData) (p : ChangeData) → server ≡ server_after s.server p → (w : Writing)
+        → IsChangeWriting s.server series p w → IsOpenAfter server w
+    open_by server p leaves TooLong over = tt
+    open_by server p leaves (Continues canonical batches) joined =
+        subst (λ (t : ServerData). IsOpenIn t batches) (sym leaves) joined.2
+    open_by server p leaves (Begins canonical ended batches) joined =
+        subst (λ (t : ServerData). IsOpenIn t batches) (sym leaves) joined.4
+
+    open_seen : (a : Option ChangeData) → IsShown (after ≡ before) HasJoined s new a → (w : Writing)
+        → after.writing ≡ Some w → IsOpenAfter new.server w
+    open_seen None same w is =
+        let wrong : None ≡ Some w = sym (ap (λ (j : Joiner). j.writing) (same ∙ begins)) ∙ is in absurd (cc)
+    open_seen (Some p) seen w is =
+        open_by new.server p seen.1 w
+        (subst (λ (v : Option Writing). IsJoined s.server series p v) is
+        (subst (λ (j : Joiner). IsJoined s.server j.batches p after.writing) begins seen.0))
+
+    pub seen_open : (w : Writing) → after.writing ≡ Some w → IsOpenAfter new.server w
+    seen_open w written = open_seen (accepted_of s head body) is.shown w written
 
 -- ---- what follows where a call succeeds
 
 pub if_ok : {A E : Type 0} {P Q : A → Type 0} (r : Result A E) → ((a : A) → P a → Q a) → IfOk r P → IfOk r Q
 if_ok (Ok a) then p = then a p
 if_ok (Err e) then p = tt
-
-pub if_both : {A E : Type 0} {P Q R : A → Type 0} (r : Result A E) → ((a : A) → P a → Q a → R a) → IfOk r P → IfOk r Q
-    → IfOk r R
-if_both (Ok a) then p q = then a p q
-if_both (Err e) then p q = tt
-
-pub on_if_ok : {A E Q : Type 0} {P : A → Type 0} (r : Result A E) → ((a : A) → P a → Q) → IfOk r P → OnOk r Q
-on_if_ok (Ok a) then p = then a p
-on_if_ok (Err e) then p = tt
 
 -- A message, unless it is refused.
 pub message_is : {T : Type 0} (message : Result T StoreFault) (out : Result (Option T) AllocError)
@@ -260,27 +351,12 @@ message_is (Err fault) out ok error made is =
     let wrong = both.1 in
     absurd (cc)
 
-module _ {T : Type 0} (P : T → Type 0) where
-  pub message_some : (message : Result T StoreFault) (out : Result (Option T) AllocError)
-      → IfOk message (λ m. out ≡ Ok (Some m)) → IfErr message (λ fault. IfOk out (λ m. (fault ≢ NoMemory) × (m ≡ None)))
-      → (made : T) → out ≡ Ok (Some made) → IfOk message P → P made
-  message_some message out ok error made is p =
-      subst (λ (r : Result T StoreFault). IfOk r P) (message_is message out ok error made is) p
-
 module _ {T : Type 0} (Q : Type 0) where
   pub message_on : (message : Result T StoreFault) (out : Result (Option T) AllocError)
       → IfOk message (λ m. out ≡ Ok (Some m)) → IfErr message (λ fault. IfOk out (λ m. (fault ≢ NoMemory) × (m ≡ None)))
       → (made : T) → out ≡ Ok (Some made) → OnOk message Q → Q
   message_on message out ok error made is q =
       subst (λ (r : Result T StoreFault). OnOk r Q) (message_is message out ok error made is) q
-
-module _ {T : Type 0} (Q : Type 0) where
-  pub message_off : (message : Result T StoreFault) (out : Result (Option T) AllocError)
-      → IfOk message (λ m. out ≡ Ok (Some m)) → out ≡ Ok None → OnErr message Q → Q
-  message_off (Ok m) out ok is q =
-      let wrong = sym ok ∙ is in
-      absurd (cc)
-  message_off (Err fault) out ok is q = q
 
 pub record IsRefusedMessage (Q : StoreFault → Type 0) : Type 0 where
   pub fault : StoreFault
@@ -300,114 +376,84 @@ module _ {T : Type 0} (Q : StoreFault → Type 0) where
 
 -- ---- what is read from the plan of an accepted change
 
-pub plan_on_store : (s t : StoreData) (p : ChangeData) (encoding : Encoding) (plan : Plan) → t ≡ s
-    → IsPlanOf s p.uri p.version encoding (map content_change_from_data p.changes) plan
-    → IsPlanOf t p.uri p.version encoding (map content_change_from_data p.changes) plan
-plan_on_store s t p encoding plan same q =
-    subst (λ (d : StoreData). IsPlanOf d p.uri p.version encoding (map content_change_from_data p.changes) plan)
-    (sym same) q
-
 on_same : (store : StoreData) (plan : Plan) (a b : IsPlanOn store plan) → a.entry ≡ b.entry
 on_same store plan a b = let both : Some a.entry ≡ Some b.entry = sym a.at ∙ b.at in cc
 
-reached_on : (squash : SquashData) (store : StoreData) (plan : Plan) (a b : IsPlanOn store plan)
-    → HasReached squash a.entry → HasReached squash b.entry
-reached_on squash store plan a b at = subst (HasReached squash) (on_same store plan a b) at
+module _ (server : ServerData) (p : ChangeData) {plan : Plan} (q : IsPlanOfChange server p plan) {store : StoreData}
+    (same : store ≡ store_of server) where
+  abbrev changes : List ContentChange
+  changes = map content_change_from_data p.changes
 
-module _ (server : ServerData) (p : ChangeData) (plan : Plan) (q : IsPlanOfChange server p plan) where
-  pub plan_body_if : change_body_if server p ≡ Some (canonical_change_body server p)
-  plan_body_if = rw q.accepted refl
+  -- the plan, on the documents as the store has them
+  pub plan_at : IsPlanOf store p.uri p.version (session_encoding server) changes plan
+  plan_at = subst (λ (d : StoreData). IsPlanOf d p.uri p.version (session_encoding server) changes plan) (sym same) q
 
-  -- what is said of a plan on the store is said of its change
-  module _ (store : StoreData) (same : store ≡ store_of server) where
-    pub plan_written : (a : Appended) (old new : List ℕ)
-        → ((uri : List ℕ) (version : ℤ) (encoding : Encoding) (batch : List ContentChange)
-        → IsPlanOf store uri version encoding
-        batch plan
-        → IsAppended store.limits.max_body (Some (canonical_body (units_in encoding) store.table uri version batch))
-        (Some a) old new)
-        → IsAppended server.config.limits.max_body (change_body_if server p) (Some a) old new
-    plan_written a old new appended =
-        let written = appended p.uri p.version (session_encoding server) (map content_change_from_data p.changes)
-        (plan_on_store (store_of server) store p (session_encoding server) plan same q) in
-        subst (λ (b : Option (List ℕ)). IsAppended server.config.limits.max_body b (Some a) old new) (sym plan_body_if)
-        (subst (λ (d : StoreData). IsAppended d.limits.max_body
-        (Some (canonical_body (units_in (session_encoding server)) d.table p.uri p.version
-        (map content_change_from_data p.changes))) (Some a) old new) same written)
+  abbrev entry : DocumentItem
+  entry = plan_at.on.entry
 
-    pub plan_kept : (Q : Type 0) → ((uri : List ℕ) (version : ℤ) (encoding : Encoding) (batch : List ContentChange)
-        → IsPlanOf store uri version encoding batch plan → Q) → Q
-    plan_kept Q kept = kept p.uri p.version (session_encoding server) (map content_change_from_data p.changes)
-        (plan_on_store (store_of server) store p (session_encoding server) plan same q)
+  is_open : entry_at server.table p.uri ≡ Some entry
+  is_open = ap (λ (d : StoreData). entry_at d.table p.uri) (sym same) ∙ plan_at.is_open
 
-    pub plan_document : (document : DocumentItem) → ((on : IsPlanOn store plan) → document ≡ on.entry) → document
-        ≡ q.on.entry
-    plan_document document found = (subst (λ (d : StoreData). (on : IsPlanOn d plan) → document ≡ on.entry) same found)
-        q.on
+  -- its canonical message
+  pub plan_written : (a : Appended) (old new : List ℕ)
+      → ((uri : List ℕ) (version : ℤ) (encoding : Encoding) (batch : List ContentChange)
+      → IsPlanOf store uri version encoding batch plan
+      → IsAppended store.limits.max_body (Some (canonical_body (units_in encoding) store.table uri version batch))
+      (Some a) old new)
+      → IsAppended server.config.limits.max_body (Some (canonical_change_body server p)) (Some a) old new
+  plan_written a old new appended =
+      subst (λ (d : StoreData). IsAppended d.limits.max_body
+      (Some (canonical_body (units_in (session_encoding server)) d.table p.uri p.version changes)) (Some a) old new)
+      same (appended p.uri p.version (session_encoding server) changes plan_at)
 
-    pub plan_on : IsPlanOn store plan
-    plan_on = subst (λ (d : StoreData). IsPlanOn d plan) (sym same) q.on
-
-  pub plan_framed : (bytes : List ℕ) → IsMessageOfPlan (store_of server) plan bytes → IsFramed server p bytes
+  pub plan_framed : (bytes : List ℕ) → IsMessageOfPlan store plan bytes → IsFramed server p bytes
   plan_framed bytes message =
-      let both = message p.uri p.version (session_encoding server) (map content_change_from_data p.changes) q in
+      let on_server = subst (λ (d : StoreData). IsMessageOfPlan d plan bytes) same message in
+      let both = on_server p.uri p.version (session_encoding server) changes q in
       record { is = both.0; within = within server.config.limits _ _ q.accepted both.1 }
 
-  pub plan_too_long : (fault : StoreFault) → fault ≢ NoMemory → IsMessageFault (store_of server) plan fault
+  pub plan_too_long : (fault : StoreFault) → fault ≢ NoMemory → IsMessageFault store plan fault
       → server.config.limits.max_body < length (canonical_change_body server p)
   plan_too_long fault other why =
-      (over server.config.limits _ _ fault q.accepted other (why p.uri p.version (session_encoding server)
-      (map content_change_from_data p.changes) q)).0
+      let on_server = subst (λ (d : StoreData). IsMessageFault d plan fault) same why in
+      (over server.config.limits _ _ fault q.accepted other (on_server p.uri p.version (session_encoding server)
+      changes q)).0
 
-  -- the batches that are open afterwards
-  module _ (next : SquashData) where
-    pub plan_begun : IsSquashOfPlan (store_of server) plan (squash_of server.config.limits (session_encoding server)
-        q.on.entry) next → IsBegun server p next × IsOpenIn (server_after server p) next
-    plan_begun added =
-        let both = added p.uri p.version (session_encoding server) (map content_change_from_data p.changes) q refl
-        refl in (
-          is_begun server p q.on.entry q.is_open next both.0,
-          begun_open server p q.on.entry q.is_open next both.0 both.1,
+  -- the batches that it begins
+  pub plan_begun : {limits : LimitsData} {encoding : Encoding} {document : DocumentItem} {before next : SquashData}
+      → limits ≡ store.limits → encoding ≡ session_encoding server
+      → ((on : IsPlanOn store plan) → document ≡ on.entry) → before ≡ squash_of limits encoding document
+      → IsSquashOfPlan store plan before next
+      → IsBegun server p next × IsOpenIn (server_after server p) next
+  plan_begun {encoding = encoding} {document = document} {before = before} {next = next} limits_is encoding_is document_is begun added =
+      let same_limits : store.limits ≡ server.config.limits = ap (λ (d : StoreData). d.limits) same in
+      let is : before ≡ squash_of server.config.limits (session_encoding server) entry =
+      begun ∙ ap (λ (l : LimitsData). squash_of l encoding document) (limits_is ∙ same_limits)
+      ∙ ap (λ (e : Encoding). squash_of server.config.limits e document) encoding_is
+      ∙ ap (squash_of server.config.limits (session_encoding server)) (document_is plan_at.on) in
+      let from_here = subst (λ (k : SquashData). IsSquashOfPlan store plan k next) is added in
+      let both = from_here p.uri p.version (session_encoding server) changes plan_at refl (sym same_limits) in (
+        is_begun server p entry is_open next both.0,
+        begun_open server p entry is_open next both.0 both.1,
+      )
+
+  -- the open series, if it is of the same document, and the batches with it
+  module _ {squash : SquashData} (at : IsOpenIn server squash) (uri : p.uri ≡ squash.uri) where
+    pub plan_reached : (on : IsPlanOn store plan) → HasReached squash on.entry
+    plan_reached on =
+        subst (HasReached squash) (same_entry server squash p.uri entry at uri is_open ∙ on_same store plan plan_at.on
+        on) at.reached
+
+    pub plan_longer : (next : SquashData) → IsSquashOfPlan store plan squash next
+        → IsLonger (Some squash) p next × IsOpenIn (server_after server p) next
+    plan_longer next added =
+        let both = added p.uri p.version (session_encoding server) changes plan_at at.encoding
+        (at.limits ∙ ap (λ (d : StoreData). d.limits) (sym same)) in
+        let left = subst (λ (e : Encoding). HasReached next (changed_entry (units_in e) entry p.version changes))
+        (sym at.encoding) both.1 in (
+          is_longer server p entry is_open squash next uri both.0,
+          longer_open server p entry is_open squash next at uri both.0 left,
         )
-
-    pub plan_longer : (squash : SquashData) → IsOpenIn server squash → p.uri ≡ squash.uri
-        → IsSquashOfPlan (store_of server) plan squash next → IsLonger (Some squash) p next
-        × IsOpenIn (server_after server p) next
-    plan_longer squash at same added =
-        let both = added p.uri p.version (session_encoding server) (map content_change_from_data p.changes) q
-        at.encoding
-        at.limits in
-        let left = subst (λ (e : Encoding). HasReached next (changed_entry (units_in e) q.on.entry p.version
-        (map content_change_from_data p.changes))) (sym at.encoding) both.1 in (
-          is_longer server p q.on.entry q.is_open squash next same both.0,
-          longer_open server p q.on.entry q.is_open squash next at same both.0 left,
-        )
-
-  -- the document that the plan is of is the open series's
-  pub plan_reached : (squash : SquashData) (at : IsOpenIn server squash) → p.uri ≡ squash.uri
-      → HasReached squash q.on.entry
-  plan_reached squash at same = subst (HasReached squash) (same_entry server squash p.uri q.on.entry at same q.is_open)
-      at.reached
-
-  module _ (store : StoreData) (same : store ≡ store_of server) where
-    pub plan_reached_on : (squash : SquashData) → IsOpenIn server squash → p.uri ≡ squash.uri
-        → (on : IsPlanOn store plan) → HasReached squash on.entry
-    plan_reached_on squash at uri =
-        subst (λ (d : StoreData). (on : IsPlanOn d plan) → HasReached squash on.entry) (sym same)
-        (λ (on : IsPlanOn (store_of server) plan). reached_on squash (store_of server) plan q.on on
-        (plan_reached squash at uri))
-
-    pub plan_started : (before next : SquashData) → before ≡ squash_of server.config.limits (session_encoding server)
-        q.on.entry → IsSquashOfPlan store plan before next → IsBegun server p next × IsOpenIn (server_after server p)
-        next
-    plan_started before next begun added =
-        plan_begun next (subst (λ (k : SquashData). IsSquashOfPlan (store_of server) plan k next) begun
-        (subst (λ (d : StoreData). IsSquashOfPlan d plan before next) same added))
-
-    pub plan_continued : (squash next : SquashData) → IsOpenIn server squash → p.uri ≡ squash.uri
-        → IsSquashOfPlan store plan squash next → IsLonger (Some squash) p next × IsOpenIn (server_after server p) next
-    plan_continued squash next at uri added =
-        plan_longer next squash at uri (subst (λ (d : StoreData). IsSquashOfPlan d plan squash next) same added)
 
 module _ (store : StoreData) (plan : Plan) where
   pub body_appended : (old new : List ℕ) (uri : List ℕ) (version : ℤ) (encoding : Encoding) (batch : List ContentChange)
@@ -417,16 +463,6 @@ module _ (store : StoreData) (plan : Plan) where
   body_appended old new uri version encoding batch q body =
       let both = body uri version encoding batch q in
       (both.0, within store.limits _ _ q.accepted both.1)
-
-  pub body_kept : (old new : List ℕ) (uri : List ℕ) (version : ℤ) (encoding : Encoding) (batch : List ContentChange)
-      → IsPlanOf store uri version encoding batch plan → IsBodyOfPlan store plan old new → length old ≤ length new
-  body_kept old new uri version encoding batch q body =
-      let both = body uri version encoding batch q in
-      omega (
-        arith,
-        ap length both.0,
-        length-append old (canonical_body (units_in encoding) store.table uri version batch),
-      )
 
   pub body_too_long : (fault : StoreFault) → fault ≢ NoMemory → IsMessageFault store plan fault
       → (uri : List ℕ) (version : ℤ) (encoding : Encoding) (batch : List ContentChange)

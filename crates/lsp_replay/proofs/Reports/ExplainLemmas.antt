@@ -1,20 +1,32 @@
 -- A line of `check --explain`, as it is written.
 use Rattle.std.proofs.Common.{◌≡◌, ℕ, List, [], ◌++◌, refl, ap, ◌∙◌}
+use Rattle.lsp_frame.specs.Limits.{LimitsData}
 use Rattle.lsp_message.specs.Message.{reading}
 use Rattle.lsp_server.specs.Incoming.{incoming_of}
 use Rattle.lsp_log.specs.Log.{Record}
-use Rattle.lsp_replay.specs.declared.session.known.Noted.{Noted}
+use Rattle.lsp_replay.specs.declared.facts.Facts.{Facts}
 use Rattle.lsp_replay.specs.Explained.{explained_line}
-use Rattle.lsp_replay.specs.Lines.{Known}
+use Rattle.lsp_replay.specs.Lines.{Known, uri_of}
+use Rattle.lsp_replay.specs.Mentions.{last_for}
 use Rattle.lsp_replay.specs.Session.{Session, judge}
-use Rattle.lsp_replay.specs.inside.Explained.{line_by}
-use Rattle.lsp_replay.specs.inside.Known.{IsNoted}
+use Rattle.lsp_replay.specs.inside.Facts.{AreFacts, explained_by}
+use Rattle.lsp_replay.proofs.Reports.ReasonLemmas.{explained_at}
 
-pub line_is : (known : Known) (s : Session) (r : Record) (t : Session) → t ≡ (judge s r).session → (noted : Noted)
-    → IsNoted known s r.head r.body noted
-    → (old bytes : List ℕ) → old ≡ [] → bytes ≡ old ++ line_by t (incoming_of (reading r.body)) noted
+pub line_is : (known : Known) (s : Session) (r : Record) (limits : LimitsData)
+    → limits ≡ (judge s r).session.server.config.limits → (facts : Facts) → AreFacts known s r.head r.body facts
+    → (old bytes : List ℕ) → old ≡ [] → bytes ≡ old ++ explained_by limits facts
     → bytes ≡ explained_line known s r (judge s r) (incoming_of (reading r.body))
-line_is known s r t session noted is old bytes empty bytes_is =
-    let m = incoming_of (reading r.body) in
-    bytes_is ∙ ap (λ (bs : List ℕ). bs ++ line_by t m noted) empty ∙ ap (λ (u : Session). line_by u m noted) session
-    ∙ rw (is.verdict, is.uri, is.last, is.notes) refl
+line_is known s r limits limits_are facts are old bytes empty bytes_is =
+    let uri = uri_of r.head.side (incoming_of (reading r.body)) in
+    bytes_is ∙ ap (λ (bs : List ℕ). bs ++ explained_by limits facts) empty
+    ∙ ap (λ (l : LimitsData). explained_by l facts) limits_are
+    ∙ rw (
+      are.number,
+      are.verdict,
+      are.uri,
+      are.last,
+      are.notes,
+      are.change,
+      explained_at (judge s r).session.server.config.limits uri (last_for known.mentions uri (judge s r).verdict) s
+          r.head r.body,
+    ) refl

@@ -183,9 +183,6 @@ module _ (units : ℕ → ℕ) (text : List ℕ) (utf8 : IsUtf8 text) (range : R
     range_long above = ap (λ (r : Result (List ℕ) BatchFault). result_ok r)
         (range_too_long units text utf8 range new new_utf8 start stop places 1073741824 (omega (arith, len, above)))
 
-    pub range_len : longer ≤ 1073741824 → length (replace_range text start stop new) ≤ 1073741824
-    range_len fits = omega (arith, len, fits)
-
 -- A change, by what the reader returns of it.
 pub edits_read : (changes : List Change) → map content_change_from_data (map content_change_view changes)
     ≡ map content_change changes
@@ -243,10 +240,6 @@ module _ (terms : Terms) (all : List Note) (index : ℕ) (change : Change) (rest
   pub noting_ends : left_by terms.units left (content_change change) ≡ None → next ≡ all
   noting_ends leaves = sym (append-nil next) ∙ (rw leaves at here)
 
-pub noting_done : (terms : Terms) (all : List Note) (index : ℕ) (rest : List Change) (left : List ℕ) (notes : List Note)
-    → rest ≡ [] → Noting terms all index rest left notes → notes ≡ all
-noting_done terms all index rest left notes none noting = sym (append-nil notes) ∙ (rw none at noting.noted)
-
 -- ---- in words
 
 -- How far the notes after the first were written.
@@ -263,7 +256,3 @@ writing_on all between buffer one two note rest more is writing first second =
   where
     parts : (b w n r : List ℕ) → ((b ++ w) ++ n) ++ r ≡ b ++ ((w ++ n) ++ r)
     parts b w n r = simp append_assoc
-
-pub writing_done : (all between buffer : List ℕ) (rest : List Note) → rest ≡ [] → Writing all between rest buffer
-    → buffer ≡ all
-writing_done all between buffer rest none writing = sym (append-nil buffer) ∙ (rw none at writing)

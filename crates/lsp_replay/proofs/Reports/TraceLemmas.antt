@@ -12,15 +12,17 @@ use Rattle.lsp_log.specs.declared.record.Sender.{Sender}
 use Rattle.lsp_log.specs.declared.record.Sender.TheVariants.{Client, Server}
 use Rattle.lsp_log.specs.Log.{Record}
 use Rattle.lsp_replay.specs.declared.commands.traced.Details.{Details}
-use Rattle.lsp_replay.specs.declared.session.tracing.Traced.{Traced}
-use Rattle.lsp_replay.specs.declared.session.writing.Appended.{Appended}
-use Rattle.lsp_replay.specs.declared.session.writing.Appended.TheVariants.{Body, TooLong}
+use Rattle.lsp_replay.specs.declared.facts.Facts.{Facts}
+use Rattle.lsp_replay.specs.declared.session.canonical.Appended.{Appended}
+use Rattle.lsp_replay.specs.declared.session.canonical.Appended.TheVariants.{Body, TooLong}
+use Rattle.lsp_replay.specs.declared.session.canonical.Canonical.{Canonical}
 use Rattle.lsp_replay.specs.Commands.{canonical_of_record}
 use Rattle.lsp_replay.specs.Lines.{Known}
 use Rattle.lsp_replay.specs.Session.{Session, bad, Judged, judged, judge, judge_from, judge_client, judge_server, encoding_for, handled, is_ended, is_early}
-use Rattle.lsp_replay.specs.Trace.{first_members, trace_line, within}
-use Rattle.lsp_replay.specs.inside.Tracing.{IsTraced, canonical_json, members_by}
+use Rattle.lsp_replay.specs.Trace.{first_members, is_json, trace_line, within}
+use Rattle.lsp_replay.specs.inside.Facts.{AreFacts, canonical_json, members_by}
 use Rattle.lsp_replay.specs.inside.Verdicts.{IsAppended}
+use Rattle.lsp_replay.proofs.Reports.ReasonLemmas.{reason_at}
 
 -- ---- one record more was judged
 
@@ -63,33 +65,41 @@ canonical_is max_body (Some body) (Some TooLong) new is = rw (lt-ltb max_body (l
 
 -- A line by its two halves, as they are written one after the other.
 module _ (details : Details) (known : Known) (s : Session) (r : Record) (t : Session)
-    (session : t ≡ (judge s r).session) (traced : Traced) (before new : List ℕ) (cleared : before ≡ [])
-    (is : IsTraced known s r.head r.body before new traced) where
+    (session : t ≡ (judge s r).session) (facts : Facts) (are : AreFacts known s r.head r.body facts)
+    (canonical : Canonical) (before : List ℕ) (cleared : before ≡ [])
+    (appended : IsAppended s.server.config.limits.max_body (canonical_of_record s r.body (judge s r).verdict)
+    canonical.appended before canonical.bytes.items) where
   abbrev m : IncomingData
   m = incoming_of (reading r.body)
 
   abbrev max_body : ℕ
   max_body = s.server.config.limits.max_body
 
-  abbrev canonical : Option (List ℕ)
-  canonical = canonical_of_record s r.body (judge s r).verdict
+  shown : canonical_json canonical.appended canonical.bytes.items
+      ≡ within max_body (canonical_of_record s r.body (judge s r).verdict)
+  shown = canonical_is max_body (canonical_of_record s r.body (judge s r).verdict) canonical.appended
+      canonical.bytes.items
+      (subst (λ (b : List ℕ). IsAppended max_body (canonical_of_record s r.body (judge s r).verdict)
+      canonical.appended b canonical.bytes.items) cleared appended)
 
-  pub line_is : (old first bytes : List ℕ) → old ≡ [] → first ≡ old ++ first_members (one_more s.records) r.head m
-      → bytes ≡ first ++ members_by details t m traced new r.body
+  pub line_is : (json : Bool) → json ≡ is_json m → (old first bytes : List ℕ) → old ≡ []
+      → first ≡ old ++ first_members (one_more s.records) r.head m
+      → bytes ≡ first ++ members_by details t canonical json facts r.body
       → bytes ≡ trace_line details known s r (judge s r) m
-  line_is old first bytes empty first_is bytes_is =
+  line_is json json_is old first bytes empty first_is bytes_is =
       bytes_is
-      ∙ ap (λ (bs : List ℕ). bs ++ members_by details t m traced new r.body)
+      ∙ ap (λ (bs : List ℕ). bs ++ members_by details t canonical json facts r.body)
       (first_is ∙ ap (λ (bs : List ℕ). bs ++ first_members (one_more s.records) r.head m) empty
       ∙ ap (λ (n : ℕ). first_members n r.head m) (sym (one_more_record s r)))
-      ∙ ap (λ (u : Session). first_members (judge s r).session.records r.head m ++ members_by details u m traced new
-      r.body) session
+      ∙ ap (λ (u : Session). first_members (judge s r).session.records r.head m ++ members_by details u canonical json
+      facts r.body) session
       ∙ rw (
-        is.noted.verdict,
-        is.noted.uri,
-        is.noted.last,
-        is.is_json,
-        is.noted.notes,
-        canonical_is max_body canonical traced.canonical new
-            (subst (λ (b : List ℕ). IsAppended max_body canonical traced.canonical b new) cleared is.canonical),
+        are.verdict,
+        are.uri,
+        are.last,
+        json_is,
+        are.notes,
+        are.change,
+        reason_at (judge s r).session.server.config.limits s r.head r.body,
+        shown,
       ) refl

@@ -8,18 +8,15 @@ use Rattle.lsp_replay.specs.declared.commands.Settings.{Settings}
 use Rattle.lsp_replay.specs.declared.outcome.Outcome.{Outcome}
 use Rattle.lsp_stream.specs.declared.fault.EngineFault.{EngineFault}
 use Rattle.lsp_stream.specs.declared.fault.EngineFault.TheVariants.{BodyTooLong}
-use Rattle.lsp_stream.specs.Ports.{Ports}
-use Rattle.lsp_log.specs.Log.{Record}
+use Rattle.lsp_log.specs.Log.{LogRules, Record}
 use Rattle.lsp_replay.specs.RunOutput.{RunOutput}
 use Rattle.lsp_replay.specs.Session.{Session, Verdict, answered, recorded, bad, judge, opened}
 use Rattle.lsp_replay.specs.Engine.{PortState, all_of}
 use Rattle.lsp_replay.specs.inside.Engine.{Ran, AtEnd, Stopped}
-use Rattle.lsp_replay.specs.Commands.{RecordOutput, writes, ends, followed_by, unless_bad, normalising, written, canonical_of_record, front_of, canonical_output, converting, line_before, reply_record, as_log, as_converted, log_config, canonical_log, converted}
+use Rattle.lsp_replay.specs.Commands.{RecordOutput, writes, ends, followed_by, unless_bad, normalising, written, canonical_of_record, front_of, canonical_output, converting, line_before, reply_record, as_log, as_converted, log_config, canonical_log, converted, report}
 use Rattle.lsp_replay.specs.inside.Commands.{run_output_in}
 use Rattle.lsp_replay.specs.laws.Written.{IsCanonicalLog, IsConverted, IsSquashed, Wrote}
-use Rattle.lsp_replay.specs.Squashed.{squashed}
-use Rattle.lsp_replay.specs.Run.{IsEngineRun}
-use Rattle.lsp_replay.specs.inside.Run.{squash_engine}
+use Rattle.lsp_replay.specs.Squashed.{normalised, normalised_if, squashed}
 use Rattle.lsp_replay.specs.inside.Squashed.{squashed_steps}
 use Rattle.lsp_replay.proofs.Squash.SeriesLemmas.{squashed_is}
 use Rattle.lsp_replay.proofs.Squash.SquashedLemmas.{stops_alike}
@@ -45,8 +42,8 @@ unless_not_ok r (answered answer) g not_ok = not_ok
 unless_not_ok r recorded g not_ok = not_ok
 unless_not_ok r bad g not_ok = tt
 
-written_not_ok : (max_body : ℕ) (r : Record) (front : List ℕ) (normalised : Option (List ℕ))
-    → IsNotOk (written max_body r front normalised).end
+written_not_ok : (max_body : ℕ) (r : Record) (front : List ℕ) (canonical : Option (List ℕ))
+    → IsNotOk (written max_body r front canonical).end
 written_not_ok max_body r front None = tt
 written_not_ok max_body r front (Some body) = by (nat_lt max_body (length body))
   where
@@ -74,45 +71,77 @@ converted_not_ok s (r ∷ rs) =
     (run_output_in converting (judge s r).session rs)
     (unless_not_ok r (judge s r).verdict g tt) (converted_not_ok (judge s r).session rs)
 
-pub stops_not_ok : (stop : Option (Result Outcome EngineFault)) (outcome : Outcome) → IsNotOk stop
+stops_not_ok : (stop : Option (Result Outcome EngineFault)) (outcome : Outcome) → IsNotOk stop
     → stop ≢ Some (Ok outcome)
 stops_not_ok None outcome not_ok e = absurd (cc)
 stops_not_ok (Some (Ok other)) outcome not_ok e = not_ok
 stops_not_ok (Some (Err fault)) outcome not_ok e = absurd (cc)
 
+-- ---- where no record ends the run well, an outcome is that of the end
+
+module _ (log_rules : LogRules) (g : List Record → RunOutput) (never : (rs : List Record) → IsNotOk (g rs).stop)
+    (Q : Outcome → Type 0) (left_old left_new received_old received_new : Option (List ℕ))
+    (finish : (input : List ℕ) (outcome : Outcome) → AtEnd log_rules g input received_old received_new outcome
+    → Consumes left_old left_new input → Q outcome) where
+  pub at_the_end : (state : PortState) (result : Result Outcome EngineFault)
+      → Ran log_rules g state left_old left_new received_old received_new result → IfOk result Q
+  at_the_end state (Err fault) ran = tt
+  at_the_end state (Ok outcome) ran =
+      ⊎_elim
+      (λ (stopped : Stopped log_rules g ran.input received_old received_new (Ok outcome)).
+      absurd (stops_not_ok (g stopped.log.records).stop outcome (never stopped.log.records) stopped.stops))
+      (λ (end : (state.ended ≡ true) × AtEnd log_rules g ran.input received_old received_new outcome).
+      finish ran.input outcome end.1 ran.read)
+      ran.came
+
+-- ---- what the engines write
+
+squashed_not_ok : (settings : Settings) (rs : List Record) → IsNotOk (squashed settings rs).stop
+squashed_not_ok settings rs = subst IsNotOk (sym (stops_alike settings rs).0)
+    (normal_not_ok (opened (log_config settings)) rs)
+
 module _ (settings : Settings) (ranges : AreInRange settings.limits)
     (left_old left_new received_old received_new : Option (List ℕ)) where
-  normal_at_end : (input : List ℕ) (outcome : Outcome) → AtEnd (as_log settings) (canonical_log settings) input
-      received_old received_new outcome → Consumes left_old left_new input
-      → Wrote settings (IsCanonicalLog settings) left_old left_new received_old received_new outcome
-  normal_at_end input outcome end read =
-      let holds : IsCanonicalLog settings end.log.records (all_of (canonical_log settings) end.log) =
-      canonical_log_law settings ranges input end.log end.reads end.whole end.continues in
-      record {
-        input = input;
-        read = read;
-        log = end.log;
-        reads = end.reads;
-        whole = end.whole;
-        reports = end.reports ∙ holds.outcome;
-        bytes = all_of (canonical_log settings) end.log;
-        wrote = end.wrote;
-        holds = holds;
-      }
+  wrote_by : (g : List Record → RunOutput) (Holds : List Record → List ℕ → Type 0) (input : List ℕ)
+      (outcome : Outcome) → (end : AtEnd (as_log settings) g input received_old received_new outcome)
+      → Consumes left_old left_new input → (g end.log.records).outcome ≡ (report settings end.log.records).outcome
+      → Holds end.log.records (all_of g end.log)
+      → Wrote settings Holds left_old left_new received_old received_new outcome
+  wrote_by g Holds input outcome end read same holds = record {
+    input = input;
+    read = read;
+    log = end.log;
+    reads = end.reads;
+    whole = end.whole;
+    reports = end.reports ∙ same;
+    bytes = all_of g end.log;
+    wrote = end.wrote;
+    holds = holds;
+  }
 
   pub wrote_normal : (state : PortState) (result : Result Outcome EngineFault)
       → Ran (as_log settings) (canonical_log settings) state left_old left_new received_old received_new result
       → IfOk result (Wrote settings (IsCanonicalLog settings) left_old left_new received_old received_new)
-  wrote_normal state (Err fault) ran = tt
-  wrote_normal state (Ok outcome) ran =
-      ⊎_elim
-      (λ (stopped : Stopped (as_log settings) (canonical_log settings) ran.input received_old received_new
-      (Ok outcome)).
-      absurd (stops_not_ok (canonical_log settings stopped.log.records).stop outcome
-      (normal_not_ok (opened (log_config settings)) stopped.log.records) stopped.stops))
-      (λ (end : (state.ended ≡ true) × AtEnd (as_log settings) (canonical_log settings) ran.input received_old
-      received_new outcome). normal_at_end ran.input outcome end.1 ran.read)
-      ran.came
+  wrote_normal =
+      at_the_end (as_log settings) (canonical_log settings) (normal_not_ok (opened (log_config settings)))
+      (Wrote settings (IsCanonicalLog settings) left_old left_new received_old received_new) left_old left_new
+      received_old received_new
+      (λ input outcome end read.
+      let holds : IsCanonicalLog settings end.log.records (all_of (canonical_log settings) end.log) =
+      canonical_log_law settings ranges input end.log end.reads end.whole end.continues in
+      wrote_by (canonical_log settings) (IsCanonicalLog settings) input outcome end read holds.outcome holds)
+
+  pub wrote_squashed : (state : PortState) (result : Result Outcome EngineFault)
+      → Ran (as_log settings) (squashed settings) state left_old left_new received_old received_new result
+      → IfOk result (Wrote settings (IsSquashed settings) left_old left_new received_old received_new)
+  wrote_squashed =
+      at_the_end (as_log settings) (squashed settings) (squashed_not_ok settings)
+      (Wrote settings (IsSquashed settings) left_old left_new received_old received_new) left_old left_new
+      received_old received_new
+      (λ input outcome end read.
+      let holds : IsSquashed settings end.log.records (all_of (squashed settings) end.log) =
+      squashed_law settings ranges input end.log end.reads end.whole end.continues in
+      wrote_by (squashed settings) (IsSquashed settings) input outcome end read holds.outcome holds)
 
   converted_at_end : (input : List ℕ) (outcome : Outcome) → AtEnd (as_converted settings) (converted settings) input
       received_old received_new outcome → Consumes left_old left_new input
@@ -140,76 +169,21 @@ module _ (settings : Settings) (ranges : AreInRange settings.limits)
   pub wrote_converted : (state : PortState) (result : Result Outcome EngineFault)
       → Ran (as_converted settings) (converted settings) state left_old left_new received_old received_new result
       → IfOk result (Wrote settings (IsConverted settings) left_old left_new received_old received_new)
-  wrote_converted state (Err fault) ran = tt
-  wrote_converted state (Ok outcome) ran =
-      ⊎_elim
-      (λ (stopped : Stopped (as_converted settings) (converted settings) ran.input received_old received_new
-      (Ok outcome)).
-      absurd (stops_not_ok (converted settings stopped.log.records).stop outcome
-      (converted_not_ok (opened (log_config settings)) stopped.log.records) stopped.stops))
-      (λ (end : (state.ended ≡ true) × AtEnd (as_converted settings) (converted settings) ran.input received_old
-      received_new outcome). converted_at_end ran.input outcome end.1 ran.read)
-      ran.came
+  wrote_converted =
+      at_the_end (as_converted settings) (converted settings) (converted_not_ok (opened (log_config settings)))
+      (Wrote settings (IsConverted settings) left_old left_new received_old received_new) left_old left_new
+      received_old received_new converted_at_end
 
--- ---- `normalise` with squash
+-- ---- `normalise` with its settings, by what the code makes
 
-squashed_not_ok : (settings : Settings) (rs : List Record) → IsNotOk (squashed settings rs).stop
-squashed_not_ok settings rs = subst IsNotOk (sym (stops_alike settings rs).0)
-    (normal_not_ok (opened (log_config settings)) rs)
+module _ (settings : Settings) (P : (List Record → RunOutput) → Type 0) where
+  pub as_each : settings.squash ≡ false → P (canonical_log settings) → P (normalised settings)
+  as_each each p = subst (λ (b : Bool). P (normalised_if b settings)) (sym each) p
 
-module _ (settings : Settings) (ranges : AreInRange settings.limits)
-    (left_old left_new received_old received_new : Option (List ℕ)) where
-  squashed_at_end : (input : List ℕ) (outcome : Outcome) → AtEnd (as_log settings) (squashed settings) input
-      received_old received_new outcome → Consumes left_old left_new input
-      → Wrote settings (IsSquashed settings) left_old left_new received_old received_new outcome
-  squashed_at_end input outcome end read =
-      let holds : IsSquashed settings end.log.records (all_of (squashed settings) end.log) =
-      squashed_law settings ranges input end.log end.reads end.whole end.continues in
-      record {
-        input = input;
-        read = read;
-        log = end.log;
-        reads = end.reads;
-        whole = end.whole;
-        reports = end.reports ∙ holds.outcome;
-        bytes = all_of (squashed settings) end.log;
-        wrote = end.wrote;
-        holds = holds;
-      }
+  pub as_steps : settings.squash ≡ true → P (squashed_steps settings) → P (normalised settings)
+  as_steps squash p =
+      subst (λ (b : Bool). P (normalised_if b settings)) (sym squash)
+      (subst (λ (f : Settings → List Record → RunOutput). P (f settings)) squashed_is p)
 
-  pub wrote_squashed : (state : PortState) (result : Result Outcome EngineFault)
-      → Ran (as_log settings) (squashed settings) state left_old left_new received_old received_new result
-      → IfOk result (Wrote settings (IsSquashed settings) left_old left_new received_old received_new)
-  wrote_squashed state (Err fault) ran = tt
-  wrote_squashed state (Ok outcome) ran =
-      ⊎_elim
-      (λ (stopped : Stopped (as_log settings) (squashed settings) ran.input received_old received_new (Ok outcome)).
-      absurd (stops_not_ok (squashed settings stopped.log.records).stop outcome
-      (squashed_not_ok settings stopped.log.records) stopped.stops))
-      (λ (end : (state.ended ≡ true) × AtEnd (as_log settings) (squashed settings) ran.input received_old received_new
-      outcome). squashed_at_end ran.input outcome end.1 ran.read)
-      ran.came
-
-  -- the same from what the code makes
-  pub wrote_steps : (state : PortState) (result : Result Outcome EngineFault)
-      → Ran (as_log settings) (squashed_steps settings) state left_old left_new received_old received_new result
-      → IfOk result (Wrote settings (IsSquashed settings) left_old left_new received_old received_new)
-  wrote_steps state result ran =
-      wrote_squashed state result
-      (subst (λ (f : Settings → List Record → RunOutput). Ran (as_log settings) (f settings) state left_old left_new
-      received_old received_new result) squashed_is ran)
-
-pub squash_run : (settings : Settings) (max_turns : ℕ) (before after : Ports) (result : Result Outcome EngineFault)
-    → IsEngineRun (record {
-      log_rules = as_log settings;
-      run_output = squashed_steps settings;
-      flushes = false;
-      in_parts = false;
-    }) max_turns before after result → IsEngineRun (squash_engine settings) max_turns before after result
-squash_run settings max_turns before after result run =
-    subst (λ (f : Settings → List Record → RunOutput). IsEngineRun (record {
-      log_rules = as_log settings;
-      run_output = f settings;
-      flushes = false;
-      in_parts = false;
-    }) max_turns before after result) squashed_is run
+  pub by_setting : (b : Bool) → settings.squash ≡ b → P (normalised settings) → P (normalised_if b settings)
+  by_setting b is p = subst (λ (c : Bool). P (normalised_if c settings)) is p

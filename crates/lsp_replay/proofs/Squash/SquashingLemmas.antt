@@ -1,19 +1,24 @@
 -- What a record gives with squash, by what is known of how it is written.
-use Rattle.std.proofs.Common.{◌≡◌, ◌≢◌, ℕ, ◌<◌, Bool, true, false, List, [], ◌++◌, length, Option, Some, None, refl, sym, ap, ◌∙◌, append_assoc, subst, nat_lt, le-ltb, lt-ltb}
-use Rattle.std.specs.Prelude.{if◌then◌else◌}
+use Rattle.std.proofs.Common.{◌≡◌, ◌≢◌, ◌⊎◌, inl, inr, ◌∷◌, ℕ, ◌<◌, Bool, true, false, List, [], ◌++◌, length, Option, Some, None, refl, sym, ap, ◌∙◌, append_assoc, subst, nat_lt, le-ltb, lt-ltb}
+use Rattle.std.specs.Prelude.{if◌then◌else◌, Err}
 use Rattle.lsp_frame.specs.Frame.{frame}
 use Rattle.lsp_message.specs.Params.{ChangeData}
 use Rattle.lsp_store.specs.Squash.{SquashData}
 use Rattle.lsp_server.specs.Answer.{reply, changed, dropped, ignored, already_ended, refused, exits}
 use Rattle.lsp_server.specs.Step.{ServerData}
 use Rattle.lsp_log.specs.Log.{Record}
-use Rattle.lsp_stream.specs.declared.fault.EngineFault.TheVariants.{BadLog, BodyTooLong}
+use Rattle.lsp_stream.specs.declared.fault.EngineFault.{EngineFault}
+use Rattle.lsp_stream.specs.declared.fault.EngineFault.TheVariants.{BadLog, BodyTooLong, NoMemory}
+use Rattle.lsp_replay.specs.Commands.{RecordOutput, followed_by, writes}
+use Rattle.lsp_replay.specs.RunOutput.{stopped}
+use Rattle.lsp_replay.specs.inside.RunOutput.{IsRecordFault, after}
 use Rattle.lsp_message.specs.Message.{reading}
 use Rattle.lsp_server.specs.Incoming.{incoming_of}
 use Rattle.lsp_replay.specs.Commands.{change_in, front_of, canonical_if, canonical_change_body}
 use Rattle.lsp_replay.specs.Session.{Session, Verdict, answered, recorded, bad, judge}
-use Rattle.lsp_replay.specs.inside.Squashed.{OpenSeries, begun, change_output, end_bytes, faulty, longer, other_step, open_bytes, series_of, squash_step, step_if}
+use Rattle.lsp_replay.specs.inside.Squashed.{IsSquashStep, OpenSeries, Squashing, Step, begun, change_output, end_bytes, faulty, longer, other_step, open_bytes, series_of, squash_step, squash_view, squashed_in, step_at, step_if}
 use Rattle.lsp_replay.specs.inside.Joining.{IsChange, IsLonger, IsOther, IsBegun}
+use Rattle.lsp_replay.proofs.Records.OutputLemmas.{output_after}
 
 -- any record but an accepted change
 pub step_other : (server : ServerData) (r : Record) (front : List ℕ) (series : Option OpenSeries) (change : Option
@@ -60,13 +65,6 @@ step_too_long server r front series change verdict p is accepted over =
     ap (λ (c : Option ChangeData). step_if server r front series c verdict) is
     ∙ ap (λ (v : Verdict). step_if server r front series (Some p) v) accepted
     ∙ rw (lt-ltb server.config.limits.max_body (length (canonical_change_body server p)) over) refl
-
-pub step_bad : (server : ServerData) (r : Record) (front : List ℕ) (series : Option OpenSeries) (change : Option
-    ChangeData)
-    (verdict : Verdict) → verdict ≡ bad
-    → step_if server r front series change verdict ≡ faulty (BadLog r.head.place)
-step_bad server r front series None verdict e = rw e refl
-step_bad server r front series (Some p) verdict e = rw e refl
 
 -- it goes on with the open series
 pub gives_longer : (server : ServerData) (p : ChangeData) (front single old_front singles : List ℕ)
@@ -229,3 +227,25 @@ module _ (s : Session) (front singles : List ℕ) (series : Option SquashData) (
           more_singles =
           rw (ends ended out ended_is out_is, same_front, more_singles, same)
           (gives_next canonical batches is (subst (λ (o : Option SquashData). IsOther o is.params) taken other) begun)
+
+-- ---- the output from a record on
+
+pub step_writes : (q next : Squashing) (r : Record) (out : List ℕ) → IsSquashStep q r out next → (more : List Record)
+    → squashed_in q.session q.series (r ∷ more) ≡ after out None (squashed_in next.session next.series more)
+step_writes q next r out is =
+    output_after squash_view q.series q.session r (writes out)
+    (ap (λ (step : Step). record { out = step.out; end = step.end }) is.step) next.series
+    (sym (ap (λ (step : Step). step.series) is.step)) next.session is.session
+
+pub step_ends : (q : Squashing) (r : Record) (fault : EngineFault) → step_at q r ≡ faulty fault → (more : List Record)
+    → squashed_in q.session q.series (r ∷ more) ≡ stopped [] (Err fault)
+step_ends q r fault is more =
+    ap (λ (step : Step). followed_by step.out step.end (squashed_in (judge q.session r).session step.series more)) is
+
+pub step_failed : (q : Squashing) (r : Record) (fault : EngineFault) → (fault ≡ NoMemory)
+    ⊎ (IsRecordFault fault × (step_at q r ≡ faulty fault))
+    → (fault ≡ NoMemory)
+    ⊎ (IsRecordFault fault × ((more : List Record) → squashed_in q.session q.series (r ∷ more) ≡ stopped [] (Err
+    fault)))
+step_failed q r fault (inl memory) = inl memory
+step_failed q r fault (inr ended) = inr (ended.0, step_ends q r fault ended.1)

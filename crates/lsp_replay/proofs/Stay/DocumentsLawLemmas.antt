@@ -9,26 +9,23 @@ use Rattle.lsp_log.specs.declared.record.Version.TheVariants.{One, Two}
 use Rattle.lsp_log.specs.Log.{Record, Log, IsReadAs, AreRecords, is_line_due, line_of, together}
 use Rattle.lsp_replay.specs.declared.commands.Settings.{Settings}
 use Rattle.lsp_replay.specs.declared.outcome.Outcome.{Outcome}
-use Rattle.lsp_replay.specs.Documents.{Kept, KeepsDocuments, WroteDocuments, documents, documents_engine, kept_records, nothing_selected, output_of_kept}
+use Rattle.lsp_replay.specs.Documents.{Kept, KeepsDocuments, WroteDocuments, documents, kept_records, nothing_selected}
 use Rattle.lsp_replay.specs.laws.Documents.{DocumentsLaw, DocumentsStopAlike}
 use Rattle.lsp_replay.specs.Engine.{PortState, all_of}
-use Rattle.lsp_replay.specs.inside.Engine.{AtEnd, Ran, Stopped}
+use Rattle.lsp_replay.specs.inside.Engine.{AtEnd, Ran}
 use Rattle.lsp_replay.specs.Commands.{as_log, canonical_log, log_config, report}
 use Rattle.lsp_replay.specs.laws.Written.{IsCanonicalLog, IsSquashed, LeavesAlike}
-use Rattle.lsp_stream.specs.Ports.{Ports}
-use Rattle.lsp_replay.specs.Run.{IsEngineRun}
 use Rattle.lsp_replay.specs.RunOutput.{RunOutput}
 use Rattle.lsp_replay.specs.Session.{Session, opened}
 use Rattle.lsp_replay.specs.Squashed.{normalised_if, squashed}
 use Rattle.lsp_replay.specs.inside.Squashed.{squashed_steps}
-use Rattle.lsp_replay.specs.inside.Documents.{each_documents_engine, each_of_kept, squashed_documents_engine, squashed_of_kept}
 use Rattle.lsp_replay.proofs.Stay.KeptLogLemmas.{IsReportedAs, are_kept, each_located, kept_due, kept_stop, located_all, located_due, reported, squash_located}
 use Rattle.lsp_replay.proofs.Canonical.NormalisedLemmas.{canonical_log_law, version_is}
 use Rattle.lsp_replay.proofs.Records.NumberedLemmas.{alike_self}
 use Rattle.lsp_replay.proofs.Squash.SquashedLemmas.{stops_alike}
 use Rattle.lsp_replay.proofs.Squash.SeriesLemmas.{squashed_is}
 use Rattle.lsp_replay.proofs.Squash.SquashedLogLemmas.{squashed_law}
-use Rattle.lsp_replay.proofs.Runs.WroteLemmas.{IsNotOk, normal_not_ok, stops_not_ok}
+use Rattle.lsp_replay.proofs.Runs.WroteLemmas.{IsNotOk, at_the_end, normal_not_ok}
 
 -- ---- where the run ends
 
@@ -201,62 +198,7 @@ module _ (settings : Settings) (ranges : AreInRange settings.limits)
   pub wrote_documents : (state : PortState) (result : Result Outcome EngineFault)
       → Ran (as_log settings) (documents settings) state left_old left_new received_old received_new result
       → IfOk result (WroteDocuments settings left_old left_new received_old received_new)
-  wrote_documents state (Err fault) ran = tt
-  wrote_documents state (Ok outcome) ran =
-      ⊎_elim
-      (λ (stopped : Stopped (as_log settings) (documents settings) ran.input received_old received_new (Ok outcome)).
-      absurd (stops_not_ok (documents settings stopped.log.records).stop outcome
-      (documents_not_ok settings stopped.log.records) stopped.stops))
-      (λ (end : (state.ended ≡ true) × AtEnd (as_log settings) (documents settings) ran.input received_old received_new
-      outcome). documents_at_end ran.input outcome end.1 ran.read)
-      ran.came
-
--- ---- the engine, without squash and with it
-
-as_each : (settings : Settings) → settings.squash ≡ false → (P : (List Record → RunOutput) → Type 0)
-    → P (each_of_kept (opened (log_config settings)) nothing_selected) → P (documents settings)
-as_each settings e P p =
-    subst (λ (b : Bool). P (λ rs. output_of_kept (normalised_if b settings) (kept_records settings rs))) (sym e) p
-
-as_squashed : (settings : Settings) → settings.squash ≡ true → (P : (List Record → RunOutput) → Type 0)
-    → P (squashed_of_kept (record { session = opened (log_config settings); series = None }) nothing_selected)
-    → P (documents settings)
-as_squashed settings e P p =
-    subst (λ (b : Bool). P (λ rs. output_of_kept (normalised_if b settings) (kept_records settings rs))) (sym e)
-    (subst (λ (f : Settings → List Record → RunOutput).
-    P (λ rs. output_of_kept (f settings) (kept_records settings rs))) squashed_is p)
-
--- What the engines wrote, and that each is the engine of these settings.
-module _ (settings : Settings) (ranges : AreInRange settings.limits)
-    (left_old left_new received_old received_new : Option (List ℕ)) (state : PortState)
-    (result : Result Outcome EngineFault) where
-  pub wrote_each : settings.squash ≡ false
-      → Ran (as_log settings) (each_of_kept (opened (log_config settings)) nothing_selected) state left_old left_new
-      received_old received_new result
-      → IfOk result (WroteDocuments settings left_old left_new received_old received_new)
-  wrote_each squash ran =
-      wrote_documents settings ranges left_old left_new received_old received_new state result
-      (as_each settings squash (λ (f : List Record → RunOutput). Ran (as_log settings) f state left_old left_new
-      received_old received_new result) ran)
-
-  pub wrote_squashed_documents : settings.squash ≡ true
-      → Ran (as_log settings) (squashed_of_kept (record { session = opened (log_config settings); series = None })
-      nothing_selected) state left_old left_new received_old received_new result
-      → IfOk result (WroteDocuments settings left_old left_new received_old received_new)
-  wrote_squashed_documents squash ran =
-      wrote_documents settings ranges left_old left_new received_old received_new state result
-      (as_squashed settings squash (λ (f : List Record → RunOutput). Ran (as_log settings) f state left_old left_new
-      received_old received_new result) ran)
-
-module _ (settings : Settings) (max_turns : ℕ) (before after : Ports) (result : Result Outcome EngineFault) where
-  abbrev RunsAs : (List Record → RunOutput) → Type 0
-  RunsAs f = IsEngineRun (record { log_rules = as_log settings; run_output = f; flushes = false; in_parts = false })
-      max_turns before after result
-
-  pub each_run : settings.squash ≡ false → IsEngineRun (each_documents_engine settings) max_turns before after result
-      → IsEngineRun (documents_engine settings) max_turns before after result
-  each_run squash run = as_each settings squash RunsAs run
-
-  pub squashed_run : settings.squash ≡ true → IsEngineRun (squashed_documents_engine settings) max_turns before after
-      result → IsEngineRun (documents_engine settings) max_turns before after result
-  squashed_run squash run = as_squashed settings squash RunsAs run
+  wrote_documents =
+      at_the_end (as_log settings) (documents settings) (documents_not_ok settings)
+      (WroteDocuments settings left_old left_new received_old received_new) left_old left_new received_old received_new
+      documents_at_end

@@ -10,7 +10,7 @@ use Rattle.lsp_server.specs.Incoming.{IncomingData, did_change, incoming_of}
 use Rattle.lsp_server.specs.Seen.{incoming_view}
 use Rattle.lsp_replay.specs.declared.session.RecordBody.{RecordBody}
 use Rattle.lsp_replay.specs.declared.session.RecordBody.TheVariants.{Client, Server}
-use Rattle.lsp_replay.specs.Commands.{change_in, canonical_if}
+use Rattle.lsp_replay.specs.Commands.{change_in}
 use Rattle.lsp_replay.specs.Session.{Session, Judged, Verdict, counted, encoding_for, judge_client, judge_server}
 
 -- What a client's record in a log of a version asks of the server, or the body of a server's
@@ -38,10 +38,6 @@ judge_read s (from_server body) = judge_server s (encoding_for s.expected (readi
 abbrev pub change_of : BodyData → Option ChangeData
 change_of (from_client version m) = change_in m
 change_of (from_server body) = None
-
--- The canonical body of a record, if it is a change that is accepted.
-abbrev pub canonical_read : Session → BodyData → Option (List ℕ)
-canonical_read s read = canonical_if s.server (change_of read) (judge_read s read).verdict
 
 -- A record is a change with these parameters that a running server is to receive.
 pub record IsReceived (s : Session) (read : BodyData) (p : ChangeData) : Type 0 where

@@ -1,5 +1,5 @@
 -- How a record is written with squash, and which batches are open after it.
-use Rattle.std.specs.Prelude.{ℕ, ◌≡◌, ◌≢◌, ◌≤◌, ◌<◌, ⊤, true, false, List, length, map, Option, Some, None}
+use Rattle.std.specs.Prelude.{ℕ, ◌≡◌, ◌≤◌, ◌<◌, ⊤, true, false, List, length, map, Option, Some, None}
 use Rattle.std.specs.Str.{bytes_eq}
 use Rattle.lsp_frame.specs.Frame.{frame}
 use Rattle.lsp_message.specs.Params.{DocumentItem, ChangeData}
@@ -9,7 +9,7 @@ use Rattle.lsp_text.specs.Units.{units_in}
 use Rattle.lsp_server.specs.Answer.{changed}
 use Rattle.lsp_server.specs.Step.{ServerData, content_change_from_data, session_encoding}
 use Rattle.lsp_replay.specs.declared.session.joining.Writing.{Writing}
-use Rattle.lsp_replay.specs.declared.session.joining.Writing.TheVariants.{AsItIs, TooLong, Continues, Begins}
+use Rattle.lsp_replay.specs.declared.session.joining.Writing.TheVariants.{TooLong, Continues, Begins}
 use Rattle.lsp_replay.specs.Commands.{canonical_if, canonical_change_body}
 use Rattle.lsp_replay.specs.Session.{Verdict, answered}
 use Rattle.lsp_replay.specs.inside.Squashed.{joined_by}
@@ -44,14 +44,6 @@ server_after server p
           = after_change (units_in (session_encoding server)) server.table p.uri p.version
           (map content_change_from_data p.changes);
     }
-
--- The canonical body of a change, unless the server refuses the change.
-abbrev pub body_unless : Option Refusal → List ℕ → Option (List ℕ)
-body_unless None body = Some body
-body_unless (Some refusal) body = None
-
-abbrev pub change_body_if : ServerData → ChangeData → Option (List ℕ)
-change_body_if server p = body_unless (refusal_of server p) (canonical_change_body server p)
 
 -- ---- a record
 
@@ -89,37 +81,38 @@ pub record IsBegun (server : ServerData) (p : ChangeData) (batches : SquashData)
       entry)
 
 -- How a record is written: as it is, as part of the open series, or as the first of a new one.
-abbrev pub IsWriting : ServerData → Option SquashData → Option ChangeData → Verdict → Writing
-    → Type 0
-IsWriting server series change verdict (AsItIs ended) = (canonical_if server change verdict ≡ None)
-    × (ended ≡ series)
-IsWriting server series change verdict TooLong =
+abbrev pub IsWriting : ServerData → Option SquashData → Option ChangeData → Verdict
+    → Option Writing → Type 0
+IsWriting server series change verdict None = canonical_if server change verdict ≡ None
+IsWriting server series change verdict (Some TooLong) =
     (p : ChangeData) × (change ≡ Some p) × (verdict ≡ answered changed)
     × (server.config.limits.max_body < length (canonical_change_body server p))
-IsWriting server series change verdict (Continues canonical batches) =
+IsWriting server series change verdict (Some (Continues canonical batches)) =
     (is : IsChange server change verdict canonical.items) × IsLonger series is.params batches
-IsWriting server series change verdict (Begins canonical ended batches) =
+IsWriting server series change verdict (Some (Begins canonical ended batches)) =
     (is : IsChange server change verdict canonical.items) × IsOther series is.params
     × (ended ≡ series) × IsBegun server is.params batches
 
 -- The batches that are open afterwards lead to the document that is open then.
 abbrev pub IsOpenAfter : ServerData → Writing → Type 0
-IsOpenAfter server (AsItIs ended) = ⊤
 IsOpenAfter server TooLong = ⊤
 IsOpenAfter server (Continues canonical batches) = IsOpenIn server batches
 IsOpenAfter server (Begins canonical ended batches) = IsOpenIn server batches
 
--- ---- the same of a change that a running server receives
+-- ---- the same of a change that a running server accepts
 
--- How a change is written, by whether the server refuses it.
+-- How the change is written.
 abbrev pub IsChangeWriting : ServerData → Option SquashData → ChangeData → Writing → Type 0
-IsChangeWriting server series p (AsItIs ended) = (refusal_of server p ≢ None) × (ended ≡ series)
-IsChangeWriting server series p TooLong = (refusal_of server p ≡ None)
-    × (server.config.limits.max_body < length (canonical_change_body server p))
+IsChangeWriting server series p TooLong =
+    server.config.limits.max_body < length (canonical_change_body server p)
 IsChangeWriting server series p (Continues canonical batches) =
-    (refusal_of server p ≡ None) × IsFramed server p canonical.items × IsLonger series p batches
+    IsFramed server p canonical.items × IsLonger series p batches
     × IsOpenIn (server_after server p) batches
 IsChangeWriting server series p (Begins canonical ended batches) =
-    (refusal_of server p ≡ None) × IsFramed server p canonical.items × IsOther series p
-    × (ended ≡ series) × IsBegun server p batches
-    × IsOpenIn (server_after server p) batches
+    IsFramed server p canonical.items × IsOther series p × (ended ≡ series)
+    × IsBegun server p batches × IsOpenIn (server_after server p) batches
+
+-- The change was joined.
+abbrev pub IsJoined : ServerData → Option SquashData → ChangeData → Option Writing → Type 0
+IsJoined server series p None = ⊥
+IsJoined server series p (Some writing) = IsChangeWriting server series p writing

@@ -2,7 +2,7 @@
 use Rattle.std.specs.Prelude.{ℕ, List, Option, option_map}
 use Rattle.std.specs.String.{string_bytes}
 use Rattle.lsp_log.specs.Log.{Record}
-use Rattle.lsp_replay.specs.declared.handler.partial.ReplayPart.{ReplayPart}
+use Rattle.lsp_replay.specs.declared.printer.partial.ReplayPart.{ReplayPart}
 use Rattle.lsp_replay.specs.Commands.{output_in}
 use Rattle.lsp_replay.specs.Parts.{PartData, last_text_in, part_data, replaying_part}
 use Rattle.lsp_replay.specs.RunOutput.{RunOutput}

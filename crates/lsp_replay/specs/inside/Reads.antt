@@ -1,42 +1,16 @@
 -- What becomes of a record whose body a session has read.
-use Rattle.std.specs.Prelude.{ℕ, ◌≡◌, ◌≢◌, Bool, true, false, ◌||◌, if◌then◌else◌, List, Option, Some, None}
+use Rattle.std.specs.Prelude.{ℕ, ◌≡◌, Bool, true, false, ◌||◌, if◌then◌else◌, List, Option, Some, None}
 use Rattle.lsp_log.specs.declared.record.Head.{Head}
 use Rattle.lsp_message.specs.Message.{IdData, reading}
-use Rattle.lsp_server.specs.Incoming.{IncomingData, incoming_of, initialize, other_request, shutdown}
-use Rattle.lsp_store.specs.Squash.{SquashData}
+use Rattle.lsp_server.specs.Incoming.{IncomingData, initialize, other_request, shutdown}
 use Rattle.lsp_replay.specs.declared.session.RecordBody.{RecordBody}
-use Rattle.lsp_replay.specs.declared.session.Verdict as declared
-use Rattle.lsp_replay.specs.declared.session.joining.Writing.{Writing}
-use Rattle.lsp_replay.specs.declared.session.selecting.Selected.{Selected}
-use Rattle.lsp_replay.specs.declared.session.writing.Appended.{Appended}
 use Rattle.lsp_replay.specs.Documents.{Selection, after_kept, after_left_out, is_answer_to, is_due, message_stays, record_stays, waiting_for}
-use Rattle.lsp_replay.specs.Commands.{canonical_of_record, change_in}
-use Rattle.lsp_replay.specs.Session.{Session, bad, same_id}
+use Rattle.lsp_replay.specs.Session.{Session, same_id}
 use Rattle.lsp_replay.specs.inside.Bodies.{BodyData, body_read, body_view, from_client, from_server}
-use Rattle.lsp_replay.specs.inside.Joining.{IsWriting}
-use Rattle.lsp_replay.specs.inside.Session.{judge_at}
-use Rattle.lsp_replay.specs.inside.Verdicts.{IsAppended, verdict_view}
 
 -- This was read of a record's body.
 abbrev pub IsReadOf : Head → List ℕ → RecordBody → Type 0
 IsReadOf head body read = body_view read ≡ body_read head.version head.side body
-
--- A record was judged, and an accepted change joined to the open series.
-pub record IsJoined (old new : Session) (series : Option SquashData) (head : Head) (body : List ℕ)
-    (verdict : declared.Verdict) (how : Writing) : Type 0 where
-  pub judged : verdict_view verdict ≡ (judge_at old head body).verdict
-  pub session : new ≡ (judge_at old head body).session
-  pub writing : verdict_view verdict ≢ bad →
-      IsWriting old.server series (change_in (incoming_of (reading body))) (verdict_view verdict)
-      how
-
--- A record was judged, and the canonical body of an accepted change appended.
-pub record IsWritten (old new : Session) (before after : List ℕ) (head : Head) (body : List ℕ)
-    (verdict : declared.Verdict) (appended : Option Appended) : Type 0 where
-  pub judged : verdict_view verdict ≡ (judge_at old head body).verdict
-  pub session : new ≡ (judge_at old head body).session
-  pub written : IsAppended old.server.config.limits.max_body
-      (canonical_of_record old body (judge_at old head body).verdict) appended before after
 
 -- ---- which records stay
 
@@ -72,12 +46,10 @@ pub record IsKept (s : Session) (old new : Selection) (head : Head) (body : List
   pub selection : new ≡ after_kept old head body
   pub head_is : written ≡ record head { line_due = is_due old head }
 
--- A record is left out, or it stays, and this was read of its body.
-abbrev pub IsSelection : Session → Selection → Selection → Head → List ℕ → Option Selected →
-    Type 0
+-- A record is left out, or it stays.
+abbrev pub IsSelection : Session → Selection → Selection → Head → List ℕ → Option Head → Type 0
 IsSelection s old new head body None = IsLeftOut s old new head body
-IsSelection s old new head body (Some found)
-    = IsKept s old new head body found.head × IsReadOf head body found.read
+IsSelection s old new head body (Some written) = IsKept s old new head body written
 
 -- ---- the answers of a server
 

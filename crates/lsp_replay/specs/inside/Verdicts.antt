@@ -3,8 +3,8 @@ use Rattle.std.specs.Prelude.{ℕ, ◌≡◌, ◌<◌, ◌≤◌, List, ◌++◌
 use Rattle.lsp_server.specs.Seen.{answer_view}
 use Rattle.lsp_replay.specs.declared.session.Verdict.{Verdict}
 use Rattle.lsp_replay.specs.declared.session.Verdict.TheVariants.{Answered, Recorded, Bad}
-use Rattle.lsp_replay.specs.declared.session.writing.Appended.{Appended}
-use Rattle.lsp_replay.specs.declared.session.writing.Appended.TheVariants as appended
+use Rattle.lsp_replay.specs.declared.session.canonical.Appended.{Appended}
+use Rattle.lsp_replay.specs.declared.session.canonical.Appended.TheVariants as appended
 use Rattle.lsp_replay.specs.Session as spec
 
 -- A judgement as its value.

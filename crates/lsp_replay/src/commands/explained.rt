@@ -6,9 +6,10 @@ ghost use Rattle.lsp_replay.specs.Explained.{explain_engine};
 ghost use Rattle.lsp_replay.specs.Run.{IsEngineRun};
 
 use crate::commands::Settings;
-use crate::engine::run_engine;
-use crate::handler::explaining::Explain;
+use crate::facts::Known;
 use crate::outcome::Outcome;
+use crate::pipeline::run;
+use crate::printer::explaining::Explain;
 use lsp_stream::{EngineFault, Sink, Source};
 use std::alloc::Global;
 
@@ -17,9 +18,9 @@ use std::alloc::Global;
 /// suspicious the document and notes; at the end what to do next. The status is 1 if something was
 /// refused, else 0.
 ///
-/// Errors and memory are those of [`check`](crate::check), with the URIs of 64 documents more. A
-/// body that is refused or a change is read once more. The notes of a change of a range cost what
-/// the change costs, those of several changes also a step for each block of the text.
+/// Errors and memory are those of [`check`](crate::check), with the URIs of 64 documents more. The
+/// body of a change is read once more. The notes of a change of a range cost what the change costs,
+/// those of several changes also a step for each block of the text.
 pub fn explain<R: Source, W: Sink>(
     alloc: Global,
     reader: &mut R,
@@ -32,6 +33,10 @@ pub fn explain<R: Source, W: Sink>(
         (ports (R.seen reader.new) (W.seen writer.new)) result }
 {
     let rules = settings.rules(false);
-    let mut explain = Explain::new(alloc, settings.config());
-    run_engine(alloc, reader, writer, &mut explain, rules, max_turns)
+    let explain = Explain {
+        session: settings.session(alloc),
+        known: Known::nothing(alloc),
+        alloc,
+    };
+    run(alloc, reader, writer, explain, None, rules, max_turns)
 }

@@ -1,16 +1,21 @@
-//! `normalise`, with squash and without.
+//! `normalise`, with squash and without: of all records, or of those that are about the session and
+//! the documents' texts.
 
 ghost use Rattle.std.specs.Prelude.{◌≡◌, true, false};
+ghost use Rattle.lsp_frame.specs.Limits.{AreInRange};
 ghost use Rattle.lsp_stream.specs.Ports.{ports};
+ghost use Rattle.lsp_replay.specs.Documents.{WritesDocuments, documents_engine};
 ghost use Rattle.lsp_replay.specs.laws.Written.{IsCanonicalLog, IsSquashed};
 ghost use Rattle.lsp_replay.specs.Run.{IsEngineRun, WritesLog, normalise_engine};
-ghost use Rattle.lsp_replay.specs.inside.Run.{each_engine, squash_engine};
+ghost use Rattle.lsp_replay.specs.inside.Run.{IsRanOf, selected_engine};
 
 use crate::commands::Settings;
-use crate::engine::run_engine;
-use crate::handler::normalising::Normalise;
-use crate::handler::squashing::Squashing;
 use crate::outcome::Outcome;
+use crate::pipeline::run;
+use crate::printer::normalising::Normalise;
+use crate::printer::squashing::Squashing;
+use crate::session::canonical::Canonical;
+use crate::session::selecting::Selection;
 use lsp_stream::{EngineFault, Sink, Source};
 use std::alloc::Global;
 
@@ -51,48 +56,70 @@ pub fn normalise<R: Source, W: Sink>(
         (ports (R.seen reader.old) (W.seen writer.old))
         (ports (R.seen reader.new) (W.seen writer.new)) result }
 {
+    normalise_selected(alloc, reader, writer, settings, None, max_turns)
+}
+
+/// Writes a log as [`normalise`] does, and leaves out each record that is neither about the session
+/// nor about a document's text. So with `squash` all that was done to a document between two saves
+/// becomes one message.
+///
+/// Of the client's messages these stay: `initialize`, `initialized`, `shutdown`, `exit`, `didOpen`,
+/// `didChange`, `didClose`, `didSave`, and each that is refused (LSP 3.17, Lifecycle Messages, Text
+/// Document Synchronization). Of the server's records the response to the last request that stayed
+/// stays. The status is 1 if something was refused, else 0. The counts are those of the records
+/// that stay.
+///
+/// Errors and costs are those of [`normalise`].
+pub fn normalise_documents<R: Source, W: Sink>(
+    alloc: Global,
+    reader: &mut R,
+    writer: &mut W,
+    settings: Settings,
+    max_turns: u64,
+) -> Result<Outcome, EngineFault>
+    ensures run { IsEngineRun (documents_engine settings) max_turns
+        (ports (R.seen reader.old) (W.seen writer.old))
+        (ports (R.seen reader.new) (W.seen writer.new)) result }
+    // What was written is a log of which `replay` reports the same documents, the same status and
+    // as many refusals.
+    ensures documents { WritesDocuments settings
+        (ports (R.seen reader.old) (W.seen writer.old))
+        (ports (R.seen reader.new) (W.seen writer.new)) result }
+{
+    let selection = Some(Selection::new());
+    normalise_selected(alloc, reader, writer, settings, selection, max_turns)
+}
+
+/// Runs `normalise` for all records, or for those that stay.
+fn normalise_selected<R: Source, W: Sink>(
+    alloc: Global,
+    reader: &mut R,
+    writer: &mut W,
+    settings: Settings,
+    selection: Option<Selection>,
+    max_turns: u64,
+) -> Result<Outcome, EngineFault>
+    ensures run { IsEngineRun (selected_engine selection settings) max_turns
+        (ports (R.seen reader.old) (W.seen writer.old))
+        (ports (R.seen reader.new) (W.seen writer.new)) result }
+    ensures ran { IsRanOf (selected_engine selection settings)
+        (ports (R.seen reader.old) (W.seen writer.old))
+        (ports (R.seen reader.new) (W.seen writer.new)) result }
+    ensures in_range { AreInRange settings.limits }
+{
+    let rules = settings.rules(false);
+    let session = settings.session(alloc);
     if settings.joins_series() {
-        return normalise_squashed(alloc, reader, writer, settings, max_turns);
+        let squashing = Squashing::new(alloc, session);
+        return run(
+            alloc, reader, writer, squashing, selection, rules, max_turns,
+        );
     }
-    normalise_each(alloc, reader, writer, settings, max_turns)
-}
-
-/// Runs `normalise` without squash.
-fn normalise_each<R: Source, W: Sink>(
-    alloc: Global,
-    reader: &mut R,
-    writer: &mut W,
-    settings: Settings,
-    max_turns: u64,
-) -> Result<Outcome, EngineFault>
-    ensures run { IsEngineRun (each_engine settings) max_turns
-        (ports (R.seen reader.old) (W.seen writer.old))
-        (ports (R.seen reader.new) (W.seen writer.new)) result }
-    ensures canonical_log { WritesLog settings (IsCanonicalLog settings)
-        (ports (R.seen reader.old) (W.seen writer.old))
-        (ports (R.seen reader.new) (W.seen writer.new)) result }
-{
-    let rules = settings.rules(false);
-    let mut normalise = Normalise::new(alloc, settings.config());
-    run_engine(alloc, reader, writer, &mut normalise, rules, max_turns)
-}
-
-/// Runs `normalise` with squash.
-fn normalise_squashed<R: Source, W: Sink>(
-    alloc: Global,
-    reader: &mut R,
-    writer: &mut W,
-    settings: Settings,
-    max_turns: u64,
-) -> Result<Outcome, EngineFault>
-    ensures run { IsEngineRun (squash_engine settings) max_turns
-        (ports (R.seen reader.old) (W.seen writer.old))
-        (ports (R.seen reader.new) (W.seen writer.new)) result }
-    ensures squashed { WritesLog settings (IsSquashed settings)
-        (ports (R.seen reader.old) (W.seen writer.old))
-        (ports (R.seen reader.new) (W.seen writer.new)) result }
-{
-    let rules = settings.rules(false);
-    let mut squashing = Squashing::new(alloc, settings.config());
-    run_engine(alloc, reader, writer, &mut squashing, rules, max_turns)
+    let normalise = Normalise {
+        session,
+        canonical: Canonical::new(alloc),
+    };
+    run(
+        alloc, reader, writer, normalise, selection, rules, max_turns,
+    )
 }

@@ -5,9 +5,9 @@ ghost use Rattle.lsp_replay.specs.Parts.{part_engine};
 ghost use Rattle.lsp_replay.specs.Run.{IsEngineRun};
 
 use crate::commands::Settings;
-use crate::engine::run_engine;
-use crate::handler::partial::ReplayPart;
 use crate::outcome::Outcome;
+use crate::pipeline::run;
+use crate::printer::partial::ReplayPart;
 use lsp_stream::{EngineFault, Sink, Source};
 use std::alloc::Global;
 
@@ -41,6 +41,10 @@ pub fn replay_part<R: Source, W: Sink>(
         (ports (R.seen reader.new) (W.seen writer.new)) result }
 {
     let rules = settings.rules(false);
-    let mut replay = ReplayPart::new(alloc, settings.config(), part);
-    run_engine(alloc, reader, writer, &mut replay, rules, max_turns)
+    let replay = ReplayPart {
+        session: settings.session(alloc),
+        part,
+        kept: None,
+    };
+    run(alloc, reader, writer, replay, None, rules, max_turns)
 }

@@ -6,9 +6,11 @@ ghost use Rattle.lsp_replay.specs.Run.{IsEngineRun};
 ghost use Rattle.lsp_replay.specs.Trace.{trace_engine};
 
 use crate::commands::Settings;
-use crate::engine::run_engine;
-use crate::handler::tracing::Trace;
+use crate::facts::Known;
 use crate::outcome::Outcome;
+use crate::pipeline::run;
+use crate::printer::tracing::Trace;
+use crate::session::canonical::Canonical;
 use lsp_stream::{EngineFault, Sink, Source};
 use std::alloc::Global;
 
@@ -25,10 +27,10 @@ pub struct Details {
 /// server answers to it, and why it was refused or what is suspicious of it. It is written as soon
 /// as the record is complete. The status is 1 if something was refused, else 0.
 ///
-/// Errors and memory are those of [`check`](crate::check), with the URIs of 64 documents more. A
-/// body that is refused or a change is read once more, and each body of the server's once. The
-/// notes of a change of a range cost what the change costs, those of several changes a copy of the
-/// text. With `texts` a record costs what its document's text has.
+/// Errors and memory are those of [`check`](crate::check), with the URIs of 64 documents more. Each
+/// body of the server's is read too, and the body of a change once more. The notes of a change of a
+/// range cost what the change costs, those of several changes a copy of the text. With `texts` a
+/// record costs what its document's text has.
 pub fn trace<R: Source, W: Sink>(
     alloc: Global,
     reader: &mut R,
@@ -42,6 +44,12 @@ pub fn trace<R: Source, W: Sink>(
         (ports (R.seen reader.new) (W.seen writer.new)) result }
 {
     let rules = settings.rules(false);
-    let mut trace = Trace::new(alloc, settings.config(), details);
-    run_engine(alloc, reader, writer, &mut trace, rules, max_turns)
+    let trace = Trace {
+        session: settings.session(alloc),
+        alloc,
+        details,
+        known: Known::nothing(alloc),
+        canonical: Canonical::new(alloc),
+    };
+    run(alloc, reader, writer, trace, None, rules, max_turns)
 }

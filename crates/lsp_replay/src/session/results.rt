@@ -3,84 +3,81 @@
 
 ghost use Rattle.std.specs.Prelude.{◌≡◌, ◌≢◌, Err, IfErr, IfOk, None, Ok, OnErr, OnOk, Some, option_map};
 ghost use Rattle.serde_json.specs.View.{view};
+ghost use Rattle.lsp_message.specs.Agreement.{announced_of};
 ghost use Rattle.lsp_message.specs.Message.{reading};
 ghost use Rattle.lsp_message.specs.Message as spec;
 ghost use Rattle.lsp_message.specs.Seen.{id_view, message_view};
-ghost use Rattle.lsp_replay.specs.Notes.{ranged_after, ranged_by};
+ghost use Rattle.lsp_replay.specs.Notes.{asks_ranges, is_incremental};
 ghost use Rattle.lsp_replay.specs.Session.{encoding_for, encoding_in, judge_server, result_for, same_id};
+ghost use Rattle.lsp_replay.specs.inside.Bodies.{from_server};
+ghost use Rattle.lsp_replay.specs.inside.Taken.{IsHeard};
 ghost use Rattle.lsp_replay.specs.inside.Verdicts.{verdict_view};
 
-use crate::session::{Session, Verdict};
-use lsp_log::{Head, Sender};
+use crate::session::{Session, Taken, Verdict};
 use lsp_message::{Id, Message, Outcome, ReadFault, SyncKind, read, result_initialize};
 use serde_json::Value;
 use std::alloc::{AllocError, Global};
 
 impl Session {
     /// Judges a server's record. Only the result of `initialize` is read.
-    pub(super) fn hear(&mut self, body: &[u8]) -> Result<Verdict, AllocError>
+    pub(super) fn hear(&mut self, body: &[u8]) -> Result<Taken, AllocError>
         ensures verdict { IfOk result
-            (λ v. verdict_view v ≡ (judge_server self.old
+            (λ t. verdict_view t.verdict ≡ (judge_server self.old
             (encoding_for self.old.expected (reading body.now))).verdict) }
         ensures session { OnOk result
             (self.new ≡ (judge_server self.old
             (encoding_for self.old.expected (reading body.now))).session) }
+        ensures change { IfOk result (λ t. t.change ≡ None) }
+        ensures ranged { IfOk result (IsHeard self.old (from_server body.now)) }
     {
         let result = match &self.expected {
             None => None,
             Some(id) => result_for(self.alloc, id, body)?,
         };
         match result {
-            None => Ok(Verdict::Recorded),
+            None => Ok(heard(Verdict::Recorded, None)),
             Some(result) => Ok(self.settle(result)),
         }
     }
 
     /// Continues in the encoding that a result of `initialize` announces.
-    fn settle(&mut self, value: Value) -> Verdict
-        ensures verdict { verdict_view result
+    fn settle(&mut self, value: Value) -> Taken
+        ensures verdict { verdict_view result.verdict
             ≡ (judge_server self.old (Some (encoding_in (view value)))).verdict }
         ensures session { self.new
             ≡ (judge_server self.old (Some (encoding_in (view value)))).session }
+        ensures change { result.change ≡ None }
+        ensures ranged { result.ranged ≡ Some (asks_ranges (announced_of (view value))) }
     {
         let Ok(announced) = result_initialize(self.alloc, value) else {
-            return Verdict::Bad;
+            return heard(Verdict::Bad, Some(false));
         };
+        let ranged = Some(is_incremental(announced.kind));
         let Some(encoding) = announced.encoding else {
-            return Verdict::Bad;
+            return heard(Verdict::Bad, ranged);
         };
         self.server.settle(encoding);
         self.expected = None;
-        Verdict::Recorded
-    }
-
-    /// Returns whether ranges are asked for after a record. `ranged` says whether they were before.
-    /// Only the result of `initialize` is read.
-    pub fn ranged_after(&self, ranged: bool, head: Head, body: &[u8]) -> Result<bool, AllocError>
-        ensures { IfOk result
-            (λ after. after ≡ ranged_after ranged self.now head.side body.now) }
-    {
-        match (head.side, &self.expected) {
-            (Sender::Server, Some(id)) => {
-                let result = result_for(self.alloc, id, body)?;
-                Ok(ranged_by(self.alloc, ranged, result))
-            }
-            _ => Ok(ranged),
-        }
+        heard(Verdict::Recorded, ranged)
     }
 }
 
-/// Returns whether ranges are asked for, by a result of `initialize` if there is one.
-fn ranged_by(alloc: Global, ranged: bool, found: Option<Value>) -> bool
-    ensures { result ≡ ranged_by ranged (option_map view found) }
+/// Returns what became of a server's record.
+fn heard(verdict: Verdict, ranged: Option<bool>) -> Taken
+    ensures { result ≡ record { verdict = verdict; change = None; ranged = ranged } }
 {
-    let Some(found) = found else {
-        return ranged;
-    };
-    match result_initialize(alloc, found) {
-        Ok(announced) => matches!(announced.kind, SyncKind::Incremental),
-        Err(_) => false,
+    Taken {
+        verdict,
+        change: None,
+        ranged,
     }
+}
+
+/// Returns whether a kind of synchronisation asks for ranges.
+fn is_incremental(kind: SyncKind) -> bool
+    ensures { result ≡ is_incremental kind }
+{
+    matches!(kind, SyncKind::Incremental)
 }
 
 /// Returns a copy of an id.

@@ -1,12 +1,12 @@
 //! The records that stay where others are left out.
 
-ghost use Rattle.std.specs.Prelude.{◌≡◌, Bool, IfOk, OnOk, MatchOption, None, Option, Some, if◌then◌else◌, option_map};
+ghost use Rattle.std.specs.Prelude.{◌≡◌, ◌||◌, ℕ, false, IfOk, List, MatchOption, None, Option, Some, if◌then◌else◌, option_map};
 ghost use Rattle.lsp_message.specs.Message.{IdData, message, reading};
 ghost use Rattle.lsp_message.specs.Seen.{id_view, message_view};
 ghost use Rattle.lsp_server.specs.Seen.{incoming_view};
 ghost use Rattle.lsp_replay.specs.Documents.{is_answer_to, is_due, is_kept_method, message_stays, nothing_selected, waiting_for};
 ghost use Rattle.lsp_replay.specs.inside.Bodies.{body_view, from_server};
-ghost use Rattle.lsp_replay.specs.inside.Reads.{IsSelection, asked_id, is_waited, stays_read, waiting_read};
+ghost use Rattle.lsp_replay.specs.inside.Reads.{IsReadOf, IsSelection, asked_id, is_waited, stays_read, waiting_read};
 
 use crate::session::results::{copied, message_of, same_id};
 use crate::session::{RecordBody, Session};
@@ -15,15 +15,6 @@ use lsp_message::{Id, Message, read};
 use lsp_server::{Incoming, Phase};
 use std::alloc::{AllocError, Global};
 use std::marker::Model;
-
-/// A record that stays.
-#[derive(Drop)]
-pub struct Selected<'a> {
-    /// The head under which it is written: with the line of version 2, if that is still due.
-    pub head: Head,
-    /// What was read of its body.
-    pub read: RecordBody<'a>,
-}
 
 /// What is known between two records, of which some are left out.
 #[derive(Drop)]
@@ -55,11 +46,15 @@ impl Selection {
         }
     }
 
-    /// Returns whether the line of version 2 is still to be written.
-    pub fn is_due(&self) -> bool
-        ensures { result ≡ self.now.due }
+    /// Returns whether the line of version 2 is to be written at the end of the input. It is
+    /// written once.
+    pub fn take_due(&mut self, line_due: bool) -> bool
+        ensures value { result ≡ (self.old.due || line_due) }
+        ensures written { self.new ≡ record self.old { due = false } }
     {
-        self.due
+        let due = self.due || line_due;
+        self.due = false;
+        due
     }
 
     /// Returns whether the line of version 2 is to be written before a record, if that stays.
@@ -69,26 +64,24 @@ impl Selection {
         self.due || head.line_due
     }
 
-    /// Reads the body of the next record, and returns `None` if the record is left out.
-    pub fn select<'a>(
+    /// Returns the head under which the record that was read is written: with the line of version
+    /// 2, if that is still due. Returns `None` if the record is left out.
+    pub fn select(
         &mut self,
-        session: &mut Session,
+        session: &Session,
         head: Head,
-        body: &'a [u8],
-    ) -> Result<Option<Selected<'a>>, AllocError>
-        ensures unchanged { session.new ≡ session.old }
-        ensures selected { IfOk result
-            (IsSelection session.old self.old self.new head body.now) }
+        read: &RecordBody<'_>,
+    ) -> Result<Option<Head>, AllocError>
+        ensures { IfOk result (λ written. (body : List ℕ) → IsReadOf head body read.now
+            → IsSelection session.now self.old self.new head body written) }
     {
-        let read = session.read(head, body)?;
         let line_due = self.is_due_before(head);
-        if !self.stays(session, &read)? {
+        if !self.stays(session, read)? {
             self.due = line_due;
             return Ok(None);
         }
         self.due = false;
-        let head = Head { line_due, ..head };
-        Ok(Some(Selected { head, read }))
+        Ok(Some(Head { line_due, ..head }))
     }
 
     /// Returns whether the record that was read stays. If it does, remembers whose answer is waited

@@ -1,8 +1,5 @@
-use Rattle.std.proofs.Common.{subst, refl, false}
-use Rattle.lsp_stream.specs.Ports.{ports}
-use Rattle.lsp_replay.specs.Engine.{WroteRecords}
-use Rattle.lsp_replay.specs.inside.Engine.{IsLoopRun}
-use Rattle.lsp_replay.specs.Commands.{as_log, log_config}
+use Rattle.std.proofs.Common.{refl, false}
+use Rattle.lsp_replay.specs.Commands.{log_config}
 use Rattle.lsp_replay.specs.Lines.{lines, nothing_known}
 use Rattle.lsp_replay.specs.Session.{opened}
 use Rattle.lsp_replay.specs.Trace.{tracing}
@@ -11,18 +8,9 @@ use Rattle.lsp_replay.proofs.commands.traced.trace.Goals as goal
 
 pub returns : goal.returns
 returns g c =
-    let run_output = rw c.config.ensures.value at c.new-trace.ensures in
-    let run = rw c.rules-rules.ensures at c.run_engine.ensures.run in
-    let whole = rw c.rules-rules.ensures at c.run_engine.ensures.whole in
+    let run = rw (c.rules-rules.ensures, c.session.ensures.value, c.nothing.ensures) at c.run.ensures.run in
+    let whole = rw (c.rules-rules.ensures, c.session.ensures.value, c.nothing.ensures) at c.run.ensures.whole in
     record {
-      run = run_of c.run_engine.ensures.first c.run_engine.ensures.version (lines (tracing c.args.details))
-          nothing_known (opened (log_config c.args.settings)) false
-          (subst (λ run_output. IsLoopRun (as_log c.args.settings) run_output false c.args.max_turns
-          (ports (g.R.Source.seen c.args.reader.now) (g.W.Sink.seen c.args.writer.now))
-          (ports (g.R.Source.seen c.run_engine.new.reader) (g.W.Sink.seen c.run_engine.new.writer)) c.run_engine.result)
-          run_output run)
-          (λ _ memory. subst (λ run_output. WroteRecords (as_log c.args.settings) run_output
-          (g.R.Source.seen c.args.reader.now).left (g.R.Source.seen c.run_engine.new.reader).left
-          (g.W.Sink.seen c.args.writer.now).written (g.W.Sink.seen c.run_engine.new.writer).written) run_output
-          (whole (λ _. refl) memory));
+      run = run_of c.run.ensures.first c.run.ensures.version (lines (tracing c.args.details)) nothing_known
+          (opened (log_config c.args.settings)) false run (λ _. whole (λ _. refl));
     }

@@ -1,0 +1,73 @@
+-- What `normalise` writes of a record that was taken, and the output from that record on.
+use Rattle.std.proofs.Common.{◌≡◌, ◌≢◌, ◌≤◌, ◌⊎◌, inl, inr, ℕ, List, [], ◌∷◌, length, Option, Some, None, refl, ◌∙◌}
+use Rattle.std.specs.Prelude.{Err}
+use Rattle.lsp_log.specs.declared.record.Head.{Head}
+use Rattle.lsp_log.specs.Log.{Record}
+use Rattle.lsp_message.specs.Params.{ChangeData}
+use Rattle.lsp_server.specs.Step.{ServerData}
+use Rattle.lsp_stream.specs.declared.fault.EngineFault.{EngineFault}
+use Rattle.lsp_stream.specs.declared.fault.EngineFault.TheVariants.{BodyTooLong, NoMemory}
+use Rattle.lsp_replay.specs.declared.session.Taken.{Taken}
+use Rattle.lsp_replay.specs.declared.session.canonical.Appended.TheVariants.{Body}
+use Rattle.lsp_replay.specs.declared.session.canonical.Canonical.{Canonical}
+use Rattle.lsp_replay.specs.Commands.{RecordOutput, canonical_change_body, canonical_of_record, canonical_output, ends, followed_by, front_of, normalising, writes, written}
+use Rattle.lsp_replay.specs.RunOutput.{stopped, written_first}
+use Rattle.lsp_replay.specs.Session.{Session, bad, judge}
+use Rattle.lsp_replay.specs.inside.Commands.{run_output_in}
+use Rattle.lsp_replay.specs.inside.RunOutput.{IsRecordFault}
+use Rattle.lsp_replay.specs.inside.Session.{judge_at}
+use Rattle.lsp_replay.specs.inside.Taken.{IsTaken}
+use Rattle.lsp_replay.specs.inside.Verdicts.{IsAppended, verdict_view}
+use Rattle.lsp_replay.proofs.Records.TakenLemmas.{room_kept, seen_written}
+use Rattle.lsp_replay.proofs.Records.OutputLemmas.{output_after, unless_not}
+
+-- a record that was taken, with room before the body of its canonical message
+module _ {s t : Session} {head : Head} {body : List ℕ} {taken : Taken} {before after : Canonical} {room : ℕ}
+    (nothing : before.appended ≡ None) (len : length before.bytes.items ≡ room)
+    (is : IsTaken (after ≡ before) (λ server p. IsAppended server.config.limits.max_body
+    (Some (canonical_change_body server p)) after.appended before.bytes.items after.bytes.items) s t head body taken)
+  where
+    abbrev max_body : ℕ
+    max_body = s.server.config.limits.max_body
+
+    abbrev canonical : Option (List ℕ)
+    canonical = canonical_of_record s body (judge_at s head body).verdict
+
+    seen : IsAppended max_body canonical after.appended before.bytes.items after.bytes.items
+    seen = seen_written s t head body before after nothing is.shown
+
+    pub room_left : after.appended ≡ Some Body → room ≤ length after.bytes.items
+    room_left = room_kept max_body canonical after.appended before.bytes.items after.bytes.items room len seen
+
+    module _ (raw : List ℕ) (in_log : verdict_view taken.verdict ≢ bad) where
+      abbrev r : Record
+      r = record { head = head; raw = raw; body = body }
+
+      -- what is written of it
+      abbrev IsWritten : RecordOutput → Type 0
+      IsWritten given =
+          (max : ℕ) (c : Option (List ℕ)) (b old : List ℕ) → length old ≡ room
+          → IsAppended max c after.appended old after.bytes.items
+          → written max (record { head = head; raw = raw; body = b }) (front_of head) c ≡ given
+
+      goes : (given : RecordOutput) → IsWritten given → (more : List Record)
+          → run_output_in normalising s (r ∷ more)
+          ≡ followed_by given.out given.end (run_output_in normalising t more)
+      goes given written =
+          output_after normalising tt s r given
+          (unless_not r (judge s r).verdict (canonical_output s r (judge s r)) (λ e. in_log (is.judged ∙ e))
+          ∙ written max_body canonical body before.bytes.items len seen) tt refl t is.session
+
+      pub printed : (out : List ℕ) → IsWritten (writes out) → (more : List Record)
+          → run_output_in normalising s (r ∷ more) ≡ written_first out (run_output_in normalising t more)
+      printed out = goes (writes out)
+
+      -- a canonical body that is too long ends the run
+      pub not_printed : (fault : EngineFault)
+          → (fault ≡ NoMemory) ⊎ ((fault ≡ BodyTooLong head.place)
+          × IsWritten (ends [] (Err (BodyTooLong head.place))))
+          → (fault ≡ NoMemory) ⊎ (IsRecordFault fault × ((more : List Record)
+          → run_output_in normalising s (r ∷ more) ≡ stopped [] (Err fault)))
+      not_printed fault (inl memory) = inl memory
+      not_printed fault (inr long) =
+          rw long.0 (inr (tt, λ more. goes (ends [] (Err (BodyTooLong head.place))) long.1 more))

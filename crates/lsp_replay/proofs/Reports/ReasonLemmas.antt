@@ -1,0 +1,158 @@
+-- The reason of a record, by the change that a running server received: a change that isn't received isn't refused.
+use Rattle.std.proofs.Common.{◌≡◌, ◌⊎◌, inl, inr, ℕ, Bool, true, false, List, Option, Some, None, refl, sym, ap, ◌∙◌, subst, ⊎_elim}
+use Rattle.std.specs.Prelude.{⊤, ◌&&◌, is_none, if◌then◌else◌}
+use Rattle.lsp_frame.specs.Limits.{LimitsData}
+use Rattle.lsp_message.specs.Message.{IdData, reading}
+use Rattle.lsp_message.specs.Params.{ChangeData}
+use Rattle.lsp_server.specs.declared.phase.Phase.{Phase}
+use Rattle.lsp_server.specs.declared.phase.Phase.TheVariants.{New, Running, Down, Ended}
+use Rattle.lsp_server.specs.Answer.{already_ended, changed, dropped, exits, ignored, refused, reply}
+use Rattle.lsp_server.specs.Incoming.{IncomingData, did_change, incoming_of}
+use Rattle.lsp_log.specs.declared.record.Head.{Head}
+use Rattle.lsp_log.specs.declared.record.Sender.{Sender}
+use Rattle.lsp_log.specs.declared.record.Sender.TheVariants.{Client, Server}
+use Rattle.lsp_log.specs.declared.record.Version.{Version}
+use Rattle.lsp_replay.specs.Commands.{change_in}
+use Rattle.lsp_replay.specs.Explained.{explanation}
+use Rattle.lsp_replay.specs.Session.{Session, Verdict, answered, recorded, bad, encoding_for, is_running, judge_client, judge_from, judge_server}
+use Rattle.lsp_replay.specs.Trace.{reason_json}
+use Rattle.lsp_replay.specs.inside.Bodies.{body_read}
+use Rattle.lsp_replay.specs.inside.Facts.{reason_of}
+use Rattle.lsp_replay.specs.inside.Session.{judge_at}
+use Rattle.lsp_replay.specs.inside.Taken.{received_of}
+use Rattle.lsp_replay.proofs.Canonical.CanonicalLogLemmas.{heard_as}
+use Rattle.lsp_replay.proofs.Records.JudgeLemmas.{asks_change}
+
+-- a verdict that has no reason, whatever was sent
+abbrev IsQuiet : Verdict → Type 0
+IsQuiet recorded = ⊤
+IsQuiet bad = ⊤
+IsQuiet (answered dropped) = ⊤
+IsQuiet (answered answer) = ⊥
+
+heard_quiet : (verdict : Verdict) → (verdict ≡ recorded) ⊎ (verdict ≡ bad) → IsQuiet verdict
+heard_quiet verdict (inl e) = rw e tt
+heard_quiet verdict (inr e) = rw e tt
+
+some_waits : (id : IdData) → Running ≡ Running → Some id ≡ None → ⊥
+some_waits id same e = cc
+
+idle_new : (expected : Option IdData) → New ≡ Running → expected ≡ None → ⊥
+idle_new expected e none = cc
+
+idle_down : (expected : Option IdData) → Down ≡ Running → expected ≡ None → ⊥
+idle_down expected e none = cc
+
+idle_ended : (expected : Option IdData) → Ended ≡ Running → expected ≡ None → ⊥
+idle_ended expected e none = cc
+
+module _ (s : Session) (version : Version) (p : ChangeData) where
+  quiet_in : (phase : Phase) → s.server.phase ≡ phase → (expected : Option IdData) → s.expected ≡ expected
+      → (phase ≡ Running → expected ≡ None → ⊥) → IsQuiet (judge_client s version (did_change (Some p))).verdict
+  quiet_in Running is None none never = absurd (never refl refl)
+  quiet_in Running is (Some id) some never = rw (is, some) tt
+  quiet_in New is None none never = rw (is, none) tt
+  quiet_in New is (Some id) some never = rw (is, some) tt
+  quiet_in Down is None none never = rw (is, none) tt
+  quiet_in Down is (Some id) some never = rw (is, some) tt
+  quiet_in Ended is expected waits never = rw is tt
+
+if_none : (change : Option ChangeData) (b : Bool) → change ≡ None → (if b then change else None) ≡ None
+if_none change true e = e
+if_none change false e = refl
+
+module _ (s : Session) (body : List ℕ) where
+  abbrev m : IncomingData
+  m = incoming_of (reading body)
+
+  abbrev Received : Version → Sender → Type 0
+  Received version side = (received_of s (body_read version side body) ≡ change_in m)
+      ⊎ IsQuiet (judge_from s version side body).verdict
+
+  received_at : (version : Version) (side : Sender) → Received version side
+  received_at version Server =
+      inr (heard_quiet (judge_server s (encoding_for s.expected (reading body))).verdict
+      (heard_as s (encoding_for s.expected (reading body))))
+  received_at version Client = by (change_in m) refl
+    where
+      state : (p : ChangeData) → m ≡ did_change (Some p) → (phase : Phase) → s.server.phase ≡ phase
+          → (expected : Option IdData) → s.expected ≡ expected → Received version Client
+      state p asks Running is None none = inl (rw (is, none) refl)
+      state p asks Running is (Some id) some =
+          inr (subst (λ (x : IncomingData). IsQuiet (judge_client s version x).verdict) (sym asks)
+          (quiet_in s version p Running is (Some id) some (some_waits id)))
+      state p asks New is expected waits =
+          inr (subst (λ (x : IncomingData). IsQuiet (judge_client s version x).verdict) (sym asks)
+          (quiet_in s version p New is expected waits (idle_new expected)))
+      state p asks Down is expected waits =
+          inr (subst (λ (x : IncomingData). IsQuiet (judge_client s version x).verdict) (sym asks)
+          (quiet_in s version p Down is expected waits (idle_down expected)))
+      state p asks Ended is expected waits =
+          inr (subst (λ (x : IncomingData). IsQuiet (judge_client s version x).verdict) (sym asks)
+          (quiet_in s version p Ended is expected waits (idle_ended expected)))
+
+      by : (change : Option ChangeData) → change_in m ≡ change → Received version Client
+      by None is =
+          inl (if_none (change_in m) (is_running s.server.phase && is_none s.expected) is ∙ sym is)
+      by (Some p) is = state p (asks_change m p is) s.server.phase refl s.expected refl
+
+-- What goes by the change only where a verdict has a reason goes by the change that was received.
+module _ {X : Type 0} (f : Option ChangeData → Verdict → X)
+    (quiet : (change : Option ChangeData) (verdict : Verdict) → IsQuiet verdict → f change verdict ≡ f None verdict)
+    (s : Session) (head : Head) (body : List ℕ) where
+  by_received : f (received_of s (body_read head.version head.side body)) (judge_at s head body).verdict
+      ≡ f (change_in (incoming_of (reading body))) (judge_at s head body).verdict
+  by_received =
+      ⊎_elim
+      (λ (same : received_of s (body_read head.version head.side body) ≡ change_in (incoming_of (reading body))).
+      ap (λ (change : Option ChangeData). f change (judge_at s head body).verdict) same)
+      (λ (q : IsQuiet (judge_at s head body).verdict).
+      quiet (received_of s (body_read head.version head.side body)) (judge_at s head body).verdict q
+      ∙ sym (quiet (change_in (incoming_of (reading body))) (judge_at s head body).verdict q))
+      (received_at s body head.version head.side)
+
+quiet_explained : (limits : LimitsData) (uri : Option (List ℕ)) (last : Option ℕ) (change : Option ChangeData)
+    (verdict : Verdict) → IsQuiet verdict → explanation limits uri change last verdict
+    ≡ explanation limits uri None last verdict
+quiet_explained limits uri last change recorded q = refl
+quiet_explained limits uri last change bad q = refl
+quiet_explained limits uri last change (answered dropped) q = refl
+quiet_explained limits uri last change (answered (reply m)) q = absurd q
+quiet_explained limits uri last change (answered changed) q = absurd q
+quiet_explained limits uri last change (answered ignored) q = absurd q
+quiet_explained limits uri last change (answered already_ended) q = absurd q
+quiet_explained limits uri last change (answered (refused why)) q = absurd q
+quiet_explained limits uri last change (answered (exits status)) q = absurd q
+
+pub explained_at : (limits : LimitsData) (uri : Option (List ℕ)) (last : Option ℕ) (s : Session) (head : Head)
+    (body : List ℕ)
+    → explanation limits uri (received_of s (body_read head.version head.side body)) last
+    (judge_at s head body).verdict
+    ≡ explanation limits uri (change_in (incoming_of (reading body))) last (judge_at s head body).verdict
+explained_at limits uri last =
+    by_received (λ change verdict. explanation limits uri change last verdict) (quiet_explained limits uri last)
+
+quiet_reason : (limits : LimitsData) (change : Option ChangeData) (verdict : Verdict) → IsQuiet verdict
+    → reason_of limits change verdict ≡ reason_of limits None verdict
+quiet_reason limits change recorded q = refl
+quiet_reason limits change bad q = refl
+quiet_reason limits change (answered dropped) q = refl
+quiet_reason limits change (answered (reply m)) q = absurd q
+quiet_reason limits change (answered changed) q = absurd q
+quiet_reason limits change (answered ignored) q = absurd q
+quiet_reason limits change (answered already_ended) q = absurd q
+quiet_reason limits change (answered (refused why)) q = absurd q
+quiet_reason limits change (answered (exits status)) q = absurd q
+
+reason_same : (limits : LimitsData) (m : IncomingData) (verdict : Verdict)
+    → reason_of limits (change_in m) verdict ≡ reason_json limits m verdict
+reason_same limits m (answered answer) = refl
+reason_same limits m recorded = refl
+reason_same limits m bad = refl
+
+pub reason_at : (limits : LimitsData) (s : Session) (head : Head) (body : List ℕ)
+    → reason_of limits (received_of s (body_read head.version head.side body)) (judge_at s head body).verdict
+    ≡ reason_json limits (incoming_of (reading body)) (judge_at s head body).verdict
+reason_at limits s head body =
+    by_received (reason_of limits) (quiet_reason limits) s head body
+    ∙ reason_same limits (incoming_of (reading body)) (judge_at s head body).verdict

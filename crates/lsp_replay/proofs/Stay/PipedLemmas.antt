@@ -1,0 +1,325 @@
+-- What a command writes of the records that stay, a record at a time, and over all records.
+use Rattle.std.proofs.Common.{◌≡◌, ◌⊎◌, inl, inr, ℕ, Bool, true, false, List, [], ◌∷◌, ◌++◌, Option, Some, None, refl, sym, ap, ◌∙◌, subst}
+use Rattle.std.specs.Prelude.{if◌then◌else◌, Result, Ok, Err, IfErr, IfOk, MatchOption, OnOk}
+use Rattle.lsp_replay.specs.declared.outcome.Outcome.{Outcome}
+use Rattle.lsp_stream.specs.declared.fault.EngineFault.{EngineFault}
+use Rattle.lsp_stream.specs.declared.fault.EngineFault.TheVariants.{NoMemory}
+use Rattle.lsp_stream.specs.Ports.{Ports}
+use Rattle.lsp_log.specs.declared.record.Head.{Head}
+use Rattle.lsp_log.specs.declared.record.Sender.{Sender}
+use Rattle.lsp_log.specs.declared.record.Sender.TheVariants.{Client, Server}
+use Rattle.lsp_log.specs.declared.record.Version.{Version}
+use Rattle.lsp_log.specs.Log.{LogRules, Record}
+use Rattle.lsp_log.specs.laws.Logs.{FirstLaw, VersionLaw}
+use Rattle.lsp_message.specs.Message.{IdData}
+use Rattle.lsp_replay.specs.Documents.{Kept, Selection, after_kept, after_left_out, is_due, kept_in, output_of_kept, record_stays, waiting_after, with_due, with_line}
+use Rattle.lsp_replay.specs.Commands.{View, followed_by, output_in}
+use Rattle.lsp_replay.specs.Run.{IsEngineRun}
+use Rattle.lsp_replay.specs.RunOutput.{RunOutput, stopped, written_first}
+use Rattle.lsp_replay.specs.Session.{Session, judge}
+use Rattle.lsp_replay.specs.inside.Bodies.{BodyData, body_read}
+use Rattle.lsp_replay.specs.inside.Engine.{IsLoopRun}
+use Rattle.lsp_replay.specs.inside.Piped.{IsAdmitted, once_written, piped, written_due}
+use Rattle.lsp_replay.specs.inside.Reads.{IsKept, IsLeftOut, stays_read, waiting_read}
+use Rattle.lsp_replay.specs.inside.RunOutput.{IsRecordFault, after}
+use Rattle.lsp_replay.proofs.Stay.KeptLogLemmas.{kept_false, kept_true}
+use Rattle.lsp_replay.proofs.Runs.RunReportLemmas.{Grows, GrowsAll, NoneCut, Settles, grows, run_of, run_of_course, settled}
+
+-- ---- what was read of a record decides whether it stays
+
+stays_of : (s : Session) (waiting : Option IdData) (version : Version) (side : Sender) (body : List ℕ)
+    → stays_read s waiting (body_read version side body) ≡ record_stays s waiting side body
+stays_of s waiting version Client body = refl
+stays_of s waiting version Server body = refl
+
+waiting_of : (waiting : Option IdData) (version : Version) (side : Sender) (body : List ℕ)
+    → waiting_read waiting (body_read version side body) ≡ waiting_after waiting side body
+waiting_of waiting version Client body = refl
+waiting_of waiting version Server body = refl
+
+pub stays_at : (s : Session) (waiting : Option IdData) (head : Head) (body : List ℕ) (read : BodyData)
+    → read ≡ body_read head.version head.side body → stays_read s waiting read ≡ record_stays s waiting head.side body
+stays_at s waiting head body read is = ap (stays_read s waiting) is ∙ stays_of s waiting head.version head.side body
+
+pub waiting_at : (waiting : Option IdData) (head : Head) (body : List ℕ) (read : BodyData)
+    → read ≡ body_read head.version head.side body → waiting_read waiting read ≡ waiting_after waiting head.side body
+waiting_at waiting head body read is = ap (waiting_read waiting) is ∙ waiting_of waiting head.version head.side body
+
+-- what is known after a record that stays
+pub selected_kept : (s : Session) (old mid : Selection) (head : Head) (body : List ℕ) (read : BodyData)
+    → read ≡ body_read head.version head.side body → (t : Session) → t ≡ s
+    → (stays : Bool) → stays ≡ stays_read t old.waiting read → mid ≡ record old {
+      waiting = (if stays then waiting_read old.waiting read else old.waiting);
+    } → stays ≡ true
+    → (waiting : Option IdData) → waiting ≡ mid.waiting → (line_due : Bool) → line_due ≡ is_due old head
+    → IsKept s old (record { waiting = waiting; due = false }) head body (record head { line_due = line_due })
+selected_kept s old mid head body read is t same false stays_is mid_is left waiting waiting_is line_due due_is =
+    absurd (let wrong : false ≡ true = left in cc)
+selected_kept s old mid head body read is t same true stays_is mid_is staying waiting waiting_is line_due due_is =
+    record {
+      stays = sym (stays_at s old.waiting head body read is)
+          ∙ sym (ap (λ (u : Session). stays_read u old.waiting read) same) ∙ sym stays_is;
+      selection = ap (λ (w : Option IdData). record {
+        waiting = w;
+        due = false;
+      }) (waiting_is ∙ ap (λ (c : Selection). c.waiting) mid_is ∙ waiting_at old.waiting head body read is);
+      head_is = ap (λ (b : Bool). record head { line_due = b }) due_is;
+    }
+
+-- ---- one record
+
+-- A record that is left out.
+module _ (s : Session) (c d : Selection) (r : Record) (left_out : IsLeftOut s c d r.head r.body)
+    (output : List Record → RunOutput) where
+  pub goes_without : (bytes : List ℕ) → bytes ≡ [] → (more : List Record)
+      → piped (Some c) output s (r ∷ more) ≡ after bytes None (piped (Some d) output s more)
+  goes_without bytes nothing more =
+      ap (output_of_kept output) (kept_false s c r more left_out.left_out)
+      ∙ ap (λ (x : Selection). piped (Some x) output s more) (sym left_out.selection)
+      ∙ ap (λ (bs : List ℕ). after bs None (piped (Some d) output s more)) (sym nothing)
+
+-- After a record that ended the run nothing is due.
+due_after : (due : Bool) (bytes : List ℕ) (end : Option Outcome) (c : RunOutput) → with_due due (after bytes end c)
+    ≡ after bytes end (with_due due c)
+due_after due bytes None c = refl
+due_after due bytes (Some outcome) c = refl
+
+-- A record that stays.
+module _ (s : Session) (c d : Selection) (head : Head) (raw body : List ℕ) (written : Head)
+    (stays : IsKept s c d head body written) where
+  abbrev r : Record
+  r = record { head = head; raw = raw; body = body }
+
+  -- the record as it is written
+  abbrev its : Record
+  its = record { head = written; raw = raw; body = body }
+
+  its_is : its ≡ with_line c r
+  its_is = ap (λ (h : Head). record { head = h; raw = raw; body = body }) stays.head_is
+
+  pub version_same : body_read written.version written.side body ≡ body_read head.version head.side body
+  version_same = ap (λ (h : Head). body_read h.version h.side body) stays.head_is
+
+  abbrev later : List Record → Kept
+  later more = kept_in (judge s r).session (after_kept c head body) more
+
+  goes_in : (output : List Record → RunOutput) (more : List Record) → piped (Some c) output s (r ∷ more)
+      ≡ with_due (later more).due (output (its ∷ (later more).records))
+  goes_in output more =
+      ap (output_of_kept output) (kept_true s c r more stays.stays)
+      ∙ ap (λ (q : Record). with_due (later more).due (output (q ∷ (later more).records))) (sym its_is)
+
+  module _ (t : Session) (session : t ≡ (judge s its).session) where
+    same_session : t ≡ (judge s r).session
+    same_session = session ∙ ap (λ (q : Record). (judge s q).session) its_is
+
+    -- what stays after it
+    same_kept : (more : List Record) → later more ≡ kept_in t d more
+    same_kept more = ap (λ (u : Session). kept_in u (after_kept c head body) more) (sym same_session)
+        ∙ ap (λ (x : Selection). kept_in t x more) (sym stays.selection)
+
+    pub goes_on : (output next : List Record → RunOutput) (bytes : List ℕ) (end : Option Outcome)
+        → ((more : List Record) → output (its ∷ more) ≡ after bytes end (next more)) → (more : List Record)
+        → piped (Some c) output s (r ∷ more) ≡ after bytes end (piped (Some d) next t more)
+    goes_on output next bytes end step more =
+        goes_in output more ∙ ap (with_due (later more).due) (step (later more).records)
+        ∙ due_after (later more).due bytes end (next (later more).records)
+        ∙ ap (λ (k : Kept). after bytes end (output_of_kept next k)) (same_kept more)
+
+  -- it ends the run of the command
+  pub goes_wrong : (output : List Record → RunOutput) (fault : EngineFault)
+      → ((more : List Record) → output (its ∷ more) ≡ stopped [] (Err fault)) → (more : List Record)
+      → piped (Some c) output s (r ∷ more) ≡ stopped [] (Err fault)
+  goes_wrong output fault step more =
+      goes_in output more ∙ ap (with_due (later more).due) (step (later more).records)
+
+-- ---- the same, with a selection or without
+
+same_head : (a b : Head) → Some a ≡ Some b → a ≡ b
+same_head a b e = cc
+
+module _ (s : Session) (head : Head) (raw body : List ℕ) where
+  abbrev given : Record
+  given = record { head = head; raw = raw; body = body }
+
+  pub left_out : (c d : Option Selection) → IsAdmitted s c d head body None → (output : List Record → RunOutput)
+      (bytes : List ℕ) → bytes ≡ [] → (more : List Record)
+      → piped c output s (given ∷ more) ≡ after bytes None (piped d output s more)
+  left_out None d admitted output bytes nothing more =
+      absurd (let wrong : None ≡ Some head = admitted.1 in cc)
+  left_out (Some c) None admitted output bytes nothing more = absurd admitted
+  left_out (Some c) (Some d) admitted output bytes nothing more =
+      goes_without s c d given admitted output bytes nothing more
+
+  -- what was read of a record is read of it under the head that it is written with, too
+  pub read_again : (c d : Option Selection) (written : Head) → IsAdmitted s c d head body (Some written)
+      → (read : BodyData) → read ≡ body_read head.version head.side body
+      → read ≡ body_read written.version written.side body
+  read_again None d written admitted read is =
+      is ∙ ap (λ (h : Head). body_read h.version h.side body) (sym (same_head written head admitted.1))
+  read_again (Some c) None written admitted read is = absurd admitted
+  read_again (Some c) (Some d) written admitted read is = is ∙ sym (version_same s c d head raw body written admitted)
+
+  pub printed : (c d : Option Selection) (written : Head) → IsAdmitted s c d head body (Some written) → (t : Session)
+      → t ≡ (judge s (record { head = written; raw = raw; body = body })).session
+      → (output next : List Record → RunOutput) (bytes : List ℕ) (end : Option Outcome)
+      → ((more : List Record) → output (record { head = written; raw = raw; body = body } ∷ more)
+      ≡ after bytes end (next more)) → (more : List Record)
+      → piped c output s (given ∷ more) ≡ after bytes end (piped d next t more)
+  printed None d written admitted t session output next bytes end step more =
+      ap (λ (h : Head). output (record { head = h; raw = raw; body = body } ∷ more))
+      (sym (same_head written head admitted.1))
+      ∙ step more ∙ ap (λ (x : Option Selection). after bytes end (piped x next t more)) (sym admitted.0)
+  printed (Some c) None written admitted t session output next bytes end step more = absurd admitted
+  printed (Some c) (Some d) written admitted t session output next bytes end step more =
+      goes_on s c d head raw body written admitted t session output next bytes end step more
+
+  pub failed : (c d : Option Selection) (written : Head) → IsAdmitted s c d head body (Some written)
+      → (output : List Record → RunOutput) (fault : EngineFault)
+      → (fault ≡ NoMemory) ⊎ (IsRecordFault fault × ((more : List Record)
+      → output (record { head = written; raw = raw; body = body } ∷ more) ≡ stopped [] (Err fault)))
+      → (fault ≡ NoMemory) ⊎ (IsRecordFault fault × ((more : List Record)
+      → piped c output s (given ∷ more) ≡ stopped [] (Err fault)))
+  failed c d written admitted output fault (inl memory) = inl memory
+  failed None d written admitted output fault (inr ended) =
+      inr (
+        ended.0,
+        λ more. ap (λ (h : Head). output (record { head = h; raw = raw; body = body } ∷ more))
+            (sym (same_head written head admitted.1)) ∙ ended.1 more,
+      )
+  failed (Some c) None written admitted output fault (inr ended) = absurd admitted
+  failed (Some c) (Some d) written admitted output fault (inr ended) =
+      inr (ended.0, goes_wrong s c d head raw body written admitted output fault ended.1)
+
+-- What a call's clauses say where it succeeds, and where it fails.
+pub when_ok : {A E Q : Type 0} {P R : A → Type 0} (r : Result A E) → (Q → (a : A) → P a → R a) → OnOk r Q → IfOk r P
+    → IfOk r R
+when_ok (Ok a) follows q p = follows q a p
+when_ok (Err e) follows q p = tt
+
+pub when_err : {A E : Type 0} {P Q : E → Type 0} (r : Result A E) → ((e : E) → P e → Q e) → IfErr r P → IfErr r Q
+when_err (Ok a) follows p = tt
+when_err (Err e) follows p = follows e p
+
+-- ---- the end
+
+pub last_due : (c : Option Selection) (output : List Record → RunOutput) (s : Session) (line_due : Bool)
+    → (piped c output s []).last line_due ≡ (output []).last (written_due c line_due)
+last_due None output s line_due = refl
+last_due (Some c) output s line_due = refl
+
+pub last_once : (c : Option Selection) (output : List Record → RunOutput) (s : Session)
+    → (piped (once_written c) output s []).last false ≡ (output []).last false
+last_once None output s = refl
+last_once (Some c) output s = refl
+
+pub same_outcome : (c : Option Selection) (output : List Record → RunOutput) (s : Session)
+    → (piped c output s []).outcome ≡ (output []).outcome
+same_outcome None output s = refl
+same_outcome (Some c) output s = refl
+
+pub finished : (c : Option Selection) (output next : List Record → RunOutput) (s t : Session) (line_due due : Bool)
+    → due ≡ written_due c line_due → (bytes : List ℕ) (Falls : Type 0) (end : Option Outcome)
+    → MatchOption end
+    (((output []).last due ≡ bytes ++ (next []).last false) × ((next []).outcome ≡ (output []).outcome) × Falls)
+    (λ outcome. ((output []).last due ≡ bytes) × (outcome ≡ (output []).outcome))
+    → MatchOption end
+    (((piped c output s []).last line_due ≡ bytes ++ (piped (once_written c) next t []).last false)
+    × ((piped (once_written c) next t []).outcome ≡ (piped c output s []).outcome) × Falls)
+    (λ outcome. ((piped c output s []).last line_due ≡ bytes) × (outcome ≡ (piped c output s []).outcome))
+finished c output next s t line_due due is bytes Falls None ended = (
+  last_due c output s line_due ∙ ap (λ b. (output []).last b) (sym is) ∙ ended.0
+      ∙ ap (λ (bs : List ℕ). bytes ++ bs) (sym (last_once c next t)),
+  same_outcome (once_written c) next t ∙ ended.1 ∙ sym (same_outcome c output s),
+  ended.2,
+)
+finished c output next s t line_due due is bytes Falls (Some outcome) ended = (
+  last_due c output s line_due ∙ ap (λ b. (output []).last b) (sym is) ∙ ended.0,
+  ended.1 ∙ sym (same_outcome c output s),
+)
+
+-- ---- all records
+
+-- More records, of which more stay.
+kept_more : (s : Session) (c : Selection) (rs more : List Record) → (others : List Record)
+    × ((kept_in s c (rs ++ more)).records ≡ (kept_in s c rs).records ++ others)
+kept_more s c [] more = ((kept_in s c more).records, refl)
+kept_more s c (q ∷ rs) more =
+    by (record_stays s c.waiting q.head.side q.body) refl (kept_more (judge s q).session (after_kept c q.head q.body) rs
+    more) (kept_more s (after_left_out c q.head) rs more)
+  where
+    by : (b : Bool) → record_stays s c.waiting q.head.side q.body ≡ b
+        → (others : List Record) × ((kept_in (judge s q).session (after_kept c q.head q.body) (rs ++ more)).records
+        ≡ (kept_in (judge s q).session (after_kept c q.head q.body) rs).records ++ others)
+        → (others : List Record) × ((kept_in s (after_left_out c q.head) (rs ++ more)).records
+        ≡ (kept_in s (after_left_out c q.head) rs).records ++ others)
+        → (others : List Record) × ((kept_in s c (q ∷ rs ++ more)).records ≡ (kept_in s c (q ∷ rs)).records ++ others)
+    by true e inner left = (
+      inner.0,
+      ap (λ (k : Kept). k.records) (kept_true s c q (rs ++ more) e) ∙ ap (λ ks. with_line c q ∷ ks) inner.1
+          ∙ sym (ap (λ (k : Kept). k.records ++ inner.0) (kept_true s c q rs e)),
+    )
+    by false e stays inner = (
+      inner.0,
+      ap (λ (k : Kept). k.records) (kept_false s c q (rs ++ more) e) ∙ inner.1
+          ∙ sym (ap (λ (k : Kept). k.records ++ inner.0) (kept_false s c q rs e)),
+    )
+
+-- After a record that ended the run nothing is due.
+abbrev IsEven : RunOutput → Type 0
+IsEven c = (due other : Bool) → with_due due c ≡ with_due other c
+
+even_on : (out : List ℕ) (end : Option (Result Outcome EngineFault)) (c : RunOutput)
+    (answer : Result Outcome EngineFault) → (followed_by out end c).stop ≡ Some answer
+    → (c.stop ≡ Some answer → IsEven c) → IsEven (followed_by out end c)
+even_on out None c answer e even = λ due other. ap (written_first out) (even e due other)
+even_on out (Some ended) c answer e even = λ due other. refl
+
+even : {State : Type 0} (view : View State) (state : State) (s : Session) (rs : List Record)
+    (answer : Result Outcome EngineFault) → (output_in view state s rs).stop ≡ Some answer
+    → IsEven (output_in view state s rs)
+even view state s [] answer e = absurd (let wrong : None ≡ Some answer = e in cc)
+even view state s (r ∷ rs) answer e =
+    let given = view.record_output state s r (judge s r) in
+    let rest = output_in view (view.next state s r (judge s r)) (judge s r).session in
+    even_on given.out given.end (rest rs) answer e
+    (even view (view.next state s r (judge s r)) (judge s r).session rs answer)
+
+-- An output of the records that stay settles and grows, if that of all records does.
+module _ (s : Session) (c : Selection) (g : List Record → RunOutput) where
+  abbrev of_kept : List Record → RunOutput
+  of_kept rs = output_of_kept g (kept_in s c rs)
+
+  kept_settles : Settles g → ((rs : List Record) (answer : Result Outcome EngineFault) → (g rs).stop ≡ Some answer
+      → IsEven (g rs)) → Settles of_kept
+  kept_settles settles even rs more answer e =
+      let longer = kept_more s c rs more in
+      let ks = (kept_in s c rs).records in
+      ap (λ (xs : List Record). with_due (kept_in s c (rs ++ more)).due (g xs)) longer.1
+      ∙ ap (with_due (kept_in s c (rs ++ more)).due) (settles ks longer.0 answer e)
+      ∙ even ks answer e (kept_in s c (rs ++ more)).due (kept_in s c rs).due
+
+  kept_grows : GrowsAll g → GrowsAll of_kept
+  unfolding Grows
+  kept_grows grows_all rs more =
+      let longer = kept_more s c rs more in
+      let rest = grows_all (kept_in s c rs).records longer.0 in
+      (rest.0, ap (λ (xs : List Record). (g xs).out) longer.1 ∙ rest.1)
+
+pub run_of_piped : {State : Type 0} → FirstLaw → VersionLaw → (view : View State) (state : State) (s : Session)
+    (c : Option Selection) (in_parts : Bool) {log_rules : LogRules} {flushes : Bool} {max_turns : ℕ}
+    {before after : Ports} {result : Result Outcome EngineFault}
+    → IsLoopRun log_rules (piped c (output_in view state s) s) flushes max_turns before after result
+    → NoneCut in_parts log_rules (piped c (output_in view state s) s) before after result
+    → IsEngineRun (record {
+      log_rules = log_rules;
+      run_output = piped c (output_in view state s) s;
+      flushes = flushes;
+      in_parts = in_parts;
+    }) max_turns before after result
+run_of_piped first version view state s None in_parts run whole =
+    run_of first version view state s in_parts run whole
+run_of_piped first version view state s (Some c) in_parts run whole =
+    run_of_course first version (piped (Some c) (output_in view state s) s)
+    (kept_settles s c (output_in view state s) (settled view state s) (even view state s))
+    (kept_grows s c (output_in view state s) (grows view state s)) in_parts run whole

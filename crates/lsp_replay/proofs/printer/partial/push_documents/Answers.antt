@@ -1,0 +1,16 @@
+use Rattle.std.proofs.Common.{◌++◌, ◌+◌, ap, ◌∙◌, sym, append_assoc, rules}
+use Rattle.lsp_replay.specs.Commands.{document_line, report_from}
+use Rattle.lsp_replay.proofs.Reports.ReportLemmas.{report_goes_on}
+use Rattle.lsp_replay.proofs.printer.partial.push_documents.Goals as goal
+
+pub documents-preserved : goal.documents-preserved
+documents-preserved c =
+    let table = c.args.documents.now.table in
+    let buffer = c.documents.buffer.items in
+    let goes = report_goes_on c.documents.next table c.in-Some.document (search rules) in
+    let line = document_line c.in-Some.document in
+    record {
+      written = rw c.in_ok-push_document_line.ensures
+          (c.documents.invariant.written ∙ ap (λ z. buffer ++ z) goes
+          ∙ sym (append_assoc buffer line (report_from (c.documents.next + 1) table)));
+    }

@@ -1,0 +1,12 @@
+use Rattle.std.specs.Prelude.{◌≡◌, ◌++◌, ◌-◌, length}
+use Rattle.lsp_replay.specs.Commands.{report_from}
+use Rattle.lsp_replay.proofs.printer.partial.push_documents.Given as goal
+
+abbrev pub invariant-documents : goal.invariant-documents
+invariant-documents l = record {
+  written : l.fn.buffer.items ++ report_from 0 l.documents.table ≡ l.buffer.items ++ report_from l.next
+      l.documents.table;
+}
+
+abbrev pub decreases-documents : goal.decreases-documents
+decreases-documents l = length l.documents.table - l.next

@@ -1,0 +1,89 @@
+use Rattle.std.proofs.Common.{◌≢◌, ap, ◌∙◌, sym, inr}
+use Rattle.lsp_replay.specs.Session.{bad}
+use Rattle.lsp_replay.specs.inside.Verdicts.{verdict_view}
+use Rattle.lsp_replay.proofs.Records.TakenLemmas.{seen_joined, seen_open, unjoined}
+use Rattle.lsp_replay.proofs.Squash.SquashingLemmas.{told_as_it_is, told_more, told_next, told_too_long}
+use Rattle.lsp_replay.proofs.printer.squashing.Squashing.write_read.Goals as goal
+
+-- any record but an accepted change
+pub returns-in_default-clause-ok : goal.returns-in_default-clause-ok
+returns-in_default-clause-ok c =
+    rw (← c.self.view_is)
+    (let not_bad : verdict_view c.in_ok-taken.taken.verdict ≢ bad = c.in_ok-in_log.ensures.in_log in
+    let taken = c.in_ok-taken.ensures c.args.head c.args._body.now c.requires.is_read in
+    let s = c.self.inside.session in
+    let writing = seen_joined c.new-joiner.ensures taken in
+    let ended = unjoined c.new-joiner.ensures taken c.in_default.is in
+    record {
+      session = taken.session;
+      step = told_as_it_is s c.self.inside.texts.front.items c.self.inside.texts.singles.items c.self.inside.batches
+          (record { head = c.args.head; raw = c.args.raw.now; body = c.args._body.now })
+          (verdict_view c.in_ok-taken.taken.verdict) taken.judged
+          c.take.result c.take.ensures.value c.args.buffer.now.items c.requires.empty
+          c.take-2.new.witness.batches ended not_bad (rw (c.in_default.is, ← taken.judged) at writing)
+          c.push_end.new.output.items c.push_front.new.output.items c.extend_from_slice.new.self.items
+          c.in_ok-push_end-in_default.ensures c.in_ok-push_front-in_default.ensures
+          c.in_ok-extend_from_slice-in_default.ensures.items
+          c.take.new.self c.take.ensures.after _ _;
+    })
+
+pub returns-in-TooLong-clause-error : goal.returns-in-TooLong-clause-error
+returns-in-TooLong-clause-error c =
+    rw (← c.self.view_is)
+    (let taken = c.in_ok-taken.ensures c.args.head c.args._body.now c.requires.is_read in
+    let s = c.self.inside.session in
+    let writing = rw (c.in-Some.is, c.in-TooLong.is, ← taken.judged) at (seen_joined c.new-joiner.ensures taken) in
+    inr (
+      tt,
+      told_too_long s c.self.inside.texts.front.items c.self.inside.texts.singles.items c.self.inside.batches
+          (record { head = c.args.head; raw = c.args.raw.now; body = c.args._body.now })
+          (verdict_view c.in_ok-taken.taken.verdict) taken.judged writing.0 writing.1 writing.2 writing.3,
+    ))
+
+pub returns-in-Continues-clause-ok : goal.returns-in-Continues-clause-ok
+returns-in-Continues-clause-ok c =
+    rw (← c.self.view_is)
+    (let taken = c.in_ok-taken.ensures c.args.head c.args._body.now c.requires.is_read in
+    let s = c.self.inside.session in
+    let writing = rw (c.in-Some.is, c.in-Continues.is, ← taken.judged) at (seen_joined c.new-joiner.ensures taken) in
+    record {
+      session = taken.session;
+      step = told_more s c.self.inside.texts.front.items c.self.inside.texts.singles.items c.self.inside.batches
+          (record { head = c.args.head; raw = c.args.raw.now; body = c.args._body.now })
+          (verdict_view c.in_ok-taken.taken.verdict) taken.judged
+          c.take.result c.take.ensures.value c.args.buffer.now.items c.requires.empty
+          c.in-Continues.frame.items c.in-Continues.batches writing.0 writing.1
+          c.deref.result.now c.continue_with.new.self.front.items c.continue_with.new.self.singles.items
+          c.deref.ensures.value c.in_ok-continue_with-in-Continues.ensures.front
+          c.in_ok-continue_with-in-Continues.ensures.singles;
+    })
+
+pub returns-clause-ok : goal.returns-clause-ok
+returns-clause-ok c =
+    rw (← c.self.view_is)
+    (let taken = c.in_ok-taken.ensures c.args.head c.args._body.now c.requires.is_read in
+    let s = c.self.inside.session in
+    let writing = rw (c.in-Some.is, c.in-Begins.is, ← taken.judged) at (seen_joined c.new-joiner.ensures taken) in
+    record {
+      session = taken.session;
+      step = told_next s c.self.inside.texts.front.items c.self.inside.texts.singles.items c.self.inside.batches
+          (record { head = c.args.head; raw = c.args.raw.now; body = c.args._body.now })
+          (verdict_view c.in_ok-taken.taken.verdict) taken.judged
+          c.take.result c.take.ensures.value c.args.buffer.now.items c.requires.empty
+          c.in-Begins.frame.items c.in-Begins.ended c.in-Begins.batches writing.0 writing.1 writing.2 writing.3
+          c.push_end-in-Begins.new.output.items c.deref-in-Begins.result.now c.begin.new.self.front.items
+          c.begin.new.self.singles.items
+          c.in_ok-push_end-in-Begins.ensures c.deref-in-Begins.ensures.value c.in_ok-begin-in-Begins.ensures.front
+          c.in_ok-begin-in-Begins.ensures.singles;
+    })
+
+-- the batches that are open then
+pub invariant_of-self-in-Continues : goal.invariant_of-self-in-Continues
+invariant_of-self-in-Continues c =
+    let taken = c.in_ok-taken.ensures c.args.head c.args._body.now c.requires.is_read in
+    rw c.in-Continues.is at (seen_open c.new-joiner.ensures taken c.in-Some.writing c.in-Some.is)
+
+pub invariant_of-self : goal.invariant_of-self
+invariant_of-self c =
+    let taken = c.in_ok-taken.ensures c.args.head c.args._body.now c.requires.is_read in
+    rw c.in-Begins.is at (seen_open c.new-joiner.ensures taken c.in-Some.writing c.in-Some.is)

@@ -1,0 +1,12 @@
+use Rattle.std.specs.Prelude.{◌≡◌, ◌≤◌, ◌++◌, ◌-◌, drop, length}
+use Rattle.lsp_replay.specs.Trace.{one_line}
+use Rattle.lsp_replay.proofs.printer.tracing.values.push_one_line.Given as goal
+
+abbrev pub invariant-bytes : goal.invariant-bytes
+invariant-bytes l = record {
+  within : l.next ≤ length l.bytes;
+  written : l.fn.buffer.items ++ one_line l.bytes ≡ l.buffer.items ++ one_line (drop l.next l.bytes);
+}
+
+abbrev pub decreases-bytes : goal.decreases-bytes
+decreases-bytes l = length l.bytes - l.next

@@ -1,0 +1,18 @@
+use Rattle.std.proofs.Common.{refl}
+use Rattle.lsp_replay.proofs.Records.TakenLemmas.{change_taken, other_taken}
+use Rattle.lsp_replay.proofs.session.Session.take.Goals as goal
+
+pub change-requires-clause-running : goal.change-requires-clause-running
+change-requires-clause-running g c = c.in-Ok.ensures.running
+
+pub change-requires-clause-known : goal.change-requires-clause-known
+change-requires-clause-known g c = c.in-Ok.ensures.known
+
+pub returns-in_ok-verdict-in-Ok : goal.returns-in_ok-verdict-in-Ok
+returns-in_ok-verdict-in-Ok g c = change_taken c.in-Ok.ensures c.in_ok-verdict-in-Ok.ensures refl refl
+
+pub returns-in_ok-take_other-in-Err : goal.returns-in_ok-take_other-in-Err
+returns-in_ok-take_other-in-Err g c =
+    let t = c.in_ok-take_other-in-Err in
+    other_taken c.in-Err.ensures.1 c.in-Err.ensures.0 t.ensures.verdict t.ensures.session t.ensures.change
+    t.ensures.ranged refl

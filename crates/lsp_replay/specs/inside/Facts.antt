@@ -1,0 +1,133 @@
+-- The facts of a record, what is known after it, and its lines by them.
+use Rattle.std.specs.Prelude.{ℕ, ◌≡◌, Bool, false, ◌&&◌, ◌||◌, ◌∷◌, ◌++◌, if◌then◌else◌, List, [], Option, Some, None, codes, decimal, option_map}
+use Rattle.std.specs.String.{string_bytes}
+use Rattle.lsp_frame.specs.Limits.{LimitsData}
+use Rattle.lsp_log.specs.declared.record.Head.{Head}
+use Rattle.lsp_log.specs.declared.record.Sender.TheVariants.{Client}
+use Rattle.lsp_message.specs.Message.{Reading, reading}
+use Rattle.lsp_message.specs.Params.{ChangeData}
+use Rattle.lsp_message.specs.Seen.{change_view}
+use Rattle.lsp_server.specs.Incoming.{incoming_of}
+use Rattle.lsp_server.specs.Step.{ServerData}
+use Rattle.lsp_replay.specs.declared.commands.traced.Details.{Details}
+use Rattle.lsp_replay.specs.declared.facts.About.{About}
+use Rattle.lsp_replay.specs.declared.facts.Facts.{Facts}
+use Rattle.lsp_replay.specs.declared.session.Taken.{Taken}
+use Rattle.lsp_replay.specs.declared.session.canonical.Appended.{Appended}
+use Rattle.lsp_replay.specs.declared.session.canonical.Appended.TheVariants.{Body}
+use Rattle.lsp_replay.specs.declared.session.canonical.Canonical.{Canonical}
+use Rattle.lsp_replay.specs.Commands.{verdict_word}
+use Rattle.lsp_replay.specs.Explained.{explanation, remark}
+use Rattle.lsp_replay.specs.Lines.{Known, has_notes, is_strict_refusal, uri_of}
+use Rattle.lsp_replay.specs.Mentions.{is_mention, last_for, mentioned}
+use Rattle.lsp_replay.specs.Notes.{notes_if, notes_of}
+use Rattle.lsp_replay.specs.Reasons.{reason_words}
+use Rattle.lsp_replay.specs.Session.{Session, Verdict, answered, is_change, is_refused}
+use Rattle.lsp_replay.specs.Trace.{body_json, document_after, has_changed, last_members, notes_json, text_json, version_json}
+use Rattle.lsp_replay.specs.inside.Bodies.{BodyData, body_read, from_client, from_server}
+use Rattle.lsp_replay.specs.inside.Noting.{notes_on_read}
+use Rattle.lsp_replay.specs.inside.Session.{judge_at}
+use Rattle.lsp_replay.specs.inside.Taken.{ranged_with, received_of}
+use Rattle.lsp_replay.specs.inside.Verdicts.{verdict_view}
+
+-- ---- before the record is taken, by what was read of its body
+
+abbrev pub uri_read : BodyData → Option (List ℕ)
+uri_read (from_client version m) = uri_of Client m
+uri_read (from_server body) = None
+
+abbrev pub is_change_read : BodyData → Bool
+is_change_read (from_client version m) = is_change m
+is_change_read (from_server body) = false
+
+pub record IsAbout (s : ServerData) (ranged : Bool) (body : Reading) (read : BodyData)
+    (about : About) :
+    Type 0 where
+  pub uri : option_map string_bytes about.uri ≡ uri_read read
+  pub is_change : about.is_change ≡ is_change_read read
+  pub notes : about.notes.items ≡ notes_on_read s ranged body read
+
+-- ---- after it
+
+-- By what the record is about, and what became of it.
+pub record IsLearned (known : Known) (n : ℕ) (about : About) (taken : Taken) (facts : Facts) :
+    Type 0 where
+  pub number : facts.number ≡ n
+  pub verdict : facts.verdict ≡ taken.verdict
+  pub uri : facts.uri ≡ about.uri
+  pub change : facts.change ≡ taken.change
+  pub last : facts.last
+      ≡ last_for known.mentions (option_map string_bytes about.uri) (verdict_view taken.verdict)
+  pub notes : facts.notes.items ≡ notes_if about.notes.items (verdict_view taken.verdict)
+
+-- What is known after a record with this number.
+abbrev pub known_by : Known → ℕ → About → Taken → Known
+known_by known number about taken = record {
+  mentions = mentioned (is_mention about.is_change (verdict_view taken.verdict))
+      (option_map string_bytes about.uri) number known.mentions;
+  ranged = ranged_with known.ranged taken.ranged;
+  suspicious = known.suspicious
+      || has_notes (notes_if about.notes.items (verdict_view taken.verdict));
+  strict_refusal = known.strict_refusal || is_strict_refusal (verdict_view taken.verdict);
+}
+
+-- Of a record with this head and body, before which the session was `s`.
+pub record AreFacts (known : Known) (s : Session) (head : Head) (body : List ℕ) (facts : Facts) :
+    Type 0 where
+  pub number : facts.number ≡ (judge_at s head body).session.records
+  pub verdict : verdict_view facts.verdict ≡ (judge_at s head body).verdict
+  pub uri : option_map string_bytes facts.uri ≡ uri_of head.side (incoming_of (reading body))
+  pub change : option_map change_view facts.change
+      ≡ received_of s (body_read head.version head.side body)
+  pub last : facts.last ≡ last_for known.mentions
+      (uri_of head.side (incoming_of (reading body))) (judge_at s head body).verdict
+  pub notes : facts.notes.items
+      ≡ notes_of s known.ranged body (judge_at s head body).verdict
+
+-- ---- the lines, by the facts
+
+-- A line of `check --explain`.
+abbrev pub explained_by : LimitsData → Facts → List ℕ
+explained_by limits facts =
+    decimal facts.number ++ codes " " ++ verdict_word (verdict_view facts.verdict)
+    ++ explanation limits (option_map string_bytes facts.uri) (option_map change_view facts.change)
+    facts.last (verdict_view facts.verdict)
+    ++ remark (option_map string_bytes facts.uri) facts.notes.items ++ codes "\n"
+
+-- Why a record was refused, by the change that a running server received.
+abbrev pub reason_of : LimitsData → Option ChangeData → Verdict → Option (List ℕ)
+reason_of limits change (answered answer) = if is_refused answer then
+    Some (codes "\"" ++ reason_words limits change answer ++ codes "\"") else None
+reason_of limits change verdict = None
+
+-- The canonical message, if its body was appended.
+abbrev pub canonical_json : Option Appended → List ℕ → Option (List ℕ)
+canonical_json (Some Body) bytes = Some bytes
+canonical_json appended bytes = None
+
+-- The last members of a line of `trace`, by the session afterwards too.
+abbrev pub members_by : Details → Session → Canonical → Bool → Facts → List ℕ → List ℕ
+members_by details t canonical is_json facts body =
+    codes ",\"word\":\"" ++ verdict_word (verdict_view facts.verdict) ++ codes "\""
+    ++ last_members ((
+      codes ",\"reason\":",
+      reason_of t.server.config.limits (option_map change_view facts.change)
+          (verdict_view facts.verdict),
+    )
+    ∷ (codes ",\"last\":", option_map decimal facts.last)
+    ∷ (codes ",\"notes\":", notes_json facts.notes.items)
+    ∷ (
+      codes ",\"version\":",
+      version_json (document_after t.server.table (option_map string_bytes facts.uri)),
+    )
+    ∷ (
+      codes ",\"canonical\":",
+      canonical_json canonical.appended canonical.bytes.items,
+    )
+    ∷ (
+      codes ",\"text\":",
+      text_json (details.texts && has_changed (verdict_view facts.verdict))
+          (document_after t.server.table (option_map string_bytes facts.uri)),
+    )
+    ∷ (codes ",\"body\":", body_json (details.bodies && is_json) body)
+    ∷ [])

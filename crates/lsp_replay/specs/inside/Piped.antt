@@ -1,0 +1,42 @@
+-- What a command writes of the records that stay, if some are left out.
+use Rattle.std.specs.Prelude.{ℕ, ◌≡◌, ◌||◌, Bool, false, List, [], Option, Some, None}
+use Rattle.lsp_log.specs.declared.record.Head.{Head}
+use Rattle.lsp_log.specs.Log.{Record}
+use Rattle.lsp_replay.specs.Documents.{Selection, kept_in, output_of_kept}
+use Rattle.lsp_replay.specs.RunOutput.{RunOutput}
+use Rattle.lsp_replay.specs.Session.{Session}
+use Rattle.lsp_replay.specs.inside.Reads.{IsSelection}
+
+-- The output of a command, whose session is `s` before these records: of all of them, or of those
+-- that stay.
+abbrev pub piped : Option Selection → (List Record → RunOutput) → Session → List Record → RunOutput
+piped None run_output s = run_output
+piped (Some c) run_output s = λ rs. output_of_kept run_output (kept_in s c rs)
+
+-- Without records nothing is written, and nothing ends the run.
+pub piped_silent : (c : Option Selection) (run_output : List Record → RunOutput) (s : Session)
+    → (run_output []).out ≡ [] → (piped c run_output s []).out ≡ []
+piped_silent None run_output s silent = silent
+piped_silent (Some c) run_output s silent = silent
+
+pub piped_unstopped : (c : Option Selection) (run_output : List Record → RunOutput) (s : Session)
+    → (run_output []).stop ≡ None → (piped c run_output s []).stop ≡ None
+piped_unstopped None run_output s unstopped = unstopped
+piped_unstopped (Some c) run_output s unstopped = unstopped
+
+-- A record is left out, or it stays and is written under a head.
+abbrev pub IsAdmitted : Session → Option Selection → Option Selection → Head → List ℕ → Option Head
+    → Type 0
+IsAdmitted s None new head body written = (new ≡ None) × (written ≡ Some head)
+IsAdmitted s (Some old) None head body written = ⊥
+IsAdmitted s (Some old) (Some new) head body written = IsSelection s old new head body written
+
+-- Is the line of version 2 to be written at the end?
+abbrev pub written_due : Option Selection → Bool → Bool
+written_due None line_due = line_due
+written_due (Some c) line_due = c.due || line_due
+
+-- It is written once.
+abbrev pub once_written : Option Selection → Option Selection
+once_written None = None
+once_written (Some c) = Some (record c { due = false })

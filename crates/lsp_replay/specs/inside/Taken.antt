@@ -1,0 +1,82 @@
+-- What became of a record whose body was read.
+use Rattle.std.specs.Prelude.{ℕ, ◌≡◌, ◌≢◌, ◌&&◌, Bool, if◌then◌else◌, is_none, List, Option, Some, None, option_map}
+use Rattle.lsp_log.specs.declared.record.Head.{Head}
+use Rattle.lsp_message.specs.Message.{reading}
+use Rattle.lsp_message.specs.Params.{ChangeData}
+use Rattle.lsp_message.specs.Seen.{change_view}
+use Rattle.lsp_server.specs.Answer.{changed}
+use Rattle.lsp_server.specs.Incoming.{incoming_of}
+use Rattle.lsp_server.specs.Step.{ServerData}
+use Rattle.lsp_replay.specs.declared.session.Taken.{Taken}
+use Rattle.lsp_replay.specs.Commands.{change_in}
+use Rattle.lsp_replay.specs.Notes.{ranged_for}
+use Rattle.lsp_replay.specs.Session.{Session, Verdict, answered, is_running}
+use Rattle.lsp_replay.specs.inside.Bodies.{BodyData, IsChangeTaken, body_read, change_of, from_client, from_server}
+use Rattle.lsp_replay.specs.inside.Joining.{refusal_of, server_after}
+use Rattle.lsp_replay.specs.inside.Session.{judge_at}
+use Rattle.lsp_replay.specs.inside.Verdicts.{verdict_view}
+
+-- The params of a change that a running server receives.
+abbrev pub received_of : Session → BodyData → Option ChangeData
+received_of s read =
+    if is_running s.server.phase && is_none s.expected then change_of read else None
+
+-- Were ranges asked for after a record? `ranged` says it where the record does.
+abbrev pub ranged_with : Bool → Option Bool → Bool
+ranged_with before None = before
+ranged_with before (Some ranged) = ranged
+
+-- The same by what was read of a record.
+abbrev pub ranged_read : Bool → Session → BodyData → Bool
+ranged_read before s (from_client version m) = before
+ranged_read before s (from_server body) = ranged_for before s.expected body
+
+abbrev pub IsHeard : Session → BodyData → Taken → Type 0
+IsHeard s read taken =
+    (before : Bool) → ranged_with before taken.ranged ≡ ranged_read before s read
+
+-- ---- what is shown to a witness
+
+-- The params of a change that is accepted.
+abbrev pub accepted_if : Option ChangeData → Verdict → Option ChangeData
+accepted_if (Some p) (answered changed) = Some p
+accepted_if change verdict = None
+
+-- The same of a record with this head and body.
+abbrev pub accepted_of : Session → Head → List ℕ → Option ChangeData
+accepted_of s head body =
+    accepted_if (change_in (incoming_of (reading body))) (judge_at s head body).verdict
+
+-- A witness has seen a change that is accepted, before it was applied; without one it is the same.
+abbrev pub IsShown : Type 0 → (ServerData → ChangeData → Type 0) → Session → Session
+    → Option ChangeData → Type 0
+IsShown Same HasSeen old new None = Same
+IsShown Same HasSeen old new (Some p) =
+    HasSeen old.server p × (new.server ≡ server_after old.server p)
+
+-- ---- what became of a record
+
+-- A record with this head and body was taken, and shown to a witness.
+pub record IsTaken (Same : Type 0) (HasSeen : ServerData → ChangeData → Type 0) (old new : Session)
+    (head : Head) (body : List ℕ) (taken : Taken) : Type 0 where
+  pub judged : verdict_view taken.verdict ≡ (judge_at old head body).verdict
+  pub session : new ≡ (judge_at old head body).session
+  pub change : option_map change_view taken.change
+      ≡ received_of old (body_read head.version head.side body)
+  pub heard : IsHeard old (body_read head.version head.side body) taken
+  pub shown : IsShown Same HasSeen old new (accepted_of old head body)
+
+-- So it was, whatever record this was read of.
+abbrev pub IsTakenAs : Type 0 → (ServerData → ChangeData → Type 0) → Session → Session → BodyData
+    → Taken → Type 0
+IsTakenAs Same HasSeen old new read taken =
+    (head : Head) (body : List ℕ) → read ≡ body_read head.version head.side body
+    → IsTaken Same HasSeen old new head body taken
+
+-- A change that a running server receives was judged, and shown to a witness if it is accepted.
+pub record IsChangeWitnessed (Same : Type 0) (HasSeen : ServerData → ChangeData → Type 0)
+    (old new : Session) (p : ChangeData) (verdict : Verdict) : Type 0 where
+  pub taken : IsChangeTaken old p verdict new
+  pub accepted : refusal_of old.server p ≡ None →
+      HasSeen old.server p × (new.server ≡ server_after old.server p)
+  pub refused : refusal_of old.server p ≢ None → Same

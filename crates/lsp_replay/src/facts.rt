@@ -1,0 +1,224 @@
+//! The facts of a record, from which `trace` and `check --explain` print its line; and what is
+//! known of the records before it.
+//!
+//! `noting` has what is suspicious of a message, `asked` what a body asks.
+
+ghost use Rattle.std.specs.Prelude.{◌≡◌, ◌≢◌, ◌⊎◌, IfErr, IfOk, OnOk, option_map};
+ghost use Rattle.lsp_replay.specs.Lines.{has_notes, is_strict_refusal, known_after, nothing_known};
+ghost use Rattle.lsp_replay.specs.Mentions.{is_mention, last_for};
+ghost use Rattle.lsp_replay.specs.Session.{bad};
+ghost use Rattle.lsp_replay.specs.inside.Facts.{AreFacts, IsLearned, known_by};
+ghost use Rattle.lsp_replay.specs.inside.Reads.{IsReadOf};
+ghost use Rattle.lsp_replay.specs.inside.Session.{judge_at};
+ghost use Rattle.lsp_replay.specs.inside.Taken.{IsShown, accepted_of, ranged_with};
+ghost use Rattle.lsp_replay.specs.inside.Verdicts.{verdict_view};
+
+pub(crate) mod asked;
+mod noting;
+
+use crate::facts::noting::{about_of, notes_if};
+use crate::mentions::Mentions;
+use crate::notes::Note;
+use crate::session::witness::Witness;
+use crate::session::{RecordBody, Session, Taken, Verdict, in_log};
+use lsp_log::Head;
+use lsp_message::ChangeParams;
+use lsp_server::{Answer, Refusal};
+use lsp_store::StoreFault;
+use lsp_stream::EngineFault;
+use std::alloc::{AllocError, Global};
+use std::marker::Model;
+
+/// What a record is about, before it is taken.
+#[derive(Drop)]
+pub struct About {
+    /// The URI of its document.
+    pub uri: Option<String>,
+    /// Whether it is a `didChange`.
+    pub is_change: bool,
+    /// What is suspicious of it, if it is accepted.
+    pub notes: Vec<Note>,
+}
+
+/// The facts of a record that was taken.
+#[derive(Drop)]
+pub struct Facts {
+    /// Its number, from 1.
+    pub number: u64,
+    pub verdict: Verdict,
+    /// The URI of the document that it is about.
+    pub uri: Option<String>,
+    /// The params of a change that a running server received: what a reason quotes.
+    pub change: Option<ChangeParams>,
+    /// The record that opened, closed or refused this document last before, if the documents
+    /// refused this one.
+    pub last: Option<u64>,
+    /// What is suspicious of it, if it was accepted.
+    pub notes: Vec<Note>,
+}
+
+/// What is known of the records before one.
+#[derive(Drop)]
+pub struct Known {
+    alloc: Global,
+    mentions: Mentions,
+    // Whether the server asked for ranges.
+    ranged: bool,
+    // Whether a record has notes.
+    suspicious: bool,
+    // Whether one is refused with S1 or S5, which lenient limits never do.
+    strict_refusal: bool,
+}
+
+impl Model for Known {
+    ghost use Rattle.lsp_replay.specs.Lines as spec;
+
+    ghost Value = { spec.Known };
+
+    ghost view = { λ known. record {
+      mentions = known.mentions.newest.items;
+      ranged = known.ranged;
+      suspicious = known.suspicious;
+      strict_refusal = known.strict_refusal;
+    } };
+}
+
+impl Known {
+    /// Starts before the first record. Takes no memory.
+    pub fn nothing(alloc: Global) -> Self
+        ensures { result ≡ nothing_known }
+    {
+        Known {
+            alloc,
+            mentions: Mentions::new(alloc),
+            ranged: false,
+            suspicious: false,
+            strict_refusal: false,
+        }
+    }
+
+    /// Returns whether a record has notes.
+    pub fn is_suspicious(&self) -> bool
+        ensures { result ≡ self.now.suspicious }
+    {
+        self.suspicious
+    }
+
+    /// Returns whether a record is refused with S1 or S5.
+    pub fn has_strict_refusal(&self) -> bool
+        ensures { result ≡ self.now.strict_refusal }
+    {
+        self.strict_refusal
+    }
+
+    /// Takes the record that was read into a session, as [`Session::take`] does, and returns its
+    /// facts. A record that can't be in a log is [`EngineFault::BadLog`], at its first byte.
+    pub fn take<W: Witness>(
+        &mut self,
+        session: &mut Session,
+        head: Head,
+        body: &[u8],
+        read: RecordBody<'_>,
+        witness: &mut W,
+    ) -> Result<Facts, EngineFault>
+        requires is_read { IsReadOf head body.now read }
+        requires fits { W.Fits witness.old session.old.server }
+        ensures facts { IfOk result (AreFacts self.old session.old head body.now) }
+        ensures in_log { IfOk result (λ facts. verdict_view facts.verdict ≢ bad) }
+        ensures session { OnOk result (session.new ≡ (judge_at session.old head body.now).session) }
+        ensures known { OnOk result (self.new ≡ known_after self.old session.old head body.now
+            (judge_at session.old head body.now)) }
+        ensures shown { OnOk result (IsShown (witness.new ≡ witness.old)
+            (W.HasSeen witness.old witness.new) session.old session.new
+            (accepted_of session.old head body.now)) }
+        ensures error { IfErr result (λ fault. (fault ≡ EngineFault.NoMemory)
+            ⊎ ((fault ≡ EngineFault.BadLog head.place)
+            × ((judge_at session.old head body.now).verdict ≡ bad))) }
+    {
+        let about = about_of(self.alloc, session.server(), self.ranged, body, &read)?;
+        let taken = session.take(read, witness)?;
+        in_log(&taken.verdict, head.place)?;
+        Ok(self.learn(session.records(), about, taken)?)
+    }
+
+    /// Learns of a record with this number that was taken.
+    fn learn(&mut self, number: u64, about: About, taken: Taken) -> Result<Facts, AllocError>
+        ensures facts { IfOk result (IsLearned self.old number about taken) }
+        ensures known { OnOk result (self.new ≡ known_by self.old number about taken) }
+    {
+        let About {
+            uri,
+            is_change,
+            notes,
+        } = about;
+        let Taken {
+            verdict,
+            change,
+            ranged,
+        } = taken;
+        let last = last_for(&self.mentions, uri.as_deref(), &verdict);
+        let counts = is_mention(is_change, &verdict);
+        self.mentions.keep(counts, uri.as_deref(), number)?;
+        let notes = notes_if(notes, &verdict);
+        self.ranged = ranged_with(self.ranged, ranged);
+        self.suspicious = self.suspicious || has_notes(notes.as_slice());
+        self.strict_refusal = self.strict_refusal || is_strict_refusal(&verdict);
+        Ok(Facts {
+            number,
+            verdict,
+            uri,
+            change,
+            last,
+            notes,
+        })
+    }
+}
+
+/// Returns whether ranges are asked for after a record, by what it says of that, if it does.
+fn ranged_with(before: bool, ranged: Option<bool>) -> bool
+    ensures { result ≡ ranged_with before ranged }
+{
+    ranged.unwrap_or(before)
+}
+
+/// Returns the record that opened, closed or refused a document last, if the documents refused one
+/// about it.
+fn last_for(mentions: &Mentions, uri: Option<&str>, verdict: &Verdict) -> Option<u64>
+    ensures { result ≡ last_for mentions.now.newest.items
+        (option_map (λ uri. uri.now) uri.entry) (verdict_view verdict.now) }
+{
+    let Verdict::Answered(Answer::Refused(_)) = verdict else {
+        return None;
+    };
+    mentions.last(uri?)
+}
+
+/// Returns whether an answer opens, closes or refuses a document.
+fn is_mention(is_change: bool, verdict: &Verdict) -> bool
+    ensures { result ≡ is_mention is_change (verdict_view verdict.now) }
+{
+    match verdict {
+        Verdict::Answered(Answer::Changed) => !is_change,
+        Verdict::Answered(Answer::Refused(_)) => true,
+        _ => false,
+    }
+}
+
+/// Returns whether there is a note.
+fn has_notes(notes: &[Note]) -> bool
+    ensures { result ≡ has_notes notes.now }
+{
+    !notes.is_empty()
+}
+
+/// Returns whether a record is refused with S1 or S5.
+fn is_strict_refusal(verdict: &Verdict) -> bool
+    ensures { result ≡ is_strict_refusal (verdict_view verdict.now) }
+{
+    matches!(
+        verdict,
+        Verdict::Answered(Answer::Refused(Refusal::Store(
+            StoreFault::AlreadyOpen | StoreFault::StaleVersion { .. }
+        )))
+    )
+}

@@ -1,0 +1,132 @@
+//! What is suspicious of a message on the documents before it.
+
+ghost use Rattle.std.specs.Prelude.{◌≡◌, ◌++◌, IfOk, OnOk, string_bytes};
+ghost use Rattle.lsp_message.specs.Message.{reading};
+ghost use Rattle.lsp_message.specs.Seen.{change_view};
+ghost use Rattle.lsp_server.specs.Seen.{incoming_view};
+ghost use Rattle.lsp_store.specs.Table.{entry_at};
+ghost use Rattle.lsp_replay.specs.Notes.{changing_notes, notes_if, notes_on, opening_notes, terms_in, version_notes};
+ghost use Rattle.lsp_replay.specs.inside.Bodies.{body_view};
+ghost use Rattle.lsp_replay.specs.inside.Facts.{IsAbout};
+ghost use Rattle.lsp_replay.specs.inside.Verdicts.{verdict_view};
+
+use crate::facts::About;
+use crate::facts::asked::{copied_text, is_change, uri_of};
+use crate::notes::Note;
+use crate::notes::changes::{Terms, push_batch_notes};
+use crate::session::{RecordBody, Verdict};
+use lsp_log::Sender;
+use lsp_message::{ChangeParams, OpenParams, range_lengths};
+use lsp_server::{Answer, Incoming, Server};
+use lsp_text::Encoding;
+use std::alloc::{AllocError, Global};
+
+/// Returns what a record is about that was read. A server's record is about no document.
+pub(super) fn about_of(
+    alloc: Global,
+    server: &Server,
+    ranged: bool,
+    body: &[u8],
+    read: &RecordBody<'_>,
+) -> Result<About, AllocError>
+    ensures { IfOk result (IsAbout server.now ranged (reading body.now) (body_view read.now)) }
+{
+    let RecordBody::Client(_, incoming) = read else {
+        return Ok(About {
+            uri: None,
+            is_change: false,
+            notes: Vec::new(alloc),
+        });
+    };
+    Ok(About {
+        uri: copied_text(alloc, uri_of(Sender::Client, incoming))?,
+        is_change: is_change(incoming),
+        notes: notes_on(alloc, server, ranged, body, incoming)?,
+    })
+}
+
+/// Returns what there is to note of a message, if it is accepted. The body of a change is read once
+/// more, for its lengths.
+fn notes_on(
+    alloc: Global,
+    server: &Server,
+    ranged: bool,
+    body: &[u8],
+    incoming: &Incoming,
+) -> Result<Vec<Note>, AllocError>
+    ensures { IfOk result (λ notes. notes.items
+        ≡ notes_on server.now ranged (reading body.now) (incoming_view incoming.now)) }
+{
+    match incoming {
+        Incoming::DidOpen(Some(params)) => opening_notes(alloc, server, params),
+        Incoming::DidChange(Some(params)) => changing_notes(alloc, server, ranged, body, params),
+        _ => Ok(Vec::new(alloc)),
+    }
+}
+
+/// Notes that a document is open that is to be opened.
+fn opening_notes(
+    alloc: Global,
+    server: &Server,
+    params: &OpenParams,
+) -> Result<Vec<Note>, AllocError>
+    ensures { IfOk result (λ notes. notes.items
+        ≡ opening_notes (entry_at server.now.table (string_bytes params.now.uri))) }
+{
+    let mut notes = Vec::new(alloc);
+    if server.store().get(&params.uri).is_some() {
+        notes.push(Note::OpenAlready)?;
+    }
+    Ok(notes)
+}
+
+/// Notes what is suspicious of a change, if its document is open.
+#[tactic(auto, using(crate::proofs::Reports::NoteLemmas::edits_read))]
+fn changing_notes(
+    alloc: Global,
+    server: &Server,
+    ranged: bool,
+    body: &[u8],
+    params: &ChangeParams,
+) -> Result<Vec<Note>, AllocError>
+    ensures { IfOk result (λ notes. notes.items
+        ≡ changing_notes (terms_in server.now ranged (reading body.now)) (change_view params.now)
+        (entry_at server.now.table (string_bytes params.now.uri))) }
+{
+    let mut notes = Vec::new(alloc);
+    let Some(document) = server.store().get(&params.uri) else {
+        return Ok(notes);
+    };
+    let lengths = range_lengths(alloc, body)?;
+    let terms = Terms {
+        encoding: server.encoding().unwrap_or(Encoding::Utf16),
+        lengths: lengths.as_slice(),
+        ranged,
+    };
+    push_version_note(&mut notes, params.version, document.version())?;
+    push_batch_notes(alloc, &mut notes, document.text(), &terms, &params.changes)?;
+    Ok(notes)
+}
+
+/// Returns the notes of an accepted message; a refused one has none.
+pub(super) fn notes_if(mut notes: Vec<Note>, verdict: &Verdict) -> Vec<Note>
+    ensures { result.items ≡ notes_if notes.items (verdict_view verdict.now) }
+{
+    match verdict {
+        Verdict::Answered(Answer::Changed) => notes,
+        _ => {
+            notes.clear();
+            notes
+        }
+    }
+}
+
+/// Notes a version that isn't greater than the current one.
+fn push_version_note(notes: &mut Vec<Note>, sent: i32, current: i32) -> Result<(), AllocError>
+    ensures { OnOk result (notes.new.items ≡ notes.old.items ++ version_notes sent current) }
+{
+    if sent <= current {
+        notes.push(Note::OldVersion { sent, current })?;
+    }
+    Ok(())
+}

@@ -1,0 +1,143 @@
+//! From a record's bytes to a command's output: the body is read once, a record that doesn't stay
+//! is left out, and any other is printed.
+
+ghost use Rattle.std.specs.Prelude.{◌≡◌, ℕ, Err, IfOk, List};
+ghost use Rattle.lsp_stream.specs.Ports.{ports};
+ghost use Rattle.lsp_log.specs.laws.Logs.{FirstLaw, VersionLaw};
+ghost use Rattle.lsp_replay.specs.Engine.{WroteRecords};
+ghost use Rattle.lsp_replay.specs.inside.Engine.{IsLoopRun, reading_by};
+ghost use Rattle.lsp_replay.specs.inside.Piped.{IsAdmitted, once_written, piped, piped_silent, piped_unstopped, written_due};
+ghost use Rattle.lsp_replay.specs.inside.Reads.{IsReadOf};
+
+use crate::engine::{InputRules, run_on};
+use crate::handler::{Given, Handler, Output};
+use crate::outcome::Outcome;
+use crate::printer::Printer;
+use crate::session::RecordBody;
+use crate::session::selecting::Selection;
+use lsp_log::Head;
+use lsp_message::Scratch;
+use lsp_stream::{Duplex, EngineFault, Sink, Source};
+use std::alloc::{AllocError, Global};
+
+/// A command over the records of a log, all of them or a selection.
+#[derive(Drop)]
+pub struct Pipeline<P> {
+    pub printer: P,
+    /// What is known of the records that stay, if some are left out.
+    pub selection: Option<Selection>,
+    // Bodies are read with it; clauses don't see it.
+    scratch: Scratch,
+    alloc: Global,
+}
+
+impl<P: Printer> Pipeline<P> {
+    /// Starts before the first record.
+    pub fn new(alloc: Global, printer: P, selection: Option<Selection>) -> Pipeline<P>
+        ensures printer { result.printer ≡ printer }
+        ensures selection { result.selection ≡ selection }
+    {
+        Pipeline {
+            printer,
+            selection,
+            scratch: Scratch::new(alloc),
+            alloc,
+        }
+    }
+
+    /// Returns the head under which the record that was read is written, or `None` if the record is
+    /// left out.
+    fn admit(&mut self, head: Head, read: &RecordBody<'_>) -> Result<Option<Head>, AllocError>
+        ensures admitted { IfOk result (λ written. (body : List ℕ) → IsReadOf head body read.now
+            → IsAdmitted (P.reached self.old.printer) self.old.selection self.new.selection head
+            body written) }
+        ensures printer { self.new.printer ≡ self.old.printer }
+    {
+        match &mut self.selection {
+            Some(selection) => selection.select(self.printer.session(), head, read),
+            None => Ok(Some(head)),
+        }
+    }
+
+    /// Returns whether the line of version 2 is to be written at the end of the input. It is
+    /// written once.
+    fn take_due(&mut self, line_due: bool) -> bool
+        ensures value { result ≡ written_due self.old.selection line_due }
+        ensures selection { self.new.selection ≡ once_written self.old.selection }
+        ensures printer { self.new.printer ≡ self.old.printer }
+    {
+        match &mut self.selection {
+            Some(selection) => selection.take_due(line_due),
+            None => line_due,
+        }
+    }
+}
+
+impl<P: Printer> Handler for Pipeline<P> {
+    ghost run_output = { λ p. piped p.selection (P.run_output p.printer) (P.reached p.printer) };
+
+    ghost FLUSHES = { P.FLUSHES };
+
+    const FLUSHES: bool = P::FLUSHES;
+
+    ghost parts = { λ p. P.parts p.printer };
+
+    ghost silent = { λ p. piped_silent p.selection (P.run_output p.printer) (P.reached p.printer)
+        (P.silent p.printer) };
+
+    ghost unstopped = { λ p. piped_unstopped p.selection (P.run_output p.printer)
+        (P.reached p.printer) (P.unstopped p.printer) };
+
+    fn handle(
+        &mut self,
+        head: Head,
+        raw: &[u8],
+        body: &[u8],
+        buffer: &mut Vec<u8>,
+    ) -> Result<Given, EngineFault> {
+        let read = RecordBody::read(self.alloc, head, body, &mut self.scratch)?;
+        let Some(head) = self.admit(head, &read)? else {
+            return Ok(Given::more(Output::Bytes));
+        };
+        self.printer.print(head, raw, body, read, buffer)
+    }
+
+    fn finish(
+        &mut self,
+        line_due: bool,
+        buffer: &mut Vec<u8>,
+    ) -> Result<Option<Outcome>, EngineFault> {
+        let due = self.take_due(line_due);
+        self.printer.finish(due, buffer)
+    }
+}
+
+/// Runs a command over a reader and a writer, for all records or a selection.
+pub fn run<R: Source, W: Sink, P: Printer + Drop>(
+    alloc: Global,
+    reader: &mut R,
+    writer: &mut W,
+    printer: P,
+    selection: Option<Selection>,
+    rules: InputRules,
+    max_turns: u64,
+) -> Result<Outcome, EngineFault>
+    ensures run { IsLoopRun (reading_by rules)
+        (piped selection (P.run_output printer) (P.reached printer)) P.FLUSHES max_turns
+        (ports (R.seen reader.old) (W.seen writer.old))
+        (ports (R.seen reader.new) (W.seen writer.new)) result }
+    // Where the end has one part, what is written when memory runs out is the output of records,
+    // each whole.
+    ensures whole { ((p : P) → P.parts p ≡ 0) → result ≡ Err EngineFault.NoMemory →
+        WroteRecords (reading_by rules)
+        (piped selection (P.run_output printer) (P.reached printer))
+        (R.seen reader.old).left (R.seen reader.new).left
+        (W.seen writer.old).written (W.seen writer.new).written }
+    // What its callers take from `lsp_log`.
+    ensures version { VersionLaw }
+    ensures first { FirstLaw }
+{
+    let mut ends = Duplex::new(reader, writer);
+    let mut pipeline = Pipeline::new(alloc, printer, selection);
+    run_on(alloc, &mut ends, &mut pipeline, rules, max_turns)
+}

@@ -1,0 +1,125 @@
+//! `check`: what a server answers to each record of a log, line by line.
+
+ghost use Rattle.std.specs.Prelude.{◌≡◌, ◌++◌, refl, OnOk, decimal, false};
+ghost use Rattle.lsp_server.specs.Seen.{answer_view};
+ghost use Rattle.lsp_replay.specs.Commands.{checking, check_line, code_word, verdict_word, word_of};
+ghost use Rattle.lsp_replay.specs.inside.Commands.{run_output_in};
+ghost use Rattle.lsp_replay.specs.inside.Verdicts.{verdict_view};
+
+use crate::handler::{Given, Output};
+use crate::outcome::Outcome;
+use crate::printer::Printer;
+use crate::session::{RecordBody, Session, Verdict};
+use itoa::Buffer;
+use lsp_log::Head;
+use lsp_message::ErrorCode;
+use lsp_server::Answer;
+use lsp_stream::EngineFault;
+use std::alloc::AllocError;
+
+/// Writes a line for each record.
+#[derive(Drop)]
+pub struct Check {
+    pub session: Session,
+}
+
+impl Printer for Check {
+    ghost run_output = { λ check. run_output_in checking check.session };
+
+    ghost reached = { λ check. check.session };
+
+    ghost FLUSHES = { false };
+
+    const FLUSHES: bool = false;
+
+    ghost parts = { λ check. 0 };
+
+    ghost silent = { λ _. refl };
+
+    ghost unstopped = { λ _. refl };
+
+    fn session(&self) -> &Session {
+        &self.session
+    }
+
+    fn print(
+        &mut self,
+        head: Head,
+        _raw: &[u8],
+        _body: &[u8],
+        read: RecordBody<'_>,
+        buffer: &mut Vec<u8>,
+    ) -> Result<Given, EngineFault> {
+        let verdict = self.session.accept(head, read)?;
+        push_verdict_line(buffer, self.session.records(), &verdict)?;
+        Ok(Given::more(Output::Bytes))
+    }
+
+    fn finish(
+        &mut self,
+        _line_due: bool,
+        _buffer: &mut Vec<u8>,
+    ) -> Result<Option<Outcome>, EngineFault> {
+        Ok(Some(self.session.outcome()))
+    }
+}
+
+fn push_verdict_line(buffer: &mut Vec<u8>, number: u64, verdict: &Verdict) -> Result<(), AllocError>
+    ensures { OnOk result
+        (buffer.new.items ≡ buffer.old.items ++ check_line number (verdict_view verdict.now)) }
+{
+    let mut digits = Buffer::new();
+    buffer.extend_from_slice(digits.format(number).as_bytes())?;
+    buffer.extend_from_slice(b" ")?;
+    push_verdict(buffer, verdict)?;
+    buffer.extend_from_slice(b"\n")?;
+    Ok(())
+}
+
+/// Writes a record's word.
+pub fn push_verdict(buffer: &mut Vec<u8>, verdict: &Verdict) -> Result<(), AllocError>
+    ensures { OnOk result
+        (buffer.new.items ≡ buffer.old.items ++ verdict_word (verdict_view verdict.now)) }
+{
+    match verdict {
+        Verdict::Answered(answer) => push_answer(buffer, answer)?,
+        Verdict::Recorded => buffer.extend_from_slice(b"server")?,
+        Verdict::Bad => {}
+    }
+    Ok(())
+}
+
+fn push_answer(buffer: &mut Vec<u8>, answer: &Answer) -> Result<(), AllocError>
+    ensures { OnOk result
+        (buffer.new.items ≡ buffer.old.items ++ word_of (answer_view answer.now)) }
+{
+    match answer {
+        Answer::Reply { code, .. } => buffer.extend_from_slice(code_word(*code).as_bytes())?,
+        Answer::Changed => buffer.extend_from_slice(b"changed")?,
+        Answer::Dropped => buffer.extend_from_slice(b"dropped")?,
+        Answer::Ignored => buffer.extend_from_slice(b"ignored")?,
+        Answer::Refused(refusal) => {
+            buffer.extend_from_slice(b"refused ")?;
+            buffer.extend_from_slice(refusal.code().as_bytes())?;
+        }
+        Answer::Exit(status) => {
+            buffer.extend_from_slice(b"exit ")?;
+            let mut digits = Buffer::new();
+            buffer.extend_from_slice(digits.format(*status).as_bytes())?;
+        }
+    }
+    Ok(())
+}
+
+fn code_word(code: Option<ErrorCode>) -> &'static str
+    ensures { result.now ≡ code_word code }
+{
+    match code {
+        None => "reply",
+        Some(ErrorCode::ParseError) => "error -32700",
+        Some(ErrorCode::InvalidRequest) => "error -32600",
+        Some(ErrorCode::MethodNotFound) => "error -32601",
+        Some(ErrorCode::InvalidParams) => "error -32602",
+        Some(ErrorCode::ServerNotInitialized) => "error -32002",
+    }
+}

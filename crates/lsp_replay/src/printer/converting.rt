@@ -1,0 +1,88 @@
+//! `convert`: makes a log of version 2, with the server's replies, of a log of version 1.
+
+ghost use Rattle.std.specs.Prelude.{◌≡◌, ◌++◌, refl, OnOk, false};
+ghost use Rattle.lsp_replay.specs.Commands.{converting, line_before, reply_record};
+ghost use Rattle.lsp_replay.specs.inside.Commands.{run_output_in};
+ghost use Rattle.lsp_replay.specs.inside.Verdicts.{verdict_view};
+
+use crate::handler::{Given, Output};
+use crate::outcome::Outcome;
+use crate::printer::Printer;
+use crate::printer::front::push_line;
+use crate::session::{RecordBody, Session, Verdict};
+use lsp_log::Head;
+use lsp_server::Answer;
+use lsp_stream::EngineFault;
+use std::alloc::AllocError;
+
+/// Writes each record with its mark, and after it the reply.
+#[derive(Drop)]
+pub struct Convert {
+    pub session: Session,
+}
+
+impl Convert {
+    /// Writes the line of version 2: before the first record, or alone if there is none.
+    fn push_first_line(&self, buffer: &mut Vec<u8>) -> Result<(), AllocError>
+        ensures { OnOk result
+            (buffer.new.items ≡ buffer.old.items ++ line_before self.now.session) }
+    {
+        push_line(buffer, self.session.records() == 0)
+    }
+}
+
+impl Printer for Convert {
+    ghost run_output = { λ convert. run_output_in converting convert.session };
+
+    ghost reached = { λ convert. convert.session };
+
+    ghost FLUSHES = { false };
+
+    const FLUSHES: bool = false;
+
+    ghost parts = { λ convert. 0 };
+
+    ghost silent = { λ _. refl };
+
+    ghost unstopped = { λ _. refl };
+
+    fn session(&self) -> &Session {
+        &self.session
+    }
+
+    fn print(
+        &mut self,
+        head: Head,
+        raw: &[u8],
+        _body: &[u8],
+        read: RecordBody<'_>,
+        buffer: &mut Vec<u8>,
+    ) -> Result<Given, EngineFault> {
+        self.push_first_line(buffer)?;
+        let verdict = self.session.accept(head, read)?;
+        buffer.extend_from_slice(b">")?;
+        buffer.extend_from_slice(raw)?;
+        push_reply(buffer, &verdict)?;
+        Ok(Given::more(Output::Bytes))
+    }
+
+    fn finish(
+        &mut self,
+        _line_due: bool,
+        buffer: &mut Vec<u8>,
+    ) -> Result<Option<Outcome>, EngineFault> {
+        self.push_first_line(buffer)?;
+        Ok(Some(self.session.outcome()))
+    }
+}
+
+fn push_reply(buffer: &mut Vec<u8>, verdict: &Verdict) -> Result<(), AllocError>
+    ensures { OnOk result
+        (buffer.new.items ≡ buffer.old.items ++ reply_record (verdict_view verdict.now)) }
+{
+    if let Verdict::Answered(Answer::Reply { frame, .. }) = verdict {
+        buffer.extend_from_slice(b"<")?;
+        buffer.extend_from_slice(frame)?;
+    }
+    Ok(())
+}

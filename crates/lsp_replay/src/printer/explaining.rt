@@ -1,0 +1,190 @@
+//! `check` with reasons: what a server answers to each record of a log, why it was refused, and
+//! what is suspicious of it.
+
+ghost use Rattle.std.specs.Prelude.{◌≡◌, ◌++◌, refl, OnOk, false, option_map, string_bytes};
+ghost use Rattle.lsp_message.specs.Seen.{change_view};
+ghost use Rattle.lsp_replay.specs.Explained.{advice, document_words, explaining, explanation, first_advice, lenient_advice, remark, see_words};
+ghost use Rattle.lsp_replay.specs.inside.Lines.{lines_in};
+ghost use Rattle.lsp_replay.specs.inside.Facts.{explained_by};
+ghost use Rattle.lsp_replay.specs.inside.Verdicts.{verdict_view};
+
+use crate::facts::{Facts, Known};
+use crate::handler::{Given, Output};
+use crate::members::{push_json_string, push_number, push_words};
+use crate::outcome::Outcome;
+use crate::printer::Printer;
+use crate::printer::checking::push_verdict;
+use crate::printer::noted::push_notes;
+use crate::printer::reasons::push_reason;
+use crate::session::counting::is_refused;
+use crate::session::witness::Nothing;
+use crate::session::{RecordBody, Session, Verdict};
+use lsp_frame::Limits;
+use lsp_log::Head;
+use lsp_stream::EngineFault;
+use std::alloc::{AllocError, Global};
+
+/// Writes a line for each record, and at the end what to do next.
+#[derive(Drop)]
+pub struct Explain {
+    pub session: Session,
+    pub known: Known,
+    pub alloc: Global,
+}
+
+impl Printer for Explain {
+    ghost run_output = { λ explain. lines_in explaining explain.known explain.session };
+
+    ghost reached = { λ explain. explain.session };
+
+    ghost FLUSHES = { false };
+
+    const FLUSHES: bool = false;
+
+    ghost parts = { λ explain. 0 };
+
+    ghost silent = { λ _. refl };
+
+    ghost unstopped = { λ _. refl };
+
+    fn session(&self) -> &Session {
+        &self.session
+    }
+
+    fn print(
+        &mut self,
+        head: Head,
+        _raw: &[u8],
+        body: &[u8],
+        read: RecordBody<'_>,
+        buffer: &mut Vec<u8>,
+    ) -> Result<Given, EngineFault> {
+        let mut witness = Nothing;
+        let facts = self
+            .known
+            .take(&mut self.session, head, body, read, &mut witness)?;
+        let limits = self.session.server().store().limits();
+        push_facts(self.alloc, buffer, limits, &facts)?;
+        Ok(Given::more(Output::Bytes))
+    }
+
+    fn finish(
+        &mut self,
+        _line_due: bool,
+        buffer: &mut Vec<u8>,
+    ) -> Result<Option<Outcome>, EngineFault> {
+        push_advice(buffer, self.session.refusals(), &self.known)?;
+        Ok(Some(self.session.outcome()))
+    }
+}
+
+/// Writes the line of a record.
+fn push_facts(
+    alloc: Global,
+    buffer: &mut Vec<u8>,
+    limits: Limits,
+    facts: &Facts,
+) -> Result<(), AllocError>
+    ensures { OnOk result
+        (buffer.new.items ≡ buffer.old.items ++ explained_by limits facts.now) }
+{
+    push_number(buffer, facts.number)?;
+    buffer.extend_from_slice(b" ")?;
+    push_verdict(buffer, &facts.verdict)?;
+    push_explanation(alloc, buffer, limits, facts)?;
+    push_remark(alloc, buffer, facts)?;
+    buffer.extend_from_slice(b"\n")
+}
+
+/// Writes why a record was refused, if it was.
+fn push_explanation(
+    alloc: Global,
+    buffer: &mut Vec<u8>,
+    limits: Limits,
+    facts: &Facts,
+) -> Result<(), AllocError>
+    ensures { OnOk result (buffer.new.items ≡ buffer.old.items
+        ++ explanation limits (option_map string_bytes facts.now.uri)
+        (option_map change_view facts.now.change) facts.now.last
+        (verdict_view facts.now.verdict)) }
+{
+    let Verdict::Answered(answer) = &facts.verdict else {
+        return Ok(());
+    };
+    if !is_refused(answer) {
+        return Ok(());
+    }
+    push_document(alloc, buffer, facts.uri.as_deref())?;
+    buffer.extend_from_slice(b": ")?;
+    push_reason(buffer, limits, facts.change.as_ref(), answer)?;
+    push_see(buffer, facts.last)
+}
+
+/// Writes what is suspicious of a record, if something is.
+fn push_remark(alloc: Global, buffer: &mut Vec<u8>, facts: &Facts) -> Result<(), AllocError>
+    ensures { OnOk result (buffer.new.items ≡ buffer.old.items
+        ++ remark (option_map string_bytes facts.now.uri) facts.now.notes.items) }
+{
+    if facts.notes.is_empty() {
+        return Ok(());
+    }
+    push_document(alloc, buffer, facts.uri.as_deref())?;
+    buffer.extend_from_slice(b": ")?;
+    push_notes(buffer, "; ", &facts.notes)
+}
+
+/// Writes the document that a record is about.
+fn push_document(alloc: Global, buffer: &mut Vec<u8>, uri: Option<&str>) -> Result<(), AllocError>
+    ensures { OnOk result (buffer.new.items ≡ buffer.old.items
+        ++ document_words (option_map (λ uri. uri.now) uri.entry)) }
+{
+    let Some(uri) = uri else {
+        return Ok(());
+    };
+    buffer.extend_from_slice(b" of ")?;
+    push_json_string(alloc, buffer, uri)
+}
+
+/// Writes which record to look at, if there is one.
+fn push_see(buffer: &mut Vec<u8>, last: Option<u64>) -> Result<(), AllocError>
+    ensures { OnOk result (buffer.new.items ≡ buffer.old.items ++ see_words last) }
+{
+    let Some(number) = last else {
+        return Ok(());
+    };
+    buffer.extend_from_slice(b"; see message ")?;
+    push_number(buffer, number)
+}
+
+/// Writes what to do next, after so many refusals.
+fn push_advice(buffer: &mut Vec<u8>, refusals: u64, known: &Known) -> Result<(), AllocError>
+    ensures { OnOk result (buffer.new.items ≡ buffer.old.items ++ advice refusals known.now) }
+{
+    push_words(buffer, first_advice(refusals, known.is_suspicious()))?;
+    push_words(buffer, lenient_advice(known.has_strict_refusal()))
+}
+
+/// Returns what to do first, after so many refusals.
+fn first_advice(refusals: u64, suspicious: bool) -> &'static str
+    ensures { result.now ≡ first_advice refusals suspicious }
+{
+    if refusals != 0 {
+        return "Refused messages change nothing. `lspsync replay --at N`: the texts after message N.\n";
+    }
+    if suspicious {
+        "Nothing was refused; see the notes. `lspsync replay --at N`: the texts after message N.\n"
+    } else {
+        "Nothing was refused. Compare `lspsync replay --uri URI` with the editor's text.\n"
+    }
+}
+
+/// Returns what to try where something was refused with S1 or S5.
+fn lenient_advice(strict_refusal: bool) -> &'static str
+    ensures { result.now ≡ lenient_advice strict_refusal }
+{
+    if strict_refusal {
+        "Many servers don't refuse what is S1 or S5 here. `--lenient` doesn't either.\n"
+    } else {
+        ""
+    }
+}

@@ -1,0 +1,148 @@
+//! `normalise`: writes a log in which each accepted change is its canonical message.
+
+ghost use Rattle.std.specs.Prelude.{ℕ, ◌≡◌, ◌≤◌, ◌⊎◌, ◌++◌, List, [], length, drop, Option, Some, false, refl, IfOk, IfErr, OnOk, Err};
+ghost use Rattle.lsp_frame.specs.Frame.{frame};
+ghost use Rattle.lsp_log.specs.Log.{mark_of};
+ghost use Rattle.lsp_replay.specs.inside.RunOutput.{output_of};
+ghost use Rattle.lsp_replay.specs.Commands.{normalising, line_if, front_of, written, writes, ends};
+ghost use Rattle.lsp_replay.specs.inside.Commands.{run_output_in};
+ghost use Rattle.lsp_replay.specs.inside.Verdicts.{IsAppended};
+
+use crate::handler::{Given, Output};
+use crate::outcome::Outcome;
+use crate::printer::Printer;
+use crate::printer::front::{line_bytes, mark_bytes, push_front, push_line};
+use crate::session::canonical::{Appended, Canonical};
+use crate::session::{RecordBody, Session, in_log};
+use lsp_frame::{put_before, put_header};
+use lsp_log::Head;
+use lsp_stream::EngineFault;
+use std::alloc::AllocError;
+use std::mem::swap;
+
+/// Writes each record as it is, and an accepted change as its canonical message.
+#[derive(Drop)]
+pub struct Normalise {
+    pub session: Session,
+    /// The canonical message of the last record, if it was an accepted change.
+    pub canonical: Canonical,
+}
+
+impl Printer for Normalise {
+    ghost run_output = { λ normalise. run_output_in normalising normalise.session };
+
+    ghost reached = { λ normalise. normalise.session };
+
+    ghost FLUSHES = { false };
+
+    const FLUSHES: bool = false;
+
+    ghost parts = { λ normalise. 0 };
+
+    ghost silent = { λ _. refl };
+
+    ghost unstopped = { λ _. refl };
+
+    fn session(&self) -> &Session {
+        &self.session
+    }
+
+    fn print(
+        &mut self,
+        head: Head,
+        raw: &[u8],
+        _body: &[u8],
+        read: RecordBody<'_>,
+        buffer: &mut Vec<u8>,
+    ) -> Result<Given, EngineFault> {
+        self.canonical.clear(FRONT_ROOM)?;
+        let taken = self.session.take(read, &mut self.canonical)?;
+        in_log(&taken.verdict, head.place)?;
+        let output = push_record(buffer, &mut self.canonical, head, raw)?;
+        Ok(Given::more(output))
+    }
+
+    fn finish(
+        &mut self,
+        line_due: bool,
+        buffer: &mut Vec<u8>,
+    ) -> Result<Option<Outcome>, EngineFault> {
+        push_line(buffer, line_due)?;
+        Ok(Some(self.session.outcome()))
+    }
+}
+
+/// Room before a body for what is written there: the line of version 2, a mark and a header.
+const FRONT_ROOM: usize = 64;
+
+/// Writes a record with its mark: as it is, or as its canonical message, whose body is after the
+/// room.
+#[tactic(auto, using(crate::proofs::Canonical::CanonicalLogLemmas::appended_none, crate::proofs::Canonical::CanonicalLogLemmas::appended_framed, crate::proofs::Canonical::CanonicalLogLemmas::appended_too_long))]
+fn push_record(
+    buffer: &mut Vec<u8>,
+    canonical: &mut Canonical,
+    head: Head,
+    raw: &[u8],
+) -> Result<Output, EngineFault>
+    requires { canonical.old.appended ≡ Some Appended.Body →
+        FRONT_ROOM ≤ length canonical.old.bytes.items }
+    ensures ok { IfOk result
+        (λ output. (max_body : ℕ) (canonical_log : Option (List ℕ)) (body room : List ℕ) →
+        length room ≡ FRONT_ROOM →
+        IsAppended max_body canonical_log canonical.old.appended room canonical.old.bytes.items →
+        written max_body (record { head = head; raw = raw.now; body = body })
+        (front_of head) canonical_log ≡ writes (output_of output raw.now buffer.new.items)) }
+    ensures error { IfErr result
+        (λ fault. (fault ≡ EngineFault.NoMemory) ⊎ ((fault ≡ EngineFault.BodyTooLong head.place)
+        × ((max_body : ℕ) (canonical_log : Option (List ℕ)) (body room : List ℕ) →
+        length room ≡ FRONT_ROOM →
+        IsAppended max_body canonical_log canonical.old.appended room canonical.old.bytes.items →
+        written max_body (record { head = head; raw = raw.now; body = body })
+        (front_of head) canonical_log ≡ ends [] (Err (EngineFault.BodyTooLong head.place))))) }
+{
+    let Some(appended) = canonical.appended else {
+        return Ok(push_as_it_is(buffer, head, raw)?);
+    };
+    within_limit(appended, head.place)?;
+    swap(buffer, &mut canonical.bytes);
+    let start = put_front(buffer, head);
+    Ok(Output::BytesFrom(start))
+}
+
+/// Refuses a canonical body over the limit, of the record at this offset.
+fn within_limit(appended: Appended, place: u64) -> Result<(), EngineFault>
+    ensures ok { OnOk result (appended ≡ Appended.Body) }
+    ensures error { IfErr result
+        (λ fault. (fault ≡ EngineFault.BodyTooLong place) × (appended ≡ Appended.TooLong)) }
+{
+    match appended {
+        Appended::Body => Ok(()),
+        Appended::TooLong => Err(EngineFault::BodyTooLong { place }),
+    }
+}
+
+/// Writes a record with its mark, as it is.
+fn push_as_it_is(buffer: &mut Vec<u8>, head: Head, raw: &[u8]) -> Result<Output, AllocError>
+    ensures { IfOk result (λ output. output_of output raw.now buffer.new.items
+        ≡ front_of head ++ raw.now) }
+{
+    buffer.clear();
+    push_front(buffer, head)?;
+    if buffer.is_empty() {
+        return Ok(Output::Frame);
+    }
+    buffer.extend_from_slice(raw)?;
+    Ok(Output::Bytes)
+}
+
+/// Writes the line of version 2, if it is due, the mark and the header into the room right before a
+/// body. Returns the index where they begin.
+fn put_front(buffer: &mut [u8], head: Head) -> usize
+    requires { FRONT_ROOM ≤ length buffer.old }
+    ensures { drop result buffer.new ≡ line_if head.line_due
+        ++ (mark_of head.version head.side ++ frame (drop FRONT_ROOM buffer.old)) }
+{
+    let header = put_header(buffer, FRONT_ROOM);
+    let mark = put_before(buffer, header, mark_bytes(head));
+    put_before(buffer, mark, line_bytes(head.line_due))
+}

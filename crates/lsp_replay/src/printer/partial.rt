@@ -1,0 +1,164 @@
+//! `replay` of a part of a log: the documents after a record, or the last text of one document.
+
+ghost use Rattle.std.specs.Prelude.{◌≡◌, ◌++◌, refl, IfOk, OnOk, false, option_map, string_bytes};
+ghost use Rattle.lsp_store.specs.Table.{entry_at};
+ghost use Rattle.lsp_replay.specs.Session.{session_outcome};
+ghost use Rattle.lsp_replay.specs.Commands.{report_from};
+ghost use Rattle.lsp_replay.specs.Parts.{is_last, last_text, part_bytes, part_data, part_outcome};
+ghost use Rattle.lsp_replay.specs.inside.Kept.{kept_after};
+ghost use Rattle.lsp_replay.specs.inside.Parts.{last_text_now, replayed_in};
+
+use crate::commands::Part;
+use crate::handler::{Given, Output};
+use crate::outcome::{Missing, Outcome};
+use crate::printer::Printer;
+use crate::printer::replaying::push_document_line;
+use crate::session::{RecordBody, Session};
+use lsp_log::Head;
+use lsp_store::Store;
+use lsp_stream::EngineFault;
+use std::alloc::{AllocError, Global};
+
+/// Writes the documents after the part's last record, or the last text of one.
+#[derive(Drop)]
+pub struct ReplayPart {
+    pub session: Session,
+    pub part: Part,
+    /// The text that the part's document had when it was closed last.
+    pub kept: Option<String>,
+}
+
+impl ReplayPart {
+    /// Returns whether the last record was the part's last one.
+    fn is_last(&self) -> bool
+        ensures { result ≡ is_last self.now.part.at self.now.session.records }
+    {
+        match self.part.at {
+            Some(at) => at == self.session.records(),
+            None => false,
+        }
+    }
+
+    /// Returns the last text of the document with this URI, in a copy.
+    fn last_text(&self, alloc: Global, uri: &str) -> Result<Option<String>, AllocError>
+        ensures { IfOk result (λ found. option_map string_bytes found
+            ≡ last_text (option_map string_bytes self.now.kept)
+            (entry_at self.now.session.server.table uri.now)) }
+    {
+        if let Some(document) = self.session.server().store().get(uri) {
+            return Ok(Some(document.text().to_string(alloc)?));
+        }
+        match &self.kept {
+            Some(kept) => Ok(Some(String::from_str(alloc, kept)?)),
+            None => Ok(None),
+        }
+    }
+
+    /// Writes what is printed of the part, and returns the outcome.
+    fn push_report(&self, buffer: &mut Vec<u8>) -> Result<Outcome, AllocError>
+        ensures bytes { OnOk result (buffer.new.items ≡ buffer.old.items
+            ++ part_bytes (part_data self.now.part).uri (last_text_now self.now)
+            self.now.session.server.table) }
+        ensures outcome { IfOk result (λ outcome. outcome
+            ≡ part_outcome (part_data self.now.part).uri (last_text_now self.now)
+            (session_outcome self.now.session)) }
+    {
+        let outcome = self.session.outcome();
+        let Some(uri) = &self.part.uri else {
+            push_documents(buffer, self.session.server().store())?;
+            return Ok(outcome);
+        };
+        let Some(text) = self.last_text(*buffer.allocator(), uri)? else {
+            return Ok(Outcome {
+                status: 1,
+                missing: Some(Missing::Document),
+                ..outcome
+            });
+        };
+        buffer.extend_from_slice(text.as_bytes())?;
+        Ok(outcome)
+    }
+}
+
+impl Printer for ReplayPart {
+    ghost run_output = { λ replay.
+        replayed_in (part_data replay.part) (last_text_now replay) replay.session };
+
+    ghost reached = { λ replay. replay.session };
+
+    ghost FLUSHES = { false };
+
+    const FLUSHES: bool = false;
+
+    ghost parts = { λ replay. 0 };
+
+    ghost silent = { λ _. refl };
+
+    ghost unstopped = { λ _. refl };
+
+    fn session(&self) -> &Session {
+        &self.session
+    }
+
+    fn print(
+        &mut self,
+        head: Head,
+        _raw: &[u8],
+        _body: &[u8],
+        read: RecordBody<'_>,
+        buffer: &mut Vec<u8>,
+    ) -> Result<Given, EngineFault> {
+        let closed = self.session.closed_text(&read, self.part.uri.as_deref())?;
+        self.session.accept(head, read)?;
+        keep(&mut self.kept, closed);
+        if !self.is_last() {
+            return Ok(Given::more(Output::Bytes));
+        }
+        let outcome = self.push_report(buffer)?;
+        Ok(Given {
+            output: Output::Bytes,
+            end: Some(outcome),
+        })
+    }
+
+    fn finish(
+        &mut self,
+        _line_due: bool,
+        buffer: &mut Vec<u8>,
+    ) -> Result<Option<Outcome>, EngineFault> {
+        if self.part.at.is_some() {
+            return Ok(Some(Outcome {
+                status: 1,
+                missing: Some(Missing::Record),
+                ..self.session.outcome()
+            }));
+        }
+        Ok(Some(self.push_report(buffer)?))
+    }
+}
+
+/// Keeps a text in place of the one before, if there is one.
+fn keep(kept: &mut Option<String>, closed: Option<String>)
+    ensures { option_map string_bytes kept.new
+        ≡ kept_after (option_map string_bytes closed) (option_map string_bytes kept.old) }
+{
+    if let Some(text) = closed {
+        *kept = Some(text);
+    }
+}
+
+/// Writes a line for each open document, in order of opening.
+fn push_documents(buffer: &mut Vec<u8>, documents: &Store) -> Result<(), AllocError>
+    ensures { OnOk result
+        (buffer.new.items ≡ buffer.old.items ++ report_from 0 documents.now.table) }
+{
+    let mut next = 0;
+    'documents: while next < documents.len() {
+        let Some(document) = documents.at(next) else {
+            return Ok(());
+        };
+        push_document_line(buffer, &document)?;
+        next += 1;
+    }
+    Ok(())
+}

@@ -1,0 +1,214 @@
+//! `trace`: a line of JSON for each record of a log.
+//!
+//! `first` writes the members that say what a record is, `values` the others.
+
+ghost use Rattle.std.specs.Prelude.{◌≡◌, ◌++◌, IfOk, refl, OnOk, codes, decimal, false, option_map};
+ghost use Rattle.lsp_message.specs.Message.{reading};
+ghost use Rattle.lsp_message.specs.Seen.{change_view};
+ghost use Rattle.lsp_server.specs.Incoming.{incoming_of};
+ghost use Rattle.lsp_stream.specs.Ports as ports;
+ghost use Rattle.lsp_replay.specs.inside.Facts.{members_by, reason_of};
+ghost use Rattle.lsp_replay.specs.inside.Lines.{lines_in};
+ghost use Rattle.lsp_replay.specs.inside.Reads.{IsReadOf};
+ghost use Rattle.lsp_replay.specs.inside.Verdicts.{verdict_view};
+ghost use Rattle.lsp_replay.specs.Trace.{document_after, first_members, has_changed, is_json, member, notes_json, tracing};
+
+mod first;
+mod values;
+
+use crate::commands::Details;
+use crate::facts::{Facts, Known};
+use crate::handler::{Given, Output};
+use crate::members::{push_number, push_words};
+use crate::notes::Note;
+use crate::outcome::Outcome;
+use crate::printer::Printer;
+use crate::printer::noted::push_notes;
+use crate::printer::reasons::push_reason;
+use crate::printer::tracing::first::{is_json, push_first};
+use crate::printer::tracing::values::{
+    push_body, push_canonical, push_text, push_version, push_word,
+};
+use crate::session::canonical::Canonical;
+use crate::session::counting::{is_refused, one_more};
+use crate::session::{RecordBody, Session, Verdict};
+use lsp_frame::Limits;
+use lsp_log::Head;
+use lsp_server::Answer;
+use lsp_store::{Document, Store};
+use lsp_stream::EngineFault;
+use std::alloc::{AllocError, Global};
+
+/// Writes a line for each record.
+#[derive(Drop)]
+pub struct Trace {
+    pub session: Session,
+    pub alloc: Global,
+    pub details: Details,
+    pub known: Known,
+    /// The canonical message of the last record, if it was an accepted change.
+    pub canonical: Canonical,
+}
+
+impl Trace {
+    /// Writes the first members of the next record's line, and returns whether its body is JSON.
+    /// The body of a server's record is read for that.
+    fn push_asked(
+        &mut self,
+        buffer: &mut Vec<u8>,
+        head: Head,
+        body: &[u8],
+        read: &RecordBody<'_>,
+    ) -> Result<bool, AllocError>
+        requires { IsReadOf head body.now read.now }
+        ensures members { OnOk result (buffer.new.items ≡ buffer.old.items
+            ++ first_members (ports.one_more self.old.session.records) head
+            (incoming_of (reading body.now))) }
+        ensures is_json { IfOk result (λ json. json ≡ is_json (incoming_of (reading body.now))) }
+        ensures unchanged { self.new ≡ self.old }
+    {
+        let number = one_more(self.session.records());
+        match read {
+            RecordBody::Client(_, incoming) => {
+                push_first(self.alloc, buffer, number, head, incoming)?;
+                Ok(is_json(incoming))
+            }
+            RecordBody::Server(bytes) => {
+                let incoming = self.session.read_incoming(bytes)?;
+                push_first(self.alloc, buffer, number, head, &incoming)?;
+                Ok(is_json(&incoming))
+            }
+        }
+    }
+
+    /// Writes the members after the first of the last record's line.
+    fn push_facts(
+        &self,
+        buffer: &mut Vec<u8>,
+        body: &[u8],
+        is_json: bool,
+        facts: &Facts,
+    ) -> Result<(), AllocError>
+        ensures { OnOk result (buffer.new.items ≡ buffer.old.items
+            ++ members_by self.now.details self.now.session self.now.canonical is_json facts.now
+            body.now) }
+    {
+        let store = self.session.server().store();
+        let document = document_of(store, facts.uri.as_deref());
+        let has_text = self.details.texts && is_changed(&facts.verdict);
+        let has_body = self.details.bodies && is_json;
+        push_word(buffer, &facts.verdict)?;
+        push_why(buffer, store.limits(), facts)?;
+        push_mention(buffer, facts.last)?;
+        push_noted(buffer, &facts.notes)?;
+        push_version(buffer, &document)?;
+        push_canonical(buffer, self.canonical.appended, &self.canonical.bytes)?;
+        push_text(self.alloc, buffer, has_text, &document)?;
+        push_body(buffer, has_body, body)?;
+        push_words(buffer, "}\n")
+    }
+}
+
+impl Printer for Trace {
+    ghost run_output = { λ trace. lines_in (tracing trace.details) trace.known trace.session };
+
+    ghost reached = { λ trace. trace.session };
+
+    ghost FLUSHES = { false };
+
+    const FLUSHES: bool = false;
+
+    ghost parts = { λ trace. 0 };
+
+    ghost silent = { λ _. refl };
+
+    ghost unstopped = { λ _. refl };
+
+    fn session(&self) -> &Session {
+        &self.session
+    }
+
+    fn print(
+        &mut self,
+        head: Head,
+        _raw: &[u8],
+        body: &[u8],
+        read: RecordBody<'_>,
+        buffer: &mut Vec<u8>,
+    ) -> Result<Given, EngineFault> {
+        let is_json = self.push_asked(buffer, head, body, &read)?;
+        self.canonical.clear(0)?;
+        let facts = self
+            .known
+            .take(&mut self.session, head, body, read, &mut self.canonical)?;
+        self.push_facts(buffer, body, is_json, &facts)?;
+        Ok(Given::more(Output::Bytes))
+    }
+
+    fn finish(
+        &mut self,
+        _line_due: bool,
+        _buffer: &mut Vec<u8>,
+    ) -> Result<Option<Outcome>, EngineFault> {
+        Ok(Some(self.session.outcome()))
+    }
+}
+
+/// Writes why a record was refused, if it was.
+fn push_why(buffer: &mut Vec<u8>, limits: Limits, facts: &Facts) -> Result<(), AllocError>
+    ensures { OnOk result (buffer.new.items ≡ buffer.old.items
+        ++ member (codes ",\"reason\":") (reason_of limits
+        (option_map change_view facts.now.change) (verdict_view facts.now.verdict))) }
+{
+    let Verdict::Answered(answer) = &facts.verdict else {
+        return Ok(());
+    };
+    if !is_refused(answer) {
+        return Ok(());
+    }
+    buffer.extend_from_slice(b",\"reason\":")?;
+    buffer.extend_from_slice(b"\"")?;
+    push_reason(buffer, limits, facts.change.as_ref(), answer)?;
+    buffer.extend_from_slice(b"\"")
+}
+
+/// Returns the document with this URI, if it is open.
+fn document_of<'a>(store: &'a Store, uri: Option<&str>) -> Option<Document<'a>>
+    ensures { result ≡ document_after store.now.table (option_map (λ uri. uri.now) uri.entry) }
+{
+    store.get(uri?)
+}
+
+/// Returns whether a record changed the documents.
+fn is_changed(verdict: &Verdict) -> bool
+    ensures { result ≡ has_changed (verdict_view verdict.now) }
+{
+    matches!(verdict, Verdict::Answered(Answer::Changed))
+}
+
+/// Writes which record opened, closed or refused the document last before, if there is one to look
+/// at.
+fn push_mention(buffer: &mut Vec<u8>, last: Option<u64>) -> Result<(), AllocError>
+    ensures { OnOk result (buffer.new.items ≡ buffer.old.items
+        ++ member (codes ",\"last\":") (option_map decimal last)) }
+{
+    let Some(number) = last else {
+        return Ok(());
+    };
+    buffer.extend_from_slice(b",\"last\":")?;
+    push_number(buffer, number)
+}
+
+/// Writes what is suspicious of an accepted record, if there is something.
+fn push_noted(buffer: &mut Vec<u8>, notes: &[Note]) -> Result<(), AllocError>
+    ensures { OnOk result (buffer.new.items ≡ buffer.old.items
+        ++ member (codes ",\"notes\":") (notes_json notes.now)) }
+{
+    if notes.is_empty() {
+        return Ok(());
+    }
+    buffer.extend_from_slice(b",\"notes\":")?;
+    buffer.extend_from_slice(b"[\"")?;
+    push_notes(buffer, "\",\"", notes)?;
+    buffer.extend_from_slice(b"\"]")
+}
