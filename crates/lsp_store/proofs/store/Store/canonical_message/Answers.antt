@@ -1,7 +1,9 @@
-use Rattle.std.proofs.Common.{◌≡◌, List, ap, length, map, arith, rules, w32, to_z, of_z}
+use Rattle.std.proofs.Common.{◌≡◌, Err, List, ap, length, map, arith, rules, w32, to_z, of_z}
 use Rattle.std.proofs.lemmas.Int.{to_z-of_z}
 use Rattle.lsp_edit.specs.Batch.{ContentChange}
 use Rattle.lsp_edit.specs.Edited.{content_change}
+use Rattle.lsp_store.specs.declared.fault.StoreFault.{StoreFault}
+use Rattle.lsp_store.specs.declared.fault.StoreFault.TheVariants.{NoMemory}
 use Rattle.lsp_store.specs.Plan.{IsPlanOf}
 use Rattle.lsp_store.proofs.Messages.MessageLemmas.{first_told, texts_held}
 use Rattle.lsp_store.proofs.Messages.PlannedLemmas.{plan_alike, plan_canonical, plan_read, plan_settled}
@@ -47,6 +49,12 @@ returns-in-Ok-clause-memory c =
     let q : IsPlanOf c.args.self.now c.args.uri.now c.args.version c.args.encoding batch c.in-Ok.plan =
     rw version at c.in-Ok.ensures.planned in
     λ e. q.left
+
+pub returns-in-Err-clause-one : goal.returns-in-Err-clause-one
+returns-in-Err-clause-one c = λ e.
+    let no_memory : c.in-Err.fault ≡ NoMemory = cc in
+    let version : to_z w32 (of_z w32 c.args.version) ≡ c.args.version = to_z-of_z w32 c.args.version (search rules) in
+    rw version at (c.in-Err.ensures.one (ap (λ (fault : StoreFault). Err fault) no_memory))
 
 pub returns-in-Ok-clause-one : goal.returns-in-Ok-clause-one
 returns-in-Ok-clause-one c =
