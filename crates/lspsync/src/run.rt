@@ -8,7 +8,7 @@ ghost use Rattle.clap.specs.declared.error.kind.ErrorKind.TheVariants.{DisplayHe
 ghost use Rattle.lsp_stream.specs.Ports.{ports};
 ghost use Rattle.lsp_program.specs.Output.{IsHelp, allowed_turns};
 ghost use Rattle.lsp_replay.specs.Run.{IsEngineRun};
-ghost use Rattle.lspsync.specs.Run.{IsEnding, IsHelpEnd, IsPerformed, IsProgramRun, IsFaultEnd};
+ghost use Rattle.lspsync.specs.Run.{IsEnding, IsFaultEnd, IsHelpEnd, IsPerformed, IsProgramRun};
 ghost use Rattle.lspsync.specs.Run.{IsStatus, StreamsAround, answer_after_flush, engine_of, missing_line};
 ghost use Rattle.lspsync.specs.Run.{status_of};
 
