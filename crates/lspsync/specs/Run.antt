@@ -69,8 +69,8 @@ fault_line fault = (codes "lspsync: " ++ fault_text fault) ++ 10 ∷ []
 
 -- A fault ends the program with its status, and its line follows what was printed before. `None` is
 -- what isn't known.
-abbrev pub IsReported : EngineFault → Option (List ℕ) → Option (List ℕ) → Ending → Type 0
-IsReported fault before after ending = (ending.status ≡ status_of fault)
+abbrev pub IsFaultEnd : EngineFault → Option (List ℕ) → Option (List ℕ) → Ending → Type 0
+IsFaultEnd fault before after ending = (ending.status ≡ status_of fault)
     × OnOk ending.printed (Appends before after (fault_line fault))
 
 -- The line that says what a part of a log lacks.
@@ -90,15 +90,15 @@ abbrev pub IsEnding : Result Outcome EngineFault → Option (List ℕ) → Optio
     Ending → Type 0
 IsEnding (Ok outcome) before after ending
     = IsStatus (option_map missing_line outcome.missing) outcome.status before after ending
-IsEnding (Err fault) before after ending = IsReported fault before after ending
+IsEnding (Err fault) before after ending = IsFaultEnd fault before after ending
 
 -- The status of help ends the program. A fault is reported.
 abbrev pub IsHelpEnd : Result ℕ EngineFault → Option (List ℕ) → Option (List ℕ) → Ending → Type 0
 IsHelpEnd (Ok status) before after ending = IsStatus None status before after ending
-IsHelpEnd (Err fault) before after ending = IsReported fault before after ending
+IsHelpEnd (Err fault) before after ending = IsFaultEnd fault before after ending
 
 -- What is known of the program's streams before and after a run.
-pub record Streams : Type 0 where
+pub record StreamsAround : Type 0 where
   -- standard input and output
   pub before : Ports
   pub after : Ports
@@ -107,18 +107,18 @@ pub record Streams : Type 0 where
   pub errors : Option (List ℕ)
 
 -- The engine of a call ran, and the program ends with its status or reports its fault.
-pub record IsCallDone (asked : Call) (s : Streams) (ending : Ending) : Type 0 where
+pub record IsCallDone (asked : Call) (s : StreamsAround) (ending : Ending) : Type 0 where
   pub answer : Result Outcome EngineFault
   pub performed : IsPerformed asked s.before s.after answer
   pub ends : IsEnding answer s.errors_before s.errors ending
 
 -- What the program does with words that are no call. Out of memory is reported, a mistake has
 -- status 2, and help is written.
-pub record IsExplained (k : ErrorKind) (s : Streams) (ending : Ending) : Type 0 where
+pub record IsExplained (k : ErrorKind) (s : StreamsAround) (ending : Ending) : Type 0 where
   -- nothing is read
   pub reader : s.after.reader ≡ s.before.reader
   pub memory : k ≡ kind.OutOfMemory → (s.after.writer ≡ s.before.writer)
-      × IsReported NoMemory s.errors_before s.errors ending
+      × IsFaultEnd NoMemory s.errors_before s.errors ending
   pub mistake : (k ≡ kind.OutOfMemory → ⊥) → (k ≡ kind.DisplayHelp → ⊥) →
       (k ≡ kind.DisplayVersion → ⊥)
       → (s.after.writer ≡ s.before.writer) × (ending.status ≡ 2)
@@ -129,14 +129,14 @@ pub record IsExplained (k : ErrorKind) (s : Streams) (ending : Ending) : Type 0 
 
 -- What the program does with words: the call that they are, or an explanation. Where there is none
 -- of both, it ends with status 2 alone.
-abbrev pub IsDone : Result (Option Call) Error → Streams → Ending → Type 0
+abbrev pub IsDone : Result (Option Call) Error → StreamsAround → Ending → Type 0
 IsDone (Ok (Some asked)) s ending = IsCallDone asked s ending
 IsDone (Ok None) s ending = (ending.status ≡ 2) × (s.after ≡ s.before)
     × (s.errors ≡ s.errors_before)
 IsDone (Err error) s ending = IsExplained (kind_of error) s ending
 
 -- A run of the program with these words: what they are read as, and that this is done.
-pub record IsProgramRun (words : List (List ℕ)) (s : Streams) (ending : Ending) : Type 0 where
+pub record IsProgramRun (words : List (List ℕ)) (s : StreamsAround) (ending : Ending) : Type 0 where
   pub read : Result (Option Call) Error
   pub words_are : AreWordsReadAs words read
   pub done : IsDone read s ending

@@ -8,8 +8,8 @@ ghost use Rattle.clap.specs.declared.error.kind.ErrorKind.TheVariants.{DisplayHe
 ghost use Rattle.lsp_stream.specs.Ports.{ports};
 ghost use Rattle.lsp_program.specs.Output.{IsHelp, allowed_turns};
 ghost use Rattle.lsp_replay.specs.Run.{IsEngineRun};
-ghost use Rattle.lspsync.specs.Run.{IsEnding, IsHelpEnd, IsPerformed, IsProgramRun, IsReported};
-ghost use Rattle.lspsync.specs.Run.{IsStatus, Streams, answer_after_flush, engine_of, missing_line};
+ghost use Rattle.lspsync.specs.Run.{IsEnding, IsFaultEnd, IsHelpEnd, IsPerformed, IsProgramRun};
+ghost use Rattle.lspsync.specs.Run.{IsStatus, StreamsAround, answer_after_flush, engine_of, missing_line};
 ghost use Rattle.lspsync.specs.Run.{status_of};
 
 use crate::command_line::{Call, parse};
@@ -170,7 +170,7 @@ fn print_error<W: Sink, E: Write>(
 ) -> Ending
     ensures memory { kind_of error.now ≡ OutOfMemory →
         (W.seen output.new ≡ W.seen output.old)
-        × IsReported EngineFault.NoMemory (E.contents errors.old) (E.contents errors.new) result }
+        × IsFaultEnd EngineFault.NoMemory (E.contents errors.old) (E.contents errors.new) result }
     ensures mistake { kind_of error.now ≢ OutOfMemory → kind_of error.now ≢ DisplayHelp
         → kind_of error.now ≢ DisplayVersion →
         (W.seen output.new ≡ W.seen output.old) × (result.status ≡ 2) }
@@ -210,7 +210,7 @@ fn end_help<E: Write>(answer: Result<u8, EngineFault>, errors: &mut E) -> Ending
 /// UTF-8.
 pub fn refuse<E: Write>(kind: ErrorKind, errors: &mut E) -> Ending
     ensures memory { kind ≡ ErrorKind.OutOfMemory →
-        IsReported EngineFault.NoMemory (E.contents errors.old) (E.contents errors.new) result }
+        IsFaultEnd EngineFault.NoMemory (E.contents errors.old) (E.contents errors.new) result }
     ensures status { kind ≢ ErrorKind.OutOfMemory → result.status ≡ 2 }
     ensures line { kind ≢ ErrorKind.OutOfMemory → OnOk result.printed
         (Appends (E.contents errors.old) (E.contents errors.new)
@@ -228,7 +228,7 @@ pub fn refuse<E: Write>(kind: ErrorKind, errors: &mut E) -> Ending
 
 /// Prints the line of a fault, and ends with its status.
 pub fn report<E: Write>(fault: EngineFault, errors: &mut E) -> Ending
-    ensures { IsReported fault (E.contents errors.old) (E.contents errors.new) result }
+    ensures { IsFaultEnd fault (E.contents errors.old) (E.contents errors.new) result }
 {
     let text = FaultText(fault);
     let printed = writeln!(errors, "lspsync: {text}");
