@@ -7,6 +7,7 @@
 # It needs Emacs with eglot (on Debian 12: apt-get install emacs-nox elpa-eglot). The status is 0 where both texts are equal, 1 where they
 # aren't, 2 where something that is needed isn't there.
 set -eu
+[ "${1-}" != --help ] || { awk 'NR > 1 { if (!/^#/) exit; print substr($0, 3) }' "$0"; exit; }
 fail() {
     echo "with-emacs.sh: $1" >&2
     exit 2

@@ -8,6 +8,7 @@
 # It needs Neovim 0.7 or later (on Debian: apt-get install neovim). The status is 0 where both texts are equal, 1 where they aren't,
 # 2 where something that is needed isn't there.
 set -eu
+[ "${1-}" != --help ] || { awk 'NR > 1 { if (!/^#/) exit; print substr($0, 3) }' "$0"; exit; }
 fail() {
     echo "with-neovim.sh: $1" >&2
     exit 2

@@ -9,11 +9,16 @@ import collections
 import io
 import json
 import os
+import sys
 
-import laspidru
-import matplotlib
-import pandas
-from dask.distributed import Client, as_completed
+try:
+    import laspidru
+    import matplotlib
+    import pandas
+    from dask.distributed import Client, as_completed
+except ImportError as why:
+    if "--help" not in sys.argv[1:]:
+        sys.exit(f"check_logs.py: {why} (examples/fleet/README.md says what is needed)")
 
 VERSION_LINE, BEGINNING, ACCEPTED = b"lsp-session-log 2\n", 1 << 20, "nothing refused"
 KEY = ["editor", "version", "code"]

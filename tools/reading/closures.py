@@ -1,5 +1,6 @@
 """What a reader must read to understand a clause: the closure of its definitions."""
 import collections
+import difflib
 import re
 
 from .antt import NAME, Definition
@@ -24,7 +25,9 @@ def target_named(repository, text):
     path, _, label = text.partition(".")
     found = repository.candidates(path)
     if not found:
-        near = sorted({it.path() for it in repository.functions if path.rpartition("::")[2] in it.name and it.is_call})[:12]
+        calls = [it for it in repository.functions if it.is_call]
+        near = sorted({it.path() for it in calls if path.rpartition("::")[2] in it.name})[:12]
+        near = near or difflib.get_close_matches(path, sorted({it.short() for it in calls} | {it.path() for it in calls}), 4)
         raise Unknown(f"there is no call and no definition {path}" + (f"; there are {', '.join(near)}" if near else ""))
     if len(found) > 1:
         raise Unknown(f"{path} is one of these: " + ", ".join(sorted({it.path() for it in found})))
