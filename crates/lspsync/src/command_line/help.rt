@@ -214,7 +214,7 @@ static NOTES: &str =
     "Each command reads standard input and writes standard output. A log is what an editor sent to its language
 server, byte for byte; one of version 2 has both directions. Where the editor starts `some-server`, let it
 start a script with this line, and it is recorded:
-  tee session.log | some-server \"$@\"
+  umask 077; tee \"/tmp/session-$$.log\" | some-server \"$@\"
 
 Exit status: 0 all is well, 1 a record counts as refused (`lspsync check --help`), 2 the command line
 is wrong, 3 reading or writing failed, 4 out of memory, 5 the log is faulty. From 3 on a line on standard
@@ -223,7 +223,7 @@ error says what, and for 5 where: `lspsync: truncated at 505` is byte 505 of the
 `lspsync COMMAND --help` has the options of a command and an example to paste. The logs to try are in
 examples/, or in /usr/share/doc/laspidru/examples.
 
-lspsync 0.1.0, proved with rattle-kit-13f";
+lspsync 0.1.0, for rattle-kit-13f";
 
 const MAX_BODY: &str = "Greatest length of a message, in bytes, from 4096 to 1073741824";
 

@@ -22,7 +22,9 @@ what the server sent. A record counts as refused where its word is `refused CAUS
 With `--explain` the line of an error, a refusal or `exit 1` also has the document, the reason and
 the message to see; that of a suspicious message has notes. One or two last lines say what to do next.
 
-Example, a session with two changes that a server must refuse:
+Input that is faulty (F1) at offset 0 is no such log: `lspsync-log-from` makes one of what an editor wrote.
+
+Example, a session with two changes that Laspidru refuses:
   lspsync check < examples/stale-version.log
   lspsync check --explain < examples/stale-version.log";
 
