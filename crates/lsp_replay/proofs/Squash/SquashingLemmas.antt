@@ -155,6 +155,10 @@ module _ (s : Session) (front singles : List ℕ) (series : Option SquashData) (
       batches
       other begun
 
+  pub told_bad : verdict ≡ bad → squash_step s here r (judge s r) ≡ faulty (BadLog r.head.place)
+  told_bad is =
+      ap (λ v. step_if s.server r its_front here (change_in (incoming_of (reading r.body))) v) (sym error ∙ is)
+
   pub told_too_long : (p : ChangeData) → change_in (incoming_of (reading r.body)) ≡ Some p → verdict ≡ answered changed
       → s.server.config.limits.max_body < length (canonical_change_body s.server p)
       → squash_step s here r (judge s r) ≡ faulty (BodyTooLong r.head.place)
