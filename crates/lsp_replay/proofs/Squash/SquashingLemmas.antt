@@ -9,7 +9,7 @@ use Rattle.lsp_server.specs.Step.{ServerData}
 use Rattle.lsp_log.specs.Log.{Record}
 use Rattle.lsp_stream.specs.declared.fault.EngineFault.{EngineFault}
 use Rattle.lsp_stream.specs.declared.fault.EngineFault.TheVariants.{BadLog, BodyTooLong, NoMemory}
-use Rattle.lsp_replay.specs.Commands.{RecordOutput, followed_by, writes}
+use Rattle.lsp_replay.specs.Commands.{followed_by, writes}
 use Rattle.lsp_replay.specs.RunOutput.{stopped}
 use Rattle.lsp_replay.specs.inside.RunOutput.{IsRecordFault, after}
 use Rattle.lsp_message.specs.Message.{reading}

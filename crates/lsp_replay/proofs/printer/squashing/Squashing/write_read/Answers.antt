@@ -1,4 +1,4 @@
-use Rattle.std.proofs.Common.{◌≢◌, ap, ◌∙◌, sym, inr}
+use Rattle.std.proofs.Common.{◌≢◌, inr}
 use Rattle.std.proofs.lemmas.Result.{err_from_is_err_and}
 use Rattle.lsp_replay.specs.Session.{bad}
 use Rattle.lsp_replay.specs.inside.Verdicts.{verdict_view}

@@ -5,7 +5,7 @@ use Rattle.lsp_log.specs.declared.record.Version.{Version}
 use Rattle.lsp_message.specs.Message.{reading}
 use Rattle.lsp_server.specs.Incoming.{incoming_of}
 use Rattle.lsp_replay.specs.Trace.{is_json}
-use Rattle.lsp_replay.specs.inside.Bodies.{BodyData, body_read, from_client, from_server}
+use Rattle.lsp_replay.specs.inside.Bodies.{body_read, from_client, from_server}
 use Rattle.lsp_replay.proofs.printer.tracing.Trace.push_asked.Goals as goal
 
 -- the bytes that were read of a server's record are its body
