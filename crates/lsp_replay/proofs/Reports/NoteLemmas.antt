@@ -13,6 +13,7 @@ use Rattle.lsp_text.specs.declared.position.Position.{Position}
 use Rattle.lsp_text.specs.declared.position.Range.{Range}
 use Rattle.lsp_text.proofs.Positions.PositionLemmas.{denoted_whole}
 use Rattle.lsp_text.proofs.Positions.ResolveLemmas.{chars_part}
+use Rattle.lsp_buffer.proofs.Changes.ChangeLemmas.{replaced_length}
 use Rattle.lsp_edit.specs.declared.change.Change.{Change}
 use Rattle.lsp_edit.specs.Items.{New, text_of}
 use Rattle.lsp_edit.specs.Batch.{ContentChange, Fault, InsideStart, InsideStop, Reversed, meaning, ends_of}
@@ -23,7 +24,7 @@ use Rattle.lsp_edit.specs.declared.fault.EditFault.{EditFault}
 use Rattle.lsp_edit.specs.declared.indexed.fault.BatchFault.{BatchFault}
 use Rattle.lsp_edit.specs.declared.indexed.fault.BatchFault.TheVariants.{NoMemory}
 use Rattle.lsp_edit.proofs.Composing.AppliedLemmas.{ends_told}
-use Rattle.lsp_edit.proofs.Deltas.InPlaceLemmas.{range_fault, range_too_long, range_within, replaced_len}
+use Rattle.lsp_edit.proofs.Deltas.InPlaceLemmas.{range_fault, range_too_long, range_within}
 use Rattle.lsp_edit.proofs.Parts.CutLemmas.{text_of-new}
 use Rattle.lsp_message.specs.Seen.{content_change_view}
 use Rattle.lsp_server.specs.Step.{content_change_from_data}
@@ -170,7 +171,7 @@ module _ (units : ℕ → ℕ) (text : List ℕ) (utf8 : IsUtf8 text) (range : R
     longer = length text - (stop - start) + length new
 
     len : length (replace_range text start stop new) ≡ longer
-    len = omega (arith, replaced_len text utf8 start stop new new_utf8 order at_start at_stop, order, at_stop.0)
+    len = replaced_length text new start stop order at_stop.0
 
     pub range_put : longer ≤ 1073741824
         → result_ok (text_within 1073741824 text (meaning units (chars text) (alone range new)))
