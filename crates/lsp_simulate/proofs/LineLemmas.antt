@@ -4,9 +4,9 @@ use Rattle.std.proofs.KnownBytes.{Appends-nil, Appends-trans}
 use Rattle.std.specs.Io.KnownBytes.{Appends}
 use Rattle.lsp_stream.specs.declared.fault.EngineFault.{EngineFault}
 use Rattle.lsp_stream.specs.declared.fault.EngineFault.TheVariants as engine
-use Rattle.lsp_stream.specs.Ports.{Rose, WriterState}
+use Rattle.lsp_stream.specs.Ports.{WriterState}
 use Rattle.lsp_stream.specs.Turns.{AppendsFront, Spends, StaysWell, WritesWithin}
-use Rattle.lsp_program.specs.Output.{allowed_turns}
+use Rattle.lsp_program.proofs.CallLemmas.{front_after, front_before, rose_after, spends_more}
 use Rattle.lsp_message.specs.Outgoing.{document_text}
 use Rattle.lsp_message.specs.Params.{DocumentItem}
 use Rattle.lsp_pair.specs.declared.event.Happened.{Happened}
@@ -15,7 +15,7 @@ use Rattle.lsp_simulate.specs.declared.run.RunFault.{RunFault}
 use Rattle.lsp_simulate.specs.declared.run.RunFault.TheVariants.{Write}
 use Rattle.lsp_simulate.specs.Run.{run_fault}
 use Rattle.lsp_simulate.specs.Words.{happened_words}
-use Rattle.lsp_simulate.specs.Session.{AppendsLines, AreSteps, AreWholeLines, HasFailed, PairStep, document_lines, end_document, next_line_number, step_line, step_lines, waiting_line}
+use Rattle.lsp_simulate.specs.Session.{AppendsLines, AreSteps, AreWholeLines, PairStep, document_lines, end_document, next_line_number, step_line, step_lines, waiting_line}
 use Rattle.lsp_simulate.specs.inside.Session.{WroteLines, last_number}
 
 abbrev EndsLine : List ℕ → Type 0
@@ -54,25 +54,7 @@ whole_waiting m n =
     (ends_line (decimal m) (codes " " ++ (decimal n ++ codes "\n"))
     (ends_line (codes " ") (decimal n ++ codes "\n") (ends_line (decimal n) (codes "\n") ([], refl)))))
 
--- ---- some first bytes, and some first lines
-
-pub front_after : (old mid new : Option (List ℕ)) (before bytes : List ℕ) → Appends old mid before
-    → AppendsFront mid new bytes → AppendsFront old new (before ++ bytes)
-front_after old mid new before bytes wrote some = (
-  before ++ some.0,
-  some.1,
-  ap (λ z. before ++ z) some.2 ∙ sym (append_assoc before some.0 some.1),
-  Appends-trans old mid new before some.0 wrote some.3,
-)
-
-pub front_before : (old new : Option (List ℕ)) (bytes rest : List ℕ) → AppendsFront old new bytes
-    → AppendsFront old new (bytes ++ rest)
-front_before old new bytes rest some = (
-  some.0,
-  some.1 ++ rest,
-  ap (λ z. z ++ rest) some.2 ∙ append_assoc some.0 some.1 rest,
-  some.3,
-)
+-- ---- some first lines
 
 pub no_lines : (old : Option (List ℕ)) (lines : List ℕ) → AppendsLines old old lines
 no_lines old lines = ([], lines, refl, inl refl, Appends-nil old)
@@ -116,17 +98,6 @@ wrote_before fault old new lines rest (inr some) = inr (some.0, front_before old
 
 -- ---- calls in turn
 
-pub spends_more : (a b c left mid right : ℕ) → Spends a b left mid → Spends b c mid right → Spends a c left right
-spends_more a b c left mid right first second = record {
-  within = omega (arith, first.within, second.within);
-  least = omega (arith, first.least, second.least);
-  most = omega (arith, first.most, second.most);
-  exact = λ h. omega (arith, h, first.exact, second.exact, second.least);
-}
-
-rose_after : (a b c : ℕ) → a ≤ b → Rose b c → Rose a c
-rose_after a b c least rose = λ h. let more : b < c = rose h in omega (arith, more, least)
-
 pub within_after : (before mid after : WriterState) (left between right : ℕ) (result : Result (Unit {0}) EngineFault)
     → Spends before.calls mid.calls left between → StaysWell before.failed mid.failed
     → WritesWithin between right mid after result → WritesWithin left right before after result
@@ -147,16 +118,6 @@ within_after before mid after left between right (Err fault) spent well calls = 
   none_left = calls.none_left;
   spent = spends_more before.calls mid.calls after.calls left between right spent calls.spent;
 }
-
-pub has_failed : (before mid after : WriterState) (between right : ℕ) (fault : EngineFault)
-    → Spends before.calls mid.calls allowed_turns between
-    → WritesWithin {A = Unit {0}} between right mid after (Err fault)
-    → (fault ≡ engine.Write) ⊎ (fault ≡ engine.TooManyTurns) → HasFailed before after
-has_failed before mid after between right fault spent calls (inl is) =
-    inl ((calls.failed is).0, rose_after before.calls mid.calls after.calls spent.least (calls.failed is).1)
-has_failed before mid after between right fault spent calls (inr is) =
-    inr (subst (λ (n : ℕ). Spends before.calls after.calls allowed_turns n) (calls.none_left is)
-    (spends_more before.calls mid.calls after.calls allowed_turns between right spent calls.spent))
 
 -- What a fault of writing is for the session.
 pub write_fault : (fault : EngineFault) (given : RunFault) → given ≡ run_fault fault

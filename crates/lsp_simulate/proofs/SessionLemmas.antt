@@ -1,13 +1,16 @@
 -- A session that is written line by line.
 -- ---- whole lines
-use Rattle.std.proofs.Common.{◌≡◌, ◌⊎◌, ◌↔◌, inl, inr, ℕ, ◌+◌, true, false, List, [], ◌∷◌, ◌++◌, length, codes, Option, Result, Ok, Err, refl, sym, ap, ◌∙◌, subst, arith, append_assoc, append-nil}
+use Rattle.std.proofs.Common.{◌≡◌, ◌≤◌, ◌<◌, ◌⊎◌, ◌↔◌, inl, inr, ℕ, ◌+◌, true, false, List, [], ◌∷◌, ◌++◌, length, codes, Option, Result, Ok, Err, refl, sym, ap, ◌∙◌, subst, arith, append_assoc, append-nil}
 use Rattle.std.proofs.KnownBytes.{Appends-nil, Appends-trans}
-use Rattle.std.specs.Io.KnownBytes.{Appends}
+use Rattle.std.specs.Prelude.{IfSome}
+use Rattle.std.proofs.lemmas.List.{length-append}
+use Rattle.std.specs.Io.KnownBytes.{Appends, IsAtEnd}
 use Rattle.lsp_stream.specs.declared.fault.EngineFault.{EngineFault}
 use Rattle.lsp_stream.specs.declared.fault.EngineFault.TheVariants as engine
-use Rattle.lsp_stream.specs.Ports.{WriterState}
+use Rattle.lsp_stream.specs.Ports.{ReaderState, Rose, WriterState, ports}
 use Rattle.lsp_stream.specs.Turns.{AppendsFront, Spends, WritesWithin}
-use Rattle.lsp_program.specs.Output.{allowed_turns}
+use Rattle.lsp_program.specs.Output.{IsStopped, allowed_turns}
+use Rattle.lsp_program.proofs.CallLemmas.{front_after, front_before, spends_more, stopped_after}
 use Rattle.lsp_message.specs.Params.{DocumentItem}
 use Rattle.lsp_pair.specs.declared.setting.PairFault.{PairFault}
 use Rattle.lsp_pair.specs.declared.setting.PairFault.TheVariants.{NotUtf16, LimitsTooSmall}
@@ -16,17 +19,21 @@ use Rattle.lsp_simulate.specs.declared.command_line.Setting.{Setting}
 use Rattle.lsp_simulate.specs.declared.run.RunFault.{RunFault}
 use Rattle.lsp_simulate.specs.declared.run.RunFault.TheVariants.{Read, Write, NoMemory, BadEvent}
 use Rattle.lsp_simulate.specs.Run.{run_fault}
-use Rattle.lsp_simulate.specs.Session.{AppendsLines, AreSteps, AreWholeLines, HasFailed, IsSettingRefused, PairStep, RanSteps, WroteSession, WroteSteps, document_lines, end_document, end_lines, next_line_number, pair_setting, step_line, step_lines, waiting_line}
-use Rattle.lsp_simulate.specs.inside.Session.{AreUnderWay, IsStepLine, IsUnderWay, WroteLines, last_number}
-use Rattle.lsp_simulate.proofs.LineLemmas.{lines-append, whole_steps, whole_document, whole_documents, whole_waiting, front_after, front_before, lines_after, wrote_after, wrote_before, spends_more, has_failed, write_fault, steps_more, last_more, lines_more, next_last}
+use Rattle.lsp_simulate.specs.Session.{AppendsLines, AreSteps, AreWholeLines, IsSettingRefused, PairStep, RanSteps, ReadLines, WroteSession, WroteSteps, document_lines, end_document, end_lines, line_count, next_line_number, pair_setting, step_line, step_lines, waiting_line}
+use Rattle.lsp_simulate.specs.inside.Lines.{Passed}
+use Rattle.lsp_simulate.specs.inside.Session.{AreUnderWay, IsStepLine, IsUnderWay, WroteLines, last_number, read_fault}
+use Rattle.lsp_simulate.proofs.InputLemmas.{all_passed, at_least, fewer, passed_more}
+use Rattle.lsp_simulate.proofs.LineLemmas.{lines-append, whole_steps, whole_document, whole_documents, whole_waiting, lines_after, wrote_after, wrote_before, write_fault, steps_more, last_more, lines_more, next_last}
 
-pub begun : (setting : Setting) (before : WriterState) (left : ℕ) (pair : PairData) → IsFitting (pair_setting setting)
-    → pair ≡ new_pair (pair_setting setting) → left ≡ allowed_turns → IsUnderWay setting before before left 0 pair
-begun setting before left pair fits is all = record {
+pub begun : (setting : Setting) (input later : Option (List ℕ)) (before : WriterState) (left : ℕ) (pair : PairData)
+    → IsFitting (pair_setting setting) → pair ≡ new_pair (pair_setting setting) → left ≡ allowed_turns
+    → Passed input 0 false later → IsUnderWay setting input later before before left 0 pair
+begun setting input later before left pair fits is all none = record {
   fits = fits;
   steps = [];
   are_steps = is;
   last = refl;
+  taken = none;
   written = Appends-nil before.written;
   spent = record {
     within = omega (arith, all);
@@ -39,8 +46,11 @@ begun setting before left pair fits is all = record {
 abbrev made : (pair after : PairData) (number : ℕ) (line : List ℕ) → IsStepLine pair after number line → PairStep
 made pair after number line step = record { event = step.event; happened = step.happened }
 
-module _ (setting : Setting) (before mid : WriterState) (left number next : ℕ) (pair : PairData)
-    (way : IsUnderWay setting before mid left number pair) (counted : next ≡ next_line_number number) where
+-- A line was taken, and then a step was made.
+module _ (setting : Setting) (reader now : ReaderState) (before mid : WriterState) (there rest : Option (List ℕ))
+    (left number next : ℕ) (pair : PairData)
+    (way : IsUnderWay setting reader.left there before mid left number pair) (one : Passed there 1 false rest)
+    (counted : next ≡ next_line_number number) where
   line_more : (after : PairData) (line : List ℕ) (step : IsStepLine pair after next line)
       → step_lines 0 way.steps ++ line ≡ step_lines 0 (way.steps ++ made pair after next line step ∷ [])
   line_more after line step =
@@ -55,43 +65,55 @@ module _ (setting : Setting) (before mid : WriterState) (left number next : ℕ)
       steps_more (new_pair (pair_setting setting)) way.steps pair (made pair after next line step) after way.are_steps
       step.is_step
 
+  taken_more : (s : PairStep) → Passed reader.left (length (way.steps ++ s ∷ [])) false rest
+  taken_more s =
+      passed_more reader.left there rest (length way.steps) 1 (length (way.steps ++ s ∷ [])) way.taken one
+      (length-append way.steps (s ∷ []))
+
   pub stepped : (after : PairData) (line : List ℕ) (new : WriterState) (right : ℕ) → IsStepLine pair after next line
       → Appends mid.written new.written line → Spends mid.calls new.calls left right
-      → IsUnderWay setting before new right next after
+      → IsUnderWay setting reader.left rest before new right next after
   stepped after line new right step wrote spent = record {
     fits = way.fits;
     steps = way.steps ++ made pair after next line step ∷ [];
     are_steps = are_more after line step;
     last = counted ∙ ap next_line_number way.last ∙ sym (last_more 0 way.steps (made pair after next line step));
+    taken = taken_more (made pair after next line step);
     written = subst (λ (z : List ℕ). Appends before.written new.written z) (line_more after line step)
         (Appends-trans before.written mid.written new.written (step_lines 0 way.steps) line way.written wrote);
     spent = spends_more before.calls mid.calls new.calls allowed_turns left right way.spent spent;
   }
 
   -- The line of a step was cut short.
-  cut_short : (after : PairData) (line : List ℕ) (new : WriterState) → IsStepLine pair after next line
-      → AppendsFront mid.written new.written line → HasFailed before new → RanSteps setting (Err Write) before new
-  cut_short after line new step some failed = record {
+  cut_short : (after : PairData) (line : List ℕ) (new : WriterState) (fault : EngineFault)
+      → IsStepLine pair after next line → AppendsFront mid.written new.written line → IsStopped before new fault
+      → RanSteps setting (Err Write) (ports reader before) (ports now new)
+  cut_short after line new fault step some stopped = record {
     fits = way.fits;
     steps = way.steps ++ made pair after next line step ∷ [];
     pair = after;
     are_steps = are_more after line step;
+    read = at_least reader.left rest (length (way.steps ++ made pair after next line step ∷ []))
+        (taken_more (made pair after next line step));
     written = (
       subst (λ (z : List ℕ). AppendsFront before.written new.written (z ++ end_lines after))
           (line_more after line step)
           (front_before before.written new.written (step_lines 0 way.steps ++ line) (end_lines after)
           (front_after before.written mid.written new.written (step_lines 0 way.steps) line way.written some)),
-      failed,
+      fault,
+      stopped,
     );
   }
 
   pub unwritten : (after : PairData) (line : List ℕ) (new : WriterState) (right : ℕ) (fault : EngineFault)
       (given : RunFault) → given ≡ run_fault fault → IsStepLine pair after next line
       → (fault ≡ engine.Write) ⊎ (fault ≡ engine.TooManyTurns) → AppendsFront mid.written new.written line
-      → WritesWithin {A = Unit {0}} left right mid new (Err fault) → WroteSession setting (Err given) before new
+      → WritesWithin {A = Unit {0}} left right mid new (Err fault)
+      → WroteSession setting (Err given) (ports reader before) (ports now new)
   unwritten after line new right fault given is step why some calls =
-      subst (λ (f : RunFault). WroteSession setting (Err f) before new) (sym (write_fault fault given is why))
-      (cut_short after line new step some (has_failed before mid new left right fault way.spent calls why))
+      subst (λ (f : RunFault). WroteSession setting (Err f) (ports reader before) (ports now new))
+      (sym (write_fault fault given is why))
+      (cut_short after line new fault step some (stopped_after before mid new left right fault way.spent calls why))
 
 -- ---- how a session ends
 
@@ -103,58 +125,89 @@ pub refused : {T : Type 0} (setting : Setting) (result : Result T PairFault) (fa
 refused setting result NotUtf16 is encoding limits = encoding.0 is
 refused setting result LimitsTooSmall is encoding limits = limits.0 is
 
-module _ (setting : Setting) (before now : WriterState) (left number : ℕ) (pair : PairData)
-    (way : IsUnderWay setting before now left number pair) where
-  ran : (result : Result (Unit {0}) RunFault) (after : WriterState) → WroteSteps result way.steps pair before after
-      → RanSteps setting result before after
-  ran result after wrote =
-      record { fits = way.fits; steps = way.steps; pair = pair; are_steps = way.are_steps; written = wrote }
+module _ (setting : Setting) (reader now : ReaderState) (before mid : WriterState) (rest : Option (List ℕ))
+    (left number : ℕ) (pair : PairData)
+    (way : IsUnderWay setting reader.left rest before mid left number pair) where
+  ran : (result : Result (Unit {0}) RunFault) (after : WriterState)
+      → ReadLines result (length way.steps) reader now → WroteSteps result way.steps pair before after
+      → RanSteps setting result (ports reader before) (ports now after)
+  ran result after read wrote = record {
+    fits = way.fits;
+    steps = way.steps;
+    pair = pair;
+    are_steps = way.are_steps;
+    read = read;
+    written = wrote;
+  }
 
-  out_of_memory : RanSteps setting (Err NoMemory) before now
+  some_read : IfSome reader.left (λ input. length way.steps ≤ line_count input)
+  some_read = at_least reader.left rest (length way.steps) way.taken
+
+  out_of_memory : RanSteps setting (Err NoMemory) (ports reader before) (ports now mid)
   out_of_memory =
-      ran (Err NoMemory) now
+      ran (Err NoMemory) mid some_read
       (step_lines 0 way.steps, end_lines pair, refl, whole_steps 0 way.steps, way.written)
 
-  bad_event : (next : ℕ) → next ≡ next_line_number number → RanSteps setting (Err (BadEvent next)) before now
-  bad_event next counted =
+  bad_event : (next : ℕ) (later : Option (List ℕ)) → next ≡ next_line_number number → Passed rest 1 false later
+      → RanSteps setting (Err (BadEvent next)) (ports reader before) (ports now mid)
+  bad_event next later counted one =
       let all : 0 + length way.steps ≡ length way.steps = omega arith in
-      ran (Err (BadEvent next)) now
+      let more : Passed reader.left (length way.steps + 1) false later =
+      passed_more reader.left rest later (length way.steps) 1 (length way.steps + 1) way.taken one refl in
+      ran (Err (BadEvent next)) mid
+      (fewer reader.left later (length way.steps) (length way.steps + 1) more (omega arith))
       (counted ∙ ap next_line_number way.last ∙ next_last 0 way.steps ∙ ap next_line_number all, way.written)
 
-  pub stopped : (next : ℕ) (fault : RunFault) → next ≡ next_line_number number
-      → (fault ≡ NoMemory) ⊎ (fault ≡ BadEvent next) → WroteSession setting (Err fault) before now
-  stopped next fault counted (inl is) =
-      subst (λ (f : RunFault). WroteSession setting (Err f) before now) (sym is) out_of_memory
-  stopped next fault counted (inr is) =
-      subst (λ (f : RunFault). WroteSession setting (Err f) before now) (sym is) (bad_event next counted)
+  pub stopped : (next : ℕ) (later : Option (List ℕ)) (fault : RunFault) → next ≡ next_line_number number
+      → Passed rest 1 false later → (fault ≡ NoMemory) ⊎ (fault ≡ BadEvent next)
+      → WroteSession setting (Err fault) (ports reader before) (ports now mid)
+  stopped next later fault counted one (inl is) =
+      subst (λ (f : RunFault). WroteSession setting (Err f) (ports reader before) (ports now mid)) (sym is)
+      out_of_memory
+  stopped next later fault counted one (inr is) =
+      subst (λ (f : RunFault). WroteSession setting (Err f) (ports reader before) (ports now mid)) (sym is)
+      (bad_event next later counted one)
 
-  pub unread : (fault : RunFault) → (fault ≡ NoMemory) ⊎ (fault ≡ Read) → WroteSession setting (Err fault) before now
-  unread fault (inl is) =
-      subst (λ (f : RunFault). WroteSession setting (Err f) before now) (sym is) out_of_memory
-  unread fault (inr is) =
-      subst (λ (f : RunFault). WroteSession setting (Err f) before now) (sym is) (ran (Err Read) now way.written)
+  pub unread : (fault : EngineFault)
+      → (fault ≡ engine.NoMemory) ⊎ ((fault ≡ engine.Read) ⊎ (fault ≡ engine.TooManyTurns))
+      → (fault ≡ engine.Read → (now.failed ≡ true) × Rose reader.calls now.calls)
+      → (fault ≡ engine.TooManyTurns → Spends reader.calls now.calls allowed_turns 0)
+      → WroteSession setting (Err (read_fault fault)) (ports reader before) (ports now mid)
+  unread fault (inl is) failed spent =
+      subst (λ (f : EngineFault). WroteSession setting (Err (read_fault f)) (ports reader before) (ports now mid))
+      (sym is) out_of_memory
+  unread fault (inr (inl is)) failed spent =
+      subst (λ (f : EngineFault). WroteSession setting (Err (read_fault f)) (ports reader before) (ports now mid))
+      (sym is) (ran (Err Read) mid (inl (failed is), some_read) way.written)
+  unread fault (inr (inr is)) failed spent =
+      subst (λ (f : EngineFault). WroteSession setting (Err (read_fault f)) (ports reader before) (ports now mid))
+      (sym is) (ran (Err Read) mid (inr (spent is), some_read) way.written)
 
-  pub ended : (after : WriterState) → Appends now.written after.written (end_lines pair)
-      → RanSteps setting (Ok tt) before after
-  ended after wrote =
-      ran (Ok tt) after
-      (Appends-trans before.written now.written after.written (step_lines 0 way.steps) (end_lines pair) way.written
+  pub ended : (after : WriterState) → now.ended ≡ true → IsAtEnd rest → Appends mid.written after.written (end_lines pair)
+      → RanSteps setting (Ok tt) (ports reader before) (ports now after)
+  ended after ends at_end wrote =
+      ran (Ok tt) after (ends, all_passed reader.left rest (length way.steps) way.taken at_end)
+      (Appends-trans before.written mid.written after.written (step_lines 0 way.steps) (end_lines pair) way.written
       wrote)
 
   pub not_ended : (after : WriterState) (right : ℕ) (fault : EngineFault) (given : RunFault) → given ≡ run_fault fault
-      → WroteLines (Err fault) (end_lines pair) now.written after.written
-      → WritesWithin {A = Unit {0}} left right now after (Err fault) → WroteSession setting (Err given) before after
+      → WroteLines (Err fault) (end_lines pair) mid.written after.written
+      → WritesWithin {A = Unit {0}} left right mid after (Err fault)
+      → WroteSession setting (Err given) (ports reader before) (ports now after)
   not_ended after right fault given is (inl some) calls =
-      subst (λ (f : RunFault). WroteSession setting (Err f) before after) (sym (is ∙ ap run_fault some.0))
-      (ran (Err NoMemory) after
-      (lines_after before.written now.written after.written (step_lines 0 way.steps) (end_lines pair) way.written
+      subst (λ (f : RunFault). WroteSession setting (Err f) (ports reader before) (ports now after))
+      (sym (is ∙ ap run_fault some.0))
+      (ran (Err NoMemory) after some_read
+      (lines_after before.written mid.written after.written (step_lines 0 way.steps) (end_lines pair) way.written
       (whole_steps 0 way.steps) some.1))
   not_ended after right fault given is (inr some) calls =
-      subst (λ (f : RunFault). WroteSession setting (Err f) before after) (sym (write_fault fault given is some.0))
-      (ran (Err Write) after (
-        front_after before.written now.written after.written (step_lines 0 way.steps) (end_lines pair) way.written
+      subst (λ (f : RunFault). WroteSession setting (Err f) (ports reader before) (ports now after))
+      (sym (write_fault fault given is some.0))
+      (ran (Err Write) after some_read (
+        front_after before.written mid.written after.written (step_lines 0 way.steps) (end_lines pair) way.written
             some.1,
-        has_failed before now after left right fault way.spent calls some.0,
+        fault,
+        stopped_after before mid after left right fault way.spent calls some.0,
       ))
 
 -- ---- documents

@@ -1,9 +1,10 @@
 -- What a session writes: a line for each step of a pair, and then how the pair ends.
-use Rattle.std.specs.Prelude.{ℕ, ◌≡◌, ◌⊎◌, ◌+◌, ◌-◌, ◌^◌, ◌++◌, ◌∷◌, [], true, false, List, length, min, codes, decimal, Option, Result, Ok, Err}
+use Rattle.std.specs.Prelude.{ℕ, ◌≡◌, ◌⊎◌, ◌+◌, ◌-◌, ◌<◌, ◌≤◌, ◌==◌, ◌^◌, ◌++◌, ◌∷◌, [], Bool, true, false, if◌then◌else◌, List, length, min, codes, decimal, Option, IfSome, Result, Ok, Err}
 use Rattle.std.specs.Io.KnownBytes.{Appends}
-use Rattle.lsp_stream.specs.Ports.{Rose, WriterState}
+use Rattle.lsp_stream.specs.declared.fault.EngineFault.{EngineFault}
+use Rattle.lsp_stream.specs.Ports.{Ports, ReaderState, Rose, WriterState}
 use Rattle.lsp_stream.specs.Turns.{AppendsFront, Spends}
-use Rattle.lsp_program.specs.Output.{allowed_turns}
+use Rattle.lsp_program.specs.Output.{IsStopped, allowed_turns}
 use Rattle.lsp_message.specs.Outgoing.{document_text}
 use Rattle.lsp_message.specs.Params.{DocumentItem}
 use Rattle.lsp_pair.specs.declared.event.Happened.{Happened}
@@ -13,7 +14,7 @@ use Rattle.lsp_pair.specs.Events.{Setting as PairSetting, EventData}
 use Rattle.lsp_pair.specs.Pair.{PairData, IsFitting, IsStep, are_within, can_choose_utf16, new_pair}
 use Rattle.lsp_simulate.specs.declared.command_line.Setting.{Setting}
 use Rattle.lsp_simulate.specs.declared.run.RunFault.{RunFault}
-use Rattle.lsp_simulate.specs.declared.run.RunFault.TheVariants.{Pair, Write, NoMemory, BadEvent}
+use Rattle.lsp_simulate.specs.declared.run.RunFault.TheVariants.{Pair, Read, Write, NoMemory, BadEvent}
 use Rattle.lsp_simulate.specs.Words.{happened_words}
 
 -- A step: an event, and what happened.
@@ -85,12 +86,6 @@ abbrev pub AppendsLines : Option (List ℕ) → Option (List ℕ) → List ℕ �
 AppendsLines old new lines =
     (front rest : List ℕ) × (lines ≡ front ++ rest) × AreWholeLines front × Appends old new front
 
--- The writer failed: its last call did, or each call that was allowed was made.
-abbrev pub HasFailed : WriterState → WriterState → Type 0
-HasFailed before after =
-    ((after.failed ≡ true) × Rose before.calls after.calls)
-    ⊎ Spends before.calls after.calls allowed_turns 0
-
 -- What was written of a session that made these steps, by how it ended. At its end all lines are;
 -- where memory ran out some first lines, and where the writer failed some first bytes. After a
 -- failed read the lines of the steps are, and so after a line of the input that is no event: it is
@@ -103,26 +98,56 @@ WroteSteps (Err NoMemory) steps pair before after =
     AppendsLines before.written after.written (step_lines 0 steps ++ end_lines pair)
 WroteSteps (Err Write) steps pair before after =
     AppendsFront before.written after.written (step_lines 0 steps ++ end_lines pair)
-    × HasFailed before after
+    × ((fault : EngineFault) × IsStopped before after fault)
 WroteSteps (Err (BadEvent line)) steps pair before after =
     (line ≡ next_line_number (length steps))
     × Appends before.written after.written (step_lines 0 steps)
 WroteSteps (Err fault) steps pair before after =
     Appends before.written after.written (step_lines 0 steps)
 
+-- How many lines some bytes have, after some of a line (`true`) or none. The last line may lack its
+-- line end.
+abbrev pub lines_from : Bool → List ℕ → ℕ
+lines_from begun [] = if begun then 1 else 0
+lines_from begun (byte ∷ bytes) =
+    if byte == 10 then 1 + lines_from false bytes else lines_from true bytes
+
+abbrev pub line_count : List ℕ → ℕ
+line_count bytes = lines_from false bytes
+
+-- The reader failed: its last read did, or each read that was allowed was made.
+abbrev pub HasReadFailed : ReaderState → ReaderState → Type 0
+HasReadFailed before after =
+    ((after.failed ≡ true) × Rose before.calls after.calls)
+    ⊎ Spends before.calls after.calls allowed_turns 0
+
+-- What was read of a session that made so many steps, by how it ended. At its end the input was read
+-- to its end, and each of its lines is a step. Else no step is made up: there are as many lines, and
+-- where one is no event there is one more.
+abbrev pub ReadLines : Result (Unit {0}) RunFault → ℕ → ReaderState → ReaderState → Type 0
+ReadLines (Ok _) steps before after = (after.ended ≡ true)
+    × IfSome before.left (λ input. steps ≡ line_count input)
+ReadLines (Err Read) steps before after = HasReadFailed before after
+    × IfSome before.left (λ input. steps ≤ line_count input)
+ReadLines (Err (BadEvent line)) steps before after =
+    IfSome before.left (λ input. steps < line_count input)
+ReadLines (Err fault) steps before after =
+    IfSome before.left (λ input. steps ≤ line_count input)
+
 -- A session ran: some steps of a pair, from a new one on. Which events the lines of the input mean,
 -- no clause says.
 pub record RanSteps (setting : Setting) (result : Result (Unit {0}) RunFault)
-    (before after : WriterState) : Type 0 where
+    (before after : Ports) : Type 0 where
   pub fits : IsFitting (pair_setting setting)
   pub steps : List PairStep
   -- the pair after them
   pub pair : PairData
   pub are_steps : AreSteps (new_pair (pair_setting setting)) steps pair
-  pub written : WroteSteps result steps pair before after
+  pub read : ReadLines result (length steps) before.reader after.reader
+  pub written : WroteSteps result steps pair before.writer after.writer
 
--- What a session wrote, by how it ended. A refused setting writes nothing.
-abbrev pub WroteSession : Setting → Result (Unit {0}) RunFault → WriterState → WriterState → Type 0
+-- What a session read and wrote, by how it ended. Of a refused setting it does neither.
+abbrev pub WroteSession : Setting → Result (Unit {0}) RunFault → Ports → Ports → Type 0
 WroteSession setting (Err (Pair fault)) before after =
     IsSettingRefused (pair_setting setting) fault × (after ≡ before)
 WroteSession setting result before after = RanSteps setting result before after

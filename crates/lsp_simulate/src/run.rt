@@ -1,41 +1,39 @@
 //! The program over any reader and writers.
 
-ghost use Rattle.std.specs.Prelude.{◌≡◌, ◌≢◌, ◌↔◌, ◌⊎◌, ℕ, Result};
+ghost use Rattle.std.specs.Prelude.{◌≡◌, ◌≢◌, ◌⊎◌, ◌++◌, Result, codes};
 ghost use Rattle.clap.specs.Values.{kind_of};
 ghost use Rattle.clap.specs.declared.error.kind.ErrorKind.TheVariants.{OutOfMemory};
 ghost use Rattle.clap.specs.declared.error.kind.ErrorKind.TheVariants.{DisplayHelp, DisplayVersion};
-ghost use Rattle.lsp_program.specs.Output.{IsHelp};
-ghost use Rattle.lsp_simulate.specs.Run.{IsSession, IsSimulation, IsSimulationOf, help_status};
-ghost use Rattle.lsp_simulate.specs.Run.{run_fault, run_fault_status, session_status};
+ghost use Rattle.lsp_program.specs.Output.{IsTextPrinted, digits_of, streams};
+ghost use Rattle.lsp_simulate.specs.Run.{EndsWith, IsOutputEnd, IsReported, IsSession, IsSessionEnd};
+ghost use Rattle.lsp_simulate.specs.Run.{IsSimulation, IsSimulationOf, pair_text, run_fault};
+ghost use Rattle.lsp_simulate.specs.Run.{run_fault_status, run_fault_text};
 ghost use Rattle.lsp_simulate.specs.declared.run.RunFault.TheVariants.{NoMemory, Pair};
 
 use crate::command_line::{Setting, parse};
 use crate::session::simulate;
 use clap::error as clap_error;
+use itoa::Buffer;
 use lsp_pair::PairFault;
-use lsp_program::{BAD_INPUT, OUT_OF_MEMORY, STREAM_FAULT, USAGE, flush, print_help};
-use lsp_stream::{EngineFault, Sink};
+use lsp_program::{
+    BAD_INPUT, OUT_OF_MEMORY, STREAM_FAULT, USAGE, digits, flush, print, print_text,
+};
+use lsp_stream::{EngineFault, Sink, Source};
 use std::alloc::{AllocError, Global};
-use std::io::{BufRead, ErrorKind, Write};
-use thiserror::Error;
+use std::io::ErrorKind;
 
 /// Why a run ended before its input did.
-#[derive(Clone, Copy, Debug, PartialEq, Eq, Error)]
+#[derive(Clone, Copy, Debug, PartialEq, Eq)]
 pub enum RunFault {
     /// No pair has these settings.
-    #[error("{0}")]
     Pair(PairFault),
-    /// A read of the events failed.
-    #[error("read fault")]
+    /// A read of the events failed, or too many of them were made.
     Read,
     /// A write or a flush of the output failed, or too many of them were made.
-    #[error("write fault")]
     Write,
     /// Memory ran out.
-    #[error("out of memory")]
     NoMemory,
     /// A line, counted from 1, is no event.
-    #[error("bad event at line {line}")]
     BadEvent { line: u64 },
 }
 
@@ -69,19 +67,16 @@ impl From<EngineFault> for RunFault {
 
 /// Runs the program, and returns its exit status. `words` is its command line, the program's name
 /// first. A fault's line is written to `errors`.
-pub fn run<R: BufRead, W: Sink, E: Write>(
+pub fn run<R: Source, W: Sink, E: Sink>(
     alloc: Global,
     words: &[&str],
     input: &mut R,
     output: &mut W,
     errors: &mut E,
 ) -> u8
-    ensures { IsSimulation (record {
-      left_before = R.remaining input.old;
-      left = R.remaining input.new;
-      before = W.seen output.old;
-      after = W.seen output.new;
-    }) result }
+    ensures { IsSimulation
+        (streams (R.seen input.old) (W.seen output.old) (E.seen errors.old))
+        (streams (R.seen input.new) (W.seen output.new) (E.seen errors.new)) result }
 {
     let read = parse(alloc, words);
     perform(alloc, read, input, output, errors)
@@ -89,19 +84,16 @@ pub fn run<R: BufRead, W: Sink, E: Write>(
 
 /// Runs the session that the words ask for. Words that ask for none are explained, and nothing is
 /// read.
-fn perform<R: BufRead, W: Sink, E: Write>(
+fn perform<R: Source, W: Sink, E: Sink>(
     alloc: Global,
     read: Result<Option<Setting>, clap::Error>,
     input: &mut R,
     output: &mut W,
     errors: &mut E,
 ) -> u8
-    ensures { IsSimulationOf read (record {
-      left_before = R.remaining input.old;
-      left = R.remaining input.new;
-      before = W.seen output.old;
-      after = W.seen output.new;
-    }) result }
+    ensures { IsSimulationOf read
+        (streams (R.seen input.old) (W.seen output.old) (E.seen errors.old))
+        (streams (R.seen input.new) (W.seen output.new) (E.seen errors.new)) result }
 {
     match read {
         Ok(Some(setting)) => run_session(alloc, setting, input, output, errors),
@@ -111,14 +103,16 @@ fn perform<R: BufRead, W: Sink, E: Write>(
 }
 
 /// Runs a session, and then flushes the output, also after a fault. The first fault is reported.
-fn run_session<R: BufRead, W: Sink, E: Write>(
+fn run_session<R: Source, W: Sink, E: Sink>(
     alloc: Global,
     setting: Setting,
     input: &mut R,
     output: &mut W,
     errors: &mut E,
 ) -> u8
-    ensures session { IsSession setting (W.seen output.old) (W.seen output.new) result }
+    ensures session { IsSession setting
+        (streams (R.seen input.old) (W.seen output.old) (E.seen errors.old))
+        (streams (R.seen input.new) (W.seen output.new) (E.seen errors.new)) result }
 {
     let ran = simulate(alloc, setting, input, output);
     let flushed = flush(output);
@@ -126,76 +120,121 @@ fn run_session<R: BufRead, W: Sink, E: Write>(
 }
 
 /// Ends with status 0, or reports the first fault.
-fn end_session<E: Write>(
+fn end_session<E: Sink>(
     ran: Result<(), RunFault>,
     flushed: Result<(), EngineFault>,
     errors: &mut E,
 ) -> u8
-    ensures { result ≡ session_status ran flushed }
+    ensures { IsSessionEnd ran flushed (E.seen errors.old) (E.seen errors.new) result }
 {
-    match (ran, flushed) {
-        (Ok(()), Ok(())) => 0,
-        (Ok(()), Err(fault)) => report(RunFault::from(fault), errors),
-        (Err(fault), _) => report(fault, errors),
+    match ran {
+        Ok(()) => end_output(flushed, errors),
+        Err(fault) => report(fault, errors),
+    }
+}
+
+/// Ends with status 0, or reports why the output failed.
+fn end_output<E: Sink>(printed: Result<(), EngineFault>, errors: &mut E) -> u8
+    ensures { IsOutputEnd printed (E.seen errors.old) (E.seen errors.new) result }
+{
+    match printed {
+        Ok(()) => 0,
+        Err(fault) => report(RunFault::from(fault), errors),
     }
 }
 
 /// Prints the text of `clap`'s error: help to the output, and a usage fault to the errors. Returns
 /// the status.
-fn print_error<W: Sink, E: Write>(
+fn print_error<W: Sink, E: Sink>(
     alloc: Global,
     error: &clap::Error,
     output: &mut W,
     errors: &mut E,
 ) -> u8
-    ensures memory { kind_of error.now ≡ OutOfMemory →
-        (W.seen output.new ≡ W.seen output.old) × (result ≡ 4) }
+    ensures memory { kind_of error.now ≡ OutOfMemory → (W.seen output.new ≡ W.seen output.old)
+        × IsReported NoMemory (E.seen errors.old) (E.seen errors.new) result }
     ensures mistake { kind_of error.now ≢ OutOfMemory → kind_of error.now ≢ DisplayHelp
         → kind_of error.now ≢ DisplayVersion →
-        (W.seen output.new ≡ W.seen output.old) × (result ≡ 2) }
+        (W.seen output.new ≡ W.seen output.old) × (result ≡ 2)
+        × ((printed : Result (Unit {0}) EngineFault)
+        × IsTextPrinted (E.seen errors.old) (E.seen errors.new) printed) }
     ensures help { (kind_of error.now ≡ DisplayHelp) ⊎ (kind_of error.now ≡ DisplayVersion)
-        → (answer : Result ℕ EngineFault)
-        × IsHelp (W.seen output.old) (W.seen output.new) answer × (result ≡ help_status answer) }
+        → (printed : Result (Unit {0}) EngineFault)
+        × IsTextPrinted (W.seen output.old) (W.seen output.new) printed
+        × IsOutputEnd printed (E.seen errors.old) (E.seen errors.new) result }
 {
     if error.kind() == clap_error::ErrorKind::OutOfMemory {
         return report(RunFault::NoMemory, errors);
     }
     if error.use_stderr() {
-        let _ = write!(errors, "{error}");
+        let _ = print_text(alloc, error, errors);
         return USAGE;
     }
-    let answer = print_help(alloc, error, output);
-    end_help(answer, errors)
-}
-
-/// Ends with the status of help, or reports why it couldn't be written.
-fn end_help<E: Write>(answer: Result<u8, EngineFault>, errors: &mut E) -> u8
-    ensures { result ≡ help_status answer }
-{
-    match answer {
-        Ok(status) => status,
-        Err(fault) => report(RunFault::from(fault), errors),
-    }
+    let printed = print_text(alloc, error, output);
+    end_output(printed, errors)
 }
 
 /// Prints why the program can't start: out of memory, or a word that isn't UTF-8. Returns the
 /// status.
-pub fn refuse<E: Write>(kind: ErrorKind, errors: &mut E) -> u8
-    ensures memory { (result ≡ 4) ↔ (kind ≡ ErrorKind.OutOfMemory) }
-    ensures words { (result ≡ 2) ↔ (kind ≢ ErrorKind.OutOfMemory) }
+pub fn refuse<E: Sink>(kind: ErrorKind, errors: &mut E) -> u8
+    ensures memory { kind ≡ ErrorKind.OutOfMemory →
+        IsReported NoMemory (E.seen errors.old) (E.seen errors.new) result }
+    ensures words { kind ≢ ErrorKind.OutOfMemory →
+        EndsWith 2 (codes "the command line is not UTF-8")
+        (E.seen errors.old) (E.seen errors.new) result }
 {
     if kind == ErrorKind::OutOfMemory {
         return report(RunFault::NoMemory, errors);
     }
-    let _ = writeln!(errors, "lsp_simulate: the command line is not UTF-8");
+    let _ = print(
+        errors,
+        &["lsp_simulate: ", "the command line is not UTF-8", "\n"],
+    );
     USAGE
 }
 
 /// Prints the line of a fault, and returns its status.
-pub fn report<E: Write>(fault: RunFault, errors: &mut E) -> u8
+pub fn report<E: Sink>(fault: RunFault, errors: &mut E) -> u8
+    ensures { IsReported fault (E.seen errors.old) (E.seen errors.new) result }
+{
+    let mut buffer = Buffer::new();
+    let (text, line) = text_of(fault);
+    let _ = print(
+        errors,
+        &["lsp_simulate: ", text, digits(line, &mut buffer), "\n"],
+    );
+    status_of(fault)
+}
+
+/// Returns the text of a fault, and the number of a line that comes after it.
+fn text_of(fault: RunFault) -> (&'static str, Option<u64>)
+    ensures { run_fault_text fault ≡ result.0.now ++ digits_of result.1 }
+{
+    match fault {
+        RunFault::Pair(fault) => (pair_text(fault), None),
+        RunFault::Read => ("read fault", None),
+        RunFault::Write => ("write fault", None),
+        RunFault::NoMemory => ("out of memory", None),
+        RunFault::BadEvent { line } => ("bad event at line ", Some(line)),
+    }
+}
+
+/// Returns why no pair has a setting.
+fn pair_text(fault: PairFault) -> &'static str
+    ensures { result.now ≡ pair_text fault }
+{
+    match fault {
+        PairFault::NotUtf16 => "the server's encoding is fixed, and is not utf-16",
+        PairFault::LimitsTooSmall => {
+            "one of the server's limits is below the client's, or only the client is lenient"
+        }
+    }
+}
+
+/// Returns the status of a fault.
+fn status_of(fault: RunFault) -> u8
     ensures { result ≡ run_fault_status fault }
 {
-    let _ = writeln!(errors, "lsp_simulate: {fault}");
     match fault {
         RunFault::Pair(_) => USAGE,
         RunFault::Read | RunFault::Write => STREAM_FAULT,

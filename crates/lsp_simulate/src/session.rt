@@ -1,12 +1,14 @@
 //! A session: the steps of a pair by lines of events, and the lines of output.
 
-ghost use Rattle.std.specs.Prelude.{◌≡◌, ◌≢◌, ◌↔◌, ◌⊎◌, IfErr, IfOk, string_bytes};
+ghost use Rattle.std.specs.Prelude.{◌≡◌, ◌⊎◌, IfErr, IfOk, string_bytes};
+ghost use Rattle.lsp_stream.specs.Ports.{ports};
 ghost use Rattle.lsp_stream.specs.Turns.{WritesWithin};
 ghost use Rattle.lsp_simulate.specs.Session.{WroteSession, document_lines, end_document};
 ghost use Rattle.lsp_simulate.specs.Session.{end_lines, step_line, waiting_line};
-ghost use Rattle.lsp_simulate.specs.inside.Session.{IsStepLine, WroteLines};
+ghost use Rattle.lsp_simulate.specs.inside.Session.{IsStepLine, WroteLines, read_fault};
 
 use crate::command_line::Setting;
+use crate::lines::InputLines;
 use crate::run::RunFault;
 use crate::script::{ScriptFault, event_of};
 use crate::word::write_happened;
@@ -14,35 +16,40 @@ use lsp_message::push_document;
 use lsp_pair::{Happened, Pair};
 use lsp_program::MAX_TURNS;
 use lsp_store::{Document, Store};
-use lsp_stream::{EngineFault, Sink, Turns, write_given};
+use lsp_stream::{EngineFault, Sink, Source, Turns, write_given};
 use std::alloc::{AllocError, Global};
-use std::io::{self, BufRead, ErrorKind, Write};
+use std::io::{self, Write};
 
 /// Steps a pair by the events of the lines, and writes what happens. At the end it writes how many
 /// frames wait, and the documents of both ends. The lines of the steps before a fault stay written.
-pub fn simulate<R: BufRead, W: Sink>(
+pub fn simulate<R: Source, W: Sink>(
     alloc: Global,
     setting: Setting,
     input: &mut R,
     output: &mut W,
 ) -> Result<(), RunFault>
-    ensures { WroteSession setting result (W.seen output.old) (W.seen output.new) }
+    ensures { WroteSession setting result
+        (ports (R.seen input.old) (W.seen output.old))
+        (ports (R.seen input.new) (W.seen output.new)) }
 {
     let mut pair = Pair::new(alloc, setting.limits, setting.offers, setting.config)?;
+    let mut lines = InputLines::new();
     let mut turns = Turns::new(MAX_TURNS);
     let mut number = 0u64;
-    for line in input.split(alloc, b'\n') {
-        number = number.saturating_add(1);
-        match line {
-            Ok(bytes) => {
-                let text = step(alloc, &mut pair, number, &bytes)?;
+    'events: loop {
+        match lines.next(alloc, input) {
+            Ok(Some(line)) => {
+                number = number.saturating_add(1);
+                let text = step(alloc, &mut pair, number, &line)?;
                 write_given(output, &text, false, &mut turns)?;
             }
-            Err(error) => return Err(read_fault(error.kind())),
+            Ok(None) => {
+                write_end(alloc, &pair, output, &mut turns)?;
+                return Ok(());
+            }
+            Err(fault) => return Err(read_fault(fault)),
         }
     }
-    write_end(alloc, &pair, output, &mut turns)?;
-    Ok(())
 }
 
 /// Makes the step of one line of input, and returns its line of output.
@@ -135,13 +142,12 @@ fn document_line(alloc: Global, end: &str, document: &Document<'_>) -> Result<Ve
     Ok(line)
 }
 
-fn read_fault(kind: ErrorKind) -> RunFault
-    ensures memory { (result ≡ RunFault.NoMemory) ↔ (kind ≡ ErrorKind.OutOfMemory) }
-    ensures read { (result ≡ RunFault.Read) ↔ (kind ≢ ErrorKind.OutOfMemory) }
-    ensures error { (result ≡ RunFault.NoMemory) ⊎ (result ≡ RunFault.Read) }
+/// Returns the fault of a run whose input has this fault.
+fn read_fault(fault: EngineFault) -> RunFault
+    ensures { result ≡ read_fault fault }
 {
-    match kind {
-        ErrorKind::OutOfMemory => RunFault::NoMemory,
+    match fault {
+        EngineFault::NoMemory => RunFault::NoMemory,
         _ => RunFault::Read,
     }
 }

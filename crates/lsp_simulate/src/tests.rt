@@ -4,9 +4,8 @@ mod events;
 mod faults;
 
 use crate::run::run;
-use lsp_stream::Told;
+use lsp_stream::{CallEnd, StopReader, Told};
 use std::alloc::Global;
-use std::io::Cursor;
 
 /// The result of one run of the program.
 #[derive(Drop)]
@@ -17,18 +16,19 @@ struct Answer {
 }
 
 fn ran(alloc: Global, words: &[&str], input: &str) -> Answer {
+    stopped(alloc, words, input, &[])
+}
+
+/// Runs the program over an input whose first reads end as a script says.
+fn stopped(alloc: Global, words: &[&str], input: &str, reads: &[CallEnd]) -> Answer {
     let mut output = Told::new(Vec::new(alloc));
-    let mut errors = Vec::new(alloc);
-    let status = run(
-        alloc,
-        words,
-        &mut Cursor::new(input.as_bytes()),
-        &mut output,
-        &mut errors,
-    );
+    let mut errors = Told::new(Vec::new(alloc));
+    let all = CallEnd::Take(usize::MAX);
+    let mut input = Told::new(StopReader::new(input.as_bytes(), reads, all));
+    let status = run(alloc, words, &mut input, &mut output, &mut errors);
     Answer {
         status,
         output: output.into_inner(),
-        errors,
+        errors: errors.into_inner(),
     }
 }

@@ -1,3 +1,4 @@
+pub mod Beginning
 pub mod Call
 pub mod CommandLine
 pub mod FaultText

@@ -1,5 +1,5 @@
 -- A session on its way.
-use Rattle.std.specs.Prelude.{ℕ, ◌≡◌, ◌⊎◌, ◌++◌, ◌∷◌, [], List, Option, Result, Ok, Err}
+use Rattle.std.specs.Prelude.{ℕ, ◌≡◌, ◌⊎◌, ◌++◌, ◌∷◌, [], false, List, length, Option, Result, Ok, Err}
 use Rattle.std.specs.Io.KnownBytes.{Appends}
 use Rattle.lsp_stream.specs.declared.fault.EngineFault.{EngineFault}
 use Rattle.lsp_stream.specs.declared.fault.EngineFault.TheVariants.{NoMemory, TooManyTurns, Write}
@@ -11,7 +11,15 @@ use Rattle.lsp_pair.specs.declared.event.Happened.{Happened}
 use Rattle.lsp_pair.specs.Events.{EventData}
 use Rattle.lsp_pair.specs.Pair.{PairData, IsFitting, IsStep, new_pair}
 use Rattle.lsp_simulate.specs.declared.command_line.Setting.{Setting}
+use Rattle.lsp_simulate.specs.declared.run.RunFault.{RunFault}
+use Rattle.lsp_simulate.specs.declared.run.RunFault.TheVariants as run
+use Rattle.lsp_simulate.specs.inside.Lines.{Passed}
 use Rattle.lsp_simulate.specs.Session.{AppendsLines, AreSteps, AreWholeLines, PairStep, document_lines, next_line_number, pair_setting, step_line, step_lines}
+
+-- The fault of a run whose input has this fault: out of memory, or a fault of reading.
+abbrev pub read_fault : EngineFault → RunFault
+read_fault NoMemory = run.NoMemory
+read_fault fault = run.Read
 
 -- A step was made, and this is its line.
 pub record IsStepLine (old new : PairData) (number : ℕ) (line : List ℕ) : Type 0 where
@@ -25,13 +33,15 @@ abbrev pub last_number : ℕ → List PairStep → ℕ
 last_number number [] = number
 last_number number (s ∷ steps) = last_number (next_line_number number) steps
 
--- The lines of some steps were written, the last with this number, and so many turns are left.
-pub record IsUnderWay (setting : Setting) (before now : WriterState) (left number : ℕ)
-    (pair : PairData) : Type 0 where
+-- The lines of some steps were written, the last with this number, and so many turns are left. Of the
+-- input their lines are taken, and these bytes are still to be taken.
+pub record IsUnderWay (setting : Setting) (input later : Option (List ℕ)) (before now : WriterState)
+    (left number : ℕ) (pair : PairData) : Type 0 where
   pub fits : IsFitting (pair_setting setting)
   pub steps : List PairStep
   pub are_steps : AreSteps (new_pair (pair_setting setting)) steps pair
   pub last : number ≡ last_number 0 steps
+  pub taken : Passed input (length steps) false later
   pub written : Appends before.written now.written (step_lines 0 steps)
   pub spent : Spends before.calls now.calls allowed_turns left
 

@@ -7,7 +7,8 @@ use Rattle.lsp_client.specs.Step.{ClientData}
 use Rattle.lsp_server.specs.Step.{ServerData}
 use Rattle.lsp_simulate.specs.Session.{end_lines, waiting_line}
 use Rattle.lsp_simulate.proofs.SessionLemmas.{end_after, end_between, end_cut, waits}
-use Rattle.lsp_simulate.proofs.LineLemmas.{no_lines, spends_more, within_after}
+use Rattle.lsp_program.proofs.CallLemmas.{spends_more}
+use Rattle.lsp_simulate.proofs.LineLemmas.{no_lines, within_after}
 use Rattle.lsp_simulate.proofs.session.write_end.Goals as goal
 
 pub returns-in_err-line-clause-wrote : goal.returns-in_err-line-clause-wrote
