@@ -3,16 +3,17 @@ use Rattle.std.proofs.Common.{◌≡◌, ◌<◌, ◌≤◌, ℕ, zero, suc, ◌
 use Rattle.std.specs.Prelude.{Option, None, Some, is_some, IfSome, if◌then◌else◌, Vec}
 use Rattle.std.specs.declared.alloc.Global.{Global}
 use Rattle.std.proofs.Math.Seq.{drop-cons}
-use Rattle.std.proofs.lemmas.List.{take-append-drop, take_all}
+use Rattle.std.proofs.lemmas.List.{drop-drop, drop-take, length-take, take-append-drop, take_all}
 use Rattle.std.proofs.lemmas.Bool.{eqb-true}
 use Rattle.std.specs.Io.KnownBytes.{Consumes, IsAtEnd, prepend_known}
+use Rattle.lsp_stream.specs.Turns.{Spends}
 use Rattle.memchr.specs.Find.{IsFirstByte, is_byte}
 use Rattle.lsp_simulate.specs.Session.{line_count, lines_from}
 use Rattle.lsp_simulate.specs.inside.Lines.{Passed, is_begun, lines_in}
 
 -- ---- the lines of bytes one after another
 
-begun_by : Bool → List ℕ → Bool
+abbrev begun_by : Bool → List ℕ → Bool
 begun_by begun [] = begun
 begun_by begun (byte ∷ bytes) = true
 
@@ -29,7 +30,7 @@ begun_append [] bytes = begun_false bytes
 begun_append (byte ∷ line) bytes = begun_true bytes
 
 -- There is no line end among these bytes.
-IsPlain : List ℕ → Type 0
+abbrev IsPlain : List ℕ → Type 0
 IsPlain [] = Unit {0}
 IsPlain (byte ∷ bytes) = (is_byte 10 byte ≡ false) × IsPlain bytes
 
@@ -40,8 +41,8 @@ count_plain begun (byte ∷ bytes) more plain =
     rw plain.0 (count_plain true bytes more plain.1 ∙ ap (λ b. lines_from b more) (begun_true bytes))
 
 not_true : (b : Bool) → (b ≡ true → ⊥) → b ≡ false
-not_true true no = absurd (no refl)
-not_true false no = refl
+not_true true never = absurd (never refl)
+not_true false never = refl
 
 plain_before : (bytes : List ℕ) (n : ℕ) → ((k : ℕ) → k < n → is_byte 10 (get_or bytes k 0) ≡ true → ⊥)
     → n ≤ length bytes → IsPlain (take n bytes)
@@ -79,7 +80,25 @@ no_line line bytes more none =
     count_plain (is_begun line) bytes more (rw all at plain)
     ∙ ap (λ b. lines_from b more) (begun_append line bytes)
 
+-- What is left of a piece after a line and its end.
+pub after_line : (from to len : ℕ) (bytes : List ℕ) → len < length (take (to - from) (drop from bytes))
+    → drop (suc len) (take (to - from) (drop from bytes)) ≡ take (to - (from + (len + 1))) (drop (from + (len + 1)) bytes)
+after_line from to len bytes within =
+    let more = to - (from + (len + 1)) in
+    let count : to - from ≡ suc len + more = omega (arith, within, length-take (to - from) (drop from bytes)) in
+    let place : from + suc len ≡ from + (len + 1) = omega arith in
+    ap (λ z. drop (suc len) (take z (drop from bytes))) count ∙ drop-take (suc len) more (drop from bytes)
+    ∙ ap (λ z. take more z) (drop-drop (suc len) from bytes ∙ ap (λ z. drop z bytes) place)
+
 -- ---- lines that were passed
+
+pub none_spent : (calls most left : ℕ) → left ≡ most → Spends calls calls most left
+none_spent calls most left all = record {
+  within = omega (arith, all);
+  least = omega arith;
+  most = omega (arith, all);
+  exact = λ _. omega (arith, all);
+}
 
 pub none_passed : (input : Option (List ℕ)) → Passed input 0 false input
 none_passed None = tt

@@ -100,8 +100,7 @@ module _ (setting : Setting) (reader now : ReaderState) (before mid : WriterStat
           (line_more after line step)
           (front_before before.written new.written (step_lines 0 way.steps ++ line) (end_lines after)
           (front_after before.written mid.written new.written (step_lines 0 way.steps) line way.written some)),
-      fault,
-      stopped,
+      (fault, stopped),
     );
   }
 
@@ -183,10 +182,13 @@ module _ (setting : Setting) (reader now : ReaderState) (before mid : WriterStat
       subst (λ (f : EngineFault). WroteSession setting (Err (read_fault f)) (ports reader before) (ports now mid))
       (sym is) (ran (Err Read) mid (inr (spent is), some_read) way.written)
 
-  pub ended : (after : WriterState) → now.ended ≡ true → IsAtEnd rest → Appends mid.written after.written (end_lines pair)
+  pub ended : (later : Option (List ℕ)) (after : WriterState) → now.ended ≡ true → Passed rest 0 false later
+      → IsAtEnd later → Appends mid.written after.written (end_lines pair)
       → RanSteps setting (Ok tt) (ports reader before) (ports now after)
-  ended after ends at_end wrote =
-      ran (Ok tt) after (ends, all_passed reader.left rest (length way.steps) way.taken at_end)
+  ended later after ends none at_end wrote =
+      let all : Passed reader.left (length way.steps) false later =
+      passed_more reader.left rest later (length way.steps) 0 (length way.steps) way.taken none (omega arith) in
+      ran (Ok tt) after (ends, all_passed reader.left later (length way.steps) all at_end)
       (Appends-trans before.written mid.written after.written (step_lines 0 way.steps) (end_lines pair) way.written
       wrote)
 
@@ -206,8 +208,7 @@ module _ (setting : Setting) (reader now : ReaderState) (before mid : WriterStat
       (ran (Err Write) after some_read (
         front_after before.written mid.written after.written (step_lines 0 way.steps) (end_lines pair) way.written
             some.1,
-        fault,
-        stopped_after before mid after left right fault way.spent calls some.0,
+        (fault, stopped_after before mid after left right fault way.spent calls some.0),
       ))
 
 -- ---- documents

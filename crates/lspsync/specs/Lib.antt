@@ -1,4 +1,3 @@
-pub mod Beginning
 pub mod Call
 pub mod CommandLine
 pub mod FaultText

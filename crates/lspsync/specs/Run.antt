@@ -23,7 +23,6 @@ use Rattle.lspsync.specs.declared.command_line.Call.{Call}
 use Rattle.lspsync.specs.declared.command_line.Call.TheVariants as call
 use Rattle.lspsync.specs.declared.ends.Ending.{Ending}
 use Rattle.lspsync.specs.declared.command_line.Task.{Task}
-use Rattle.lspsync.specs.Beginning.{hint_of}
 use Rattle.lspsync.specs.Call.{AreWordsReadAs, file_of}
 use Rattle.lspsync.specs.FaultText.{blame_text, fault_cause, fault_text}
 
@@ -134,13 +133,13 @@ blame_lines name fault cause None = line (Some name) (blame_text fault cause)
 blame_lines name fault cause (Some hint) =
     line (Some name) (blame_text fault cause) ++ line (Some name) hint
 
--- A fault of the log is reported with its cause, and with a hint by some first bytes. Another one
--- is reported as that of standard input.
+-- A fault of the log is reported with its cause, and perhaps with a hint. Another one is reported as
+-- that of standard input.
 abbrev pub IsBlamed : List ℕ → EngineFault → Option (List ℕ) → WriterState → WriterState →
     Ending → Type 0
 IsBlamed name fault None before after ending = IsReported fault before after ending
-IsBlamed name fault (Some cause) before after ending = (first : List ℕ) × Ends (status_of fault)
-    (blame_lines name fault cause (hint_of first)) false before after ending
+IsBlamed name fault (Some cause) before after ending = (hint : Option (List ℕ))
+    × Ends (status_of fault) (blame_lines name fault cause hint) false before after ending
 
 -- The system's reason is said why a file can't be opened or read; or memory ran out.
 abbrev pub IsUnreadable : List ℕ → WriterState → WriterState → Ending → Type 0

@@ -1,16 +1,11 @@
 //! What a file that is no log seems to be, by its first bytes.
 
-ghost use Rattle.std.specs.Prelude.{◌≡◌, map, option_map};
-ghost use Rattle.lspsync.specs.Beginning.{beginnings, has_bare_lines, hint_of};
-
 /// Returns what is said of a faulty log that begins with these bytes, if they show a known form.
-pub fn hint(first: &[u8]) -> Option<&'static str>
-    ensures { option_map (λ hint. hint.now) result ≡ hint_of first.now }
-{
+pub fn hint(first: &[u8]) -> Option<&'static str> {
     if has_bare_lines(first) {
         return Some("its lines end in LF alone, where those of a header end in CR LF");
     }
-    for (bytes, hint) in all() {
+    for (bytes, hint) in &ALL {
         if first.starts_with(*bytes) {
             return Some(*hint);
         }
@@ -19,21 +14,12 @@ pub fn hint(first: &[u8]) -> Option<&'static str>
 }
 
 /// Returns whether these are lines of a header that end in a line feed alone.
-fn has_bare_lines(first: &[u8]) -> bool
-    ensures { result ≡ has_bare_lines first.now }
-{
+fn has_bare_lines(first: &[u8]) -> bool {
     first.starts_with(b"Content-") && first.contains(&b'\n') && !first.contains(&b'\r')
 }
 
-/// How a file begins, and what is said of it.
+/// How a file begins, and what is said of it. Of several that fit the first counts.
 type Row = (&'static [u8], &'static str);
-
-/// Returns the beginnings that are known. Of several that fit the first counts.
-fn all() -> &'static [Row]
-    ensures { map (λ row. (row.0.now, row.1.now)) result.now ≡ beginnings }
-{
-    ALL.as_slice()
-}
 
 const NEOVIM: &str = "a log of Neovim; bin/log-from makes a session of it";
 

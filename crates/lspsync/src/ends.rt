@@ -1,9 +1,9 @@
 //! How a run ends: its status, and what is printed of it on standard error.
 
-ghost use Rattle.std.specs.Prelude.{◌≡◌, ◌≢◌, codes, false, option_map};
+ghost use Rattle.std.specs.Prelude.{◌≡◌, ◌≢◌, None, codes, false, option_map};
 ghost use Rattle.lsp_program.specs.Output.{IsPrinted};
-ghost use Rattle.lspsync.specs.Run.{Ends, IsOutcomeEnd, IsReported, joined, line, missing_text};
-ghost use Rattle.lspsync.specs.Run.{status_of};
+ghost use Rattle.lspsync.specs.Run.{Ends, IsOutcomeEnd, IsReported, is_write_fault, joined, line};
+ghost use Rattle.lspsync.specs.Run.{missing_text, status_of};
 
 use crate::fault_text::text_of;
 use itoa::Buffer;
@@ -88,7 +88,7 @@ pub fn refuse<E: Sink>(kind: ErrorKind, errors: &mut E) -> Ending
     ensures memory { kind ≡ ErrorKind.OutOfMemory →
         IsReported EngineFault.NoMemory (E.seen errors.old) (E.seen errors.new) result }
     ensures words { kind ≢ ErrorKind.OutOfMemory →
-        Ends 2 (codes "lspsync: the command line is not UTF-8\n") false
+        Ends 2 (line None (codes "the command line is not UTF-8")) false
         (E.seen errors.old) (E.seen errors.new) result }
 {
     if kind == ErrorKind::OutOfMemory {
@@ -103,12 +103,19 @@ pub fn report<E: Sink>(fault: EngineFault, errors: &mut E) -> Ending
 {
     let mut buffer = Buffer::new();
     let (text, place) = text_of(fault);
-    let printed = print(errors, &["lspsync: ", text, digits(place, &mut buffer), "\n"]);
+    let place = digits(place, &mut buffer);
+    let printed = print(errors, &["lspsync: ", text, place, "\n"]);
     Ending {
         status: status_of(fault),
         printed,
-        output_failed: matches!(fault, EngineFault::Write),
+        output_failed: is_write_fault(fault),
     }
+}
+
+fn is_write_fault(fault: EngineFault) -> bool
+    ensures { result ≡ is_write_fault fault }
+{
+    matches!(fault, EngineFault::Write)
 }
 
 /// Returns the status of a fault.

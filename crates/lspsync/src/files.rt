@@ -1,8 +1,7 @@
 //! Files of logs, by their names.
 
-ghost use Rattle.std.specs.Prelude.{◌≡◌, ◌≤◌, ◌⊎◌, ◌++◌, IfOk, List, Option, false, length, take, ℕ};
+ghost use Rattle.std.specs.Prelude.{IfOk, List, Option, false, ℕ};
 ghost use Rattle.std.specs.Io.KnownBytes.{Keeps};
-ghost use Rattle.lspsync.specs.Beginning.{hint_of};
 ghost use Rattle.lspsync.specs.Run.{Ends, IsFileDone, IsFileEnding, IsUnreadable, blame_lines};
 ghost use Rattle.lspsync.specs.Run.{status_of};
 
@@ -55,11 +54,7 @@ impl<T: Read> Read for LogFile<T> {
 }
 
 /// Keeps bytes that were read, as far as they are among the first. Without memory it keeps none.
-fn keep(first: &mut Vec<u8>, bytes: &[u8])
-    ensures { length first.old.items ≤ 64 →
-        (first.new.items ≡ take 64 (first.old.items ++ bytes.now))
-        ⊎ (first.new.items ≡ first.old.items) }
-{
+fn keep(first: &mut Vec<u8>, bytes: &[u8]) {
     let room = KEPT.saturating_sub(first.len());
     let _ = first.extend_from_slice(&bytes[..room.min(bytes.len())]);
 }
@@ -129,24 +124,25 @@ fn blame<E: Sink>(
     first: &[u8],
     errors: &mut E,
 ) -> Ending
-    ensures { Ends (status_of fault) (blame_lines name.now fault cause.now (hint_of first.now)) false
+    ensures { (hint : Option (List ℕ)) × Ends (status_of fault)
+        (blame_lines name.now fault cause.now hint) false
         (E.seen errors.old) (E.seen errors.new) result }
 {
     let mut buffer = Buffer::new();
     let (text, place) = text_of(fault);
     let at = digits(place, &mut buffer);
     let (start, page, end) = ("lspsync: ", " (docs/PROTOCOL.md#codes)", "\n");
-    let printed = match hint(first) {
-        Some(hint) => print(
-            errors,
-            &[
+    let status = status_of(fault);
+    match hint(first) {
+        Some(hint) => {
+            let lines = [
                 start, name, ": ", text, at, ": ", cause, page, end, start, name, ": ", hint, end,
-            ],
-        ),
-        None => print(
-            errors,
-            &[start, name, ": ", text, at, ": ", cause, page, end],
-        ),
-    };
-    Ending::new(status_of(fault), printed)
+            ];
+            Ending::new(status, print(errors, &lines))
+        }
+        None => {
+            let line = [start, name, ": ", text, at, ": ", cause, page, end];
+            Ending::new(status, print(errors, &line))
+        }
+    }
 }

@@ -95,11 +95,7 @@ fn do_task<F: Folder, R: Source, W: Sink, E: Sink>(
 }
 
 /// Prints the heading of an input, if it is one of several.
-fn head<E: Sink>(
-    is_headed: bool,
-    file: &Option<String>,
-    errors: &mut E,
-) -> Result<(), EngineFault>
+fn head<E: Sink>(is_headed: bool, file: &Option<String>, errors: &mut E) -> Result<(), EngineFault>
     ensures { IsHeaded is_headed (option_map string_bytes file.now)
         (E.seen errors.old) (E.seen errors.new) result }
 {

@@ -43,7 +43,12 @@ static ROWS: [(&str, u8, &str, &str); 9] = [
     ("lspsync normalise nvim.log", 5, "", NVIM),
     ("lspsync trace bare.log", 5, "", BARE),
     ("lspsync replay --uri=file:///b good.log", 1, "", NO_URI),
-    ("lspsync check good.log --lenient gone.log -", 3, TWICE, BETWEEN),
+    (
+        "lspsync check good.log --lenient gone.log -",
+        3,
+        TWICE,
+        BETWEEN,
+    ),
 ];
 
 /// Returns whether a row's words have the row's status, output and lines on standard error.
