@@ -58,8 +58,11 @@ fn a_read_that_fails_comes_after_the_lines_before_it(rt: HostRuntime) {
         input,
         &[Take(7), Take(20), Fails],
     );
-    assert_eq!(rt; answer.errors.as_slice(), b"lsp_simulate: read fault\n");
-    assert_eq!(rt; answer.output.as_slice(), b"1 sent\n");
+    assert_eq!(rt;
+        answer.errors.as_slice(),
+        "lsp_simulate: read fault\n".as_bytes()
+    );
+    assert_eq!(rt; answer.output.as_slice(), "1 sent\n".as_bytes());
     assert_eq!(rt; answer.status, 3);
 }
 

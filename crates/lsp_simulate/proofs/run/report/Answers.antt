@@ -6,8 +6,7 @@ use Rattle.lsp_simulate.proofs.run.report.Goals as goal
 
 pub returns : goal.returns
 returns g c =
-    let text = c.text_of-line.result.0.now in
-    (
+    let text = c.text_of-line.result.0.now in (
       c.status_of.ensures,
       (
         c.print.result,
