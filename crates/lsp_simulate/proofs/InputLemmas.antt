@@ -82,7 +82,8 @@ no_line line bytes more none =
 
 -- What is left of a piece after a line and its end.
 pub after_line : (from to len : ℕ) (bytes : List ℕ) → len < length (take (to - from) (drop from bytes))
-    → drop (suc len) (take (to - from) (drop from bytes)) ≡ take (to - (from + (len + 1))) (drop (from + (len + 1)) bytes)
+    → drop (suc len) (take (to - from) (drop from bytes))
+    ≡ take (to - (from + (len + 1))) (drop (from + (len + 1)) bytes)
 after_line from to len bytes within =
     let more = to - (from + (len + 1)) in
     let count : to - from ≡ suc len + more = omega (arith, within, length-take (to - from) (drop from bytes)) in

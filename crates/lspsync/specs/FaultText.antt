@@ -47,7 +47,6 @@ fault_cause (engine.BodyTooLong place) = Some (codes "the message to write is ov
 fault_cause (engine.BadLog place) = Some (codes "this record can't come here")
 fault_cause fault = None
 
--- A fault of a file with its cause, and the page that has its code.
-abbrev pub blame_text : EngineFault → List ℕ → List ℕ
-blame_text fault cause =
-    fault_text fault ++ (codes ": " ++ (cause ++ codes " (docs/PROTOCOL.md#codes)"))
+-- The text of a fault of a file with its cause, and the page that has its code.
+abbrev pub blame_text : List ℕ → List ℕ → List ℕ
+blame_text text cause = text ++ (codes ": " ++ (cause ++ codes " (docs/PROTOCOL.md#codes)"))

@@ -69,9 +69,9 @@ pub record IsPerformed (asked : Call) (before after : Ports)
 -- ---- the end of a run
 
 -- A line on standard error, about standard input or about a file.
-abbrev pub line : Option (List ℕ) → List ℕ → List ℕ
-line None what = codes "lspsync: " ++ (what ++ codes "\n")
-line (Some name) what = codes "lspsync: " ++ (name ++ (codes ": " ++ (what ++ codes "\n")))
+abbrev pub error_line : Option (List ℕ) → List ℕ → List ℕ
+error_line None what = codes "lspsync: " ++ (what ++ codes "\n")
+error_line (Some name) what = codes "lspsync: " ++ (name ++ (codes ": " ++ (what ++ codes "\n")))
 
 -- A status ends a run, and so much of some lines was printed as standard error took. Did the output
 -- fail?
@@ -87,8 +87,8 @@ is_write_fault Write = true
 is_write_fault fault = false
 
 -- A fault ends a run with its status and its line.
-abbrev pub IsReported : EngineFault → WriterState → WriterState → Ending → Type 0
-IsReported fault = Ends (status_of fault) (line None (fault_text fault)) (is_write_fault fault)
+abbrev pub IsFaultEnd : EngineFault → WriterState → WriterState → Ending → Type 0
+IsFaultEnd fault = Ends (status_of fault) (error_line None (fault_text fault)) (is_write_fault fault)
 
 -- What a part of a log lacks.
 abbrev pub missing_text : Missing → List ℕ
@@ -105,17 +105,17 @@ IsStatus (Some text) status before after ending = Ends status text false before 
 -- missing that was asked for.
 abbrev pub IsOutcomeEnd : Option (List ℕ) → Outcome → WriterState → WriterState → Ending → Type 0
 IsOutcomeEnd name outcome =
-    IsStatus (option_map (λ what. line name (missing_text what)) outcome.missing) outcome.status
+    IsStatus (option_map (λ what. error_line name (missing_text what)) outcome.missing) outcome.status
 
 -- The end of a run over standard input: that of its outcome, or the report of its fault.
 abbrev pub IsEnding : Result Outcome EngineFault → WriterState → WriterState → Ending → Type 0
 IsEnding (Ok outcome) before after ending = IsOutcomeEnd None outcome before after ending
-IsEnding (Err fault) before after ending = IsReported fault before after ending
+IsEnding (Err fault) before after ending = IsFaultEnd fault before after ending
 
 -- Status 0 ends the program after help. A fault is reported.
 abbrev pub IsHelpEnd : Result (Unit {0}) EngineFault → WriterState → WriterState → Ending → Type 0
 IsHelpEnd (Ok _) before after ending = IsStatus None 0 before after ending
-IsHelpEnd (Err fault) before after ending = IsReported fault before after ending
+IsHelpEnd (Err fault) before after ending = IsFaultEnd fault before after ending
 
 -- The engine of a call ran over standard input, and so it ended.
 pub record IsCallDone (asked : Call) (before after : Streams) (ending : Ending) : Type 0 where
@@ -126,26 +126,27 @@ pub record IsCallDone (asked : Call) (before after : Streams) (ending : Ending) 
 
 -- ---- files
 
--- The line on a fault of a file, with its cause, and a line on what the file seems to be, if it is
--- known.
-abbrev pub blame_lines : List ℕ → EngineFault → List ℕ → Option (List ℕ) → List ℕ
-blame_lines name fault cause None = line (Some name) (blame_text fault cause)
-blame_lines name fault cause (Some hint) =
-    line (Some name) (blame_text fault cause) ++ line (Some name) hint
+-- The line on a fault of a file, its text with the cause, and a line on what the file seems to be, if
+-- it is known.
+abbrev pub blame_lines : List ℕ → List ℕ → List ℕ → Option (List ℕ) → List ℕ
+blame_lines name text cause None = error_line (Some name) (blame_text text cause)
+blame_lines name text cause (Some hint) =
+    error_line (Some name) (blame_text text cause) ++ error_line (Some name) hint
 
 -- A fault of the log is reported with its cause, and perhaps with a hint. Another one is reported as
 -- that of standard input.
 abbrev pub IsBlamed : List ℕ → EngineFault → Option (List ℕ) → WriterState → WriterState →
     Ending → Type 0
-IsBlamed name fault None before after ending = IsReported fault before after ending
+IsBlamed name fault None before after ending = IsFaultEnd fault before after ending
 IsBlamed name fault (Some cause) before after ending = (hint : Option (List ℕ))
-    × Ends (status_of fault) (blame_lines name fault cause hint) false before after ending
+    × Ends (status_of fault) (blame_lines name (fault_text fault) cause hint) false before after
+    ending
 
 -- The system's reason is said why a file can't be opened or read; or memory ran out.
 abbrev pub IsUnreadable : List ℕ → WriterState → WriterState → Ending → Type 0
 IsUnreadable name before after ending =
-    ((reason : List ℕ) × Ends 3 (line (Some name) reason) false before after ending)
-    ⊎ IsReported NoMemory before after ending
+    ((reason : List ℕ) × Ends 3 (error_line (Some name) reason) false before after ending)
+    ⊎ IsFaultEnd NoMemory before after ending
 
 -- The end of a run over a file.
 abbrev pub IsFileEnding : List ℕ → Result Outcome EngineFault → WriterState → WriterState →
@@ -153,13 +154,13 @@ abbrev pub IsFileEnding : List ℕ → Result Outcome EngineFault → WriterStat
 IsFileEnding name (Ok outcome) before after ending =
     IsOutcomeEnd (Some name) outcome before after ending
 IsFileEnding name (Err Read) before after ending =
-    IsUnreadable name before after ending ⊎ IsReported Read before after ending
+    IsUnreadable name before after ending ⊎ IsFaultEnd Read before after ending
 IsFileEnding name (Err fault) before after ending =
     IsBlamed name fault (fault_cause fault) before after ending
 
 -- What is known of a file that was opened, of which these bytes may be known.
-abbrev pub opened : Option (List ℕ) → ReaderState
-opened left = record { left = left; failed = false; calls = 0; ended = false }
+abbrev pub file_opened : Option (List ℕ) → ReaderState
+file_opened left = record { left = left; failed = false; calls = 0; ended = false }
 
 -- The engine of a call ran over a file from its beginning on. Of its bytes this may be known.
 pub record IsFileRun (asked : Call) (name : List ℕ) (known : Option (List ℕ))
@@ -169,7 +170,7 @@ pub record IsFileRun (asked : Call) (name : List ℕ) (known : Option (List ℕ)
   -- the file after the run
   pub file : ReaderState
   pub answer : Result Outcome EngineFault
-  pub performed : IsPerformed asked (ports (opened left) before) (ports file after) answer
+  pub performed : IsPerformed asked (ports (file_opened left) before) (ports file after) answer
   pub ends : IsFileEnding name answer errors_before errors ending
 
 -- The engine ran over a file; or the file couldn't be opened, and then nothing is written.
@@ -182,11 +183,11 @@ IsFileDone asked name known before after errors_before errors ending =
 -- ---- tasks
 
 -- What is known of the files: of each name, the bytes of the file.
-abbrev pub Known : Type 0
-Known = List ℕ → Option (List ℕ)
+abbrev pub KnownFiles : Type 0
+KnownFiles = List ℕ → Option (List ℕ)
 
 -- A call was made on standard input; or on a file, and then standard input isn't read.
-abbrev pub IsDoneOn : Known → Call → Option (List ℕ) → Streams → Streams → Ending → Type 0
+abbrev pub IsDoneOn : KnownFiles → Call → Option (List ℕ) → Streams → Streams → Ending → Type 0
 IsDoneOn known asked None before after ending = IsCallDone asked before after ending
 IsDoneOn known asked (Some name) before after ending = (after.reader ≡ before.reader)
     × IsFileDone asked name (known name) before.writer after.writer before.errors after.errors
@@ -204,7 +205,7 @@ IsHeaded true name before after printed =
 IsHeaded false name before after printed = (after ≡ before) × (printed ≡ Ok tt)
 
 -- A task was done, after its heading. The ending has the first failure to print.
-pub record IsTaskDone (known : Known) (is_headed : Bool) (task : Task) (before after : Streams)
+pub record IsTaskDone (known : KnownFiles) (is_headed : Bool) (task : Task) (before after : Streams)
     (ending : Ending) : Type 0 where
   -- standard error after the heading
   pub errors : WriterState
@@ -214,9 +215,9 @@ pub record IsTaskDone (known : Known) (is_headed : Bool) (task : Task) (before a
   pub done : IsDoneOn known task.call (file_of task) (record before { errors = errors }) after one
   pub ends : ending ≡ record one { printed = result_and heading one.printed }
 
--- The ends of two parts are joined: the greater status, and the first failure to print.
-abbrev pub joined : Ending → Ending → Ending
-joined one two = record {
+-- The ends of two parts are both_ends: the greater status, and the first failure to print.
+abbrev pub both_ends : Ending → Ending → Ending
+both_ends one two = record {
   status = max one.status two.status;
   printed = result_and one.printed two.printed;
   output_failed = two.output_failed;
@@ -228,13 +229,13 @@ nothing_yet = record { status = 0; printed = Ok tt; output_failed = false }
 
 -- Tasks were done one after another, up to one whose output failed. They end so with what ended
 -- before them.
-abbrev pub AreDone : Known → Bool → Ending → List Task → Streams → Streams → Ending → Type 0
+abbrev pub AreDone : KnownFiles → Bool → Ending → List Task → Streams → Streams → Ending → Type 0
 AreDone known is_headed so_far [] before after ending = (after ≡ before) × (ending ≡ so_far)
 AreDone known is_headed so_far (task ∷ tasks) before after ending =
     (between : Streams) × (one : Ending) × IsTaskDone known is_headed task before between one
-    × (((one.output_failed ≡ true) × (after ≡ between) × (ending ≡ joined so_far one))
+    × (((one.output_failed ≡ true) × (after ≡ between) × (ending ≡ both_ends so_far one))
     ⊎ ((one.output_failed ≡ false)
-    × AreDone known is_headed (joined so_far one) tasks between after ending))
+    × AreDone known is_headed (both_ends so_far one) tasks between after ending))
 
 -- ---- the program
 
@@ -244,7 +245,7 @@ pub record IsExplained (k : ErrorKind) (before after : Streams) (ending : Ending
   -- nothing is read
   pub reader : after.reader ≡ before.reader
   pub memory : k ≡ kind.OutOfMemory → (after.writer ≡ before.writer)
-      × IsReported NoMemory before.errors after.errors ending
+      × IsFaultEnd NoMemory before.errors after.errors ending
   pub mistake : (k ≡ kind.OutOfMemory → ⊥) → (k ≡ kind.DisplayHelp → ⊥) →
       (k ≡ kind.DisplayVersion → ⊥)
       → (after.writer ≡ before.writer) × (ending.status ≡ 2)
@@ -256,7 +257,7 @@ pub record IsExplained (k : ErrorKind) (before after : Streams) (ending : Ending
 
 -- What the program does with words: the tasks that they are, or an explanation. Where there is none
 -- of both, it ends with status 2 alone.
-abbrev pub IsDone : Known → Result (Option (Vec Task Global)) Error → Streams → Streams → Ending →
+abbrev pub IsDone : KnownFiles → Result (Option (Vec Task Global)) Error → Streams → Streams → Ending →
     Type 0
 IsDone known (Ok (Some tasks)) before after ending =
     AreDone known (nat_lt 1 (length tasks.items)) nothing_yet tasks.items before after ending
@@ -265,7 +266,7 @@ IsDone known (Err error) before after ending = IsExplained (kind_of error) befor
 
 -- A run of the program with these words: what they are read as, and that this is done. Of the files
 -- this is known.
-pub record IsProgramRun (known : Known) (words : List (List ℕ)) (before after : Streams)
+pub record IsProgramRun (known : KnownFiles) (words : List (List ℕ)) (before after : Streams)
     (ending : Ending) : Type 0 where
   pub read : Result (Option (Vec Task Global)) Error
   pub words_are : AreWordsReadAs words read

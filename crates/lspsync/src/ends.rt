@@ -2,8 +2,8 @@
 
 ghost use Rattle.std.specs.Prelude.{◌≡◌, ◌≢◌, None, codes, false, option_map};
 ghost use Rattle.lsp_program.specs.Output.{IsPrinted};
-ghost use Rattle.lspsync.specs.Run.{Ends, IsOutcomeEnd, IsReported, is_write_fault, joined, line};
-ghost use Rattle.lspsync.specs.Run.{missing_text, status_of};
+ghost use Rattle.lspsync.specs.Run.{Ends, IsFaultEnd, IsOutcomeEnd, both_ends, error_line};
+ghost use Rattle.lspsync.specs.Run.{is_write_fault, missing_text, status_of};
 
 use crate::fault_text::text_of;
 use itoa::Buffer;
@@ -37,7 +37,7 @@ impl Ending {
 
 /// Joins the ends of two parts: the greater status, and the first failure to print.
 pub fn both(first: Ending, second: Ending) -> Ending
-    ensures { result ≡ joined first second }
+    ensures { result ≡ both_ends first second }
 {
     Ending {
         status: first.status.max(second.status),
@@ -70,7 +70,7 @@ fn missing_text(missing: Missing) -> &'static str
 
 /// Ends with a status, and prints a line, about a file if one is named.
 pub fn say<E: Sink>(status: u8, name: Option<&str>, what: &str, errors: &mut E) -> Ending
-    ensures { Ends status (line (option_map (λ name. name.now) name.entry) what.now) false
+    ensures { Ends status (error_line (option_map (λ name. name.now) name.entry) what.now) false
         (E.seen errors.old) (E.seen errors.new) result }
 {
     match name {
@@ -86,9 +86,9 @@ pub fn say<E: Sink>(status: u8, name: Option<&str>, what: &str, errors: &mut E) 
 /// UTF-8.
 pub fn refuse<E: Sink>(kind: ErrorKind, errors: &mut E) -> Ending
     ensures memory { kind ≡ ErrorKind.OutOfMemory →
-        IsReported EngineFault.NoMemory (E.seen errors.old) (E.seen errors.new) result }
+        IsFaultEnd EngineFault.NoMemory (E.seen errors.old) (E.seen errors.new) result }
     ensures words { kind ≢ ErrorKind.OutOfMemory →
-        Ends 2 (line None (codes "the command line is not UTF-8")) false
+        Ends 2 (error_line None (codes "the command line is not UTF-8")) false
         (E.seen errors.old) (E.seen errors.new) result }
 {
     if kind == ErrorKind::OutOfMemory {
@@ -99,7 +99,7 @@ pub fn refuse<E: Sink>(kind: ErrorKind, errors: &mut E) -> Ending
 
 /// Prints the line of a fault, and ends with its status.
 pub fn report<E: Sink>(fault: EngineFault, errors: &mut E) -> Ending
-    ensures { IsReported fault (E.seen errors.old) (E.seen errors.new) result }
+    ensures { IsFaultEnd fault (E.seen errors.old) (E.seen errors.new) result }
 {
     let mut buffer = Buffer::new();
     let (text, place) = text_of(fault);

@@ -1,7 +1,9 @@
 //! Files of logs, by their names.
 
-ghost use Rattle.std.specs.Prelude.{IfOk, List, Option, false, ℕ};
+ghost use Rattle.std.specs.Prelude.{◌++◌, IfOk, List, Option, false, option_map, ℕ};
 ghost use Rattle.std.specs.Io.KnownBytes.{Keeps};
+ghost use Rattle.lsp_program.specs.Output.{IsPrinted};
+ghost use Rattle.lspsync.specs.FaultText.{fault_text};
 ghost use Rattle.lspsync.specs.Run.{Ends, IsFileDone, IsFileEnding, IsUnreadable, blame_lines};
 ghost use Rattle.lspsync.specs.Run.{status_of};
 
@@ -125,24 +127,40 @@ fn blame<E: Sink>(
     errors: &mut E,
 ) -> Ending
     ensures { (hint : Option (List ℕ)) × Ends (status_of fault)
-        (blame_lines name.now fault cause.now hint) false
+        (blame_lines name.now (fault_text fault) cause.now hint) false
         (E.seen errors.old) (E.seen errors.new) result }
 {
     let mut buffer = Buffer::new();
     let (text, place) = text_of(fault);
-    let at = digits(place, &mut buffer);
+    let place = digits(place, &mut buffer);
+    let printed = print_blame(name, text, place, cause, hint(first), errors);
+    Ending::new(status_of(fault), printed)
+}
+
+/// Prints a fault's text, its place and its cause, and what the log seems to be.
+fn print_blame<E: Sink>(
+    name: &str,
+    text: &str,
+    place: &str,
+    cause: &str,
+    hint: Option<&str>,
+    errors: &mut E,
+) -> Result<(), EngineFault>
+    ensures { IsPrinted (blame_lines name.now (text.now ++ place.now) cause.now
+        (option_map (λ hint. hint.now) hint.entry)) (E.seen errors.old) (E.seen errors.new) result }
+{
     let (start, page, end) = ("lspsync: ", " (docs/PROTOCOL.md#codes)", "\n");
-    let status = status_of(fault);
-    match hint(first) {
-        Some(hint) => {
-            let lines = [
-                start, name, ": ", text, at, ": ", cause, page, end, start, name, ": ", hint, end,
-            ];
-            Ending::new(status, print(errors, &lines))
-        }
-        None => {
-            let line = [start, name, ": ", text, at, ": ", cause, page, end];
-            Ending::new(status, print(errors, &line))
-        }
+    match hint {
+        Some(hint) => print(
+            errors,
+            &[
+                start, name, ": ", text, place, ": ", cause, page, end, start, name, ": ", hint,
+                end,
+            ],
+        ),
+        None => print(
+            errors,
+            &[start, name, ": ", text, place, ": ", cause, page, end],
+        ),
     }
 }

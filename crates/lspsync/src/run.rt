@@ -9,7 +9,7 @@ ghost use Rattle.lsp_stream.specs.Ports.{ports};
 ghost use Rattle.lsp_program.specs.Output.{IsPrinted, IsTextPrinted, allowed_turns, streams};
 ghost use Rattle.lsp_replay.specs.Run.{IsEngineRun};
 ghost use Rattle.lspsync.specs.Run.{AreDone, IsDoneOn, IsEnding, IsHeaded, IsHelpEnd, IsPerformed};
-ghost use Rattle.lspsync.specs.Run.{IsProgramRun, IsReported, IsTaskDone, answer_after_flush};
+ghost use Rattle.lspsync.specs.Run.{IsFaultEnd, IsProgramRun, IsTaskDone, answer_after_flush};
 ghost use Rattle.lspsync.specs.Run.{engine_of, nothing_yet, shown_name};
 
 use crate::command_line::{Call, Task, parse};
@@ -220,7 +220,7 @@ fn print_error<W: Sink, E: Sink>(
 ) -> Ending
     ensures memory { kind_of error.now ≡ OutOfMemory →
         (W.seen output.new ≡ W.seen output.old)
-        × IsReported EngineFault.NoMemory (E.seen errors.old) (E.seen errors.new) result }
+        × IsFaultEnd EngineFault.NoMemory (E.seen errors.old) (E.seen errors.new) result }
     ensures mistake { kind_of error.now ≢ OutOfMemory → kind_of error.now ≢ DisplayHelp
         → kind_of error.now ≢ DisplayVersion →
         (W.seen output.new ≡ W.seen output.old) × (result.status ≡ 2)

@@ -224,7 +224,7 @@ Server Protocol 3.17), and reads recorded sessions";
 static NOTES: &str = "A log is what an editor sent to its language server, byte for byte; one of
 version 2 has both directions. Where the editor starts `some-server`, let it
 start a script with this line, and it is recorded:
-  tee session.log | some-server \"$@\"
+  umask 077; tee \"/tmp/session-$$.log\" | some-server \"$@\"
 
 The commands on logs read a file, or standard input, and write standard output.
 `serve` reads standard input.
@@ -238,7 +238,7 @@ the name and the cause too.
 `lspsync COMMAND --help` has the options of a command and an example to paste.
 The logs to try are in examples/, or in /usr/share/doc/laspidru/examples.
 
-lspsync 0.1.0, proved with rattle-kit-13f";
+lspsync 0.1.0, for rattle-kit-13f";
 
 const MAX_BODY: &str = "Greatest length of a message, in bytes,
 from 4096 to 1073741824";

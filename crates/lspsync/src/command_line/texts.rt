@@ -26,7 +26,10 @@ With `--explain` the line of an error, a refusal or `exit 1` also has the
 document, the reason and the message to see; that of a suspicious message has
 notes. One or two last lines say what to do next.
 
-Example, a session with two changes that a server must refuse:
+Input that is faulty (F1) at offset 0 is no such log: `lspsync-log-from` makes
+one of what an editor wrote.
+
+Example, a session with two changes that Laspidru refuses:
   lspsync check examples/stale-version.log
   lspsync check --explain examples/stale-version.log";
 
@@ -108,7 +111,8 @@ of version 2 says it itself
 (utf-8, utf-16, utf-32)";
 
 pub static PREFERRED_ENCODING: &str = "What a position's character is to count, if the editor
-offers it; else utf-16 (utf-8, utf-16, utf-32)";
+offers it; else utf-16
+(utf-8, utf-16, utf-32)";
 
 pub static SYNC: &str = "How the editor is asked to send changes: as whole texts
 or as ranges (full, incremental)";

@@ -40,17 +40,42 @@ static WRONG: [&str; 29] = [
     "lspsync replay --at x",
 ];
 
-/// Returns whether a call with these words is refused, by a text on standard error.
-fn is_wrong(alloc: Global, words: &str) -> Result<bool, AllocError> {
+/// Words, and what is said of an option that other commands have, or that none has.
+static MISPLACED: [(&str, &str); 7] = [
+    ("lspsync check --at 3", "'--at' is an option of replay\n"),
+    (
+        "lspsync check --explain a --sync=full",
+        "'--sync' is an option of serve\n",
+    ),
+    ("lspsync --at 3 replay", "'--at' is an option of replay\n"),
+    (
+        "lspsync --lenient",
+        "of serve, check, trace, replay, normalise, convert\n",
+    ),
+    ("lspsync check --att", "unexpected argument '--att'"),
+    ("lspsync check -x", "unexpected argument '-x'"),
+    (
+        "lspsync replay a -- --explain",
+        "unexpected argument '--explain'",
+    ),
+];
+
+/// Returns whether a call with these words is refused, by a text on standard error that has this in
+/// it.
+fn is_wrong(alloc: Global, words: &str, said: &str) -> Result<bool, Fail> {
     let words: Vec<&str> = words.split(' ').collect(alloc)?;
     let answer = ran(alloc, &words, b"")?;
-    Ok(answer.status == 2 && answer.output.is_empty() && !answer.errors.is_empty())
+    let text = str::from_utf8(&answer.errors)?;
+    Ok(answer.status == 2 && answer.output.is_empty() && text.contains(said))
 }
 
 #[test]
 fn a_wrong_command_line_has_a_text_and_status_2(rt: HostRuntime) -> Result<(), Fail> {
     for words in &WRONG {
-        assert!(rt; is_wrong(rt.alloc(), words)?, "at {words:?}");
+        assert!(rt; is_wrong(rt.alloc(), words, "\n")?, "at {words:?}");
+    }
+    for (words, said) in &MISPLACED {
+        assert!(rt; is_wrong(rt.alloc(), words, said)?, "at {words:?}");
     }
     Ok(())
 }
@@ -135,52 +160,15 @@ fn help_names_each_command_and_status(rt: HostRuntime) -> Result<(), Fail> {
     Ok(())
 }
 
-static VERSIONS: [&str; 2] = ["--version", "-V"];
-
 #[test]
 fn the_version_is_printed(rt: HostRuntime) -> Result<(), Fail> {
-    let alloc = rt.alloc();
-    let version = format!(in alloc; "lspsync {VERSION}\n")?;
-    for option in &VERSIONS {
+    let version = format!(in rt.alloc(); "lspsync {VERSION}\n")?;
+    for option in ["--version", "-V"] {
+        let words = ["lspsync", option];
         assert!(rt;
-            answers(alloc, &["lspsync", option], b"", 0, version.as_bytes())?,
+            answers(rt.alloc(), &words, b"", 0, version.as_bytes())?,
             "at {option}"
         );
-    }
-    Ok(())
-}
-
-/// Words, and what is said of an option that other commands have, or that none has.
-static MISPLACED: [(&str, &str); 7] = [
-    ("lspsync check --at 3", "'--at' is an option of replay\n"),
-    (
-        "lspsync check --explain a --sync=full",
-        "'--sync' is an option of serve\n",
-    ),
-    ("lspsync --at 3 replay", "'--at' is an option of replay\n"),
-    (
-        "lspsync --lenient",
-        "of serve, check, trace, replay, normalise, convert\n",
-    ),
-    ("lspsync check --att", "unexpected argument '--att'"),
-    ("lspsync check -x", "unexpected argument '-x'"),
-    (
-        "lspsync replay a -- --explain",
-        "unexpected argument '--explain'",
-    ),
-];
-
-/// Returns whether a call with these words is refused by a text that has this in it.
-fn is_said(alloc: Global, words: &str, said: &str) -> Result<bool, Fail> {
-    let words: Vec<&str> = words.split(' ').collect(alloc)?;
-    let answer = ran(alloc, &words, b"")?;
-    Ok(answer.status == 2 && str::from_utf8(&answer.errors)?.contains(said))
-}
-
-#[test]
-fn an_option_of_another_command_is_named(rt: HostRuntime) -> Result<(), Fail> {
-    for (words, said) in &MISPLACED {
-        assert!(rt; is_said(rt.alloc(), words, said)?, "at {words}");
     }
     Ok(())
 }

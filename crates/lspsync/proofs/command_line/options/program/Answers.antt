@@ -14,12 +14,12 @@ returns c same =
     } in
     let one = puts _ (app_of c.in_ok-program.program) _ c.serve.result values (codes "serve")
     server_rules c.serve.ensures same c.in_ok-program.ensures c.top.ensures in
-    let two = puts _ (app_of c.in_ok-program-2.program) _ c.check.result values (codes "check") (λ _. explain_rule ∷ logs_rule ∷ [])
-    c.check.ensures same c.in_ok-program-2.ensures one in
-    let three = puts _ (app_of c.in_ok-program-3.program) _ c.trace.result values (codes "trace") (λ _. detail_rules ++ logs_rule ∷ [])
-    c.trace.ensures same c.in_ok-program-3.ensures two in
-    let four = puts _ (app_of c.in_ok-program-4.program) _ c.replay.result values (codes "replay") (λ _. part_rules ++ log_rule ∷ [])
-    c.replay.ensures same c.in_ok-program-4.ensures three in
+    let two = puts _ (app_of c.in_ok-program-2.program) _ c.check.result values (codes "check")
+    (λ _. explain_rule ∷ logs_rule ∷ []) c.check.ensures same c.in_ok-program-2.ensures one in
+    let three = puts _ (app_of c.in_ok-program-3.program) _ c.trace.result values (codes "trace")
+    (λ _. detail_rules ++ logs_rule ∷ []) c.trace.ensures same c.in_ok-program-3.ensures two in
+    let four = puts _ (app_of c.in_ok-program-4.program) _ c.replay.result values (codes "replay")
+    (λ _. part_rules ++ log_rule ∷ []) c.replay.ensures same c.in_ok-program-4.ensures three in
     let five = puts _ (app_of c.in_ok-program-5.program) _ c.normalise.result values (codes "normalise")
     (λ _. writing_rules ++ log_rule ∷ []) c.normalise.ensures same c.in_ok-program-5.ensures four in
     program_is _ c.convert.result values c.with_command-6.result c.encodings.ensures c.change_forms.ensures
