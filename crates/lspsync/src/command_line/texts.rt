@@ -117,8 +117,7 @@ offers it; else utf-16
 pub static SYNC: &str = "How the editor is asked to send changes: as whole texts
 or as ranges (full, incremental)";
 
-pub static STDIO: &str = "Changes nothing: it talks by standard input and output
-anyway, as editors that pass it expect";
+pub static STDIO: &str = "Changes nothing: it talks by standard input and output";
 
 pub static DOCUMENTS: &str = "Leave out each message that is neither about the
 session nor about a document's text";
