@@ -11,4 +11,7 @@ returns-in-Ok c =
     (c.in-Ok.ensures.ok.2 (is_simple_program _ program)).1 c.in_ok-tasks_of-in-Ok.ensures
 
 pub returns : goal.returns
-returns c = ?
+returns c =
+    let program : IsProgram (app_of c.in_ok-program.program) = c.in_ok-program.ensures c.limits.ensures in
+    read_err _ _ c.in-Err.error c.in_ok-placed-in-Err.field-0 program
+    (c.in-Err.ensures.kinds (is_free_program _ program)) c.in_ok-placed-in-Err.ensures
