@@ -18,16 +18,18 @@ _lspsync() {
         *)
             words="--encoding --max-body --max-text --max-docs --max-changes --lenient --help"
             case $command in
-                serve) words="$words --sync" ;;
+                serve) words="$words --sync --stdio" ;;
                 check) words="$words --explain" ;;
                 trace) words="$words --texts --bodies" ;;
                 replay) words="$words --at --uri" ;;
                 normalise) words="$words --documents --squash" ;;
                 help) words=$commands ;;
                 convert) ;;
-                *) words="$commands --help" ;;
+                *) words="$commands --help --version" ;;
             esac
-            [ "$COMP_CWORD" -gt 1 ] || words="$commands --help"
+            # without words bash completes the names of files
+            [[ $word == -* ]] || case $command in check | trace | replay | normalise | convert) words= ;; esac
+            [ "$COMP_CWORD" -gt 1 ] || words="$commands --help --version"
             ;;
     esac
     mapfile -t COMPREPLY < <(compgen -W "$words" -- "$word")

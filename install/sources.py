@@ -64,8 +64,8 @@ def statuses_block(help_text):
     """Returns each status of lspsync, with the line on standard error, the fault's code, and what it means."""
     said = all_in(r"(?:Exit status: |, )(\d) ([^,]*?)(?=, \d |\.)", help_text.replace("\n", " "), "lspsync --help")
     rows = [(status, "", "", words) for status, words in said if int(status) < 3]
-    missing = all_in(r'^missing_line \S+ = codes "(.*)\\n"', text_of(STATUSES), STATUSES)
-    rows[2:2] = [("1", line, "", "") for line in missing]
+    missing = all_in(r'^missing_text \S+ = codes "(.*)"', text_of(STATUSES), STATUSES)
+    rows[2:2] = [("1", f"lspsync: {text}", "", "") for text in missing]
     lines, status_of = fault_lines(), statuses_of_faults()
     faults = []
     for comment, variant in all_in(r"((?:^ +/// .*\n)+)(?:^ +#\[.*\n)*^ +(\w+)(?: \{.*\}|\(.*\))?,$", text_of(FAULTS), FAULTS):

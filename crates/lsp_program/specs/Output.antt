@@ -53,8 +53,3 @@ IsTextPrinted before after (Ok _) = (after.flushed ≡ true)
     × ((text : List ℕ) × Appends before.written after.written text)
 IsTextPrinted before after (Err fault) = ((fault ≡ NoMemory) × (after ≡ before))
     ⊎ IsStopped before after fault
-
--- A text of help was written and flushed, with status 0.
-abbrev pub IsHelp : WriterState → WriterState → Result ℕ EngineFault → Type 0
-IsHelp before after (Ok status) = (status ≡ 0) × IsTextPrinted before after (Ok tt)
-IsHelp before after (Err fault) = IsTextPrinted before after (Err fault)

@@ -1,6 +1,6 @@
 //! What the programs `lspsync` and `lsp_simulate` have in common.
 //!
-//! - `names`: the names that options take.
+//! - `names`: the version, and the names that options take.
 //! - `output`: the text of help, lines on standard error, the output's last flush, and how many calls
 //!   may be made.
 //! - `status`: the exit statuses, and the exit code of one.
@@ -10,6 +10,6 @@ mod names;
 mod output;
 mod status;
 
-pub use names::{change_forms, encodings};
-pub use output::{MAX_TURNS, digits, flush, print, print_help, print_text};
+pub use names::{VERSION, change_forms, encodings};
+pub use output::{MAX_TURNS, digits, flush, print, print_text};
 pub use status::{BAD_INPUT, OUT_OF_MEMORY, STREAM_FAULT, USAGE, exit_code};

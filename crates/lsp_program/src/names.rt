@@ -1,6 +1,9 @@
-//! The names that options of both programs take.
+//! The version of both programs, and the names that their options take.
 
 ghost use Rattle.std.specs.Prelude.{◌≡◌, ◌∷◌, [], codes, map};
+
+/// The version of both programs.
+pub const VERSION: &str = "0.1.0";
 
 static ENCODINGS: [&str; 3] = ["utf-8", "utf-16", "utf-32"];
 

@@ -4,8 +4,7 @@
 ghost use Rattle.std.specs.Prelude.{◌≡◌, map};
 ghost use Rattle.std.specs.List.{concat};
 ghost use Rattle.std.specs.Io.KnownBytes.{Keeps};
-ghost use Rattle.lsp_program.specs.Output.{IsFlushed, IsHelp, IsPrinted, IsTextPrinted};
-ghost use Rattle.lsp_program.specs.Output.{digits_of};
+ghost use Rattle.lsp_program.specs.Output.{IsFlushed, IsPrinted, IsTextPrinted, digits_of};
 
 use itoa::Buffer;
 use lsp_stream::{EngineFault, Sink, Turns, flush_out, write_given};
@@ -30,21 +29,6 @@ pub fn print_text<W: Sink>(
     let mut turns = Turns::new(MAX_TURNS);
     write_given(output, text.as_bytes(), true, &mut turns)?;
     Ok(())
-}
-
-/// Writes a text of help and flushes it. Returns the status, which is 0.
-///
-/// # Errors
-/// Those of [`print_text`].
-pub fn print_help<W: Sink>(
-    alloc: Global,
-    help: &clap::Error,
-    output: &mut W,
-) -> Result<u8, EngineFault>
-    ensures { IsHelp (W.seen output.old) (W.seen output.new) result }
-{
-    print_text(alloc, help, output)?;
-    Ok(0)
 }
 
 /// Writes pieces of text one after another. It needs no memory.

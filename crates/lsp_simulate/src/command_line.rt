@@ -7,7 +7,7 @@ use clap::builder::ValueParser;
 use clap::{Arg, ArgAction, ArgMatches, Command, Error};
 use lsp_frame::Limits;
 use lsp_message::Offers;
-use lsp_program::{change_forms, encodings};
+use lsp_program::{VERSION, change_forms, encodings};
 use lsp_server::{ChangeForm, Config, EncodingChoice};
 use lsp_text::Encoding;
 use std::alloc::{AllocError, Global};
@@ -23,8 +23,8 @@ pub struct Setting {
     pub config: Config,
 }
 
-/// Reads the words of the command line. An error is a usage fault, a text of help, or out of
-/// memory. There is always a setting, since `clap` has checked each value.
+/// Reads the words of the command line. An error is a usage fault, a text of help or the version, or
+/// out of memory. There is always a setting, since `clap` has checked each value.
 pub fn parse<'a>(alloc: Global, words: &'a [&'a str]) -> Result<Option<Setting>, Error> {
     let defaults = help::defaults(alloc)?;
     let matches = program(alloc, &defaults)?.try_get_matches_from(words)?;
@@ -100,6 +100,7 @@ fn program<'a>(alloc: Global, defaults: &'a [String; 4]) -> Result<Command<'a>, 
     let mut program = Command::new(alloc, "lsp_simulate")
         .about(help::about())
         .after_help(help::notes())
+        .version(VERSION)
         .arg(prefer(alloc))?
         .arg(fixed(alloc))?
         .arg(sync(alloc))?;
@@ -127,6 +128,7 @@ fn prefer<'a>(alloc: Global) -> Arg<'a> {
         .long("prefer")
         .value_name("NAME")
         .value_parser(encodings())
+        .hide_possible_values(true)
         .default_value("utf-16")
         .help(help::prefer())
 }
@@ -136,6 +138,7 @@ fn fixed<'a>(alloc: Global) -> Arg<'a> {
         .long("fixed")
         .value_name("NAME")
         .value_parser(encodings())
+        .hide_possible_values(true)
         .help(help::fixed())
 }
 
@@ -144,6 +147,7 @@ fn sync<'a>(alloc: Global) -> Arg<'a> {
         .long("sync")
         .value_name("NAME")
         .value_parser(change_forms())
+        .hide_possible_values(true)
         .default_value("incremental")
         .help(help::sync())
 }

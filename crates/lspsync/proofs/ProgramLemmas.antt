@@ -8,8 +8,8 @@ use Rattle.clap.specs.Simple.{on_top}
 use Rattle.clap.specs.declared.builder.arg.Arg.{Arg}
 use Rattle.clap.specs.declared.builder.command.Command.{Command}
 use Rattle.clap.specs.declared.builder.command.Command.TheViews.{out-Command as fields_of}
-use Rattle.lspsync.specs.CommandLine.{Choices, IsProgram, detail_rules, encoding_rule, explain_rule, limit_rules, part_rules, sync_rule, writing_rules}
-use Rattle.lspsync.specs.inside.Help.{IsPage, own_rules, rules_of_limits}
+use Rattle.lspsync.specs.CommandLine.{Choices, IsProgram, detail_rules, encoding_rule, explain_rule, limit_rules, log_rule, logs_rule, part_rules, server_rules, writing_rules}
+use Rattle.lspsync.specs.inside.Help.{IsPage, file_rules, own_rules, page_rules, rules_of_limits}
 use Rattle.lspsync.specs.inside.Options.{AddsRules, IsCommand, page_shape, shape_by, top_app}
 use Rattle.lspsync.specs.declared.command_line.help.Page.{Page}
 use Rattle.lspsync.specs.declared.command_line.options.Values.{Values}
@@ -52,15 +52,16 @@ pub adds_after : {E : Type 0} (old mid : Command) (xs ys : List Rule) (r : Resul
 adds_after old mid xs ys (Ok new) one two = adds_more old mid new xs ys one two
 adds_after old mid xs ys (Err e) one two = tt
 
--- A command by its page: a new one, and then its options in turn.
-pub is_command : {E : Type 0} (page : Page) (values : Values) (new one two : Command) (made : Result Command E)
+-- A command by its page: a new one, and then its options and files in turn.
+pub is_command : {E : Type 0} (page : Page) (values : Values) (new one two three : Command) (made : Result Command E)
     → app_of new ≡ new_app page.name.now → (fields_of new).has_globals ≡ false
     → AddsRules new (encoding_rule values.encodings ∷ []) one
-    → AddsRules one (own_rules values.kinds page.own) two
-    → IfOk made (AddsRules two (rules_of_limits values.limits.now)) → IfOk made (IsCommand page values)
-is_command page values new one two (Err e) is local a b c = tt
-is_command page values new one two (Ok made) is local a b c =
-    let all = adds_more new one made _ _ a (adds_more one two made _ _ b c) in
+    → AddsRules one (own_rules values.kinds page.own) two → AddsRules two (file_rules page.own) three
+    → IfOk made (AddsRules three (rules_of_limits values.limits.now)) → IfOk made (IsCommand page values)
+is_command page values new one two three (Err e) is local a b c d = tt
+is_command page values new one two three (Ok made) is local a b c d =
+    let own = adds_more one two three _ _ b c in
+    let all = adds_more new one made _ _ a (adds_more one three made _ _ own d) in
     record { app = all.app ∙ ap (longer _) is; globals = all.globals ∙ local }
 
 -- The shape of a command, with what its page is known to have.
@@ -68,7 +69,7 @@ pub shape_is : (page : Page) (values : Values) (name : Text) (own : Choices → 
     → rules_of_limits values.limits.now ≡ limit_rules
     → shape_by page values ≡ page_shape name (own values.kinds) values.encodings limit_rules
 shape_is page values name own p same =
-    ap (λ n. page_shape n (own_rules values.kinds page.own) values.encodings (rules_of_limits values.limits.now))
+    ap (λ n. page_shape n (page_rules values.kinds page) values.encodings (rules_of_limits values.limits.now))
     p.named
     ∙ (ap (λ rules. page_shape name rules values.encodings (rules_of_limits values.limits.now)) (p.own_are values.kinds)
     ∙ ap (page_shape name (own values.kinds) values.encodings) same)
@@ -87,13 +88,14 @@ abbrev pub before_last : Choices → Choices → App
 before_last encodings kinds =
     let more = λ (app : App) (name : Text) (own : List Rule). with_subcommand app
     (page_shape name own encodings limit_rules) in
-    more (more (more (more (more top_app (codes "serve") (sync_rule kinds ∷ [])) (codes "check") (explain_rule ∷ []))
-    (codes "trace") detail_rules) (codes "replay") part_rules) (codes "normalise") writing_rules
+    more (more (more (more (more top_app (codes "serve") (server_rules kinds)) (codes "check")
+    (explain_rule ∷ logs_rule ∷ [])) (codes "trace") (detail_rules ++ logs_rule ∷ [])) (codes "replay")
+    (part_rules ++ log_rule ∷ [])) (codes "normalise") (writing_rules ++ log_rule ∷ [])
 
 pub program_is : {E : Type 0} (old : App) (page : Page) (values : Values) (made : Result Command E)
     → map (λ s. s.now) values.encodings.now ≡ codes "utf-8" ∷ codes "utf-16" ∷ codes "utf-32" ∷ []
     → map (λ s. s.now) values.kinds.now ≡ codes "full" ∷ codes "incremental" ∷ []
-    → IsPage page (codes "convert") (λ _. []) → rules_of_limits values.limits.now ≡ limit_rules
+    → IsPage page (codes "convert") (λ _. log_rule ∷ []) → rules_of_limits values.limits.now ≡ limit_rules
     → IfOk made (λ new. app_of new ≡ with_subcommand old (shape_by page values))
     → old ≡ before_last values.encodings values.kinds
     → IfOk made (λ program. IsProgram (app_of program))
@@ -103,6 +105,6 @@ program_is old page values (Ok new) names kinds is same put at = record {
   kinds = values.kinds;
   names = names;
   kind_names = kinds;
-  same = puts old (app_of new) (before_last values.encodings values.kinds) page values (codes "convert") (λ _. []) is
-      same put at;
+  same = puts old (app_of new) (before_last values.encodings values.kinds) page values (codes "convert")
+      (λ _. log_rule ∷ []) is same put at;
 }

@@ -1,9 +1,10 @@
--- The call of the program, by what `clap` finds in its words.
-use Rattle.std.specs.Prelude.{ℕ, ◌≡◌, ◌<◌, ◌^◌, ◌⊎◌, ◌&&◌, not, is_some, [], Result, Ok, Err, Bool, true, false, List, Option, Some, None, codes, option_map, option_and_then, if◌then◌else◌}
+-- The calls of the program, by what `clap` finds in its words.
+use Rattle.std.specs.Prelude.{ℕ, ◌≡◌, ◌<◌, ◌^◌, ◌⊎◌, ◌&&◌, ◌∷◌, not, is_some, [], Result, Ok, Err, Bool, true, false, List, All, map, Option, Some, None, codes, option_map, option_and_then, unwrap_or, if◌then◌else◌, Vec}
+use Rattle.std.specs.declared.alloc.Global.{Global}
 use Rattle.std.specs.Str.{bytes_eq}
 use Rattle.std.specs.String.{string_bytes}
 use Rattle.std.specs.Str.Parse.{IsNumeral, digits_value, without_leading_plus}
-use Rattle.clap.specs.Matches.{found_of, first_value, one_text, subcommand_name_of}
+use Rattle.clap.specs.Matches.{found_of, first_value, matched_of, one_text, raw_values, subcommand_name_of}
 use Rattle.clap.specs.Simple.{App, subcommand_of, subcommand_rows_of}
 use Rattle.clap.specs.Faults.{fault_of}
 use Rattle.clap.specs.Kinds.{IsAmong}
@@ -25,6 +26,7 @@ use Rattle.lsp_replay.specs.declared.commands.traced.Details.{Details}
 use Rattle.lspsync.specs.CommandLine.{IsProgram}
 use Rattle.lspsync.specs.declared.command_line.Call.{Call}
 use Rattle.lspsync.specs.declared.command_line.Call.TheVariants as call
+use Rattle.lspsync.specs.declared.command_line.Task.{Task}
 
 -- An option has this number: its text is a numeral in decimal digits, below 2 to the 64th.
 pub record HasNumber (options : ArgMatches) (id : List ℕ) (n : ℕ) : Type 0 where
@@ -119,13 +121,28 @@ IsCallNamed name options (call.NormaliseDocuments settings) = (name ≡ codes "n
 IsCallNamed name options (call.Convert settings) = (name ≡ codes "convert")
     × AreSettings options settings
 
--- The call that was found in the words: that of the subcommand.
-pub record IsCall (found : ArgMatches) (asked : Call) : Type 0 where
+-- The files that the options name. Without one it is `-`.
+abbrev pub files_given : ArgMatches → List (List ℕ)
+files_given options =
+    unwrap_or (option_map raw_values (matched_of (found_of options) (codes "FILE")))
+    (codes "-" ∷ [])
+
+-- The file that a word names. `-` is standard input, which is none.
+abbrev pub file_named : List ℕ → Option (List ℕ)
+file_named word = if bytes_eq word (codes "-") then None else Some word
+
+-- The file of a task.
+abbrev pub file_of : Task → Option (List ℕ)
+file_of task = option_map string_bytes task.file
+
+-- The tasks that were found in the words: the call of the subcommand on each of the files.
+pub record AreTasks (found : ArgMatches) (tasks : List Task) : Type 0 where
   pub name : List ℕ
   pub options : ArgMatches
   pub named : subcommand_name_of found ≡ Some name
   pub rows : option_map (λ p. p.1) (subcommand_rows_of found) ≡ Some (rows_of (found_of options))
-  pub call : IsCallNamed name options asked
+  pub calls : All (λ task. IsCallNamed name options task.call) tasks
+  pub files : map file_of tasks ≡ map file_named (files_given options)
 
 -- No call was found in the words: no subcommand, or one whose name and options are no call.
 abbrev pub IsNoCall : ArgMatches → Type 0
@@ -134,23 +151,23 @@ IsNoCall found = (subcommand_name_of found ≡ None)
     × (option_map (λ p. p.1) (subcommand_rows_of found) ≡ Some (rows_of (found_of options)))
     × ((asked : Call) → IsCallNamed name options asked → ⊥))
 
--- What was found is the call, or is none.
-abbrev pub IsFound : ArgMatches → Option Call → Type 0
-IsFound found (Some asked) = IsCall found asked
+-- What was found is tasks, or no call.
+abbrev pub IsFound : ArgMatches → Option (Vec Task Global) → Type 0
+IsFound found (Some tasks) = AreTasks found tasks.items
 IsFound found None = IsNoCall found
 
 -- The program takes the words, and finds in them its subcommand with its options.
-pub record AreTaken (words : List (List ℕ)) (asked : Option Call) : Type 0 where
+pub record AreTaken (words : List (List ℕ)) (tasks : Option (Vec Task Global)) : Type 0 where
   pub app : App
   pub program : IsProgram app
   pub taken : fault_of app words ≡ []
   pub found : ArgMatches
   pub rows : subcommand_rows_of found ≡ subcommand_of app words
-  pub call : IsFound found asked
+  pub tasks_are : IsFound found tasks
 
 -- What the words are read as. An error has a kind that the program finds in them, or memory ran
 -- out.
-abbrev pub AreWordsReadAs : List (List ℕ) → Result (Option Call) Error → Type 0
-AreWordsReadAs words (Ok asked) = AreTaken words asked
+abbrev pub AreWordsReadAs : List (List ℕ) → Result (Option (Vec Task Global)) Error → Type 0
+AreWordsReadAs words (Ok tasks) = AreTaken words tasks
 AreWordsReadAs words (Err error) = (kind_of error ≡ OutOfMemory)
     ⊎ ((app : App) × IsProgram app × IsAmong (kind_of error) (fault_of app words))

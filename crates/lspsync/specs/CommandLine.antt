@@ -3,7 +3,8 @@ use Rattle.std.specs.Prelude.{ℕ, ◌≡◌, ◌++◌, ◌∷◌, [], true, fal
 use Rattle.std.specs.Borrow.{Bor}
 use Rattle.clap.specs.Words.{App, Rule, Shape, Text, new_rule}
 use Rattle.clap.specs.Simple.{new_shape}
-use Rattle.clap.specs.declared.builder.action.ArgAction.TheVariants.{SetTrue}
+use Rattle.clap.specs.Lexer.{usize_max}
+use Rattle.clap.specs.declared.builder.action.ArgAction.TheVariants.{Append, SetTrue}
 use Rattle.clap.specs.declared.builder.value_parser.ValueParser.{ValueParser}
 use Rattle.clap.specs.declared.builder.value_parser.ValueParser.TheVariants.{Names, Unsigned}
 
@@ -54,9 +55,24 @@ command_shape name own = record (new_shape name) { rules = own ++ limit_rules }
 abbrev pub encoding_rule : Choices → Rule
 encoding_rule encodings = option_rule (codes "encoding") (Names encodings) (codes "utf-16")
 
--- `serve` has `--sync`.
+-- `--sync` names what a server asks changes for.
 abbrev pub sync_rule : Choices → Rule
 sync_rule kinds = option_rule (codes "sync") (Names kinds) (codes "incremental")
+
+-- The options of `serve`. `--stdio` changes nothing.
+abbrev pub server_rules : Choices → List Rule
+server_rules kinds = sync_rule kinds ∷ flag_rule (codes "stdio") ∷ []
+
+-- The file of a log. Without one it is `-`, which is standard input.
+abbrev pub log_rule : Rule
+log_rule = record (new_rule (codes "FILE")) { defaults = codes "-" ∷ [] }
+
+-- Files of logs.
+abbrev pub logs_rule : Rule
+logs_rule = record log_rule {
+  action = Some Append;
+  range = Some (record { start_inclusive = 0; end_inclusive = usize_max });
+}
 
 -- `check` has `--explain`.
 abbrev pub explain_rule : Rule
@@ -85,13 +101,18 @@ detail_rules = flag_rule (codes "texts") ∷ flag_rule (codes "bodies") ∷ []
 -- The program: its commands, with their options.
 abbrev pub program_app : Choices → Choices → App
 program_app encodings kinds = record {
-  top = record (new_shape (codes "lspsync")) { is_leaf = false; subcommand_required = true };
-  subs = command_shape (codes "serve") (encoding_rule encodings ∷ sync_rule kinds ∷ [])
-      ∷ command_shape (codes "check") (encoding_rule encodings ∷ explain_rule ∷ [])
-      ∷ command_shape (codes "trace") (encoding_rule encodings ∷ detail_rules)
-      ∷ command_shape (codes "replay") (encoding_rule encodings ∷ part_rules)
-      ∷ command_shape (codes "normalise") (encoding_rule encodings ∷ writing_rules)
-      ∷ command_shape (codes "convert") (encoding_rule encodings ∷ []) ∷ [];
+  top = record (new_shape (codes "lspsync")) {
+    is_leaf = false;
+    subcommand_required = true;
+    has_version = true;
+  };
+  subs = command_shape (codes "serve") (encoding_rule encodings ∷ server_rules kinds)
+      ∷ command_shape (codes "check") (encoding_rule encodings ∷ explain_rule ∷ logs_rule ∷ [])
+      ∷ command_shape (codes "trace") (encoding_rule encodings ∷ detail_rules ++ logs_rule ∷ [])
+      ∷ command_shape (codes "replay") (encoding_rule encodings ∷ part_rules ++ log_rule ∷ [])
+      ∷ command_shape (codes "normalise")
+      (encoding_rule encodings ∷ writing_rules ++ log_rule ∷ [])
+      ∷ command_shape (codes "convert") (encoding_rule encodings ∷ log_rule ∷ []) ∷ [];
 }
 
 -- The command line is the program's, with the names of the encodings and of the kinds of

@@ -1,14 +1,16 @@
 -- What the program writes, and the status that it ends with.
-use Rattle.std.specs.Prelude.{ℕ, ◌≡◌, ◌⊎◌, ◌++◌, ◌∷◌, [], List, codes, Option, Some, None, option_map, Result, Ok, Err, OnOk}
-use Rattle.std.specs.Io.KnownBytes.{Keeps, Appends}
+use Rattle.std.specs.Prelude.{ℕ, ◌≡◌, ◌⊎◌, ◌++◌, ◌∷◌, [], Bool, true, false, List, length, max, nat_lt, codes, Option, Some, None, option_map, unwrap_or, Result, Ok, Err, Vec}
+use Rattle.std.specs.Result.{result_and}
+use Rattle.std.specs.declared.alloc.Global.{Global}
+use Rattle.std.specs.Io.KnownBytes.{Keeps}
 use Rattle.clap.specs.Values.{kind_of}
 use Rattle.clap.specs.declared.error.Error.{Error}
 use Rattle.clap.specs.declared.error.kind.ErrorKind.{ErrorKind}
 use Rattle.clap.specs.declared.error.kind.ErrorKind.TheVariants as kind
 use Rattle.lsp_stream.specs.declared.fault.EngineFault.{EngineFault}
 use Rattle.lsp_stream.specs.declared.fault.EngineFault.TheVariants.{Read, Write, NoMemory, TooManyTurns}
-use Rattle.lsp_stream.specs.Ports.{Ports, WriterState, ports}
-use Rattle.lsp_program.specs.Output.{IsFlushed, IsHelp, allowed_turns}
+use Rattle.lsp_stream.specs.Ports.{Ports, ReaderState, WriterState, ports}
+use Rattle.lsp_program.specs.Output.{IsFlushed, IsPrinted, IsTextPrinted, Streams, allowed_turns}
 use Rattle.lsp_replay.specs.declared.outcome.Missing.{Missing}
 use Rattle.lsp_replay.specs.declared.outcome.Missing.TheVariants as missing
 use Rattle.lsp_replay.specs.declared.outcome.Outcome.{Outcome}
@@ -19,9 +21,10 @@ use Rattle.lsp_replay.specs.Trace.{trace_engine}
 use Rattle.lsp_replay.specs.Run.{Engine, IsEngineRun, check_engine, convert_engine, normalise_engine, replay_engine, serve_engine}
 use Rattle.lspsync.specs.declared.command_line.Call.{Call}
 use Rattle.lspsync.specs.declared.command_line.Call.TheVariants as call
-use Rattle.lspsync.specs.declared.run.Ending.{Ending}
-use Rattle.lspsync.specs.Call.{AreWordsReadAs}
-use Rattle.lspsync.specs.FaultText.{fault_text}
+use Rattle.lspsync.specs.declared.ends.Ending.{Ending}
+use Rattle.lspsync.specs.declared.command_line.Task.{Task}
+use Rattle.lspsync.specs.Call.{AreWordsReadAs, file_of}
+use Rattle.lspsync.specs.FaultText.{blame_text, fault_cause, fault_text}
 
 -- The status of a fault: 3 if a stream failed, 4 if out of memory, 5 if the input is no log.
 abbrev pub status_of : EngineFault → ℕ
@@ -63,80 +66,208 @@ pub record IsPerformed (asked : Call) (before after : Ports)
   pub flush : IsFlushed writer after.writer flushed
   pub answered : answer ≡ answer_after_flush result flushed
 
--- The line that reports a fault.
-abbrev pub fault_line : EngineFault → List ℕ
-fault_line fault = (codes "lspsync: " ++ fault_text fault) ++ 10 ∷ []
+-- ---- the end of a run
 
--- A fault ends the program with its status, and its line follows what was printed before. `None` is
--- what isn't known.
-abbrev pub IsFaultEnd : EngineFault → Option (List ℕ) → Option (List ℕ) → Ending → Type 0
-IsFaultEnd fault before after ending = (ending.status ≡ status_of fault)
-    × OnOk ending.printed (Appends before after (fault_line fault))
+-- A line on standard error, about standard input or about a file.
+abbrev pub error_line : Option (List ℕ) → List ℕ → List ℕ
+error_line None what = codes "lspsync: " ++ (what ++ codes "\n")
+error_line (Some name) what = codes "lspsync: " ++ (name ++ (codes ": " ++ (what ++ codes "\n")))
 
--- The line that says what a part of a log lacks.
-abbrev pub missing_line : Missing → List ℕ
-missing_line missing.Record = codes "lspsync: the log has no record of this number\n"
-missing_line missing.Document = codes "lspsync: the document was never open\n"
+-- A status ends a run, and so much of some lines was printed as standard error took. Did the output
+-- fail?
+pub record Ends (status : ℕ) (lines : List ℕ) (output_failed : Bool) (before after : WriterState)
+    (ending : Ending) : Type 0 where
+  pub status_is : ending.status ≡ status
+  pub lines_are : IsPrinted lines before after ending.printed
+  pub output : ending.output_failed ≡ output_failed
 
--- A status ends the program, with a line on standard error or with none.
-abbrev pub IsStatus : Option (List ℕ) → ℕ → Option (List ℕ) → Option (List ℕ) → Ending → Type 0
-IsStatus None status before after ending = (ending.status ≡ status) × (after ≡ before)
-IsStatus (Some line) status before after ending = (ending.status ≡ status)
-    × OnOk ending.printed (Appends before after line)
+-- A fault of writing.
+abbrev pub is_write_fault : EngineFault → Bool
+is_write_fault Write = true
+is_write_fault fault = false
 
--- An outcome ends the program with its status, and with a line where something is missing. A fault
--- is reported.
-abbrev pub IsEnding : Result Outcome EngineFault → Option (List ℕ) → Option (List ℕ) →
-    Ending → Type 0
-IsEnding (Ok outcome) before after ending
-    = IsStatus (option_map missing_line outcome.missing) outcome.status before after ending
+-- A fault ends a run with its status and its line.
+abbrev pub IsFaultEnd : EngineFault → WriterState → WriterState → Ending → Type 0
+IsFaultEnd fault = Ends (status_of fault) (error_line None (fault_text fault)) (is_write_fault fault)
+
+-- What a part of a log lacks.
+abbrev pub missing_text : Missing → List ℕ
+missing_text missing.Record = codes "the log has no record of this number"
+missing_text missing.Document = codes "the document was never open"
+
+-- A status ends a run, with a line on standard error or with none.
+abbrev pub IsStatus : Option (List ℕ) → ℕ → WriterState → WriterState → Ending → Type 0
+IsStatus None status before after ending =
+    (ending ≡ record { status = status; printed = Ok tt; output_failed = false }) × (after ≡ before)
+IsStatus (Some text) status before after ending = Ends status text false before after ending
+
+-- The end of a run over standard input, or over a file, that has an outcome. A line says what is
+-- missing that was asked for.
+abbrev pub IsOutcomeEnd : Option (List ℕ) → Outcome → WriterState → WriterState → Ending → Type 0
+IsOutcomeEnd name outcome =
+    IsStatus (option_map (λ what. error_line name (missing_text what)) outcome.missing) outcome.status
+
+-- The end of a run over standard input: that of its outcome, or the report of its fault.
+abbrev pub IsEnding : Result Outcome EngineFault → WriterState → WriterState → Ending → Type 0
+IsEnding (Ok outcome) before after ending = IsOutcomeEnd None outcome before after ending
 IsEnding (Err fault) before after ending = IsFaultEnd fault before after ending
 
--- The status of help ends the program. A fault is reported.
-abbrev pub IsHelpEnd : Result ℕ EngineFault → Option (List ℕ) → Option (List ℕ) → Ending → Type 0
-IsHelpEnd (Ok status) before after ending = IsStatus None status before after ending
+-- Status 0 ends the program after help. A fault is reported.
+abbrev pub IsHelpEnd : Result (Unit {0}) EngineFault → WriterState → WriterState → Ending → Type 0
+IsHelpEnd (Ok _) before after ending = IsStatus None 0 before after ending
 IsHelpEnd (Err fault) before after ending = IsFaultEnd fault before after ending
 
--- What is known of the program's streams before and after a run.
-pub record StreamsAround : Type 0 where
-  -- standard input and output
-  pub before : Ports
-  pub after : Ports
-  -- the bytes that standard error holds
-  pub errors_before : Option (List ℕ)
-  pub errors : Option (List ℕ)
-
--- The engine of a call ran, and the program ends with its status or reports its fault.
-pub record IsCallDone (asked : Call) (s : StreamsAround) (ending : Ending) : Type 0 where
+-- The engine of a call ran over standard input, and so it ended.
+pub record IsCallDone (asked : Call) (before after : Streams) (ending : Ending) : Type 0 where
   pub answer : Result Outcome EngineFault
-  pub performed : IsPerformed asked s.before s.after answer
-  pub ends : IsEnding answer s.errors_before s.errors ending
+  pub performed : IsPerformed asked (ports before.reader before.writer)
+      (ports after.reader after.writer) answer
+  pub ends : IsEnding answer before.errors after.errors ending
 
--- What the program does with words that are no call. Out of memory is reported, a mistake has
--- status 2, and help is written.
-pub record IsExplained (k : ErrorKind) (s : StreamsAround) (ending : Ending) : Type 0 where
+-- ---- files
+
+-- The line on a fault of a file, its text with the cause, and a line on what the file seems to be, if
+-- it is known.
+abbrev pub blame_lines : List ℕ → List ℕ → List ℕ → Option (List ℕ) → List ℕ
+blame_lines name text cause None = error_line (Some name) (blame_text text cause)
+blame_lines name text cause (Some hint) =
+    error_line (Some name) (blame_text text cause) ++ error_line (Some name) hint
+
+-- A fault of the log is reported with its cause, and perhaps with a hint. Another one is reported as
+-- that of standard input.
+abbrev pub IsBlamed : List ℕ → EngineFault → Option (List ℕ) → WriterState → WriterState →
+    Ending → Type 0
+IsBlamed name fault None before after ending = IsFaultEnd fault before after ending
+IsBlamed name fault (Some cause) before after ending = (hint : Option (List ℕ))
+    × Ends (status_of fault) (blame_lines name (fault_text fault) cause hint) false before after
+    ending
+
+-- The system's reason is said why a file can't be opened or read; or memory ran out.
+abbrev pub IsUnreadable : List ℕ → WriterState → WriterState → Ending → Type 0
+IsUnreadable name before after ending =
+    ((reason : List ℕ) × Ends 3 (error_line (Some name) reason) false before after ending)
+    ⊎ IsFaultEnd NoMemory before after ending
+
+-- The end of a run over a file.
+abbrev pub IsFileEnding : List ℕ → Result Outcome EngineFault → WriterState → WriterState →
+    Ending → Type 0
+IsFileEnding name (Ok outcome) before after ending =
+    IsOutcomeEnd (Some name) outcome before after ending
+IsFileEnding name (Err Read) before after ending =
+    IsUnreadable name before after ending ⊎ IsFaultEnd Read before after ending
+IsFileEnding name (Err fault) before after ending =
+    IsBlamed name fault (fault_cause fault) before after ending
+
+-- What is known of a file that was opened, of which these bytes may be known.
+abbrev pub file_opened : Option (List ℕ) → ReaderState
+file_opened left = record { left = left; failed = false; calls = 0; ended = false }
+
+-- The engine of a call ran over a file from its beginning on. Of its bytes this may be known.
+pub record IsFileRun (asked : Call) (name : List ℕ) (known : Option (List ℕ))
+    (before after errors_before errors : WriterState) (ending : Ending) : Type 0 where
+  pub left : Option (List ℕ)
+  pub begins : Keeps known left
+  -- the file after the run
+  pub file : ReaderState
+  pub answer : Result Outcome EngineFault
+  pub performed : IsPerformed asked (ports (file_opened left) before) (ports file after) answer
+  pub ends : IsFileEnding name answer errors_before errors ending
+
+-- The engine ran over a file; or the file couldn't be opened, and then nothing is written.
+abbrev pub IsFileDone : Call → List ℕ → Option (List ℕ) → WriterState → WriterState →
+    WriterState → WriterState → Ending → Type 0
+IsFileDone asked name known before after errors_before errors ending =
+    IsFileRun asked name known before after errors_before errors ending
+    ⊎ ((after ≡ before) × IsUnreadable name errors_before errors ending)
+
+-- ---- tasks
+
+-- What is known of the files: of each name, the bytes of the file.
+abbrev pub KnownFiles : Type 0
+KnownFiles = List ℕ → Option (List ℕ)
+
+-- A call was made on standard input; or on a file, and then standard input isn't read.
+abbrev pub IsDoneOn : KnownFiles → Call → Option (List ℕ) → Streams → Streams → Ending → Type 0
+IsDoneOn known asked None before after ending = IsCallDone asked before after ending
+IsDoneOn known asked (Some name) before after ending = (after.reader ≡ before.reader)
+    × IsFileDone asked name (known name) before.writer after.writer before.errors after.errors
+    ending
+
+-- The name of an input in its heading.
+abbrev pub shown_name : Option (List ℕ) → List ℕ
+shown_name name = unwrap_or name (codes "standard input")
+
+-- Of several inputs each has a heading on standard error.
+abbrev pub IsHeaded : Bool → Option (List ℕ) → WriterState → WriterState →
+    Result (Unit {0}) EngineFault → Type 0
+IsHeaded true name before after printed =
+    IsPrinted (codes "==> " ++ (shown_name name ++ codes " <==\n")) before after printed
+IsHeaded false name before after printed = (after ≡ before) × (printed ≡ Ok tt)
+
+-- A task was done, after its heading. The ending has the first failure to print.
+pub record IsTaskDone (known : KnownFiles) (is_headed : Bool) (task : Task) (before after : Streams)
+    (ending : Ending) : Type 0 where
+  -- standard error after the heading
+  pub errors : WriterState
+  pub heading : Result (Unit {0}) EngineFault
+  pub headed : IsHeaded is_headed (file_of task) before.errors errors heading
+  pub one : Ending
+  pub done : IsDoneOn known task.call (file_of task) (record before { errors = errors }) after one
+  pub ends : ending ≡ record one { printed = result_and heading one.printed }
+
+-- The ends of two parts are both_ends: the greater status, and the first failure to print.
+abbrev pub both_ends : Ending → Ending → Ending
+both_ends one two = record {
+  status = max one.status two.status;
+  printed = result_and one.printed two.printed;
+  output_failed = two.output_failed;
+}
+
+-- The end of no task.
+abbrev pub nothing_yet : Ending
+nothing_yet = record { status = 0; printed = Ok tt; output_failed = false }
+
+-- Tasks were done one after another, up to one whose output failed. They end so with what ended
+-- before them.
+abbrev pub AreDone : KnownFiles → Bool → Ending → List Task → Streams → Streams → Ending → Type 0
+AreDone known is_headed so_far [] before after ending = (after ≡ before) × (ending ≡ so_far)
+AreDone known is_headed so_far (task ∷ tasks) before after ending =
+    (between : Streams) × (one : Ending) × IsTaskDone known is_headed task before between one
+    × (((one.output_failed ≡ true) × (after ≡ between) × (ending ≡ both_ends so_far one))
+    ⊎ ((one.output_failed ≡ false)
+    × AreDone known is_headed (both_ends so_far one) tasks between after ending))
+
+-- ---- the program
+
+-- What the program does with words that are no call. Out of memory is reported, the text of a mistake
+-- is printed, with status 2, and help and the version are written.
+pub record IsExplained (k : ErrorKind) (before after : Streams) (ending : Ending) : Type 0 where
   -- nothing is read
-  pub reader : s.after.reader ≡ s.before.reader
-  pub memory : k ≡ kind.OutOfMemory → (s.after.writer ≡ s.before.writer)
-      × IsFaultEnd NoMemory s.errors_before s.errors ending
+  pub reader : after.reader ≡ before.reader
+  pub memory : k ≡ kind.OutOfMemory → (after.writer ≡ before.writer)
+      × IsFaultEnd NoMemory before.errors after.errors ending
   pub mistake : (k ≡ kind.OutOfMemory → ⊥) → (k ≡ kind.DisplayHelp → ⊥) →
       (k ≡ kind.DisplayVersion → ⊥)
-      → (s.after.writer ≡ s.before.writer) × (ending.status ≡ 2)
+      → (after.writer ≡ before.writer) × (ending.status ≡ 2)
+      × IsTextPrinted before.errors after.errors ending.printed
   pub help : (k ≡ kind.DisplayHelp) ⊎ (k ≡ kind.DisplayVersion)
-      → (answer : Result ℕ EngineFault)
-      × IsHelp s.before.writer s.after.writer answer
-      × IsHelpEnd answer s.errors_before s.errors ending
+      → (answer : Result (Unit {0}) EngineFault)
+      × IsTextPrinted before.writer after.writer answer
+      × IsHelpEnd answer before.errors after.errors ending
 
--- What the program does with words: the call that they are, or an explanation. Where there is none
+-- What the program does with words: the tasks that they are, or an explanation. Where there is none
 -- of both, it ends with status 2 alone.
-abbrev pub IsDone : Result (Option Call) Error → StreamsAround → Ending → Type 0
-IsDone (Ok (Some asked)) s ending = IsCallDone asked s ending
-IsDone (Ok None) s ending = (ending.status ≡ 2) × (s.after ≡ s.before)
-    × (s.errors ≡ s.errors_before)
-IsDone (Err error) s ending = IsExplained (kind_of error) s ending
+abbrev pub IsDone : KnownFiles → Result (Option (Vec Task Global)) Error → Streams → Streams → Ending →
+    Type 0
+IsDone known (Ok (Some tasks)) before after ending =
+    AreDone known (nat_lt 1 (length tasks.items)) nothing_yet tasks.items before after ending
+IsDone known (Ok None) before after ending = (ending.status ≡ 2) × (after ≡ before)
+IsDone known (Err error) before after ending = IsExplained (kind_of error) before after ending
 
--- A run of the program with these words: what they are read as, and that this is done.
-pub record IsProgramRun (words : List (List ℕ)) (s : StreamsAround) (ending : Ending) : Type 0 where
-  pub read : Result (Option Call) Error
+-- A run of the program with these words: what they are read as, and that this is done. Of the files
+-- this is known.
+pub record IsProgramRun (known : KnownFiles) (words : List (List ℕ)) (before after : Streams)
+    (ending : Ending) : Type 0 where
+  pub read : Result (Option (Vec Task Global)) Error
   pub words_are : AreWordsReadAs words read
-  pub done : IsDone read s ending
+  pub done : IsDone known read before after ending

@@ -1,23 +1,26 @@
 //! The program's command line.
 //!
-//! `options` is the program as `clap` sees it, `help` has the pages of help, and `texts` what the
-//! commands' pages say.
+//! `options` is the program as `clap` sees it, `help` has the pages of help, `texts` what the
+//! commands' pages say, and `misplaced` the text on an option of another command.
 //!
 //! What words mean is said by `clap`'s definitions, of a program with the options of `program_app`.
-//! Each function of `options` adds one option, so each is proved alone. The parse returns
-//! `Option<Call>`, since `clap` has no law that values which it checked are there.
+//! Each function of `options` adds one option, so each is proved alone. The parse returns an
+//! `Option`, since `clap` has no law that values which it checked are there.
 
 ghost use Rattle.std.specs.Prelude.{◌≡◌, ◌≢◌, codes, true, false};
-ghost use Rattle.std.specs.Prelude.{IfOk, IfSome, IsSome, ℕ, map};
+ghost use Rattle.std.specs.Prelude.{IfOk, IfSome, IsSome, ℕ, map, option_map};
+ghost use Rattle.std.specs.String.{string_bytes};
 ghost use Rattle.lspsync.specs.Call.{AreDetails, AreLimits, AreSettings, AreWordsReadAs, HasNumber};
 ghost use Rattle.lspsync.specs.Call.{IsCallNamed, IsConfig, IsFound, IsLogPart, encoding_given};
-ghost use Rattle.lspsync.specs.Call.{is_whole, sync_given};
+ghost use Rattle.lspsync.specs.Call.{file_named, files_given, is_whole, sync_given};
 ghost use Rattle.lsp_frame.specs.Limits.{LimitsData};
 
 mod help;
+mod misplaced;
 mod options;
 mod texts;
 
+use crate::command_line::misplaced::placed;
 use crate::command_line::options::program;
 use clap::{ArgMatches, Error};
 use lsp_frame::Limits;
@@ -50,25 +53,66 @@ pub enum Call {
     Convert(Settings),
 }
 
-/// Reads the words of the command line. An error is a usage fault, a text of help, or out of
-/// memory. There is no call only where a subcommand or an option with its value is missing. Tests
-/// show that `clap` refuses such words before.
-pub fn parse<'a>(alloc: Global, words: &'a [&'a str]) -> Result<Option<Call>, Error>
-    ensures { AreWordsReadAs (map (λ word. word.now) words.entry.now) result }
-{
-    let matches = program(alloc, help::limits())?.try_get_matches_from(words)?;
-    let call = call_of(alloc, &matches)?;
-    Ok(call)
+/// A call on one input.
+#[derive(Debug, PartialEq, Eq, Drop)]
+pub struct Task {
+    pub call: Call,
+    /// The name of the file that is read; of standard input it is none.
+    pub file: Option<String>,
 }
 
-/// Returns the call that `clap` found.
-fn call_of(alloc: Global, matches: &ArgMatches<'_>) -> Result<Option<Call>, AllocError>
+/// The file of a command that names none.
+static STANDARD_INPUT: [&str; 1] = ["-"];
+
+/// Reads the words of the command line: a call on each file that they name, or on standard input.
+/// An error is a usage fault, a text of help or the version, or out of memory. There is no call
+/// only where a subcommand or an option with its value is missing. Tests show that `clap` refuses
+/// such words before.
+pub fn parse<'a>(alloc: Global, words: &'a [&'a str]) -> Result<Option<Vec<Task>>, Error>
+    ensures { AreWordsReadAs (map (λ word. word.now) words.entry.now) result }
+{
+    let mut program = program(alloc, help::limits())?;
+    match program.try_get_matches_from_mut(words) {
+        Ok(matches) => Ok(tasks_of(alloc, &matches)?),
+        Err(error) => Err(placed(alloc, &mut program, words, error)?),
+    }
+}
+
+/// Returns the calls that `clap` found.
+fn tasks_of(alloc: Global, matches: &ArgMatches<'_>) -> Result<Option<Vec<Task>>, AllocError>
     ensures { IfOk result (IsFound matches.now) }
 {
     let Some((name, options)) = matches.subcommand() else {
         return Ok(None);
     };
-    call_named(alloc, name, options)
+    let mut tasks = Vec::new(alloc);
+    for file in files_of(options) {
+        let Some(call) = call_named(alloc, name, options)? else {
+            return Ok(None);
+        };
+        let file = file_named(alloc, file)?;
+        tasks.push(Task { call, file })?;
+    }
+    Ok(Some(tasks))
+}
+
+/// Returns the files that the options name.
+fn files_of<'a>(options: &'a ArgMatches<'_>) -> &'a [&'a str]
+    ensures { map (λ file. file.now) result.now ≡ files_given options.now }
+{
+    options
+        .get_strs("FILE")
+        .unwrap_or(STANDARD_INPUT.as_slice())
+}
+
+/// Returns the file that a word names. `-` is standard input.
+fn file_named(alloc: Global, word: &str) -> Result<Option<String>, AllocError>
+    ensures { IfOk result (λ file. option_map string_bytes file ≡ file_named word.now) }
+{
+    if word == "-" {
+        return Ok(None);
+    }
+    Ok(Some(String::from_str(alloc, word)?))
 }
 
 /// Returns the call of a subcommand with these options.

@@ -1,31 +1,42 @@
 //! `lspsync`: a language server's end of a session on standard input and output, and five commands
 //! on recorded sessions.
 //!
-//! - `run`: the program over any reader and writers; the engines are those of `lsp_replay`.
+//! - `run`: the program over any reader, folder and writers; the engines are those of `lsp_replay`.
+//! - `files`: files of logs, by their names.
+//! - `ends`: how a run ends, and what is said of it.
 //! - `command_line`: the words that the program is called with.
-//! - `fault_text`: the text of a fault's line.
+//! - `fault_text`: the text of a fault's line, and its cause.
+//! - `beginning`: what a file that is no log seems to be.
+//! - `process`: the process's own files and terminal.
 #![tactic(auto)]
 
+mod beginning;
 mod command_line;
+mod ends;
 mod fault_text;
+mod files;
+mod process;
 mod run;
 #[cfg(test)]
 mod tests;
 
-use crate::run::{Ending, refuse, run};
+use crate::ends::{Ending, refuse};
+use crate::process::{Announced, Disk};
+use crate::run::run;
 use lsp_program::exit_code;
 use lsp_replay::Told;
 use std::env;
-use std::io::{self, BufWriter};
+use std::io::{self, BufWriter, IsTerminal};
 use std::process::ExitCode;
 
-/// Output is buffered up to so many bytes; `serve` flushes each reply at once.
+/// Output is buffered up to so many bytes; `serve` flushes each reply at once. What goes to a
+/// terminal isn't buffered.
 const GATHERED: usize = 65_536;
 
 fn main(rt: HostRuntime) -> ExitCode {
     let ending = match answer(&rt) {
         Ok(ending) => ending,
-        Err(error) => refuse(error.kind(), &mut rt.stderr()),
+        Err(error) => refuse(error.kind(), &mut Told::new(rt.stderr())),
     };
     exit_code(ending.status)
 }
@@ -36,12 +47,17 @@ fn answer(rt: &HostRuntime) -> io::Result<Ending> {
     let alloc = rt.alloc();
     let given: Vec<String> = env::args(rt)?.collect(alloc)?;
     let words: Vec<&str> = given.iter().map(|word| word.as_str()).collect(alloc)?;
-    let output = BufWriter::with_capacity(alloc, GATHERED, rt.stdout())?;
-    Ok(run(
-        alloc,
-        &words,
-        &mut Told::new(rt.stdin()),
-        &mut Told::new(output),
-        &mut rt.stderr(),
-    ))
+    let folder = Disk(rt);
+    let mut input = Told::new(Announced {
+        input: rt.stdin(),
+        errors: rt.stderr(),
+        is_due: rt.stdin().is_terminal(),
+    });
+    let mut errors = Told::new(rt.stderr());
+    if rt.stdout().is_terminal() {
+        let mut output = Told::new(rt.stdout());
+        return Ok(run(alloc, &words, &folder, &mut input, &mut output, &mut errors));
+    }
+    let mut output = Told::new(BufWriter::with_capacity(alloc, GATHERED, rt.stdout())?);
+    Ok(run(alloc, &words, &folder, &mut input, &mut output, &mut errors))
 }

@@ -1,100 +1,150 @@
-//! The program over any reader and writers.
+//! The program over any reader, folder and writers.
 
-ghost use Rattle.std.specs.Prelude.{◌≡◌, ◌≢◌, ◌⊎◌, ◌++◌, OnOk, codes, List, ℕ, Result, Err, map, option_map};
-ghost use Rattle.std.specs.Io.KnownBytes.{Appends};
+ghost use Rattle.std.specs.Prelude.{◌≡◌, ◌≢◌, ◌⊎◌, length, Result, map, nat_lt, option_map};
+ghost use Rattle.std.specs.String.{string_bytes};
 ghost use Rattle.clap.specs.Values.{kind_of};
 ghost use Rattle.clap.specs.declared.error.kind.ErrorKind.TheVariants.{OutOfMemory};
 ghost use Rattle.clap.specs.declared.error.kind.ErrorKind.TheVariants.{DisplayHelp, DisplayVersion};
 ghost use Rattle.lsp_stream.specs.Ports.{ports};
-ghost use Rattle.lsp_program.specs.Output.{IsHelp, allowed_turns};
+ghost use Rattle.lsp_program.specs.Output.{IsPrinted, IsTextPrinted, allowed_turns, streams};
 ghost use Rattle.lsp_replay.specs.Run.{IsEngineRun};
-ghost use Rattle.lspsync.specs.Run.{IsEnding, IsFaultEnd, IsHelpEnd, IsPerformed, IsProgramRun};
-ghost use Rattle.lspsync.specs.Run.{IsStatus, StreamsAround, answer_after_flush, engine_of, missing_line};
-ghost use Rattle.lspsync.specs.Run.{status_of};
+ghost use Rattle.lspsync.specs.Run.{AreDone, IsDoneOn, IsEnding, IsHeaded, IsHelpEnd, IsPerformed};
+ghost use Rattle.lspsync.specs.Run.{IsFaultEnd, IsProgramRun, IsTaskDone, answer_after_flush};
+ghost use Rattle.lspsync.specs.Run.{engine_of, nothing_yet, shown_name};
 
-use crate::command_line::{Call, parse};
-use crate::fault_text::FaultText;
+use crate::command_line::{Call, Task, parse};
+use crate::ends::{Ending, both, end_well, report};
+use crate::files::{Folder, run_file};
 use clap::error as clap_error;
-use lsp_program::{BAD_INPUT, MAX_TURNS, OUT_OF_MEMORY, STREAM_FAULT, USAGE, flush, print_help};
+use lsp_program::{MAX_TURNS, USAGE, flush, print, print_text};
 use lsp_replay::{
-    EngineFault, Missing, Outcome, Sink, Source, check, convert, explain, normalise,
-    normalise_documents, replay, replay_part, serve, trace,
+    EngineFault, Outcome, Sink, Source, check, convert, explain, normalise, normalise_documents,
+    replay, replay_part, serve, trace,
 };
 use std::alloc::Global;
-use std::io::{self, ErrorKind, Write};
 
-/// The end of the program.
-#[derive(Drop)]
-pub struct Ending {
-    /// The exit status.
-    pub status: u8,
-    /// Whether the line on standard error could be printed. `Ok` if there is none.
-    pub printed: io::Result<()>,
-}
-
-/// Runs the program. `words` is its command line, the program's name first. A fault's line is
-/// written to `errors`.
-pub fn run<R: Source, W: Sink, E: Write>(
+/// Runs the program. `words` is its command line, the program's name first. A file that it names is
+/// opened in `folder`. A fault's line is written to `errors`.
+pub fn run<F: Folder, R: Source, W: Sink, E: Sink>(
     alloc: Global,
     words: &[&str],
+    folder: &F,
     input: &mut R,
     output: &mut W,
     errors: &mut E,
 ) -> Ending
-    ensures { IsProgramRun (map (λ word. word.now) words.entry.now) (record {
-      before = ports (R.seen input.old) (W.seen output.old);
-      after = ports (R.seen input.new) (W.seen output.new);
-      errors_before = E.contents errors.old;
-      errors = E.contents errors.new;
-    }) result }
+    ensures { IsProgramRun (F.bytes folder.now) (map (λ word. word.now) words.entry.now)
+        (streams (R.seen input.old) (W.seen output.old) (E.seen errors.old))
+        (streams (R.seen input.new) (W.seen output.new) (E.seen errors.new)) result }
 {
     match parse(alloc, words) {
-        Ok(Some(call)) => {
-            let answer = perform(alloc, call, input, output);
-            end_with(answer, errors)
-        }
-        Ok(None) => Ending {
-            status: USAGE,
-            printed: Ok(()),
-        },
+        Ok(Some(tasks)) => do_all(alloc, tasks, folder, input, output, errors),
+        Ok(None) => Ending::new(USAGE, Ok(())),
         Err(error) => print_error(alloc, &error, output, errors),
     }
 }
 
+/// Does tasks one after another. The status is the greatest of theirs. None is done after one whose
+/// output failed.
+fn do_all<F: Folder, R: Source, W: Sink, E: Sink>(
+    alloc: Global,
+    tasks: Vec<Task>,
+    folder: &F,
+    input: &mut R,
+    output: &mut W,
+    errors: &mut E,
+) -> Ending
+    ensures { AreDone (F.bytes folder.now) (nat_lt 1 (length tasks.items)) nothing_yet tasks.items
+        (streams (R.seen input.old) (W.seen output.old) (E.seen errors.old))
+        (streams (R.seen input.new) (W.seen output.new) (E.seen errors.new)) result }
+{
+    let is_headed = tasks.len() > 1;
+    let mut ending = Ending::new(0, Ok(()));
+    for task in tasks {
+        let done = do_task(alloc, task, is_headed, folder, input, output, errors);
+        let output_failed = done.output_failed;
+        ending = both(ending, done);
+        if output_failed {
+            return ending;
+        }
+    }
+    ending
+}
+
+/// Does a task, after its heading if it is one of several.
+fn do_task<F: Folder, R: Source, W: Sink, E: Sink>(
+    alloc: Global,
+    task: Task,
+    is_headed: bool,
+    folder: &F,
+    input: &mut R,
+    output: &mut W,
+    errors: &mut E,
+) -> Ending
+    ensures { IsTaskDone (F.bytes folder.now) is_headed task
+        (streams (R.seen input.old) (W.seen output.old) (E.seen errors.old))
+        (streams (R.seen input.new) (W.seen output.new) (E.seen errors.new)) result }
+{
+    let Task { call, file } = task;
+    let headed = head(is_headed, &file, errors);
+    let done = do_on(alloc, call, file, folder, input, output, errors);
+    Ending {
+        printed: headed.and(done.printed),
+        ..done
+    }
+}
+
+/// Prints the heading of an input, if it is one of several.
+fn head<E: Sink>(is_headed: bool, file: &Option<String>, errors: &mut E) -> Result<(), EngineFault>
+    ensures { IsHeaded is_headed (option_map string_bytes file.now)
+        (E.seen errors.old) (E.seen errors.new) result }
+{
+    if !is_headed {
+        return Ok(());
+    }
+    print(errors, &["==> ", shown_name(file), " <==\n"])
+}
+
+fn shown_name<'a>(file: &'a Option<String>) -> &'a str
+    ensures { result.now ≡ shown_name (option_map string_bytes file.now) }
+{
+    match file {
+        Some(name) => name.as_str(),
+        None => "standard input",
+    }
+}
+
+/// Makes a call on a file, or on standard input.
+fn do_on<F: Folder, R: Source, W: Sink, E: Sink>(
+    alloc: Global,
+    call: Call,
+    file: Option<String>,
+    folder: &F,
+    input: &mut R,
+    output: &mut W,
+    errors: &mut E,
+) -> Ending
+    ensures { IsDoneOn (F.bytes folder.now) call (option_map string_bytes file)
+        (streams (R.seen input.old) (W.seen output.old) (E.seen errors.old))
+        (streams (R.seen input.new) (W.seen output.new) (E.seen errors.new)) result }
+{
+    match file {
+        Some(name) => run_file(alloc, call, name.as_str(), folder, output, errors),
+        None => {
+            let answer = perform(alloc, call, input, output);
+            end_with(answer, errors)
+        }
+    }
+}
+
 /// Ends with an outcome, or reports a fault.
-fn end_with<E: Write>(answer: Result<Outcome, EngineFault>, errors: &mut E) -> Ending
-    ensures { IsEnding answer (E.contents errors.old) (E.contents errors.new) result }
+fn end_with<E: Sink>(answer: Result<Outcome, EngineFault>, errors: &mut E) -> Ending
+    ensures { IsEnding answer (E.seen errors.old) (E.seen errors.new) result }
 {
     match answer {
-        Ok(outcome) => end_well(outcome, errors),
+        Ok(outcome) => end_well(None, outcome, errors),
         Err(fault) => report(fault, errors),
     }
-}
-
-/// Ends with an outcome's status. If something is missing that was asked for, a line says what.
-fn end_well<E: Write>(outcome: Outcome, errors: &mut E) -> Ending
-    ensures { IsStatus (option_map missing_line outcome.missing) outcome.status
-        (E.contents errors.old) (E.contents errors.new) result }
-{
-    let status = outcome.status;
-    match outcome.missing {
-        None => Ending {
-            status,
-            printed: Ok(()),
-        },
-        Some(Missing::Record) => say(status, "the log has no record of this number", errors),
-        Some(Missing::Document) => say(status, "the document was never open", errors),
-    }
-}
-
-/// Ends with a status, and prints a line.
-fn say<E: Write>(status: u8, what: &str, errors: &mut E) -> Ending
-    ensures status { result.status ≡ status }
-    ensures line { OnOk result.printed (Appends (E.contents errors.old) (E.contents errors.new)
-        ((codes "lspsync: " ++ what.now) ++ codes "\n")) }
-{
-    let printed = writeln!(errors, "lspsync: {what}");
-    Ending { status, printed }
 }
 
 /// Runs the engine that a call names, and then flushes the output, also after a fault. Returns the
@@ -162,7 +212,7 @@ fn obey<R: Source, W: Sink>(
 }
 
 /// Prints the text of `clap`'s error: help to the output, and a usage fault to the errors.
-fn print_error<W: Sink, E: Write>(
+fn print_error<W: Sink, E: Sink>(
     alloc: Global,
     error: &clap::Error,
     output: &mut W,
@@ -170,84 +220,32 @@ fn print_error<W: Sink, E: Write>(
 ) -> Ending
     ensures memory { kind_of error.now ≡ OutOfMemory →
         (W.seen output.new ≡ W.seen output.old)
-        × IsFaultEnd EngineFault.NoMemory (E.contents errors.old) (E.contents errors.new) result }
+        × IsFaultEnd EngineFault.NoMemory (E.seen errors.old) (E.seen errors.new) result }
     ensures mistake { kind_of error.now ≢ OutOfMemory → kind_of error.now ≢ DisplayHelp
         → kind_of error.now ≢ DisplayVersion →
-        (W.seen output.new ≡ W.seen output.old) × (result.status ≡ 2) }
+        (W.seen output.new ≡ W.seen output.old) × (result.status ≡ 2)
+        × IsTextPrinted (E.seen errors.old) (E.seen errors.new) result.printed }
     ensures help { (kind_of error.now ≡ DisplayHelp) ⊎ (kind_of error.now ≡ DisplayVersion)
-        → (answer : Result ℕ EngineFault)
-        × IsHelp (W.seen output.old) (W.seen output.new) answer
-        × IsHelpEnd answer (E.contents errors.old) (E.contents errors.new) result }
+        → (answer : Result (Unit {0}) EngineFault)
+        × IsTextPrinted (W.seen output.old) (W.seen output.new) answer
+        × IsHelpEnd answer (E.seen errors.old) (E.seen errors.new) result }
 {
     if error.kind() == clap_error::ErrorKind::OutOfMemory {
         return report(EngineFault::NoMemory, errors);
     }
     if error.use_stderr() {
-        let printed = write!(errors, "{error}");
-        return Ending {
-            status: USAGE,
-            printed,
-        };
+        return Ending::new(USAGE, print_text(alloc, error, errors));
     }
-    let answer = print_help(alloc, error, output);
+    let answer = print_text(alloc, error, output);
     end_help(answer, errors)
 }
 
-/// Ends with the status of help, or reports why it couldn't be written.
-fn end_help<E: Write>(answer: Result<u8, EngineFault>, errors: &mut E) -> Ending
-    ensures { IsHelpEnd answer (E.contents errors.old) (E.contents errors.new) result }
+/// Ends with status 0, or reports why help couldn't be written.
+fn end_help<E: Sink>(answer: Result<(), EngineFault>, errors: &mut E) -> Ending
+    ensures { IsHelpEnd answer (E.seen errors.old) (E.seen errors.new) result }
 {
     match answer {
         Err(fault) => report(fault, errors),
-        Ok(status) => Ending {
-            status,
-            printed: Ok(()),
-        },
-    }
-}
-
-/// Prints why the words of the command line can't be read: out of memory, or a word that isn't
-/// UTF-8.
-pub fn refuse<E: Write>(kind: ErrorKind, errors: &mut E) -> Ending
-    ensures memory { kind ≡ ErrorKind.OutOfMemory →
-        IsFaultEnd EngineFault.NoMemory (E.contents errors.old) (E.contents errors.new) result }
-    ensures status { kind ≢ ErrorKind.OutOfMemory → result.status ≡ 2 }
-    ensures line { kind ≢ ErrorKind.OutOfMemory → OnOk result.printed
-        (Appends (E.contents errors.old) (E.contents errors.new)
-        (codes "lspsync: the command line is not UTF-8\n")) }
-{
-    if kind == ErrorKind::OutOfMemory {
-        return report(EngineFault::NoMemory, errors);
-    }
-    let printed = writeln!(errors, "lspsync: the command line is not UTF-8");
-    Ending {
-        status: USAGE,
-        printed,
-    }
-}
-
-/// Prints the line of a fault, and ends with its status.
-pub fn report<E: Write>(fault: EngineFault, errors: &mut E) -> Ending
-    ensures { IsFaultEnd fault (E.contents errors.old) (E.contents errors.new) result }
-{
-    let text = FaultText(fault);
-    let printed = writeln!(errors, "lspsync: {text}");
-    Ending {
-        status: status_of(fault),
-        printed,
-    }
-}
-
-/// Returns the status of a fault.
-fn status_of(fault: EngineFault) -> u8
-    ensures { result ≡ status_of fault }
-{
-    match fault {
-        EngineFault::Read | EngineFault::Write | EngineFault::TooManyTurns => STREAM_FAULT,
-        EngineFault::NoMemory => OUT_OF_MEMORY,
-        EngineFault::Frame(_)
-        | EngineFault::Truncated { .. }
-        | EngineFault::BodyTooLong { .. }
-        | EngineFault::BadLog { .. } => BAD_INPUT,
+        Ok(()) => Ending::new(0, Ok(())),
     }
 }

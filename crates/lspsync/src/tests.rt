@@ -2,15 +2,18 @@
 
 mod command_line;
 mod faults;
+mod files;
 mod options;
 mod parts;
 mod sessions;
 mod streams;
 mod traces;
 
+use crate::files::Folder;
 use crate::run::run;
 use lsp_replay::{CallEnd, StopReader, StopWriter, Told};
 use std::alloc::{AllocError, Global};
+use std::io::{self, ErrorKind};
 
 /// The result of one run of the program.
 #[derive(Drop)]
@@ -46,6 +49,32 @@ fn ran(alloc: Global, words: &[&str], input: &[u8]) -> Result<Answer, AllocError
     stopped(alloc, words, input, &[], &[])
 }
 
+/// A file in memory: its name, its bytes, and how its first reads end.
+type Held<'a> = (&'a str, &'a [u8], &'a [CallEnd]);
+
+/// Files in memory.
+#[derive(Drop)]
+struct Shelf<'a>(&'a [Held<'a>]);
+
+impl<'a> Folder for Shelf<'a> {
+    ghost use Rattle.std.specs.Prelude.{None};
+
+    ghost bytes = { λ _ _. None };
+
+    type File = StopReader<'a>;
+
+    fn open(&self, name: &str) -> io::Result<StopReader<'a>> {
+        for (known, bytes, reads) in self.0 {
+            if *known == name {
+                return Ok(StopReader::new(bytes, reads, ALL));
+            }
+        }
+        Err(io::Error::from(ErrorKind::NotFound))
+    }
+}
+
+const ALL: CallEnd = CallEnd::Take(usize::MAX);
+
 /// Runs the program over streams whose first calls end as these scripts say.
 fn stopped(
     alloc: Global,
@@ -54,15 +83,27 @@ fn stopped(
     reads: &[CallEnd],
     writes: &[CallEnd],
 ) -> Result<Answer, AllocError> {
-    let all = CallEnd::Take(usize::MAX);
-    let mut reader = Told::new(StopReader::new(input, reads, all));
-    let mut writer = Told::new(StopWriter::new(alloc, writes, all));
-    let mut errors = Vec::new(alloc);
-    let status = run(alloc, words, &mut reader, &mut writer, &mut errors).status;
+    shelved(alloc, words, &[], input, reads, writes)
+}
+
+/// Runs the program over such streams, with these files.
+fn shelved(
+    alloc: Global,
+    words: &[&str],
+    files: &[Held<'_>],
+    input: &[u8],
+    reads: &[CallEnd],
+    writes: &[CallEnd],
+) -> Result<Answer, AllocError> {
+    let mut reader = Told::new(StopReader::new(input, reads, ALL));
+    let mut writer = Told::new(StopWriter::new(alloc, writes, ALL));
+    let mut errors = Told::new(Vec::new(alloc));
+    let folder = Shelf(files);
+    let status = run(alloc, words, &folder, &mut reader, &mut writer, &mut errors).status;
     let output = Vec::from_slice(alloc, writer.into_inner().bytes())?;
     Ok(Answer {
         status,
         output,
-        errors,
+        errors: errors.into_inner(),
     })
 }

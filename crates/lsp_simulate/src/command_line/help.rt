@@ -90,10 +90,10 @@ fn digits(alloc: Global, number: usize) -> Result<String, AllocError> {
 /// Returns the options that set the server's limits.
 pub fn server_limits() -> [Limit; 4] {
     [
-        body("server-max-body", SERVER_MAX_BODY),
-        text("server-max-text", SERVER_MAX_TEXT),
-        documents("server-max-docs", SERVER_MAX_DOCS),
-        changes("server-max-changes", SERVER_MAX_CHANGES),
+        body("server-max-body", SAME),
+        text("server-max-text", SAME),
+        documents("server-max-docs", SAME),
+        changes("server-max-changes", SAME),
     ]
 }
 
@@ -133,49 +133,60 @@ fn changes(name: &'static str, help: &'static str) -> Limit {
     }
 }
 
+// Lines of help have at most 80 columns. `clap` writes 32 before the text of an option, and its default
+// after it.
+
 static PROGRAM: &str =
-    "Runs both ends of a session of the Language Server Protocol 3.17, by events from standard input";
+    "Runs both ends of a session of the Language Server Protocol 3.17, by events from
+standard input";
 
 static NOTES: &str = "Each line of standard input is an event, a JSON object:
-  {\"event\":\"start\"}, \"shutdown\", \"exit\"     a call of the client
-  {\"event\":\"open\",\"textDocument\":{..}}      with the members of textDocument/didOpen
+  {\"event\":\"start\"}, \"shutdown\", \"exit\"   a call of the client
+  {\"event\":\"open\",\"textDocument\":{..}}    with the members of didOpen
   {\"event\":\"edit\",\"textDocument\":{..},\"contentChanges\":[..]}
   {\"event\":\"close\",\"textDocument\":{..}}
-  {\"event\":\"toServer\"}, \"toClient\"         the first message that waits is delivered
+  {\"event\":\"toServer\"}, \"toClient\"       the first message that waits arrives
 
-For each a line is written, with its number and what happened. At the end come the number of
-messages that wait for the server and for the client, and the documents of both ends.
+For each a line is written, with its number and what happened. At the end come
+the number of messages that wait for the server and for the client, and the
+documents of both ends.
 
-Exit status: 0 all events were made, 2 the command line is wrong or the ends don't fit together,
-3 reading or writing failed, 4 out of memory, 5 a line is no event.
+Exit status: 0 all events were made, 2 the command line is wrong or the ends
+don't fit together, 3 reading or writing failed, 4 out of memory, 5 a line is no
+event.
 
-Example, messages that arrive late; examples/ may be /usr/share/doc/laspidru/examples:
+Example, messages that arrive late; examples/ may be
+/usr/share/doc/laspidru/examples:
   lsp_simulate < examples/late-delivery.events";
 
 static UTF8: &str = "The client offers to count characters in UTF-8";
 
 static UTF32: &str = "The client offers to count characters in UTF-32";
 
-static LENIENT: &str = "Both ends take an edit of any version, and open an open document again";
+static LENIENT: &str = "Both ends take an edit of any version, and open
+an open document again";
 
-static PREFER: &str = "What the server prefers to count in, if the client offers it; else utf-16";
+static PREFER: &str = "What the server prefers to count in, if the
+client offers it; else utf-16
+(utf-8, utf-16, utf-32)";
 
-static FIXED: &str = "What the server counts in, whatever the client offers";
+static FIXED: &str = "What the server counts in, whatever the client
+offers (utf-8, utf-16, utf-32)";
 
-static SYNC: &str = "How the client is asked to send changes: as whole texts or as ranges";
+static SYNC: &str = "How the client is asked to send changes: as
+whole texts or as ranges
+(full, incremental)";
 
-static MAX_BODY: &str = "Greatest length of a message of the client, in bytes";
+static MAX_BODY: &str = "Greatest length of a message of the client,
+in bytes";
 
-static MAX_TEXT: &str = "Greatest length of a document of the client, in bytes";
+static MAX_TEXT: &str = "Greatest length of a document of the client,
+in bytes";
 
-static MAX_DOCS: &str = "Greatest number of open documents of the client";
+static MAX_DOCS: &str = "Greatest number of open documents of the
+client";
 
-static MAX_CHANGES: &str = "Greatest number of changes in one edit of the client";
+static MAX_CHANGES: &str = "Greatest number of changes in one edit of the
+client";
 
-static SERVER_MAX_BODY: &str = "The same of the server; the client's where it isn't given";
-
-static SERVER_MAX_TEXT: &str = "The same of the server; the client's where it isn't given";
-
-static SERVER_MAX_DOCS: &str = "The same of the server; the client's where it isn't given";
-
-static SERVER_MAX_CHANGES: &str = "The same of the server; the client's where it isn't given";
+const SAME: &str = "The same of the server; without it the client's";

@@ -1,6 +1,7 @@
 //! Runs that end in a fault: the status, the output before it, and its line.
 
 use super::{ran, stopped};
+use lsp_program::VERSION;
 use lsp_stream::CallEnd::{Fail as Fails, Take};
 use std::str;
 use std::test::Fail;
@@ -96,6 +97,20 @@ fn missing_status(text: &str) -> Option<&'static str> {
 fn help_names_each_exit_status(rt: HostRuntime) -> Result<(), Fail> {
     let answer = ran(rt.alloc(), &["lsp_simulate", "--help"], "");
     assert_eq!(rt; answer.status, 0);
-    assert_eq!(rt; missing_status(str::from_utf8(&answer.output)?), None);
+    let text = str::from_utf8(&answer.output)?;
+    assert_eq!(rt; missing_status(text), None);
+    // and it fits a terminal
+    assert!(rt; text.lines().all(|line| line.len() <= 80));
+    Ok(())
+}
+
+#[test]
+fn the_version_is_printed(rt: HostRuntime) -> Result<(), Fail> {
+    let version = format!(in rt.alloc(); "lsp_simulate {VERSION}\n")?;
+    for option in ["--version", "-V"] {
+        let answer = ran(rt.alloc(), &["lsp_simulate", option], "");
+        assert_eq!(rt; answer.status, 0);
+        assert_eq!(rt; answer.output.as_slice(), version.as_bytes());
+    }
     Ok(())
 }

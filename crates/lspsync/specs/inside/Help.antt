@@ -1,27 +1,38 @@
 -- What the program's help has of its options.
-use Rattle.std.specs.Prelude.{◌≡◌, ◌∷◌, [], List, codes}
+use Rattle.std.specs.Prelude.{◌≡◌, ◌++◌, ◌∷◌, [], List, codes}
 use Rattle.clap.specs.Words.{Rule, Text}
 use Rattle.clap.specs.declared.builder.value_parser.ValueParser.TheVariants.{Unsigned}
-use Rattle.lspsync.specs.CommandLine.{Choices, detail_rules, explain_rule, flag_rule, option_rule, part_rules, sync_rule, writing_rules}
+use Rattle.lspsync.specs.CommandLine.{Choices, detail_rules, explain_rule, flag_rule, log_rule, logs_rule, option_rule, part_rules, server_rules, writing_rules}
 use Rattle.lspsync.specs.declared.command_line.help.Limit.{Limit}
 use Rattle.lspsync.specs.declared.command_line.help.LimitOptions.{LimitOptions}
 use Rattle.lspsync.specs.declared.command_line.help.OwnHelp.{OwnHelp}
-use Rattle.lspsync.specs.declared.command_line.help.OwnHelp.TheVariants.{Nothing, ChangeForm, Explain, Details, Part, Writing}
+use Rattle.lspsync.specs.declared.command_line.help.OwnHelp.TheVariants.{Nothing, Serving, Explain, Details, Part, Writing}
 use Rattle.lspsync.specs.declared.command_line.help.Page.{Page}
 
 -- The options that a command has beside those of all, by the help of them.
 abbrev pub own_rules : Choices → OwnHelp → List Rule
 own_rules kinds Nothing = []
-own_rules kinds (ChangeForm help) = sync_rule kinds ∷ []
+own_rules kinds (Serving help) = server_rules kinds
 own_rules kinds (Explain help) = explain_rule ∷ []
 own_rules kinds (Details help) = detail_rules
 own_rules kinds (Part help) = part_rules
 own_rules kinds (Writing help) = writing_rules
 
--- A page of help is of the command with this name, and these are its own options.
+-- The file that a command takes, or the files.
+abbrev pub file_rules : OwnHelp → List Rule
+file_rules (Serving help) = []
+file_rules (Explain help) = logs_rule ∷ []
+file_rules (Details help) = logs_rule ∷ []
+file_rules own = log_rule ∷ []
+
+-- The options and files that a command has beside the options of all.
+abbrev pub page_rules : Choices → Page → List Rule
+page_rules kinds page = own_rules kinds page.own ++ file_rules page.own
+
+-- A page of help is of the command with this name, and these are its own options and files.
 pub record IsPage (page : Page) (name : Text) (own : Choices → List Rule) : Type 0 where
   pub named : page.name.now ≡ name
-  pub own_are : (kinds : Choices) → own_rules kinds page.own ≡ own kinds
+  pub own_are : (kinds : Choices) → page_rules kinds page ≡ own kinds
 
 -- The option of a limit.
 abbrev pub rule_of_limit : Limit → Rule

@@ -5,7 +5,7 @@ use Rattle.clap.specs.Simple.{new_shape, on_top}
 use Rattle.clap.specs.declared.builder.command.Command.{Command}
 use Rattle.clap.specs.declared.builder.command.Command.TheViews.{out-Command as fields_of}
 use Rattle.lspsync.specs.CommandLine.{Choices, encoding_rule}
-use Rattle.lspsync.specs.inside.Help.{own_rules, rules_of_limits}
+use Rattle.lspsync.specs.inside.Help.{page_rules, rules_of_limits}
 use Rattle.lspsync.specs.declared.command_line.help.Page.{Page}
 use Rattle.lspsync.specs.declared.command_line.options.Values.{Values}
 
@@ -22,7 +22,7 @@ page_shape name own encodings limits = record (new_shape name) {
 
 -- The command of a page of help.
 abbrev pub shape_by : Page → Values → Shape
-shape_by page values = page_shape page.name.now (own_rules values.kinds page.own)
+shape_by page values = page_shape page.name.now (page_rules values.kinds page)
     values.encodings (rules_of_limits values.limits.now)
 
 -- A command of the program, before it is added.
@@ -33,6 +33,6 @@ pub record IsCommand (page : Page) (values : Values) (command : Command) : Type 
 -- The program without its commands.
 abbrev pub top_app : App
 top_app = record {
-  top = record (new_shape (codes "lspsync")) { subcommand_required = true };
+  top = record (new_shape (codes "lspsync")) { subcommand_required = true; has_version = true };
   subs = [];
 }

@@ -1,14 +1,14 @@
 //! The pages of help. They are in functions, so that proofs don't unfold them.
 
-ghost use Rattle.std.specs.Prelude.{◌≡◌, ◌∷◌, [], codes};
-ghost use Rattle.lspsync.specs.CommandLine.{detail_rules, explain_rule, limit_rules, part_rules};
-ghost use Rattle.lspsync.specs.CommandLine.{sync_rule, writing_rules};
+ghost use Rattle.std.specs.Prelude.{◌≡◌, ◌++◌, ◌∷◌, [], codes};
+ghost use Rattle.lspsync.specs.CommandLine.{detail_rules, explain_rule, limit_rules, log_rule};
+ghost use Rattle.lspsync.specs.CommandLine.{logs_rule, part_rules, server_rules, writing_rules};
 ghost use Rattle.lspsync.specs.inside.Help.{IsPage, rules_of_limits};
 
 use crate::command_line::texts::{
     AT, BODIES, CHECK, CHECK_EXAMPLE, CONVERT, CONVERT_EXAMPLE, DOCUMENTS, ENCODING, EXPLAIN,
     NORMALISE, NORMALISE_EXAMPLE, PREFERRED_ENCODING, REPLAY, REPLAY_EXAMPLE, SERVE, SERVE_EXAMPLE,
-    SQUASH, SYNC, TEXTS, TRACE, TRACE_EXAMPLE, URI,
+    SQUASH, STDIO, SYNC, TEXTS, TRACE, TRACE_EXAMPLE, URI,
 };
 use lsp_frame::Limits;
 
@@ -25,13 +25,14 @@ pub struct Page {
     pub own: OwnHelp,
 }
 
-/// The options that a command has beside those of all, with their meanings.
+/// The options that a command has beside those of all, with their meanings. But for `serve` it
+/// takes a file too.
 #[derive(Clone, Copy, Debug)]
 pub enum OwnHelp {
     /// There are none.
     Nothing,
-    /// `--sync`.
-    ChangeForm(&'static str),
+    /// `--sync` and `--stdio`.
+    Serving(ServingHelp),
     /// `--explain`.
     Explain(&'static str),
     /// `--texts` and `--bodies`.
@@ -40,6 +41,13 @@ pub enum OwnHelp {
     Part(PartHelp),
     /// `--documents` and `--squash`.
     Writing(WritingHelp),
+}
+
+/// The help of the options that say how a server talks.
+#[derive(Clone, Copy, Debug)]
+pub struct ServingHelp {
+    pub sync: &'static str,
+    pub stdio: &'static str,
 }
 
 /// The help of the options that say how a log is written.
@@ -85,19 +93,22 @@ pub fn notes() -> &'static str {
 }
 
 pub fn serve() -> Page
-    ensures { IsPage result (codes "serve") (λ kinds. sync_rule kinds ∷ []) }
+    ensures { IsPage result (codes "serve") server_rules }
 {
     Page {
         name: "serve",
         about: SERVE,
         example: SERVE_EXAMPLE,
         encoding: PREFERRED_ENCODING,
-        own: OwnHelp::ChangeForm(SYNC),
+        own: OwnHelp::Serving(ServingHelp {
+            sync: SYNC,
+            stdio: STDIO,
+        }),
     }
 }
 
 pub fn check() -> Page
-    ensures { IsPage result (codes "check") (λ _. explain_rule ∷ []) }
+    ensures { IsPage result (codes "check") (λ _. explain_rule ∷ logs_rule ∷ []) }
 {
     Page {
         own: OwnHelp::Explain(EXPLAIN),
@@ -106,7 +117,7 @@ pub fn check() -> Page
 }
 
 pub fn trace() -> Page
-    ensures { IsPage result (codes "trace") (λ _. detail_rules) }
+    ensures { IsPage result (codes "trace") (λ _. detail_rules ++ logs_rule ∷ []) }
 {
     Page {
         own: OwnHelp::Details(DetailHelp {
@@ -118,7 +129,7 @@ pub fn trace() -> Page
 }
 
 pub fn replay() -> Page
-    ensures { IsPage result (codes "replay") (λ _. part_rules) }
+    ensures { IsPage result (codes "replay") (λ _. part_rules ++ log_rule ∷ []) }
 {
     Page {
         own: OwnHelp::Part(PartHelp { at: AT, uri: URI }),
@@ -127,7 +138,7 @@ pub fn replay() -> Page
 }
 
 pub fn normalise() -> Page
-    ensures { IsPage result (codes "normalise") (λ _. writing_rules) }
+    ensures { IsPage result (codes "normalise") (λ _. writing_rules ++ log_rule ∷ []) }
 {
     Page {
         own: OwnHelp::Writing(WritingHelp {
@@ -139,14 +150,14 @@ pub fn normalise() -> Page
 }
 
 pub fn convert() -> Page
-    ensures { IsPage result (codes "convert") (λ _. []) }
+    ensures { IsPage result (codes "convert") (λ _. log_rule ∷ []) }
 {
     log_page("convert", CONVERT, CONVERT_EXAMPLE)
 }
 
 /// Returns the page of a command that reads a log.
 fn log_page(name: &'static str, about: &'static str, example: &'static str) -> Page
-    ensures { IsPage result name.now (λ _. []) }
+    ensures { IsPage result name.now (λ _. log_rule ∷ []) }
 {
     Page {
         name,
@@ -207,31 +218,39 @@ static LIMITS: LimitOptions = LimitOptions {
     lenient: LENIENT,
 };
 
-static PROGRAM: &str =
-    "Applies an editor's change messages to a copy of each open text (Language Server Protocol 3.17), and reads recorded sessions";
+static PROGRAM: &str = "Applies an editor's change messages to a copy of each open text (Language
+Server Protocol 3.17), and reads recorded sessions";
 
-static NOTES: &str =
-    "Each command reads standard input and writes standard output. A log is what an editor sent to its language
-server, byte for byte; one of version 2 has both directions. Where the editor starts `some-server`, let it
+static NOTES: &str = "A log is what an editor sent to its language server, byte for byte; one of
+version 2 has both directions. Where the editor starts `some-server`, let it
 start a script with this line, and it is recorded:
   umask 077; tee \"/tmp/session-$$.log\" | some-server \"$@\"
 
-Exit status: 0 all is well, 1 a record counts as refused (`lspsync check --help`), 2 the command line
-is wrong, 3 reading or writing failed, 4 out of memory, 5 the log is faulty. From 3 on a line on standard
-error says what, and for 5 where: `lspsync: truncated at 505` is byte 505 of the input.
+The commands on logs read a file, or standard input, and write standard output.
+`serve` reads standard input.
 
-`lspsync COMMAND --help` has the options of a command and an example to paste. The logs to try are in
-examples/, or in /usr/share/doc/laspidru/examples.
+Exit status: 0 all is well, 1 a record counts as refused (`lspsync check -h`),
+2 the command line is wrong, 3 reading or writing failed, 4 out of memory,
+5 the log is faulty. From 3 on a line on standard error says what, and for 5
+where: `lspsync: truncated at 505` is byte 505 of the input. Of a file it has
+the name and the cause too.
+
+`lspsync COMMAND --help` has the options of a command and an example to paste.
+The logs to try are in examples/, or in /usr/share/doc/laspidru/examples.
 
 lspsync 0.1.0, for rattle-kit-13f";
 
-const MAX_BODY: &str = "Greatest length of a message, in bytes, from 4096 to 1073741824";
+const MAX_BODY: &str = "Greatest length of a message, in bytes,
+from 4096 to 1073741824";
 
-const MAX_TEXT: &str = "Greatest length of a document, in bytes, up to 1073741824";
+const MAX_TEXT: &str = "Greatest length of a document, in bytes,
+up to 1073741824";
 
-const MAX_DOCS: &str = "Greatest number of open documents, from 1 to 65536";
+const MAX_DOCS: &str = "Greatest number of open documents,
+from 1 to 65536";
 
-const MAX_CHANGES: &str = "Greatest number of changes in one message, from 1 to 1048576";
+const MAX_CHANGES: &str = "Greatest number of changes in one message,
+from 1 to 1048576";
 
-const LENIENT: &str =
-    "Take each change whatever its version, and let a `didOpen` of an open document replace it";
+const LENIENT: &str = "Take each change whatever its version, and let a
+`didOpen` of an open document replace it";

@@ -6,17 +6,20 @@ ghost use Rattle.std.specs.Prelude.{IfOk};
 ghost use Rattle.clap.specs.Words.{app_of, rule_of, with_subcommand};
 ghost use Rattle.clap.specs.declared.builder.value_parser.ValueParser.TheVariants.{Names};
 ghost use Rattle.lspsync.specs.CommandLine.{IsProgram, at_rule, detail_rules, encoding_rule};
-ghost use Rattle.lspsync.specs.CommandLine.{explain_rule, flag_rule, limit_rules, option_rule};
-ghost use Rattle.lspsync.specs.CommandLine.{part_rules, sync_rule, uri_rule, writing_rules};
-ghost use Rattle.lspsync.specs.inside.Help.{own_rules, rule_of_limit, rules_of_limits};
+ghost use Rattle.lspsync.specs.CommandLine.{explain_rule, flag_rule, limit_rules, log_rule};
+ghost use Rattle.lspsync.specs.CommandLine.{logs_rule, option_rule, part_rules, server_rules};
+ghost use Rattle.lspsync.specs.CommandLine.{sync_rule, uri_rule, writing_rules};
+ghost use Rattle.lspsync.specs.inside.Help.{file_rules, own_rules, rule_of_limit};
+ghost use Rattle.lspsync.specs.inside.Help.{rules_of_limits};
 ghost use Rattle.lspsync.specs.inside.Options.{AddsRules, IsCommand, shape_by, top_app};
 
 use crate::command_line::help::{
-    self, DetailHelp, Limit, LimitOptions, OwnHelp, Page, PartHelp, WritingHelp,
+    self, DetailHelp, Limit, LimitOptions, OwnHelp, Page, PartHelp, ServingHelp, WritingHelp,
 };
+use crate::command_line::texts::{LOG, LOGS};
 use clap::builder::ValueParser;
 use clap::{Arg, ArgAction, Command};
-use lsp_program::{change_forms, encodings};
+use lsp_program::{VERSION, change_forms, encodings};
 use lsp_replay::{Details, Part};
 use lsp_server::ChangeForm;
 use std::alloc::{AllocError, Global};
@@ -56,6 +59,7 @@ fn top<'a>(alloc: Global) -> Command<'a>
     Command::new(alloc, "lspsync")
         .about(help::about())
         .after_help(help::notes())
+        .version(VERSION)
         .subcommand_required(true)
 }
 
@@ -80,6 +84,7 @@ fn command<'a>(alloc: Global, page: Page, values: Values<'a>) -> Result<Command<
         .after_help(page.example);
     let command = with_encoding(alloc, command, page.encoding, values.encodings)?;
     let command = with_own(alloc, command, page.own, values.kinds)?;
+    let command = with_file(alloc, command, page.own)?;
     with_limits(alloc, command, values.limits)
 }
 
@@ -105,7 +110,7 @@ fn with_own<'a>(
 {
     match own {
         OwnHelp::Nothing => Ok(command),
-        OwnHelp::ChangeForm(help) => with_sync(alloc, command, help, kinds),
+        OwnHelp::Serving(help) => with_serving(alloc, command, help, kinds),
         OwnHelp::Explain(help) => with_explain(alloc, command, help),
         OwnHelp::Details(help) => with_details(alloc, command, help),
         OwnHelp::Part(help) => with_part(alloc, command, help),
@@ -113,16 +118,18 @@ fn with_own<'a>(
     }
 }
 
-/// Adds `--sync`.
-fn with_sync<'a>(
+/// Adds `--sync` and `--stdio`.
+fn with_serving<'a>(
     alloc: Global,
     command: Command<'a>,
-    help: &'a str,
+    help: ServingHelp,
     kinds: &'a [&'a str],
 ) -> Result<Command<'a>, AllocError>
-    ensures { IfOk result (AddsRules command.entry (sync_rule kinds.entry ∷ [])) }
+    ensures { IfOk result (AddsRules command.entry (server_rules kinds.entry)) }
 {
-    command.arg(choice(alloc, "sync", kinds, "incremental").help(help))
+    command
+        .arg(sync_option(alloc, help.sync, kinds))?
+        .arg(flag(alloc, "stdio", help.stdio))
 }
 
 /// Adds `--documents` and `--squash`.
@@ -175,6 +182,21 @@ fn with_details<'a>(
         .arg(flag(alloc, "bodies", help.bodies))
 }
 
+/// Adds the file that the command reads, or the files.
+fn with_file<'a>(
+    alloc: Global,
+    command: Command<'a>,
+    own: OwnHelp,
+) -> Result<Command<'a>, AllocError>
+    ensures { IfOk result (AddsRules command.entry (file_rules own)) }
+{
+    match own {
+        OwnHelp::Serving(_) => Ok(command),
+        OwnHelp::Explain(_) | OwnHelp::Details(_) => command.arg(logs(alloc)),
+        OwnHelp::Nothing | OwnHelp::Part(_) | OwnHelp::Writing(_) => command.arg(log(alloc)),
+    }
+}
+
 /// Adds the options that set limits, and `--lenient`.
 fn with_limits<'a>(
     alloc: Global,
@@ -201,7 +223,32 @@ fn choice<'a>(alloc: Global, name: &'a str, names: &'a [&'a str], default: &'a s
         .long(name)
         .value_name("NAME")
         .value_parser(names)
+        .hide_possible_values(true)
         .default_value(default)
+}
+
+/// Returns `--sync`: what changes are asked for.
+fn sync_option<'a>(alloc: Global, help: &'a str, kinds: &'a [&'a str]) -> Arg<'a>
+    ensures rule { rule_of result ≡ sync_rule kinds.entry }
+    ensures global { result.global ≡ false }
+{
+    choice(alloc, "sync", kinds, "incremental").help(help)
+}
+
+/// Returns the file of a log.
+fn log<'a>(alloc: Global) -> Arg<'a>
+    ensures rule { rule_of result ≡ log_rule }
+    ensures global { result.global ≡ false }
+{
+    Arg::new(alloc, "FILE").default_value("-").help(LOG)
+}
+
+/// Returns files of logs.
+fn logs<'a>(alloc: Global) -> Arg<'a>
+    ensures rule { rule_of result ≡ logs_rule }
+    ensures global { result.global ≡ false }
+{
+    log(alloc).num_args(..).action(ArgAction::Append).help(LOGS)
 }
 
 /// Returns `--at`: a record's number, from 1.

@@ -1,118 +1,139 @@
-//! The texts of help of the commands and their options.
+//! The texts of help of the commands and their options. Lines have at most 80 columns, with what
+//! `clap` writes before an option's text, 25 columns, and after it, its default.
 
-pub static SERVE: &str =
-    "Be a language server that keeps the editor's documents and offers no other feature";
+pub static SERVE: &str = "Be a language server that keeps the editor's documents, and no more";
 
 pub static SERVE_EXAMPLE: &str =
-    "It answers `initialize` and `shutdown`, takes the documents' messages, answers every other request
-with the error `method not found`, and ends at `exit`. Put it where an editor wants a server's command. The
-status is 0 where the editor asked for `shutdown` before `exit`, else 1.
+    "It answers `initialize` and `shutdown`, takes the documents' messages, answers
+every other request with the error `method not found`, and ends at `exit`. Put
+it where an editor wants a server's command. The status is 0 where the editor
+asked for `shutdown` before `exit`, else 1.
 
-Example, which answers a recorded session; it ends before `exit`, so the status is 1:
+Example, which answers a recorded session; it ends before `exit`, so the status
+is 1:
   lspsync serve < examples/whole-text.log";
 
-pub static CHECK: &str = "Print what a server answers to each message of a log, a line for each";
+pub static CHECK: &str = "Print what a server answers to each message of a log, a line each";
 
 pub static CHECK_EXAMPLE: &str =
-    "A line has the record's number and a word: `reply` or `error CODE` for a request, `changed`,
-`dropped`, `ignored` or `refused CAUSE` for a notification, `exit 0` or `exit 1`, and `server` for
-what the server sent. A record counts as refused where its word is `refused CAUSE`, `exit 1`, or an
-`error` other than -32601. Then the status is 1.
+    "A line has the record's number and a word: `reply` or `error CODE` for a
+request, `changed`, `dropped`, `ignored` or `refused CAUSE` for a notification,
+`exit 0` or `exit 1`, and `server` for what the server sent. A record counts as
+refused where its word is `refused CAUSE`, `exit 1`, or an `error` other than
+-32601. Then the status is 1.
 
-With `--explain` the line of an error, a refusal or `exit 1` also has the document, the reason and
-the message to see; that of a suspicious message has notes. One or two last lines say what to do next.
+With `--explain` the line of an error, a refusal or `exit 1` also has the
+document, the reason and the message to see; that of a suspicious message has
+notes. One or two last lines say what to do next.
 
-Input that is faulty (F1) at offset 0 is no such log: `lspsync-log-from` makes one of what an editor wrote.
+Input that is faulty (F1) at offset 0 is no such log: `lspsync-log-from` makes
+one of what an editor wrote.
 
 Example, a session with two changes that Laspidru refuses:
-  lspsync check < examples/stale-version.log
-  lspsync check --explain < examples/stale-version.log";
+  lspsync check examples/stale-version.log
+  lspsync check --explain examples/stale-version.log";
 
-pub static TRACE: &str =
-    "Print a line of JSON for each message of a log: what it is, what a server answers, and why";
+pub static TRACE: &str = "Print each message of a log as JSON, with the answer and the reason";
 
 pub static TRACE_EXAMPLE: &str =
-    "A line has the record's `number` and `offset`, who it is `from`, its `method` and `id`, the document's
-`uri`, the `word` of `check`, the `reason` if it was refused and the `last` record that opened, closed
-or refused the document, `notes` on what is suspicious of an accepted one, the document's `version` after
-it, and the `canonical` message of an accepted change. The status is that of `check`.
+    "A line has the record's `number` and `offset`, who it is `from`, its `method`
+and `id`, the document's `uri`, the `word` of `check`, the `reason` if it was
+refused and the `last` record that opened, closed or refused the document,
+`notes` on what is suspicious of an accepted one, the document's `version` after
+it, and the `canonical` message of an accepted change. The status is that of
+`check`.
 
 Example, and the refused messages alone where `jq` is there:
-  lspsync trace < examples/stale-version.log
-  lspsync trace < examples/stale-version.log | jq -c 'select(.reason)'";
+  lspsync trace examples/stale-version.log
+  lspsync trace examples/stale-version.log | jq -c 'select(.reason)'";
 
-pub static REPLAY: &str =
-    "Print the documents that are open at the end of a log, a line of JSON for each";
+pub static REPLAY: &str = "Print the documents that are open at the end of a log, a line each";
 
 pub static REPLAY_EXAMPLE: &str =
-    "A line has the document's `languageId`, `text`, `uri` and `version`, in order of opening. The status
-is that of `check`. Nothing is printed where the log is faulty.
+    "A line of JSON has the document's `languageId`, `text`, `uri` and `version`, in
+order of opening. The status is that of `check`. Nothing is printed where the
+log is faulty.
 
-With `--at N` it is the documents after the Nth record, as `check` counts; what comes after it isn't
-read. With `--uri URI` it is that document's text alone, byte for byte, also after its `didClose`:
-the last text that it had. Where there is no such record, or the document was never open, a line on
-standard error says so, and the status is 1.
+With `--at N` it is the documents after the Nth record, as `check` counts; what
+comes after it isn't read. With `--uri URI` it is that document's text alone,
+byte for byte, also after its `didClose`: the last text that it had. Where there
+is no such record, or the document was never open, a line on standard error says
+so, and the status is 1.
 
 Example, and a document's text alone, then and after the third record:
-  lspsync replay < examples/typing.log
-  lspsync replay --uri file:///home/ada/hello.py < examples/typing.log
-  lspsync replay --uri file:///home/ada/hello.py --at 3 < examples/typing.log";
+  lspsync replay examples/typing.log
+  lspsync replay --uri file:///home/ada/hello.py examples/typing.log
+  lspsync replay --uri file:///home/ada/hello.py --at 3 examples/typing.log";
 
-pub static NORMALISE: &str =
-    "Write a log with each accepted change as the one canonical message that means the same";
+pub static NORMALISE: &str = "Write a log with each accepted change as its canonical message";
 
 pub static NORMALISE_EXAMPLE: &str =
-    "All other messages, and the refused ones, stay byte for byte. Two changes of one text of one document
-(its URI), under one version and in one encoding, get the same bytes exactly if they keep the same
-old characters and insert the same texts between them, so such logs can be compared. The status is
-that of `check`.
+    "The canonical message is the one that means the same. All other messages, and
+the refused ones, stay byte for byte. Two changes of one text of one document
+(its URI), under one version and in one encoding, get the same bytes exactly if
+they keep the same old characters and insert the same texts between them, so
+such logs can be compared. The status is that of `check`.
 
 Example, a change of the whole text, which becomes one with a range:
-  lspsync normalise < examples/whole-text.log
+  lspsync normalise examples/whole-text.log
 
-With `--documents` all messages are left out that are neither about the session nor about a document's
-text: requests for features and their answers, and most notifications. `didSave` stays, and so does
-what was refused. `replay` reports the same documents and the same status.
+With `--documents` all messages are left out that are neither about the session
+nor about a document's text: requests for features and their answers, and most
+notifications. `didSave` stays, and so does what was refused. `replay` reports
+the same documents and the same status.
 
 Example, what a person typed, as one change:
-  lspsync normalise --squash < examples/typing.log
+  lspsync normalise --squash examples/typing.log
 
-Example, what was done between two saves, of a log with a request after each key:
-  lspsync normalise --documents --squash < examples/two-saves-with-requests.log";
+Example, what was done between two saves, of a log with a request after each
+key:
+  lspsync normalise --documents --squash examples/two-saves-with-requests.log";
 
-pub static CONVERT: &str =
-    "Write a log in the format of version 2, which holds the server's replies too";
+pub static CONVERT: &str = "Write a log in the format of version 2, with the server's replies";
 
 pub static CONVERT_EXAMPLE: &str =
-    "The output begins with the line `lsp-session-log 2`. Then come the messages, each after a mark:
-`>` for the editor's, byte for byte, and `<` for the server's reply. The other commands on logs
-read both versions, `convert` reads version 1 alone. The status is that of `check`.
+    "The output begins with the line `lsp-session-log 2`. Then come the messages,
+each after a mark: `>` for the editor's, byte for byte, and `<` for the server's
+reply. The other commands on logs read both versions, `convert` reads version 1
+alone. The status is that of `check`.
 
 Example, and what its output says:
-  lspsync convert < examples/whole-text.log
-  lspsync convert < examples/whole-text.log | lspsync check";
+  lspsync convert examples/whole-text.log
+  lspsync convert examples/whole-text.log | lspsync check";
 
-pub static ENCODING: &str =
-    "What a position's character counts in this log; one of version 2 says it itself";
+pub static LOG: &str = "The log; `-` is standard input";
 
-pub static PREFERRED_ENCODING: &str =
-    "What a position's character is to count, if the editor offers it; else utf-16";
+pub static LOGS: &str = "The logs; of several each has a heading on standard error,
+and the status is the greatest. `-` is standard input";
 
-pub static SYNC: &str = "How the editor is asked to send changes: as whole texts or as ranges";
+pub static ENCODING: &str = "What a position's character counts in this log; one
+of version 2 says it itself
+(utf-8, utf-16, utf-32)";
 
-pub static DOCUMENTS: &str =
-    "Leave out each message that is neither about the session nor about a document's text";
+pub static PREFERRED_ENCODING: &str = "What a position's character is to count, if the editor
+offers it; else utf-16
+(utf-8, utf-16, utf-32)";
 
-pub static SQUASH: &str =
-    "Write changes of one document that follow each other as one message, as between two saves";
+pub static SYNC: &str = "How the editor is asked to send changes: as whole texts
+or as ranges (full, incremental)";
+
+pub static STDIO: &str = "Changes nothing: it talks by standard input and output";
+
+pub static DOCUMENTS: &str = "Leave out each message that is neither about the
+session nor about a document's text";
+
+pub static SQUASH: &str = "Write changes of one document that follow each other as
+one message, as between two saves";
 
 pub static AT: &str = "Replay up to the Nth record alone, from 1";
 
-pub static URI: &str = "Print this document's last text alone, as it is, also if it was closed";
+pub static URI: &str = "Print this document's last text alone, as it is, also
+if it was closed";
 
-pub static EXPLAIN: &str =
-    "Print why a message was refused or what is suspicious too, and at the end what to do next";
+pub static EXPLAIN: &str = "Print why a message was refused or what is suspicious
+too, and at the end what to do next";
 
-pub static TEXTS: &str = "Print the document's text too, where a message opened or changed it";
+pub static TEXTS: &str = "Print the document's text too, where a message opened
+or changed it";
 
 pub static BODIES: &str = "Print each message too, where it is JSON";

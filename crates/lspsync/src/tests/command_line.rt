@@ -2,48 +2,80 @@
 
 use super::*;
 use crate::command_line::{self, parse};
+use lsp_program::VERSION;
 use lsp_replay::Settings;
 use lsp_server::Config;
 use std::str;
 use std::test::Fail;
 
-static WRONG: [&[&str]; 24] = [
-    &["lspsync"],
-    &["lspsync", "rewrite"],
-    &["lspsync", "--max-body", "4096", "check"],
-    &["lspsync", "help", "rewrite"],
-    &["lspsync", "check", "session.log"],
-    &["lspsync", "check", "--sync", "full"],
-    &["lspsync", "normalise", "--squash", "--squash"],
-    &["lspsync", "normalise", "--squash=yes"],
-    &["lspsync", "serve", "--lenient=yes"],
-    &["lspsync", "trace", "--bodies=yes"],
-    &["lspsync", "serve", "--squash"],
-    &["lspsync", "check", "--squash"],
-    &["lspsync", "replay", "--squash"],
-    &["lspsync", "serve", "--sync"],
-    &["lspsync", "replay", "--encoding", "utf-7"],
-    &["lspsync", "replay", "--encoding", "UTF-8"],
-    &["lspsync", "check", "--max-body"],
-    &["lspsync", "check", "--max-text", "1073741825"],
-    &["lspsync", "check", "--max-docs", "0"],
-    &["lspsync", "check", "--max-docs", "65537"],
-    &["lspsync", "check", "--max-changes", "x"],
-    &["lspsync", "normalise", "--uri", "file:///a"],
-    &["lspsync", "replay", "--at", "0"],
-    &["lspsync", "replay", "--at", "x"],
+static WRONG: [&str; 29] = [
+    "lspsync",
+    "lspsync rewrite",
+    "lspsync --max-body 4096 check",
+    "lspsync help rewrite",
+    "lspsync serve session.log",
+    "lspsync replay one.log two.log",
+    "lspsync check --version",
+    "lspsync --version=yes",
+    "lspsync serve --stdio --stdio",
+    "lspsync check --stdio",
+    "lspsync check --sync full",
+    "lspsync normalise --squash --squash",
+    "lspsync normalise --squash=yes",
+    "lspsync serve --lenient=yes",
+    "lspsync trace --bodies=yes",
+    "lspsync serve --squash",
+    "lspsync check --squash",
+    "lspsync replay --squash",
+    "lspsync serve --sync",
+    "lspsync replay --encoding utf-7",
+    "lspsync replay --encoding UTF-8",
+    "lspsync check --max-body",
+    "lspsync check --max-text 1073741825",
+    "lspsync check --max-docs 0",
+    "lspsync check --max-docs 65537",
+    "lspsync check --max-changes x",
+    "lspsync normalise --uri file:///a",
+    "lspsync replay --at 0",
+    "lspsync replay --at x",
 ];
 
-/// Returns whether a call with these words is refused, by a text on standard error.
-fn is_wrong(alloc: Global, words: &[&str]) -> Result<bool, AllocError> {
-    let answer = ran(alloc, words, b"")?;
-    Ok(answer.status == 2 && answer.output.is_empty() && !answer.errors.is_empty())
+/// Words, and what is said of an option that other commands have, or that none has.
+static MISPLACED: [(&str, &str); 7] = [
+    ("lspsync check --at 3", "'--at' is an option of replay\n"),
+    (
+        "lspsync check --explain a --sync=full",
+        "'--sync' is an option of serve\n",
+    ),
+    ("lspsync --at 3 replay", "'--at' is an option of replay\n"),
+    (
+        "lspsync --lenient",
+        "of serve, check, trace, replay, normalise, convert\n",
+    ),
+    ("lspsync check --att", "unexpected argument '--att'"),
+    ("lspsync check -x", "unexpected argument '-x'"),
+    (
+        "lspsync replay a -- --explain",
+        "unexpected argument '--explain'",
+    ),
+];
+
+/// Returns whether a call with these words is refused, by a text on standard error that has this in
+/// it.
+fn is_wrong(alloc: Global, words: &str, said: &str) -> Result<bool, Fail> {
+    let words: Vec<&str> = words.split(' ').collect(alloc)?;
+    let answer = ran(alloc, &words, b"")?;
+    let text = str::from_utf8(&answer.errors)?;
+    Ok(answer.status == 2 && answer.output.is_empty() && text.contains(said))
 }
 
 #[test]
 fn a_wrong_command_line_has_a_text_and_status_2(rt: HostRuntime) -> Result<(), Fail> {
     for words in &WRONG {
-        assert!(rt; is_wrong(rt.alloc(), words)?, "at {words:?}");
+        assert!(rt; is_wrong(rt.alloc(), words, "\n")?, "at {words:?}");
+    }
+    for (words, said) in &MISPLACED {
+        assert!(rt; is_wrong(rt.alloc(), words, said)?, "at {words:?}");
     }
     Ok(())
 }
@@ -52,16 +84,18 @@ static COMMANDS: [&str; 6] = ["serve", "check", "trace", "replay", "normalise", 
 
 /// Returns whether these words are this call.
 fn is_call<'a>(alloc: Global, words: &'a [&'a str], wanted: command_line::Call) -> bool {
-    let Ok(found) = parse(alloc, words) else {
+    let Ok(Some(found)) = parse(alloc, words) else {
         return false;
     };
-    found == Some(wanted)
+    found.len() == 1 && found[0].call == wanted && found[0].file.is_none()
 }
 
 #[test]
 fn a_call_without_options_has_the_defaults(rt: HostRuntime) -> Result<(), Fail> {
     let serve = command_line::Call::Serve(Config::default());
     assert!(rt; is_call(rt.alloc(), &["lspsync", "serve"], serve));
+    let serve = command_line::Call::Serve(Config::default());
+    assert!(rt; is_call(rt.alloc(), &["lspsync", "serve", "--stdio"], serve));
     let documents = command_line::Call::NormaliseDocuments(Settings::default());
     let words = ["lspsync", "normalise", "--documents"];
     assert!(rt; is_call(rt.alloc(), &words, documents));
@@ -110,13 +144,31 @@ static STATUSES: [&str; 6] = [
 fn names_each(alloc: Global, words: &[&str]) -> Result<bool, Fail> {
     let output = help(alloc, words)?;
     let text = str::from_utf8(&output)?;
-    Ok(has_all(text, &COMMANDS) && has_all(text, &STATUSES))
+    Ok(has_all(text, &COMMANDS) && has_all(text, &STATUSES) && is_narrow(text))
+}
+
+/// Returns whether a text fits a terminal of 80 columns.
+fn is_narrow(text: &str) -> bool {
+    text.lines().all(|line| line.len() <= 80)
 }
 
 #[test]
 fn help_names_each_command_and_status(rt: HostRuntime) -> Result<(), Fail> {
     for words in &HELP {
         assert!(rt; names_each(rt.alloc(), words)?, "at {words:?}");
+    }
+    Ok(())
+}
+
+#[test]
+fn the_version_is_printed(rt: HostRuntime) -> Result<(), Fail> {
+    let version = format!(in rt.alloc(); "lspsync {VERSION}\n")?;
+    for option in ["--version", "-V"] {
+        let words = ["lspsync", option];
+        assert!(rt;
+            answers(rt.alloc(), &words, b"", 0, version.as_bytes())?,
+            "at {option}"
+        );
     }
     Ok(())
 }
@@ -136,10 +188,11 @@ static DEFAULTS: [&str; 3] = ["[default: 16777216]", "[default: 1024]", "[defaul
 /// Returns whether the help of a command has its options with their defaults, and an example of its
 /// call.
 fn has_options(alloc: Global, command: &str, words: &[&str]) -> Result<bool, Fail> {
-    let example = format!(in alloc; "  lspsync {command} < examples/")?;
+    let before = if command == "serve" { "< " } else { "" };
+    let example = format!(in alloc; "  lspsync {command} {before}examples/")?;
     let output = help(alloc, words)?;
     let text = str::from_utf8(&output)?;
-    if !text.contains(example.as_str()) || !has_all(text, &OPTIONS) {
+    if !text.contains(example.as_str()) || !has_all(text, &OPTIONS) || !is_narrow(text) {
         return Ok(false);
     }
     Ok(has_all(text, &DEFAULTS) && text.contains("--sync") == (command == "serve"))

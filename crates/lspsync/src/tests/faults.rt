@@ -1,7 +1,7 @@
 //! The line and the status of each fault.
 
 use super::*;
-use crate::run::{refuse, report};
+use crate::ends::{refuse, report};
 use lsp_frame::FrameFault;
 use lsp_replay::EngineFault;
 use std::io::ErrorKind;
@@ -36,14 +36,16 @@ static REPORTS: [(EngineFault, u8, &str); 8] = [
 
 /// Returns whether a fault is reported with this status, in this line.
 fn is_reported(alloc: Global, fault: EngineFault, status: u8, line: &str) -> bool {
-    let mut errors = Vec::new(alloc);
-    report(fault, &mut errors).status == status && errors.as_slice() == line.as_bytes()
+    let mut errors = Told::new(Vec::new(alloc));
+    let ending = report(fault, &mut errors).status;
+    ending == status && errors.into_inner().as_slice() == line.as_bytes()
 }
 
 /// Returns whether words that can't be read are refused with this status, in this line.
 fn is_refused(alloc: Global, kind: ErrorKind, status: u8, line: &str) -> bool {
-    let mut errors = Vec::new(alloc);
-    refuse(kind, &mut errors).status == status && errors.as_slice() == line.as_bytes()
+    let mut errors = Told::new(Vec::new(alloc));
+    let ending = refuse(kind, &mut errors).status;
+    ending == status && errors.into_inner().as_slice() == line.as_bytes()
 }
 
 #[test]

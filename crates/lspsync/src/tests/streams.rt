@@ -6,8 +6,6 @@ use lsp_samples::bodies::{INITIALIZE, OPEN, WHOLE};
 use lsp_samples::logs::log;
 use std::test::Fail;
 
-const ALL: CallEnd = Take(usize::MAX);
-
 const READ_FAULT: &str = "lspsync: read fault\n";
 
 const WRITE_FAULT: &str = "lspsync: write fault\n";

@@ -1,6 +1,6 @@
-use Rattle.std.specs.Prelude.{◌∷◌, [], codes}
+use Rattle.std.specs.Prelude.{◌++◌, ◌∷◌, [], codes}
 use Rattle.clap.specs.Words.{app_of}
-use Rattle.lspsync.specs.CommandLine.{detail_rules, explain_rule, part_rules, sync_rule, writing_rules}
+use Rattle.lspsync.specs.CommandLine.{detail_rules, explain_rule, log_rule, logs_rule, part_rules, server_rules, writing_rules}
 use Rattle.lspsync.specs.declared.command_line.options.Values.{Values}
 use Rattle.lspsync.proofs.ProgramLemmas.{program_is, puts}
 use Rattle.lspsync.proofs.command_line.options.program.Goals as goal
@@ -13,15 +13,15 @@ returns c same =
       limits = c.args.limits;
     } in
     let one = puts _ (app_of c.in_ok-program.program) _ c.serve.result values (codes "serve")
-    (λ kinds. sync_rule kinds ∷ []) c.serve.ensures same c.in_ok-program.ensures c.top.ensures in
-    let two = puts _ (app_of c.in_ok-program-2.program) _ c.check.result values (codes "check") (λ _. explain_rule ∷ [])
-    c.check.ensures same c.in_ok-program-2.ensures one in
-    let three = puts _ (app_of c.in_ok-program-3.program) _ c.trace.result values (codes "trace") (λ _. detail_rules)
-    c.trace.ensures same c.in_ok-program-3.ensures two in
-    let four = puts _ (app_of c.in_ok-program-4.program) _ c.replay.result values (codes "replay") (λ _. part_rules)
-    c.replay.ensures same c.in_ok-program-4.ensures three in
+    server_rules c.serve.ensures same c.in_ok-program.ensures c.top.ensures in
+    let two = puts _ (app_of c.in_ok-program-2.program) _ c.check.result values (codes "check")
+    (λ _. explain_rule ∷ logs_rule ∷ []) c.check.ensures same c.in_ok-program-2.ensures one in
+    let three = puts _ (app_of c.in_ok-program-3.program) _ c.trace.result values (codes "trace")
+    (λ _. detail_rules ++ logs_rule ∷ []) c.trace.ensures same c.in_ok-program-3.ensures two in
+    let four = puts _ (app_of c.in_ok-program-4.program) _ c.replay.result values (codes "replay")
+    (λ _. part_rules ++ log_rule ∷ []) c.replay.ensures same c.in_ok-program-4.ensures three in
     let five = puts _ (app_of c.in_ok-program-5.program) _ c.normalise.result values (codes "normalise")
-    (λ _. writing_rules) c.normalise.ensures same c.in_ok-program-5.ensures four in
+    (λ _. writing_rules ++ log_rule ∷ []) c.normalise.ensures same c.in_ok-program-5.ensures four in
     program_is _ c.convert.result values c.with_command-6.result c.encodings.ensures c.change_forms.ensures
     c.convert.ensures
     same c.with_command-6.ensures five

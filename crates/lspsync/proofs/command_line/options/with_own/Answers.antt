@@ -1,4 +1,4 @@
 use Rattle.lspsync.proofs.command_line.options.with_own.Goals as goal
 
-pub returns-in-ChangeForm : goal.returns-in-ChangeForm
-returns-in-ChangeForm c = rw c.in-ChangeForm.is c.with_sync.ensures
+pub returns-in-Serving : goal.returns-in-Serving
+returns-in-Serving c = rw c.in-Serving.is c.with_serving.ensures

@@ -1,0 +1,40 @@
+-- Lines on standard error, piece by piece, and the end of a run over a file.
+use Rattle.std.proofs.Common.{◌≡◌, ◌⊎◌, inl, inr, ℕ, List, ◌++◌, Option, codes, Err, ap, sym, ◌∙◌, append_assoc}
+use Rattle.lsp_frame.specs.declared.fault.FrameFault.{FrameFault}
+use Rattle.lsp_stream.specs.declared.fault.EngineFault.{EngineFault}
+use Rattle.lsp_stream.specs.declared.fault.EngineFault.TheVariants as engine
+use Rattle.lsp_stream.specs.Ports.{WriterState}
+use Rattle.lspsync.specs.declared.ends.Ending.{Ending}
+use Rattle.lspsync.specs.FaultText.{fault_cause}
+use Rattle.lspsync.specs.Run.{IsBlamed, IsFileEnding}
+
+-- The line of a fault.
+pub fault_pieces : (start text place end whole : List ℕ) → whole ≡ text ++ place
+    → start ++ (text ++ (place ++ end)) ≡ start ++ (whole ++ end)
+fault_pieces start text place end whole is =
+    ap (λ z. start ++ z) (sym (append_assoc text place end) ∙ ap (λ z. z ++ end) (sym is))
+
+-- The line of a fault of a file.
+pub blame_pieces : (start name sep text place cause page end whole : List ℕ) → whole ≡ text ++ place
+    → start ++ (name ++ (sep ++ (text ++ (place ++ (sep ++ (cause ++ (page ++ end)))))))
+    ≡ start ++ (name ++ (sep ++ ((whole ++ (sep ++ (cause ++ page))) ++ end)))
+blame_pieces start name sep text place cause page end whole is = rw is (simp append_assoc)
+
+-- That line, and one more.
+pub hint_pieces : (start name sep text place cause page end whole more : List ℕ) → whole ≡ text ++ place
+    → start ++ (name ++ (sep ++ (text ++ (place ++ (sep ++ (cause ++ (page ++ (end ++ more))))))))
+    ≡ (start ++ (name ++ (sep ++ ((whole ++ (sep ++ (cause ++ page))) ++ end)))) ++ more
+hint_pieces start name sep text place cause page end whole more is = rw is (simp append_assoc)
+
+-- A fault of a file is reported as its cause says, one of reading as that of standard input.
+pub file_ending : (name : List ℕ) (fault : EngineFault) (before after : WriterState) (ending : Ending)
+    → IsBlamed name fault (fault_cause fault) before after ending
+    → IsFileEnding name (Err fault) before after ending
+file_ending name engine.Read before after ending blamed = inr blamed
+file_ending name engine.Write before after ending blamed = blamed
+file_ending name (engine.Frame fault) before after ending blamed = blamed
+file_ending name (engine.Truncated place) before after ending blamed = blamed
+file_ending name (engine.BodyTooLong place) before after ending blamed = blamed
+file_ending name engine.NoMemory before after ending blamed = blamed
+file_ending name engine.TooManyTurns before after ending blamed = blamed
+file_ending name (engine.BadLog place) before after ending blamed = blamed

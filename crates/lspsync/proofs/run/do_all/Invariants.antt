@@ -1,0 +1,17 @@
+use Rattle.std.specs.Vec.Iter.{into_iter_items}
+use Rattle.lsp_program.specs.Output.{Streams, streams}
+use Rattle.lspsync.specs.Run.{AreDone, nothing_yet}
+use Rattle.lspsync.specs.declared.ends.Ending.{Ending}
+use Rattle.lspsync.proofs.run.do_all.Given as goal
+
+-- Who does the tasks that are left has done all.
+abbrev pub invariant-loop-task : goal.invariant-loop-task
+invariant-loop-task g l = record {
+  going : (goal.iterator-loop-task g).can_next l.task-iterator;
+  finite : (goal.iterator-loop-task g).is_finite l.task-iterator;
+  rest : (after : Streams) (ending : Ending)
+      → AreDone (g.F.Folder.bytes l.folder) l.is_headed l.ending (into_iter_items l.task-iterator)
+      (streams (g.R.Source.seen l.input) (g.W.Sink.seen l.output) (g.E.Sink.seen l.errors)) after ending
+      → AreDone (g.F.Folder.bytes l.folder) l.is_headed nothing_yet l.fn.tasks.items
+      (streams (g.R.Source.seen l.fn.input) (g.W.Sink.seen l.fn.output) (g.E.Sink.seen l.fn.errors)) after ending;
+}

@@ -1,0 +1,133 @@
+//! How a run ends: its status, and what is printed of it on standard error.
+
+ghost use Rattle.std.specs.Prelude.{◌≡◌, ◌≢◌, None, codes, false, option_map};
+ghost use Rattle.lsp_program.specs.Output.{IsPrinted};
+ghost use Rattle.lspsync.specs.Run.{Ends, IsFaultEnd, IsOutcomeEnd, both_ends, error_line};
+ghost use Rattle.lspsync.specs.Run.{is_write_fault, missing_text, status_of};
+
+use crate::fault_text::text_of;
+use itoa::Buffer;
+use lsp_program::{BAD_INPUT, OUT_OF_MEMORY, STREAM_FAULT, USAGE, digits, print};
+use lsp_replay::{EngineFault, Missing, Outcome, Sink};
+use std::io::ErrorKind;
+
+/// The end of the program, or of a part of it.
+#[derive(Drop)]
+pub struct Ending {
+    /// The exit status.
+    pub status: u8,
+    /// Whether all lines on standard error could be printed.
+    pub printed: Result<(), EngineFault>,
+    /// Whether the output failed. Then nothing more is written.
+    pub output_failed: bool,
+}
+
+impl Ending {
+    /// Makes an end whose output didn't fail.
+    pub fn new(status: u8, printed: Result<(), EngineFault>) -> Ending
+        ensures { result ≡ record { status = status; printed = printed; output_failed = false } }
+    {
+        Ending {
+            status,
+            printed,
+            output_failed: false,
+        }
+    }
+}
+
+/// Joins the ends of two parts: the greater status, and the first failure to print.
+pub fn both(first: Ending, second: Ending) -> Ending
+    ensures { result ≡ both_ends first second }
+{
+    Ending {
+        status: first.status.max(second.status),
+        printed: first.printed.and(second.printed),
+        output_failed: second.output_failed,
+    }
+}
+
+/// Ends with an outcome's status. If something is missing that was asked for, a line says what, with
+/// the name of the file.
+pub fn end_well<E: Sink>(name: Option<&str>, outcome: Outcome, errors: &mut E) -> Ending
+    ensures { IsOutcomeEnd (option_map (λ name. name.now) name.entry) outcome
+        (E.seen errors.old) (E.seen errors.new) result }
+{
+    match outcome.missing {
+        None => Ending::new(outcome.status, Ok(())),
+        Some(missing) => say(outcome.status, name, missing_text(missing), errors),
+    }
+}
+
+/// Returns what a part of a log lacks.
+fn missing_text(missing: Missing) -> &'static str
+    ensures { result.now ≡ missing_text missing }
+{
+    match missing {
+        Missing::Record => "the log has no record of this number",
+        Missing::Document => "the document was never open",
+    }
+}
+
+/// Ends with a status, and prints a line, about a file if one is named.
+pub fn say<E: Sink>(status: u8, name: Option<&str>, what: &str, errors: &mut E) -> Ending
+    ensures { Ends status (error_line (option_map (λ name. name.now) name.entry) what.now) false
+        (E.seen errors.old) (E.seen errors.new) result }
+{
+    match name {
+        Some(name) => Ending::new(
+            status,
+            print(errors, &["lspsync: ", name, ": ", what, "\n"]),
+        ),
+        None => Ending::new(status, print(errors, &["lspsync: ", what, "\n"])),
+    }
+}
+
+/// Prints why the words of the command line can't be read: out of memory, or a word that isn't
+/// UTF-8.
+pub fn refuse<E: Sink>(kind: ErrorKind, errors: &mut E) -> Ending
+    ensures memory { kind ≡ ErrorKind.OutOfMemory →
+        IsFaultEnd EngineFault.NoMemory (E.seen errors.old) (E.seen errors.new) result }
+    ensures words { kind ≢ ErrorKind.OutOfMemory →
+        Ends 2 (error_line None (codes "the command line is not UTF-8")) false
+        (E.seen errors.old) (E.seen errors.new) result }
+{
+    if kind == ErrorKind::OutOfMemory {
+        return report(EngineFault::NoMemory, errors);
+    }
+    say(USAGE, None, "the command line is not UTF-8", errors)
+}
+
+/// Prints the line of a fault, and ends with its status.
+pub fn report<E: Sink>(fault: EngineFault, errors: &mut E) -> Ending
+    ensures { IsFaultEnd fault (E.seen errors.old) (E.seen errors.new) result }
+{
+    let mut buffer = Buffer::new();
+    let (text, place) = text_of(fault);
+    let place = digits(place, &mut buffer);
+    let printed = print(errors, &["lspsync: ", text, place, "\n"]);
+    Ending {
+        status: status_of(fault),
+        printed,
+        output_failed: is_write_fault(fault),
+    }
+}
+
+fn is_write_fault(fault: EngineFault) -> bool
+    ensures { result ≡ is_write_fault fault }
+{
+    matches!(fault, EngineFault::Write)
+}
+
+/// Returns the status of a fault.
+pub fn status_of(fault: EngineFault) -> u8
+    ensures { result ≡ status_of fault }
+{
+    match fault {
+        EngineFault::Read | EngineFault::Write | EngineFault::TooManyTurns => STREAM_FAULT,
+        EngineFault::NoMemory => OUT_OF_MEMORY,
+        EngineFault::Frame(_)
+        | EngineFault::Truncated { .. }
+        | EngineFault::BodyTooLong { .. }
+        | EngineFault::BadLog { .. } => BAD_INPUT,
+    }
+}

@@ -1,0 +1,166 @@
+//! Files of logs, by their names.
+
+ghost use Rattle.std.specs.Prelude.{◌++◌, IfOk, List, Option, false, option_map, ℕ};
+ghost use Rattle.std.specs.Io.KnownBytes.{Keeps};
+ghost use Rattle.lsp_program.specs.Output.{IsPrinted};
+ghost use Rattle.lspsync.specs.FaultText.{fault_text};
+ghost use Rattle.lspsync.specs.Run.{Ends, IsFileDone, IsFileEnding, IsUnreadable, blame_lines};
+ghost use Rattle.lspsync.specs.Run.{status_of};
+
+use crate::beginning::hint;
+use crate::command_line::Call;
+use crate::ends::{Ending, end_well, report, say, status_of};
+use crate::fault_text::{cause_of, text_of};
+use crate::run::perform;
+use itoa::Buffer;
+use lsp_program::{STREAM_FAULT, digits, print};
+use lsp_replay::{EngineFault, Outcome, Sink, Told};
+use std::alloc::Global;
+use std::io::{self, Read};
+
+/// Opens files by name.
+pub trait Folder {
+    // What is known of the bytes of a file, by its name.
+    ghost bytes: { Self → List ℕ → Option (List ℕ) };
+
+    type File: Read + Drop;
+
+    /// Opens a file to be read from its beginning on.
+    fn open(&self, name: &str) -> io::Result<Self::File>
+        ensures { IfOk result (λ file. Keeps (bytes self.now name.now) (Self.File.remaining file)) };
+}
+
+/// How many bytes of a log's beginning are kept.
+const KEPT: usize = 64;
+
+/// A log that is read from a file. It keeps what is said of a faulty one: the first bytes, and the
+/// last error of a read.
+#[derive(Drop)]
+struct LogFile<T> {
+    file: T,
+    first: Vec<u8>,
+    error: Option<io::Error>,
+}
+
+impl<T: Read> Read for LogFile<T> {
+    ghost remaining = { λ log. T.remaining log.file };
+
+    fn read(&mut self, buf: &mut [u8]) -> io::Result<usize> {
+        let answer = self.file.read(buf);
+        match &answer {
+            Ok(count) => keep(&mut self.first, &buf[..*count]),
+            Err(error) => self.error = Some(*error),
+        }
+        answer
+    }
+}
+
+/// Keeps bytes that were read, as far as they are among the first. Without memory it keeps none.
+fn keep(first: &mut Vec<u8>, bytes: &[u8]) {
+    let room = KEPT.saturating_sub(first.len());
+    let _ = first.extend_from_slice(&bytes[..room.min(bytes.len())]);
+}
+
+/// Runs the engine that a call names over a file, and flushes the output.
+pub fn run_file<F: Folder, W: Sink, E: Sink>(
+    alloc: Global,
+    call: Call,
+    name: &str,
+    folder: &F,
+    output: &mut W,
+    errors: &mut E,
+) -> Ending
+    ensures { IsFileDone call name.now (F.bytes folder.now name.now)
+        (W.seen output.old) (W.seen output.new)
+        (E.seen errors.old) (E.seen errors.new) result }
+{
+    match folder.open(name) {
+        Ok(file) => {
+            let mut log = Told::new(LogFile {
+                file,
+                first: Vec::new(alloc),
+                error: None,
+            });
+            let answer = perform(alloc, call, &mut log, output);
+            end_file(alloc, name, &log.into_inner(), answer, errors)
+        }
+        Err(error) => unreadable(alloc, name, error, errors),
+    }
+}
+
+/// Ends with the outcome of a run over a file, or reports its fault.
+fn end_file<T, E: Sink>(
+    alloc: Global,
+    name: &str,
+    log: &LogFile<T>,
+    answer: Result<Outcome, EngineFault>,
+    errors: &mut E,
+) -> Ending
+    ensures { IsFileEnding name.now answer (E.seen errors.old) (E.seen errors.new) result }
+{
+    match (answer, log.error) {
+        (Ok(outcome), _) => end_well(Some(name), outcome, errors),
+        (Err(EngineFault::Read), Some(error)) => unreadable(alloc, name, error, errors),
+        (Err(fault), _) => match cause_of(fault) {
+            Some(cause) => blame(name, fault, cause, &log.first, errors),
+            None => report(fault, errors),
+        },
+    }
+}
+
+/// Prints why a file can't be opened or read.
+fn unreadable<E: Sink>(alloc: Global, name: &str, error: io::Error, errors: &mut E) -> Ending
+    ensures { IsUnreadable name.now (E.seen errors.old) (E.seen errors.new) result }
+{
+    match format!(in alloc; "{error}") {
+        Ok(reason) => say(STREAM_FAULT, Some(name), reason.as_str(), errors),
+        Err(_) => report(EngineFault::NoMemory, errors),
+    }
+}
+
+/// Prints the fault of a log and its cause, and what the log seems to be by its first bytes.
+fn blame<E: Sink>(
+    name: &str,
+    fault: EngineFault,
+    cause: &str,
+    first: &[u8],
+    errors: &mut E,
+) -> Ending
+    ensures { (hint : Option (List ℕ)) × Ends (status_of fault)
+        (blame_lines name.now (fault_text fault) cause.now hint) false
+        (E.seen errors.old) (E.seen errors.new) result }
+{
+    let mut buffer = Buffer::new();
+    let (text, place) = text_of(fault);
+    let place = digits(place, &mut buffer);
+    let printed = print_blame(name, text, place, cause, hint(first), errors);
+    Ending::new(status_of(fault), printed)
+}
+
+/// Prints a fault's text, its place and its cause, and what the log seems to be.
+fn print_blame<E: Sink>(
+    name: &str,
+    text: &str,
+    place: &str,
+    cause: &str,
+    hint: Option<&str>,
+    errors: &mut E,
+) -> Result<(), EngineFault>
+    ensures { IsPrinted (blame_lines name.now (text.now ++ place.now) cause.now
+        (option_map (λ hint. hint.now) hint.entry)) (E.seen errors.old) (E.seen errors.new) result }
+{
+    let (start, page, end) = ("lspsync: ", " (docs/PROTOCOL.md#codes)", "\n");
+    match hint {
+        Some(hint) => print(
+            errors,
+            &[
+                start, name, ": ", text, place, ": ", cause, page, end, start, name, ": ", hint,
+                end,
+            ],
+        ),
+        None => print(
+            errors,
+            &[start, name, ": ", text, place, ": ", cause, page, end],
+        ),
+    }
+}

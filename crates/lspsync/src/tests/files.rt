@@ -1,0 +1,103 @@
+//! Logs by the names of their files.
+
+use super::*;
+use crate::process::Announced;
+use lsp_replay::CallEnd::{Fail as Fails, Take};
+use lsp_samples::bodies::{INITIALIZE, OPEN, WHOLE};
+use lsp_samples::logs::log;
+use std::io::Read;
+use std::test::Fail;
+
+/// What `check` prints of a good log, of its first two records, and of the log twice.
+const GOOD: &str = "1 reply\n2 changed\n3 changed\n";
+
+const TWO: &str = "1 reply\n2 changed\n";
+
+const TWICE: &str = "1 reply\n2 changed\n3 changed\n1 reply\n2 changed\n3 changed\n";
+
+const GONE: &str = "lspsync: gone.log: entity not found\n";
+
+const BETWEEN: &str =
+    "==> good.log <==\n==> gone.log <==\nlspsync: gone.log: entity not found\n==> standard input <==\n";
+
+const CUT: &str =
+    "lspsync: cut.log: truncated at 400: the log ends inside a message (docs/PROTOCOL.md#codes)\n";
+
+const NVIM: &str =
+    "lspsync: nvim.log: frame fault F1 at 8: no header can have this byte here (docs/PROTOCOL.md#codes)\nlspsync: nvim.log: a log of Neovim; bin/log-from makes a session of it\n";
+
+const BARE: &str =
+    "lspsync: bare.log: frame fault F1 at 17: no header can have this byte here (docs/PROTOCOL.md#codes)\nlspsync: bare.log: its lines end in LF alone, where those of a header end in CR LF\n";
+
+const BROKEN: &str = "lspsync: broken.log: a call that was to fail\n";
+
+const NO_URI: &str = "lspsync: good.log: the document was never open\n";
+
+/// Words, the status, the output, and what is printed on standard error.
+static ROWS: [(&str, u8, &str, &str); 9] = [
+    ("lspsync check good.log", 0, GOOD, ""),
+    ("lspsync check -", 0, GOOD, ""),
+    ("lspsync check -- gone.log", 3, "", GONE),
+    ("lspsync check broken.log", 3, TWO, BROKEN),
+    ("lspsync check cut.log", 5, TWO, CUT),
+    ("lspsync normalise nvim.log", 5, "", NVIM),
+    ("lspsync trace bare.log", 5, "", BARE),
+    ("lspsync replay --uri=file:///b good.log", 1, "", NO_URI),
+    (
+        "lspsync check good.log --lenient gone.log -",
+        3,
+        TWICE,
+        BETWEEN,
+    ),
+];
+
+/// Returns whether a row's words have the row's status, output and lines on standard error.
+fn is_answered(alloc: Global, row: &(&str, u8, &str, &str)) -> Result<bool, AllocError> {
+    let (words, status, output, errors) = *row;
+    let words: Vec<&str> = words.split(' ').collect(alloc)?;
+    let good = log(alloc, &[INITIALIZE, OPEN, WHOLE])?;
+    let cut = Vec::from_slice(alloc, good.get(..400).unwrap_or(&[]))?;
+    let files: [Held<'_>; 5] = [
+        ("bare.log", b"Content-Length: 2\n\n{}", &[]),
+        ("good.log", &good, &[Take(1), Take(30)]),
+        ("cut.log", &cut, &[]),
+        ("broken.log", &good, &[Take(350), Fails]),
+        ("nvim.log", b"[START][ LSP logging", &[Take(1), Take(2)]),
+    ];
+    let answer = shelved(alloc, &words, &files, &good, &[], &[])?;
+    Ok(answer.is(status, output.as_bytes(), errors))
+}
+
+#[test]
+fn files_are_read_by_name(rt: HostRuntime) -> Result<(), Fail> {
+    for row in &ROWS {
+        assert!(rt; is_answered(rt.alloc(), row)?, "at {:?}", row.0);
+    }
+    Ok(())
+}
+
+#[test]
+fn a_failed_output_ends_the_run(rt: HostRuntime) -> Result<(), Fail> {
+    let good = log(rt.alloc(), &[INITIALIZE, OPEN, WHOLE])?;
+    let files: [Held<'_>; 1] = [("a.log", &good, &[])];
+    let words = ["lspsync", "check", "a.log", "a.log"];
+    let answer = shelved(rt.alloc(), &words, &files, b"", &[], &[Take(5), Fails])?;
+    assert!(rt; answer.is(3, b"1 rep", "==> a.log <==\nlspsync: write fault\n"));
+    Ok(())
+}
+
+#[test]
+fn a_terminal_is_told_that_it_is_read(rt: HostRuntime) -> Result<(), Fail> {
+    for (is_due, said) in [(true, "lspsync: reading standard input\n"), (false, "")] {
+        let mut errors = Vec::new(rt.alloc());
+        let mut text = Vec::new(rt.alloc());
+        let mut reader = Announced {
+            input: &b"ab"[..],
+            errors: &mut errors,
+            is_due,
+        };
+        assert_eq!(rt; reader.read_to_end(&mut text)?, 2);
+        assert!(rt; errors.as_slice() == said.as_bytes(), "{is_due}");
+    }
+    Ok(())
+}
