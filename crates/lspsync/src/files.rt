@@ -1,6 +1,6 @@
 //! Files of logs, by their names.
 
-ghost use Rattle.std.specs.Prelude.{◌++◌, IfOk, List, Option, false, option_map, ℕ};
+ghost use Rattle.std.specs.Prelude.{◌++◌, Err, IfOk, List, Option, false, option_map, ℕ};
 ghost use Rattle.std.specs.Io.KnownBytes.{Keeps};
 ghost use Rattle.lsp_program.specs.Output.{IsPrinted};
 ghost use Rattle.lspsync.specs.FaultText.{fault_text};
@@ -98,10 +98,25 @@ fn end_file<T, E: Sink>(
 ) -> Ending
     ensures { IsFileEnding name.now answer (E.seen errors.old) (E.seen errors.new) result }
 {
-    match (answer, log.error) {
-        (Ok(outcome), _) => end_well(Some(name), outcome, errors),
-        (Err(EngineFault::Read), Some(error)) => unreadable(alloc, name, error, errors),
-        (Err(fault), _) => match cause_of(fault) {
+    match answer {
+        Ok(outcome) => end_well(Some(name), outcome, errors),
+        Err(fault) => end_fault(alloc, name, log, fault, errors),
+    }
+}
+
+/// Reports the fault of a run over a file.
+fn end_fault<T, E: Sink>(
+    alloc: Global,
+    name: &str,
+    log: &LogFile<T>,
+    fault: EngineFault,
+    errors: &mut E,
+) -> Ending
+    ensures { IsFileEnding name.now (Err fault) (E.seen errors.old) (E.seen errors.new) result }
+{
+    match (fault, log.error) {
+        (EngineFault::Read, Some(error)) => unreadable(alloc, name, error, errors),
+        _ => match cause_of(fault) {
             Some(cause) => blame(name, fault, cause, &log.first, errors),
             None => report(fault, errors),
         },

@@ -1,6 +1,7 @@
-use Rattle.std.proofs.Common.{◌≡◌, ℕ, List, [], length, rules, subst}
+use Rattle.std.proofs.Common.{◌≡◌, ℕ, List, [], arith, length, rules, subst}
 use Rattle.std.specs.Prelude.{nat_lt}
 use Rattle.std.specs.Vec.Iter.{into_iter_items}
+use Rattle.std.proofs.lemmas.List.{nil_from_length}
 use Rattle.lsp_program.specs.Output.{Streams, streams}
 use Rattle.lspsync.specs.Run.{AreDone, nothing_yet}
 use Rattle.lspsync.specs.declared.command_line.Task.{Task}
@@ -59,7 +60,8 @@ returns g c =
     let end : Streams = streams (g.R.Source.seen c.loop-task.input) (g.W.Sink.seen c.loop-task.output)
     (g.E.Sink.seen c.loop-task.errors) in
     let count : c.len-is_headed.result ≡ length c.args.tasks.items = search rules in
-    let none : into_iter_items c.loop-task.task-iterator ≡ [] = search rules in
+    let none : into_iter_items c.loop-task.task-iterator ≡ [] =
+    nil_from_length _ (omega (arith, c.loop-task.task-iterator.rest.ok.0, c.in-None.ensures.steps.0)) in
     subst (λ (n : ℕ). AreDone known (nat_lt 1 n) nothing_yet c.args.tasks.items start end c.loop-task.ending) count
     (c.loop-task.invariant.rest end c.loop-task.ending
     (none_left known (nat_lt 1 c.len-is_headed.result) c.loop-task.ending
