@@ -6,7 +6,10 @@ import os
 import sys
 
 sys.path.insert(0, os.path.join(os.path.dirname(os.path.realpath(__file__)), "..", "bindings", "python"))
-import laspidru  # noqa: E402
+try:
+    import laspidru
+except ImportError as why:
+    sys.exit(f"run.py asks laspidru until you replace `answer` and this import: {why}")
 
 REFUSALS = {"INSIDE_CHARACTER": "inside-character", "REVERSED_RANGE": "reversed-range", "OVERLAP": "overlap",
             "OUT_OF_RANGE": "invalid-params"}

@@ -1,5 +1,5 @@
-"""letter WHOSE LINES: what one inserted letter costs in Python, in nanoseconds of the processor: the least of many short rounds. WHOSE is laspidru, or pylsp:
-the Document of Debian's package python3-pylsp."""
+"""letter WHOSE LINES [read]: what one inserted letter costs in Python, in nanoseconds of the processor: the least of many short rounds.
+WHOSE is laspidru, or pylsp: the Document of Debian's package python3-pylsp. With `read` the text is read after each letter."""
 import os
 import sys
 import time
@@ -17,19 +17,21 @@ def opened(whose, text):
     return TextDocument("file:///a", text, version=1)
 
 
-def timed(whose, lines, count):
+def timed(whose, lines, count, is_read):
     document = opened(whose, LINE * lines)
     start = time.process_time_ns()
     for number in range(count):
         at = {"line": number * 7919 % lines, "character": 8}
         document.apply_change({"range": {"start": at, "end": at}, "text": "x"})
+        if is_read:
+            len(document.source)
     return (time.process_time_ns() - start) / count
 
 
 def main():
-    whose, lines = sys.argv[1], int(sys.argv[2])
+    whose, lines, is_read = sys.argv[1], int(sys.argv[2]), sys.argv[3:] == ["read"]
     count, rounds = (200, 60) if whose == "laspidru" else (20, 5)
-    print(f"{min(timed(whose, lines, count) for _ in range(rounds)):.0f}")
+    print(f"{min(timed(whose, lines, count, is_read) for _ in range(rounds)):.0f}")
 
 
 main()
