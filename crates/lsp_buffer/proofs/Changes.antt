@@ -1,3 +1,0 @@
--- Changes of a text in blocks.
-pub mod ChangeLemmas
-pub mod InPlaceLemmas

@@ -1,7 +1,0 @@
-use Rattle.std.proofs.Common.{◌≡◌, take}
-use Rattle.std.specs.List.{concat}
-use Rattle.lsp_buffer.specs.Blocks.{counts_of}
-use Rattle.lsp_buffer.proofs.groups.total.Given as goal
-
-abbrev pub invariant-loop-block : goal.invariant-loop-block
-invariant-loop-block l = l.counts ≡ counts_of (concat (take l.block-index l.blocks))

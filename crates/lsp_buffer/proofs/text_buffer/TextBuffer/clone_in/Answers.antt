@@ -1,7 +1,0 @@
-use Rattle.std.proofs.Common.{subst}
-use Rattle.std.specs.Str.{IsUtf8}
-use Rattle.lsp_buffer.proofs.Blocks.BlockLemmas.{blocks_utf8}
-use Rattle.lsp_buffer.proofs.text_buffer.TextBuffer.clone_in.Goals as goal
-
-pub returns-clause-utf8 : goal.returns-clause-utf8
-returns-clause-utf8 c = subst IsUtf8 c.self.view_is (blocks_utf8 c.self.inside.blocks.items c.self.invariant.0.are)

@@ -1,2 +1,0 @@
--- Definitions that only the private contracts name.
-pub mod Orders

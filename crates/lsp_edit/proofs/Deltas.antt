@@ -1,7 +1,0 @@
--- Batches that were resolved once, and the text that they change.
-pub mod DeltaLemmas
-pub mod SeriesLemmas
-pub mod IndexedLemmas
-pub mod InPlaceLemmas
-pub mod LayerLemmas
-pub mod OwnedLemmas

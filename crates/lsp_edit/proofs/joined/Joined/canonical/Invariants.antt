@@ -1,9 +1,0 @@
-use Rattle.std.proofs.Common.{drop, map}
-use Rattle.lsp_edit.specs.Layers.{layer_parts}
-use Rattle.lsp_edit.specs.Parts.{parts_of}
-use Rattle.lsp_edit.proofs.Deltas.LayerLemmas.{IsFolded}
-use Rattle.lsp_edit.proofs.joined.Joined.canonical.Given as goal
-
-abbrev pub invariant-loop-layer : goal.invariant-loop-layer
-invariant-loop-layer l =
-    IsFolded l.self.before (parts_of l.spans.items) (map layer_parts (drop l.layer-index l.layer-items)) l.self.items

@@ -1,8 +1,0 @@
-use Rattle.std.proofs.Common.{◌≡◌, ◌++◌, drop}
-use Rattle.lsp_edit.specs.Layers.{owned_parts}
-use Rattle.lsp_edit.specs.Parts.{parts_of}
-use Rattle.lsp_edit.proofs.joined.layer.Layer.borrowed.Given as goal
-
-abbrev pub invariant-loop-span : goal.invariant-loop-span
-invariant-loop-span l = parts_of l.spans.items ++ owned_parts (drop l.span-index l.span-items)
-    ≡ owned_parts l.span-items

@@ -1,4 +1,0 @@
-pub mod Log
-pub mod Opening
-pub mod Splitting
-pub mod laws

@@ -1,9 +1,0 @@
-pub mod Values
-pub mod Message
-pub mod Params
-pub mod Agreement
-pub mod Outgoing
-pub mod Written
-pub mod Seen
-pub mod inside
-pub mod laws

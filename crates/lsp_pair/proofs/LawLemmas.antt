@@ -1,9 +1,0 @@
--- The last event of a list, as its type has it.
-use Rattle.std.proofs.Common.{List, [], ◌∷◌, ◌++◌}
-use Rattle.lsp_pair.specs.Events.{EventData}
-use Rattle.lsp_pair.specs.laws.World.{IsProperEvent, AreProperEvents}
-
-pub last_proper : (events : List EventData) (event : EventData) → AreProperEvents (events ++ event ∷ [])
-    → IsProperEvent event
-last_proper [] event are = are.0
-last_proper (first ∷ events) event are = last_proper events event are.1

@@ -1,6 +1,0 @@
-use Rattle.std.proofs.Common.{◌≡◌, drop}
-use Rattle.json.specs.Lex.{lex, between}
-use Rattle.lsp_reader.proofs.cursor.blanks_len.Given as goal
-
-abbrev pub invariant-loop-byte : goal.invariant-loop-byte
-invariant-loop-byte l = (l.len ≡ l.byte-index) × (lex between (drop l.byte-index l.text) ≡ lex between l.text)

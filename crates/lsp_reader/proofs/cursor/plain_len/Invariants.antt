@@ -1,7 +1,0 @@
-use Rattle.std.proofs.Common.{◌≡◌, ℕ, ◌<◌, get_or, false}
-use Rattle.json.specs.Run.{is_stop}
-use Rattle.lsp_reader.proofs.cursor.plain_len.Given as goal
-
-abbrev pub invariant-loop-byte : goal.invariant-loop-byte
-invariant-loop-byte l =
-    (l.len ≡ l.byte-index) × ((k : ℕ) → k < l.byte-index → is_stop (get_or l.text k 0) ≡ false)

@@ -1,9 +1,0 @@
-use Rattle.std.proofs.Common.{◌≡◌, ◌++◌, drop}
-use Rattle.serde_json.specs.View.{items_view}
-use Rattle.lsp_reader.specs.Lengths.{lengths_in}
-use Rattle.lsp_reader.proofs.lengths.lengths_in.Given as goal
-
--- those so far, and those of the rest
-abbrev pub invariant-loop-change : goal.invariant-loop-change
-invariant-loop-change l = l.lengths.items ++ lengths_in (items_view (drop l.change-index l.changes))
-    ≡ lengths_in (items_view l.changes)

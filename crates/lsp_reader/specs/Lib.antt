@@ -1,4 +1,0 @@
-pub mod Incoming
-pub mod Seen
-pub mod Lengths
-pub mod inside

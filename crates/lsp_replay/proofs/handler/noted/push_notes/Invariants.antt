@@ -1,8 +1,0 @@
-use Rattle.std.proofs.Common.{◌++◌, drop}
-use Rattle.lsp_replay.specs.Notes.{notes_words}
-use Rattle.lsp_replay.proofs.Reports.NoteLemmas.{Writing}
-use Rattle.lsp_replay.proofs.handler.noted.push_notes.Given as goal
-
-abbrev pub invariant-loop-note : goal.invariant-loop-note
-invariant-loop-note l = Writing (l.fn.buffer.items ++ notes_words l.between l.notes) l.between
-    (drop l.note-index l.rest) l.buffer.items

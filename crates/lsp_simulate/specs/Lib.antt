@@ -1,4 +1,0 @@
-pub mod Run
-pub mod Session
-pub mod Words
-pub mod inside

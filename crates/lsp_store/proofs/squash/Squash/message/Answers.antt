@@ -1,9 +1,0 @@
-use Rattle.std.proofs.Common.{IfErr, subst}
-use Rattle.lsp_store.specs.Faults.{IsRefusal}
-use Rattle.lsp_store.specs.Squash.{SquashData, squash_refusal}
-use Rattle.lsp_store.proofs.squash.Squash.message.Goals as goal
-
-pub returns-clause-error : goal.returns-clause-error
-returns-clause-error c =
-    subst (λ (kept : SquashData). IfErr c.message.result (IsRefusal (squash_refusal kept))) c.self.view_is
-    c.message.ensures.error

@@ -1,5 +1,0 @@
-pub mod Ports
-pub mod Turns
-pub mod Scripts
-pub mod Faults
-pub mod inside

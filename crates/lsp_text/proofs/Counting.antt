@@ -1,4 +1,0 @@
--- Units of characters, counted by bytes.
-pub mod UnitLemmas
-pub mod LeadLemmas
-pub mod BlockLemmas

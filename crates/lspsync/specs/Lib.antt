@@ -1,5 +1,0 @@
-pub mod Call
-pub mod CommandLine
-pub mod FaultText
-pub mod Run
-pub mod inside

@@ -1,6 +1,0 @@
-mod CountLemmas
-mod FindLemmas
-mod KeyLemmas
-mod MapLemmas
-mod PositionLemmas
-mod SlotLemmas

@@ -1,6 +1,0 @@
-use Rattle.std.proofs.Common.{◌≡◌, ◌+◌, ◌*◌}
-use Rattle.ordered_map.specs.inside.Slots.{live_to}
-use Rattle.ordered_map.proofs.counts.live_at.Given as goal
-
-abbrev pub invariant-loop-block : goal.invariant-loop-block
-invariant-loop-block g l = live_to l.slots (256 * l.block) + l.left ≡ l.index

@@ -1,1 +1,0 @@
-"""How `tools/definitions` reads the sources: which definitions a clause speaks of, as pages to read."""
