@@ -9,9 +9,13 @@ pub mod Documents
 pub mod Mentions
 pub mod Reasons
 pub mod Notes
+pub mod Tallies
+pub mod Counts
 pub mod Lines
 pub mod Trace
 pub mod Explained
+pub mod Differing
+pub mod Compared
 pub mod inside
 pub mod Commands
 pub mod laws

@@ -1,5 +1,8 @@
 -- Definitions that only private contracts speak of.
 pub mod Bodies
+pub mod Compared
+pub mod Tallies
+pub mod Differing
 pub mod Joining
 pub mod Kept
 pub mod Facts

@@ -58,9 +58,14 @@ encoding_rule encodings = option_rule (codes "encoding") (Names encodings) (code
 abbrev pub sync_rule : Choices → Rule
 sync_rule kinds = option_rule (codes "sync") (Names kinds) (codes "incremental")
 
--- `check` has `--explain`.
-abbrev pub explain_rule : Rule
-explain_rule = flag_rule (codes "explain")
+-- `check` and `trace` have `--live`.
+abbrev pub live_rule : Rule
+live_rule = flag_rule (codes "live")
+
+-- The options of `check` that say what it writes of each record, and when.
+abbrev pub listing_rules : List Rule
+listing_rules = flag_rule (codes "explain") ∷ flag_rule (codes "brief") ∷ flag_rule (codes "all")
+    ∷ live_rule ∷ []
 
 -- The options of `normalise` that say how a log is written.
 abbrev pub writing_rules : List Rule
@@ -78,16 +83,16 @@ uri_rule = text_rule (codes "uri")
 abbrev pub part_rules : List Rule
 part_rules = at_rule ∷ uri_rule ∷ []
 
--- The options of `trace` that say what it writes of each record.
+-- The options of `trace` that say what it writes of each record, and when.
 abbrev pub detail_rules : List Rule
-detail_rules = flag_rule (codes "texts") ∷ flag_rule (codes "bodies") ∷ []
+detail_rules = flag_rule (codes "texts") ∷ flag_rule (codes "bodies") ∷ live_rule ∷ []
 
 -- The program: its commands, with their options.
 abbrev pub program_app : Choices → Choices → App
 program_app encodings kinds = record {
   top = record (new_shape (codes "lspsync")) { is_leaf = false; subcommand_required = true };
   subs = command_shape (codes "serve") (encoding_rule encodings ∷ sync_rule kinds ∷ [])
-      ∷ command_shape (codes "check") (encoding_rule encodings ∷ explain_rule ∷ [])
+      ∷ command_shape (codes "check") (encoding_rule encodings ∷ listing_rules)
       ∷ command_shape (codes "trace") (encoding_rule encodings ∷ detail_rules)
       ∷ command_shape (codes "replay") (encoding_rule encodings ∷ part_rules)
       ∷ command_shape (codes "normalise") (encoding_rule encodings ∷ writing_rules)

@@ -17,8 +17,9 @@ use crate::fault_text::FaultText;
 use clap::error as clap_error;
 use lsp_program::{BAD_INPUT, MAX_TURNS, OUT_OF_MEMORY, STREAM_FAULT, USAGE, flush, print_help};
 use lsp_replay::{
-    EngineFault, Missing, Outcome, Sink, Source, check, convert, explain, normalise,
-    normalise_documents, replay, replay_part, serve, trace,
+    Duplex, EngineFault, Missing, Outcome, Sink, Source, check, check_live,
+    convert, explain, explain_live, normalise, normalise_documents, replay, replay_part, serve,
+    trace, trace_live,
 };
 use std::alloc::Global;
 use std::io::{self, ErrorKind, Write};
@@ -144,10 +145,24 @@ fn obey<R: Source, W: Sink>(
 {
     match call {
         Call::Serve(config) => serve(alloc, input, output, config, MAX_TURNS),
-        Call::Check(settings) => check(alloc, input, output, settings, MAX_TURNS),
-        Call::Explain(settings) => explain(alloc, input, output, settings, MAX_TURNS),
-        Call::Trace(settings, details) => {
+        Call::Check(settings, false) => check(alloc, input, output, settings, MAX_TURNS),
+        Call::Check(settings, true) => {
+            let mut ends = Duplex::new(input, output);
+            check_live(alloc, &mut ends, settings, MAX_TURNS)
+        }
+        Call::Explain(settings, listing, false) => {
+            explain(alloc, input, output, settings, listing, MAX_TURNS)
+        }
+        Call::Explain(settings, listing, true) => {
+            let mut ends = Duplex::new(input, output);
+            explain_live(alloc, &mut ends, settings, listing, MAX_TURNS)
+        }
+        Call::Trace(settings, details, false) => {
             trace(alloc, input, output, settings, details, MAX_TURNS)
+        }
+        Call::Trace(settings, details, true) => {
+            let mut ends = Duplex::new(input, output);
+            trace_live(alloc, &mut ends, settings, details, MAX_TURNS)
         }
         Call::Replay(settings) => replay(alloc, input, output, settings, MAX_TURNS),
         Call::ReplayPart(settings, part) => {

@@ -2,18 +2,18 @@
 use Rattle.std.specs.Prelude.{◌≡◌, ◌∷◌, [], List, codes}
 use Rattle.clap.specs.Words.{Rule, Text}
 use Rattle.clap.specs.declared.builder.value_parser.ValueParser.TheVariants.{Unsigned}
-use Rattle.lspsync.specs.CommandLine.{Choices, detail_rules, explain_rule, flag_rule, option_rule, part_rules, sync_rule, writing_rules}
+use Rattle.lspsync.specs.CommandLine.{Choices, detail_rules, flag_rule, listing_rules, option_rule, part_rules, sync_rule, writing_rules}
 use Rattle.lspsync.specs.declared.command_line.help.Limit.{Limit}
 use Rattle.lspsync.specs.declared.command_line.help.LimitOptions.{LimitOptions}
 use Rattle.lspsync.specs.declared.command_line.help.OwnHelp.{OwnHelp}
-use Rattle.lspsync.specs.declared.command_line.help.OwnHelp.TheVariants.{Nothing, ChangeForm, Explain, Details, Part, Writing}
+use Rattle.lspsync.specs.declared.command_line.help.OwnHelp.TheVariants.{Nothing, ChangeForm, Listing, Details, Part, Writing}
 use Rattle.lspsync.specs.declared.command_line.help.Page.{Page}
 
 -- The options that a command has beside those of all, by the help of them.
 abbrev pub own_rules : Choices → OwnHelp → List Rule
 own_rules kinds Nothing = []
 own_rules kinds (ChangeForm help) = sync_rule kinds ∷ []
-own_rules kinds (Explain help) = explain_rule ∷ []
+own_rules kinds (Listing help) = listing_rules
 own_rules kinds (Details help) = detail_rules
 own_rules kinds (Part help) = part_rules
 own_rules kinds (Writing help) = writing_rules

@@ -1,13 +1,13 @@
 //! The pages of help. They are in functions, so that proofs don't unfold them.
 
 ghost use Rattle.std.specs.Prelude.{◌≡◌, ◌∷◌, [], codes};
-ghost use Rattle.lspsync.specs.CommandLine.{detail_rules, explain_rule, limit_rules, part_rules};
+ghost use Rattle.lspsync.specs.CommandLine.{detail_rules, limit_rules, listing_rules, part_rules};
 ghost use Rattle.lspsync.specs.CommandLine.{sync_rule, writing_rules};
 ghost use Rattle.lspsync.specs.inside.Help.{IsPage, rules_of_limits};
 
 use crate::command_line::texts::{
-    AT, BODIES, CHECK, CHECK_EXAMPLE, CONVERT, CONVERT_EXAMPLE, DOCUMENTS, ENCODING, EXPLAIN,
-    NORMALISE, NORMALISE_EXAMPLE, PREFERRED_ENCODING, REPLAY, REPLAY_EXAMPLE, SERVE, SERVE_EXAMPLE,
+    ALL, AT, BODIES, BRIEF, CHECK, CHECK_EXAMPLE, CONVERT, CONVERT_EXAMPLE, DOCUMENTS, ENCODING,
+    EXPLAIN, LIVE, NORMALISE, NORMALISE_EXAMPLE, PREFERRED_ENCODING, REPLAY, REPLAY_EXAMPLE, SERVE, SERVE_EXAMPLE,
     SQUASH, SYNC, TEXTS, TRACE, TRACE_EXAMPLE, URI,
 };
 use lsp_frame::Limits;
@@ -32,9 +32,9 @@ pub enum OwnHelp {
     Nothing,
     /// `--sync`.
     ChangeForm(&'static str),
-    /// `--explain`.
-    Explain(&'static str),
-    /// `--texts` and `--bodies`.
+    /// `--explain`, `--brief`, `--all` and `--live`.
+    Listing(ListingHelp),
+    /// `--texts`, `--bodies` and `--live`.
     Details(DetailHelp),
     /// `--at` and `--uri`.
     Part(PartHelp),
@@ -49,11 +49,21 @@ pub struct WritingHelp {
     pub squash: &'static str,
 }
 
-/// The help of the options that say what is written of each record.
+/// The help of the options that say what `check` writes of each record, and when.
+#[derive(Clone, Copy, Debug)]
+pub struct ListingHelp {
+    pub explain: &'static str,
+    pub brief: &'static str,
+    pub all: &'static str,
+    pub live: &'static str,
+}
+
+/// The help of the options that say what `trace` writes of each record, and when.
 #[derive(Clone, Copy, Debug)]
 pub struct DetailHelp {
     pub texts: &'static str,
     pub bodies: &'static str,
+    pub live: &'static str,
 }
 
 /// The help of the options that name a part of a log.
@@ -97,10 +107,15 @@ pub fn serve() -> Page
 }
 
 pub fn check() -> Page
-    ensures { IsPage result (codes "check") (λ _. explain_rule ∷ []) }
+    ensures { IsPage result (codes "check") (λ _. listing_rules) }
 {
     Page {
-        own: OwnHelp::Explain(EXPLAIN),
+        own: OwnHelp::Listing(ListingHelp {
+            explain: EXPLAIN,
+            brief: BRIEF,
+            all: ALL,
+            live: LIVE,
+        }),
         ..log_page("check", CHECK, CHECK_EXAMPLE)
     }
 }
@@ -112,6 +127,7 @@ pub fn trace() -> Page
         own: OwnHelp::Details(DetailHelp {
             texts: TEXTS,
             bodies: BODIES,
+            live: LIVE,
         }),
         ..log_page("trace", TRACE, TRACE_EXAMPLE)
     }

@@ -6,13 +6,13 @@ ghost use Rattle.std.specs.Prelude.{IfOk};
 ghost use Rattle.clap.specs.Words.{app_of, rule_of, with_subcommand};
 ghost use Rattle.clap.specs.declared.builder.value_parser.ValueParser.TheVariants.{Names};
 ghost use Rattle.lspsync.specs.CommandLine.{IsProgram, at_rule, detail_rules, encoding_rule};
-ghost use Rattle.lspsync.specs.CommandLine.{explain_rule, flag_rule, limit_rules, option_rule};
+ghost use Rattle.lspsync.specs.CommandLine.{flag_rule, limit_rules, listing_rules, option_rule};
 ghost use Rattle.lspsync.specs.CommandLine.{part_rules, sync_rule, uri_rule, writing_rules};
 ghost use Rattle.lspsync.specs.inside.Help.{own_rules, rule_of_limit, rules_of_limits};
 ghost use Rattle.lspsync.specs.inside.Options.{AddsRules, IsCommand, shape_by, top_app};
 
 use crate::command_line::help::{
-    self, DetailHelp, Limit, LimitOptions, OwnHelp, Page, PartHelp, WritingHelp,
+    self, DetailHelp, Limit, LimitOptions, ListingHelp, OwnHelp, Page, PartHelp, WritingHelp,
 };
 use clap::builder::ValueParser;
 use clap::{Arg, ArgAction, Command};
@@ -106,7 +106,7 @@ fn with_own<'a>(
     match own {
         OwnHelp::Nothing => Ok(command),
         OwnHelp::ChangeForm(help) => with_sync(alloc, command, help, kinds),
-        OwnHelp::Explain(help) => with_explain(alloc, command, help),
+        OwnHelp::Listing(help) => with_listing(alloc, command, help),
         OwnHelp::Details(help) => with_details(alloc, command, help),
         OwnHelp::Part(help) => with_part(alloc, command, help),
         OwnHelp::Writing(help) => with_writing(alloc, command, help),
@@ -151,18 +151,22 @@ fn with_part<'a>(
         .arg(uri_option(alloc, help.uri))
 }
 
-/// Adds `--explain`.
-fn with_explain<'a>(
+/// Adds `--explain`, `--brief`, `--all` and `--live`.
+fn with_listing<'a>(
     alloc: Global,
     command: Command<'a>,
-    help: &'a str,
+    help: ListingHelp,
 ) -> Result<Command<'a>, AllocError>
-    ensures { IfOk result (AddsRules command.entry (explain_rule ∷ [])) }
+    ensures { IfOk result (AddsRules command.entry listing_rules) }
 {
-    command.arg(flag(alloc, "explain", help))
+    command
+        .arg(flag(alloc, "explain", help.explain))?
+        .arg(flag(alloc, "brief", help.brief))?
+        .arg(flag(alloc, "all", help.all))?
+        .arg(flag(alloc, "live", help.live))
 }
 
-/// Adds `--texts` and `--bodies`.
+/// Adds `--texts`, `--bodies` and `--live`.
 fn with_details<'a>(
     alloc: Global,
     command: Command<'a>,
@@ -172,7 +176,8 @@ fn with_details<'a>(
 {
     command
         .arg(flag(alloc, "texts", help.texts))?
-        .arg(flag(alloc, "bodies", help.bodies))
+        .arg(flag(alloc, "bodies", help.bodies))?
+        .arg(flag(alloc, "live", help.live))
 }
 
 /// Adds the options that set limits, and `--lenient`.

@@ -20,11 +20,16 @@ what the server sent. A record counts as refused where its word is `refused CAUS
 `error` other than -32601. Then the status is 1.
 
 With `--explain` the line of an error, a refusal or `exit 1` also has the document, the reason and
-the message to see; that of a suspicious message has notes. One or two last lines say what to do next.
+the message to see; that of a suspicious message has notes. The last lines count messages, refusals and
+notes, each with the first message, and say what to do next. A kind of note that comes often is on its
+first line alone; with `--all` it is on each. With `--brief` only lines with a reason or notes are printed.
 
 Example, a session with two changes that a server must refuse:
   lspsync check < examples/stale-version.log
-  lspsync check --explain < examples/stale-version.log";
+  lspsync check --explain < examples/stale-version.log
+
+Example, a session that goes on, as an editor types:
+  tail -c +1 -f session.log | lspsync check --brief --live";
 
 pub static TRACE: &str =
     "Print a line of JSON for each message of a log: what it is, what a server answers, and why";
@@ -110,6 +115,15 @@ pub static URI: &str = "Print this document's last text alone, as it is, also if
 
 pub static EXPLAIN: &str =
     "Print why a message was refused or what is suspicious too, and at the end what to do next";
+
+pub static BRIEF: &str =
+    "Print reasons and notes, and only the lines that have them";
+
+pub static ALL: &str =
+    "Print reasons and notes, and each note on its line, also where its kind comes often";
+
+pub static LIVE: &str =
+    "Pass on what is printed before more is read: for a session that goes on";
 
 pub static TEXTS: &str = "Print the document's text too, where a message opened or changed it";
 

@@ -2,7 +2,7 @@
 
 use super::*;
 use crate::command_line::{self, parse};
-use lsp_replay::Settings;
+use lsp_replay::{Listing, Settings};
 use lsp_server::Config;
 use std::str;
 use std::test::Fail;
@@ -65,10 +65,17 @@ fn a_call_without_options_has_the_defaults(rt: HostRuntime) -> Result<(), Fail> 
     let documents = command_line::Call::NormaliseDocuments(Settings::default());
     let words = ["lspsync", "normalise", "--documents"];
     assert!(rt; is_call(rt.alloc(), &words, documents));
-    let explain = command_line::Call::Explain(Settings::default());
+    let explain = command_line::Call::Explain(Settings::default(), Listing::default(), false);
     assert!(rt; is_call(rt.alloc(), &["lspsync", "check", "--explain"], explain));
-    let check = command_line::Call::Check(Settings::default());
+    let check = command_line::Call::Check(Settings::default(), false);
     assert!(rt; is_call(rt.alloc(), &["lspsync", "check"], check));
+    let brief = Listing {
+        brief: true,
+        all: false,
+    };
+    let brief = command_line::Call::Explain(Settings::default(), brief, true);
+    let words = ["lspsync", "check", "--brief", "--live"];
+    assert!(rt; is_call(rt.alloc(), &words, brief));
     Ok(())
 }
 

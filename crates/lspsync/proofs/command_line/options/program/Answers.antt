@@ -1,6 +1,6 @@
 use Rattle.std.specs.Prelude.{◌∷◌, [], codes}
 use Rattle.clap.specs.Words.{app_of}
-use Rattle.lspsync.specs.CommandLine.{detail_rules, explain_rule, part_rules, sync_rule, writing_rules}
+use Rattle.lspsync.specs.CommandLine.{detail_rules, listing_rules, part_rules, sync_rule, writing_rules}
 use Rattle.lspsync.specs.declared.command_line.options.Values.{Values}
 use Rattle.lspsync.proofs.ProgramLemmas.{program_is, puts}
 use Rattle.lspsync.proofs.command_line.options.program.Goals as goal
@@ -14,7 +14,7 @@ returns c same =
     } in
     let one = puts _ (app_of c.in_ok-program.program) _ c.serve.result values (codes "serve")
     (λ kinds. sync_rule kinds ∷ []) c.serve.ensures same c.in_ok-program.ensures c.top.ensures in
-    let two = puts _ (app_of c.in_ok-program-2.program) _ c.check.result values (codes "check") (λ _. explain_rule ∷ [])
+    let two = puts _ (app_of c.in_ok-program-2.program) _ c.check.result values (codes "check") (λ _. listing_rules)
     c.check.ensures same c.in_ok-program-2.ensures one in
     let three = puts _ (app_of c.in_ok-program-3.program) _ c.trace.result values (codes "trace") (λ _. detail_rules)
     c.trace.ensures same c.in_ok-program-3.ensures two in
