@@ -16,10 +16,9 @@ use Rattle.lsp_replay.specs.declared.facts.Facts.{Facts}
 use Rattle.lsp_replay.specs.declared.notes.Note.{Note}
 use Rattle.lsp_replay.specs.declared.session.Taken.{Taken}
 use Rattle.lsp_replay.specs.RunOutput.{written_first}
-use Rattle.lsp_replay.specs.Commands.{RecordOutput, followed_by, writes}
-use Rattle.lsp_replay.specs.Commands.{change_in}
+use Rattle.lsp_replay.specs.Commands.{change_in, writes}
 use Rattle.lsp_replay.specs.Counts.{rare_notes}
-use Rattle.lsp_replay.specs.Lines.{Known, LineView, is_renamed, is_strict_refusal, known_after, last_in, uri_of}
+use Rattle.lsp_replay.specs.Lines.{Known, LineView, is_renamed, is_strict_refusal, known_after, last_in, lines, uri_of}
 use Rattle.lsp_replay.specs.inside.Lines.{lines_in}
 use Rattle.lsp_replay.specs.Mentions.{is_mention}
 use Rattle.lsp_replay.specs.Notes.{notes_if, notes_of, notes_on, ranged_after}
@@ -31,7 +30,7 @@ use Rattle.lsp_replay.specs.inside.Session.{judge_at}
 use Rattle.lsp_replay.specs.inside.Taken.{IsTaken, ranged_read, ranged_with}
 use Rattle.lsp_replay.specs.inside.Verdicts.{verdict_view}
 use Rattle.lsp_replay.proofs.Canonical.CanonicalLogLemmas.{heard_as}
-use Rattle.lsp_replay.proofs.Reports.PartLemmas.{unless_not}
+use Rattle.lsp_replay.proofs.Records.OutputLemmas.{output_after, unless_not}
 use Rattle.lsp_replay.proofs.Reports.ReasonLemmas.{strict_at}
 
 -- ---- what was read of a record's body, and the body itself
@@ -139,9 +138,6 @@ module _ (view : LineView) (known : Known) (s : Session) (r : Record) where
   pub line_first : (judge s r).verdict ≢ bad → (bytes : List ℕ) → bytes ≡ line → (t : Session) → t ≡ (judge s r).session
       → (kept : Known) → kept ≡ next → (more : List Record)
       → lines_in view known s (r ∷ more) ≡ written_first bytes (lines_in view kept t more)
-  line_first not_bad bytes is t session kept kept_is more =
-      ap (λ (given : RecordOutput). followed_by given.out given.end (lines_in view next (judge s r).session more))
-      (unless_not r (judge s r).verdict (writes line) not_bad)
-      ∙ ap (λ (u : Session). written_first line (lines_in view next u more)) (sym session)
-      ∙ ap (λ (k : Known). written_first line (lines_in view k t more)) (sym kept_is)
-      ∙ ap (λ (b : List ℕ). written_first b (lines_in view kept t more)) (sym is)
+  line_first not_bad bytes is t session kept kept_is =
+      output_after (lines view) known s r (writes bytes)
+      (unless_not r (judge s r).verdict (writes line) not_bad ∙ ap writes (sym is)) kept kept_is t session

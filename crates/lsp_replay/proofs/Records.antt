@@ -6,6 +6,7 @@ pub mod TokenLemmas
 pub mod JudgeLemmas
 pub mod StateLemmas
 pub mod NumberedLemmas
+pub mod OutputLemmas
 pub mod ChangeLemmas
 pub mod TakenLemmas
 pub mod TableLemmas

@@ -1,5 +1,5 @@
 -- What `normalise` writes of a record that was taken, and the output from that record on.
-use Rattle.std.proofs.Common.{◌≡◌, ◌≢◌, ◌≤◌, ◌⊎◌, inl, inr, ℕ, List, [], ◌∷◌, length, Option, Some, None, sym, ap, ◌∙◌}
+use Rattle.std.proofs.Common.{◌≡◌, ◌≢◌, ◌≤◌, ◌⊎◌, inl, inr, ℕ, List, [], ◌∷◌, length, Option, Some, None, refl, ◌∙◌}
 use Rattle.std.specs.Prelude.{Err}
 use Rattle.lsp_log.specs.declared.record.Head.{Head}
 use Rattle.lsp_log.specs.Log.{Record}
@@ -19,7 +19,7 @@ use Rattle.lsp_replay.specs.inside.Session.{judge_at}
 use Rattle.lsp_replay.specs.inside.Taken.{IsTaken}
 use Rattle.lsp_replay.specs.inside.Verdicts.{IsAppended, verdict_view}
 use Rattle.lsp_replay.proofs.Records.TakenLemmas.{room_kept, seen_written}
-use Rattle.lsp_replay.proofs.Reports.PartLemmas.{unless_not}
+use Rattle.lsp_replay.proofs.Records.OutputLemmas.{output_after, unless_not}
 
 -- a record that was taken, with room before the body of its canonical message
 module _ {s t : Session} {head : Head} {body : List ℕ} {taken : Taken} {before after : Canonical} {room : ℕ}
@@ -52,17 +52,15 @@ module _ {s t : Session} {head : Head} {body : List ℕ} {taken : Taken} {before
 
       goes : (given : RecordOutput) → IsWritten given → (more : List Record)
           → run_output_in normalising s (r ∷ more)
-          ≡ followed_by given.out given.end (run_output_in normalising (judge s r).session more)
-      goes given written more =
-          ap (λ (g : RecordOutput). followed_by g.out g.end (run_output_in normalising (judge s r).session more))
+          ≡ followed_by given.out given.end (run_output_in normalising t more)
+      goes given written =
+          output_after normalising tt s r given
           (unless_not r (judge s r).verdict (canonical_output s r (judge s r)) (λ e. in_log (is.judged ∙ e))
-          ∙ written max_body canonical body before.bytes.items len seen)
+          ∙ written max_body canonical body before.bytes.items len seen) tt refl t is.session
 
       pub printed : (out : List ℕ) → IsWritten (writes out) → (more : List Record)
           → run_output_in normalising s (r ∷ more) ≡ written_first out (run_output_in normalising t more)
-      printed out written more =
-          goes (writes out) written more
-          ∙ ap (λ (u : Session). written_first out (run_output_in normalising u more)) (sym is.session)
+      printed out = goes (writes out)
 
       -- a canonical body that is too long ends the run
       pub not_printed : (fault : EngineFault)

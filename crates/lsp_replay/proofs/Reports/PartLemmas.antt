@@ -5,18 +5,11 @@ use Rattle.lsp_replay.specs.declared.outcome.Outcome.{Outcome}
 use Rattle.lsp_log.specs.Log.{Record}
 use Rattle.lsp_replay.specs.RunOutput.{RunOutput, written_first, stopped}
 use Rattle.lsp_server.specs.declared.config.Config.{Config}
-use Rattle.lsp_replay.specs.Session.{Session, Verdict, answered, recorded, bad, judge, opened, session_outcome}
-use Rattle.lsp_replay.specs.Commands.{RecordOutput, writes, ends, followed_by, unless_bad}
-use Rattle.lsp_replay.specs.Parts.{PartData, last_text_in, part_bytes, part_outcome, part_step, next_text, is_last}
+use Rattle.lsp_replay.specs.Session.{Session, Verdict, bad, judge, opened, session_outcome}
+use Rattle.lsp_replay.specs.Commands.{RecordOutput, writes, ends, followed_by}
+use Rattle.lsp_replay.specs.Parts.{PartData, last_text_in, part_bytes, part_outcome, part_step, next_text, is_last, replaying_part}
 use Rattle.lsp_replay.specs.inside.Parts.{replayed_in}
-
--- ---- a record that is in the log
-
-pub unless_not : (r : Record) (verdict : Verdict) (given : RecordOutput) → verdict ≢ bad → unless_bad r verdict given
-    ≡ given
-unless_not r (answered answer) given not_bad = refl
-unless_not r recorded given not_bad = refl
-unless_not r bad given not_bad = absurd (not_bad refl)
+use Rattle.lsp_replay.proofs.Records.OutputLemmas.{output_after, unless_not}
 
 module _ (part : PartData) (old : Option (List ℕ)) (s : Session) (r : Record) (t : Session) (verdict : Verdict)
     (new : Option (List ℕ)) (is_judged : verdict ≡ (judge s r).verdict) (not_bad : verdict ≢ bad)
@@ -29,13 +22,13 @@ module _ (part : PartData) (old : Option (List ℕ)) (s : Session) (r : Record) 
   step_with given l u more = followed_by given.out given.end (replayed_in part l u more)
 
   goes : (more : List Record) → replayed_in part old s (r ∷ more) ≡ step_with (part_step part last t) last t more
-  goes more =
-      ap (λ (g : RecordOutput). step_with g (next_text part old (judge s r)) (judge s r).session more)
+  goes =
+      output_after (replaying_part part) old s r (part_step part last t)
       (unless_not r (judge s r).verdict (part_step part (next_text part old (judge s r)) (judge s r).session)
-      (λ e. not_bad (is_judged ∙ e)))
-      ∙ ap (λ (u : Session). step_with (part_step part (last_text_in part.uri old u.server.table) u)
-      (last_text_in part.uri old u.server.table) u more) (sym session)
-      ∙ ap (λ (l : Option (List ℕ)). step_with (part_step part l t) l t more) (sym kept)
+      (λ e. not_bad (is_judged ∙ e))
+      ∙ ap (λ (u : Session). part_step part (last_text_in part.uri old u.server.table) u) (sym session)
+      ∙ ap (λ (l : Option (List ℕ)). part_step part l t) (sym kept))
+      last (kept ∙ ap (λ (u : Session). last_text_in part.uri old u.server.table) session) t session
 
   pub part_ends : (bytes : List ℕ) (outcome : Outcome) → is_last part.at t.records ≡ true
       → bytes ≡ part_bytes part.uri last t.server.table → outcome ≡ part_outcome part.uri last (session_outcome t)

@@ -9,15 +9,16 @@ use Rattle.lsp_server.specs.Step.{ServerData}
 use Rattle.lsp_log.specs.Log.{Record}
 use Rattle.lsp_stream.specs.declared.fault.EngineFault.{EngineFault}
 use Rattle.lsp_stream.specs.declared.fault.EngineFault.TheVariants.{BadLog, BodyTooLong, NoMemory}
-use Rattle.lsp_replay.specs.Commands.{followed_by}
-use Rattle.lsp_replay.specs.RunOutput.{stopped, written_first}
+use Rattle.lsp_replay.specs.Commands.{RecordOutput, followed_by, writes}
+use Rattle.lsp_replay.specs.RunOutput.{stopped}
 use Rattle.lsp_replay.specs.inside.RunOutput.{IsRecordFault, after}
 use Rattle.lsp_message.specs.Message.{reading}
 use Rattle.lsp_server.specs.Incoming.{incoming_of}
 use Rattle.lsp_replay.specs.Commands.{change_in, front_of, canonical_if, canonical_change_body}
 use Rattle.lsp_replay.specs.Session.{Session, Verdict, answered, recorded, bad, judge}
-use Rattle.lsp_replay.specs.inside.Squashed.{IsSquashStep, OpenSeries, Squashing, Step, begun, change_output, end_bytes, faulty, longer, other_step, open_bytes, series_of, squash_step, squashed_in, step_at, step_if}
+use Rattle.lsp_replay.specs.inside.Squashed.{IsSquashStep, OpenSeries, Squashing, Step, begun, change_output, end_bytes, faulty, longer, other_step, open_bytes, series_of, squash_step, squash_view, squashed_in, step_at, step_if}
 use Rattle.lsp_replay.specs.inside.Joining.{IsChange, IsLonger, IsOther, IsBegun}
+use Rattle.lsp_replay.proofs.Records.OutputLemmas.{output_after}
 
 -- any record but an accepted change
 pub step_other : (server : ServerData) (r : Record) (front : List ℕ) (series : Option OpenSeries) (change : Option
@@ -231,10 +232,10 @@ module _ (s : Session) (front singles : List ℕ) (series : Option SquashData) (
 
 pub step_writes : (q next : Squashing) (r : Record) (out : List ℕ) → IsSquashStep q r out next → (more : List Record)
     → squashed_in q.session q.series (r ∷ more) ≡ after out None (squashed_in next.session next.series more)
-step_writes q next r out is more =
-    ap (λ (step : Step). followed_by step.out step.end (squashed_in (judge q.session r).session step.series more))
-    is.step
-    ∙ ap (λ (u : Session). written_first out (squashed_in u next.series more)) (sym is.session)
+step_writes q next r out is =
+    output_after squash_view q.series q.session r (writes out)
+    (ap (λ (step : Step). record { out = step.out; end = step.end }) is.step) next.series
+    (sym (ap (λ (step : Step). step.series) is.step)) next.session is.session
 
 pub step_ends : (q : Squashing) (r : Record) (fault : EngineFault) → step_at q r ≡ faulty fault → (more : List Record)
     → squashed_in q.session q.series (r ∷ more) ≡ stopped [] (Err fault)
