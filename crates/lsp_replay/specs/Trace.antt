@@ -139,8 +139,7 @@ last_members (m ∷ more) = member m.0 m.1 ++ last_members more
 abbrev pub trace_line : Details → Known → Session → Record → Judged → IncomingData → List ℕ
 trace_line details known s r j m =
     first_members j.session.records r.head m
-    ++ (codes ",\"word\":\"" ++ verdict_word j.verdict ++ codes "\"" ++ last_members (
-    (
+    ++ (codes ",\"word\":\"" ++ verdict_word j.verdict ++ codes "\"" ++ last_members ((
       codes ",\"reason\":",
       reason_json j.session.server.config.limits m
           (is_renamed known (uri_of r.head.side m) j.verdict) j.verdict,

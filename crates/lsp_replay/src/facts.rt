@@ -175,7 +175,8 @@ impl Known {
         let rare = self.counts.rare(&notes)?;
         let mentioned = is_mention(is_change, &verdict);
         self.mentions.keep(mentioned, uri.as_deref(), number)?;
-        self.made.keep(has_changed(&verdict), uri.as_deref(), number)?;
+        self.made
+            .keep(has_changed(&verdict), uri.as_deref(), number)?;
         self.ranged = ranged_with(self.ranged, ranged);
         let is_strict = is_strict_refusal(change.as_ref(), &verdict);
         self.strict_refusal = self.strict_refusal || is_strict;
@@ -200,9 +201,8 @@ impl Known {
             (verdict_view verdict.now) }
     {
         match verdict {
-            Verdict::Answered(Answer::Refused(Refusal::Store(StoreFault::StaleVersion {
-                ..
-            }))) => self.made.last(uri?),
+            Verdict::Answered(Answer::Refused(Refusal::Store(StoreFault::StaleVersion { .. }))) =>
+                self.made.last(uri?),
             Verdict::Answered(Answer::Refused(_)) => self.mentions.last(uri?),
             _ => None,
         }

@@ -17,9 +17,8 @@ use crate::fault_text::FaultText;
 use clap::error as clap_error;
 use lsp_program::{BAD_INPUT, MAX_TURNS, OUT_OF_MEMORY, STREAM_FAULT, USAGE, flush, print_help};
 use lsp_replay::{
-    Duplex, EngineFault, Missing, Outcome, Sink, Source, check, check_live,
-    convert, explain, explain_live, normalise, normalise_documents, replay, replay_part, serve,
-    trace, trace_live,
+    Duplex, EngineFault, Missing, Outcome, Sink, Source, check, check_live, convert, explain,
+    explain_live, normalise, normalise_documents, replay, replay_part, serve, trace, trace_live,
 };
 use std::alloc::Global;
 use std::io::{self, ErrorKind, Write};

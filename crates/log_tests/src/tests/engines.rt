@@ -10,8 +10,8 @@ mod words;
 
 use lsp_frame::{Limits, frame};
 use lsp_replay::{
-    CallEnd, Comparison, Details, Duplex, EngineFault, Listing, Missing, Outcome, Part, Settings, Sink,
-    Source, StopReader, StopWriter, Told, check, check_live, compare, convert, explain,
+    CallEnd, Comparison, Details, Duplex, EngineFault, Listing, Missing, Outcome, Part, Settings,
+    Sink, Source, StopReader, StopWriter, Told, check, check_live, compare, convert, explain,
     explain_live, normalise, normalise_documents, replay, replay_part, serve, trace, trace_live,
 };
 use lsp_samples::bodies::{

@@ -59,7 +59,8 @@ module _ (details : Details) (known : Known) (s : Session) (r : Record) (m : Inc
 
   abbrev between : List ℕ
   between =
-      member (codes ",\"reason\":") (reason_json j.session.server.config.limits m (is_renamed known uri j.verdict) j.verdict)
+      member (codes ",\"reason\":")
+      (reason_json j.session.server.config.limits m (is_renamed known uri j.verdict) j.verdict)
       ++ member (codes ",\"last\":") (option_map decimal (last_in known uri j.verdict))
       ++ member (codes ",\"notes\":") (notes_json (notes_of s known.ranged r.body j.verdict))
       ++ member (codes ",\"version\":") (version_json document) ++ member (codes ",\"canonical\":")
@@ -99,7 +100,8 @@ module _ (details : Details) (known : Known) (s : Session) (r : Record) (m : Inc
       (member (codes ",\"id\":") (option_map id_json (id_of m)))
       (member (codes ",\"uri\":") (option_map json_string uri))
       (codes ",\"word\":\"") (verdict_word j.verdict) (codes "\"")
-      (member (codes ",\"reason\":") (reason_json j.session.server.config.limits m (is_renamed known uri j.verdict) j.verdict))
+      (member (codes ",\"reason\":")
+      (reason_json j.session.server.config.limits m (is_renamed known uri j.verdict) j.verdict))
       (member (codes ",\"last\":") (option_map decimal (last_in known uri j.verdict)))
       (member (codes ",\"notes\":") (notes_json (notes_of s known.ranged r.body j.verdict)))
       (member (codes ",\"version\":") (version_json document))

@@ -4,7 +4,6 @@ ghost use Rattle.std.specs.Prelude.{◌≡◌, drop, map, option_map, suc};
 ghost use Rattle.lsp_replay.specs.Differing.{are_equal, gap_from, gap_in, next_gap};
 ghost use Rattle.lsp_replay.specs.inside.Differing.{gap_view};
 
-
 /// How far the next common line is sought: in so many lines of both texts together.
 const FARTHEST: usize = 2_000;
 

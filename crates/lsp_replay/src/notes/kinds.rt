@@ -18,7 +18,9 @@ pub fn note_kind(note: Note) -> &'static str
         Note::WholeText { .. } => "a whole text",
         Note::PastEnd { sent, taken, .. } => past_kind(sent, taken),
         Note::WrongLength {
-            sent, characters, ..
+            sent,
+            characters,
+            ..
         } => length_kind(sent == characters as u64),
         Note::SameText { .. } => "changes nothing",
     }

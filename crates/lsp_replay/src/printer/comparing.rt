@@ -52,12 +52,7 @@ pub struct Compare {
 
 impl Compare {
     /// Starts before the first record.
-    pub fn new(
-        alloc: Global,
-        session: Session,
-        other: Session,
-        comparison: Comparison,
-    ) -> Compare
+    pub fn new(alloc: Global, session: Session, other: Session, comparison: Comparison) -> Compare
         ensures session { result.session ≡ session }
         ensures other { result.other ≡ other }
         ensures comparison { result.comparison ≡ comparison }
@@ -160,12 +155,7 @@ impl Compare {
     }
 
     /// Takes what a record with this verdict did to the document that it is about.
-    fn learn(
-        &mut self,
-        uri: Option<&str>,
-        opens: bool,
-        verdict: &Verdict,
-    ) -> Result<(), AllocError>
+    fn learn(&mut self, uri: Option<&str>, opens: bool, verdict: &Verdict) -> Result<(), AllocError>
         ensures { OnOk result (comparing_now self.new
             ≡ learned opens (option_map (λ uri. uri.now) uri.entry) (verdict_view verdict.now)
             self.old.session (comparing_now self.old)) }

@@ -123,9 +123,7 @@ fn is_noted(
     let changed = change(alloc, 2, changes)?;
     let input = log(alloc, &[INITIALIZE, TWO_LINES, changed.as_str()])?;
     let run = run_with(alloc, Command::Explain, &input, settings, SMOOTH)?;
-    Ok(run
-        .output
-        .starts_with(explained(alloc, notes)?.as_bytes()))
+    Ok(run.output.starts_with(explained(alloc, notes)?.as_bytes()))
 }
 
 #[test]
@@ -234,7 +232,10 @@ fn is_listed(alloc: Global, command: Command, lines: &str, last: &str) -> Result
 #[test]
 fn a_kind_of_note_that_comes_often_is_said_once(rt: HostRuntime) -> Result<(), Fail> {
     for (command, lines, last) in &LISTED {
-        assert!(rt; is_listed(rt.alloc(), *command, lines, last)?, "at {command:?}");
+        assert!(rt;
+            is_listed(rt.alloc(), *command, lines, last)?,
+            "at {command:?}"
+        );
     }
     Ok(())
 }

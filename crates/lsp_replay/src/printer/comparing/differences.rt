@@ -16,11 +16,7 @@ use crate::printer::comparing::tracked::Tracked;
 use std::alloc::{AllocError, Global};
 
 /// Writes the document, and the record that made its last text.
-pub fn push_head(
-    alloc: Global,
-    buffer: &mut Vec<u8>,
-    tracked: &Tracked,
-) -> Result<(), AllocError>
+pub fn push_head(alloc: Global, buffer: &mut Vec<u8>, tracked: &Tracked) -> Result<(), AllocError>
     ensures { OnOk result
         (buffer.new.items ≡ buffer.old.items ++ document_head tracked.now) }
 {
