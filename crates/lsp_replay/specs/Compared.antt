@@ -44,8 +44,8 @@ pub record Tracked : Type 0 where
   pub uri : List ℕ
   pub text : List ℕ
   -- the numbers of the records that opened it last, and that made this text
-  pub opened : ℕ
-  pub made : ℕ
+  pub opened_at : ℕ
+  pub made_at : ℕ
   -- of each line of the text the number of the record that changed it last
   pub owners : List ℕ
 
@@ -84,8 +84,8 @@ abbrev pub opened_by : ℕ → DocumentItem → Tracked
 opened_by number entry = record {
   uri = entry.uri;
   text = entry.text;
-  opened = number;
-  made = number;
+  opened_at = number;
+  made_at = number;
   owners = replicate (length (lines_of entry.text)) number;
 }
 
@@ -93,7 +93,7 @@ opened_by number entry = record {
 abbrev pub changed_by : ℕ → DocumentItem → Tracked → Tracked
 changed_by number entry t = record t {
   text = entry.text;
-  made = number;
+  made_at = number;
   owners = owners_after number t.owners (lines_of t.text) (lines_of entry.text);
 }
 
@@ -200,7 +200,7 @@ missing_words (suc at) owners =
 -- The lines of a hunk, or where they are missing.
 abbrev pub hunk_head : Tracked → Hunk → List ℕ
 hunk_head t hunk = if hunk.count == 0 then missing_words hunk.at t.owners else
-    own_lines t.opened hunk.at (drop hunk.at t.owners)
+    own_lines t.opened_at hunk.at (drop hunk.at t.owners)
     (take hunk.count (drop hunk.at (lines_of t.text)))
 
 -- A place at which the texts differ.
@@ -240,7 +240,7 @@ judgement t other_text file =
 -- The document, and the record that made its last text.
 abbrev pub document_head : Tracked → List ℕ
 document_head t =
-    json_string t.uri ++ codes " after message " ++ decimal t.made ++ codes ": the text is "
+    json_string t.uri ++ codes " after message " ++ decimal t.made_at ++ codes ": the text is "
 
 -- That two documents end so.
 abbrev pub choice_words : List ℕ → List ℕ → List ℕ

@@ -13,15 +13,15 @@ use Rattle.lsp_replay.specs.Tallies.{Tally, count_of, tallied, tallied_if, tally
 -- What is counted of the records of a log.
 pub record Counts : Type 0 where
   -- how many of them changed documents
-  pub changed : ℕ
+  pub changes : ℕ
   -- those that count as refused, by their codes
-  pub refused : List Tally
+  pub refusals : List Tally
   -- the notes of all of them, by their kinds
   pub noted : List Tally
 
 -- Before the first record.
 abbrev pub nothing_counted : Counts
-nothing_counted = record { changed = 0; refused = []; noted = [] }
+nothing_counted = record { changes = 0; refusals = []; noted = [] }
 
 -- Does a record change documents?
 abbrev pub has_changed : Verdict → Bool
@@ -54,8 +54,8 @@ tallied_notes (note ∷ notes) number ts =
 -- What is counted after a record with this number and these notes.
 abbrev pub counts_after : Counts → ℕ → Verdict → List Note → Counts
 counts_after counts number verdict notes = record {
-  changed = count_if (has_changed verdict) counts.changed;
-  refused = tallied_if (code_of verdict) number counts.refused;
+  changes = count_if (has_changed verdict) counts.changes;
+  refusals = tallied_if (code_of verdict) number counts.refusals;
   noted = tallied_notes notes number counts.noted;
 }
 
@@ -68,11 +68,11 @@ habit_rate = 100
 
 -- Is a kind of note a habit that came so often, where so many records changed documents?
 abbrev pub is_frequent : ℕ → ℕ → Bool
-is_frequent changed count = not (count == 0) && nat_le (changed / habit_rate) count
+is_frequent changes count = not (count == 0) && nat_le (changes / habit_rate) count
 
 -- Is the kind of a note a habit?
 abbrev pub is_habit : Counts → Note → Bool
-is_habit counts note = is_frequent counts.changed (count_of (note_kind note) counts.noted)
+is_habit counts note = is_frequent counts.changes (count_of (note_kind note) counts.noted)
 
 -- The note, unless its kind is a habit.
 abbrev pub rare_note : Counts → Note → List Note
@@ -88,6 +88,6 @@ rare_notes counts notes = flat_map (rare_note counts) notes
 abbrev pub counts_words : ℕ → Counts → List ℕ
 counts_words messages counts =
     codes "messages of the editor: " ++ decimal messages ++ codes ", changed documents: "
-    ++ decimal counts.changed ++ codes "\n"
-    ++ flat_map (tally_words (codes "refused by ")) counts.refused
+    ++ decimal counts.changes ++ codes "\n"
+    ++ flat_map (tally_words (codes "refused by ")) counts.refusals
     ++ flat_map (tally_words (codes "noted ")) counts.noted

@@ -199,11 +199,11 @@ alike_words text file =
 -- A sign that can't be seen, and what is shown in its place.
 pub record Sign : Type 0 where
   pub bytes : List ℕ
-  pub shown : List ℕ
+  pub words : List ℕ
 
 -- The two as a record.
 abbrev pub sign : List ℕ → List ℕ → Sign
-sign bytes shown = record { bytes = bytes; shown = shown }
+sign bytes words = record { bytes = bytes; words = words }
 
 -- These signs: line ends and tabs, the two that are shown otherwise, some controls, and blanks and
 -- marks of Unicode.
@@ -244,7 +244,7 @@ abbrev pub shown_from : ℕ → List ℕ → List ℕ
 shown_from skipped [] = []
 shown_from (suc skipped) (byte ∷ bytes) = shown_from skipped bytes
 shown_from zero (byte ∷ bytes) =
-    (sign_of signs byte bytes).shown
+    (sign_of signs byte bytes).words
     ++ shown_from (length (sign_of signs byte bytes).bytes - 1) bytes
 
 -- A line in quotes, with what can't be seen in it.

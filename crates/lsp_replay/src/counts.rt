@@ -8,7 +8,7 @@ ghost use Rattle.lsp_replay.specs.inside.Verdicts.{verdict_view};
 
 pub(crate) mod tallies;
 
-use crate::counts::tallies::{Tally, count_of, tally, tally_if};
+use crate::counts::tallies::{Tally, add, add_if, count_of};
 use crate::notes::Note;
 use crate::notes::kinds::note_kind;
 use crate::printer::checking::code_word;
@@ -36,8 +36,8 @@ impl Model for Counts {
     ghost Value = { spec.Counts };
 
     ghost view = { λ counts. record {
-      changed = counts.changed;
-      refused = counts.refused.items;
+      changes = counts.changed;
+      refusals = counts.refused.items;
       noted = counts.noted.items;
     } };
 }
@@ -57,14 +57,14 @@ impl Counts {
 
     /// Returns how many records changed documents.
     pub fn changed(&self) -> u64
-        ensures { result ≡ self.now.changed }
+        ensures { result ≡ self.now.changes }
     {
         self.changed
     }
 
     /// Returns the codes of the records that count as refused.
     pub fn refused(&self) -> &[Tally]
-        ensures { result.now ≡ self.now.refused }
+        ensures { result.now ≡ self.now.refusals }
     {
         self.refused.as_slice()
     }
@@ -89,8 +89,8 @@ impl Counts {
         if has_changed(verdict) {
             self.changed = one_more(self.changed);
         }
-        tally_if(self.alloc, &mut self.refused, code_of(verdict), number)?;
-        tally_notes(self.alloc, &mut self.noted, notes, number)
+        add_if(self.alloc, &mut self.refused, code_of(verdict), number)?;
+        add_notes(self.alloc, &mut self.noted, notes, number)
     }
 
     /// Returns whether the kind of a note is a habit.
@@ -158,7 +158,7 @@ fn answer_code(answer: &Answer) -> &'static str
 }
 
 /// Counts the notes that came with the record of this number.
-fn tally_notes(
+fn add_notes(
     alloc: Global,
     tallies: &mut Vec<Tally>,
     notes: &[Note],
@@ -167,7 +167,7 @@ fn tally_notes(
     ensures { OnOk result (tallies.new.items ≡ tallied_notes notes.now number tallies.old.items) }
 {
     for note in notes {
-        tally(alloc, tallies, note_kind(*note), number)?;
+        add(alloc, tallies, note_kind(*note), number)?;
     }
     Ok(())
 }

@@ -1,5 +1,5 @@
 -- What only proofs and private contracts use of `Compared`.
-use Rattle.std.specs.Prelude.{ℕ, pos, Bool, false, List, [], Option, Some, None, flat_map, option_map}
+use Rattle.std.specs.Prelude.{ℕ, ◌≡◌, pos, Bool, false, List, [], Option, Some, None, flat_map, option_map}
 use Rattle.std.specs.String.{string_bytes}
 use Rattle.lsp_log.specs.declared.record.Head.{Head}
 use Rattle.lsp_log.specs.declared.record.Sender.{Sender}
@@ -25,6 +25,10 @@ comparing_now compare = record {
   other = compare.other;
   other_text = option_map string_bytes compare.other_text;
 }
+
+-- The session is the same, and what is compared.
+abbrev pub IsSameRun : Compare → Compare → Type 0
+IsSameRun old new = (new.session ≡ old.session) × (new.comparison ≡ old.comparison)
 
 -- The output for records before which this is known.
 abbrev pub compared_in : ComparisonData → Comparing → Session → List Record → RunOutput

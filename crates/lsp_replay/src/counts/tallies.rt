@@ -111,7 +111,7 @@ pub fn count_of(tallies: &[Tally], words: &str) -> u64
 }
 
 /// Counts what came with the record of this number.
-pub fn tally(
+pub fn add(
     alloc: Global,
     tallies: &mut Vec<Tally>,
     words: &str,
@@ -132,7 +132,7 @@ pub fn tally(
 }
 
 /// Counts what came with the record of this number, if something did.
-pub fn tally_if(
+pub fn add_if(
     alloc: Global,
     tallies: &mut Vec<Tally>,
     words: Option<&str>,
@@ -142,7 +142,7 @@ pub fn tally_if(
         ≡ tallied_if (option_map (λ words. words.now) words.entry) number tallies.old.items) }
 {
     match words {
-        Some(words) => tally(alloc, tallies, words, number),
+        Some(words) => add(alloc, tallies, words, number),
         None => Ok(()),
     }
 }

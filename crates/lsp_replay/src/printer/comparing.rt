@@ -7,7 +7,7 @@ ghost use Rattle.lsp_store.specs.Table.{entry_at};
 ghost use Rattle.lsp_replay.specs.Compared.{choice_words, comparison_data, is_read_so, judgement, other_text_after};
 ghost use Rattle.lsp_replay.specs.Compared.{outcome_of, report_of, second_after, tracked_after, tracked_by};
 ghost use Rattle.lsp_replay.specs.Session.{session_outcome};
-ghost use Rattle.lsp_replay.specs.inside.Compared.{asks_open, compared_in, comparing_now, ending_read, item, learned};
+ghost use Rattle.lsp_replay.specs.inside.Compared.{IsSameRun, asks_open, compared_in, comparing_now, ending_read, item, learned};
 ghost use Rattle.lsp_replay.specs.inside.Compared.{other_read, second_with};
 ghost use Rattle.lsp_replay.specs.inside.Bodies.{body_view};
 ghost use Rattle.lsp_replay.specs.inside.Verdicts.{verdict_view};
@@ -38,14 +38,14 @@ use std::alloc::{AllocError, Global};
 pub struct Compare {
     pub session: Session,
     alloc: Global,
-    comparison: Comparison,
+    pub comparison: Comparison,
     /// The document, if one was open whose URI ends so.
-    tracked: Option<Tracked>,
+    pub tracked: Option<Tracked>,
     /// The URI of another one.
-    second: Option<String>,
+    pub second: Option<String>,
     /// A session that reads positions in UTF-32, and the document's last text in it.
-    other: Session,
-    other_text: Option<String>,
+    pub other: Session,
+    pub other_text: Option<String>,
     // Bodies are read with it for the other session; clauses don't see it.
     scratch: Scratch,
 }
@@ -90,8 +90,10 @@ impl Compare {
 
     /// Hands a record to the other session too, if it is the editor's, as one of a log of version 1.
     fn read_again(&mut self, head: Head, body: &[u8]) -> Result<(), AllocError>
-        ensures other { OnOk result (self.new.other ≡ other_read self.old.other head body.now) }
-        ensures same { OnOk result (self.new ≡ record self.old { other = self.new.other; scratch = self.new.scratch }) }
+        ensures known { OnOk result (comparing_now self.new ≡ record (comparing_now self.old) {
+          other = other_read self.old.other head body.now;
+        }) }
+        ensures same { OnOk result (IsSameRun self.old self.new) }
     {
         if head.side != Sender::Client {
             return Ok(());
@@ -108,9 +110,11 @@ impl Compare {
 
     /// Keeps the document's text in the other session, if it is open there.
     fn keep_other(&mut self, uri: &str) -> Result<(), AllocError>
-        ensures { OnOk result (option_map string_bytes self.new.other_text
-            ≡ other_text_after (Some uri.now) self.old.other.server.table
-            (option_map string_bytes self.old.other_text)) }
+        ensures known { OnOk result (comparing_now self.new ≡ record (comparing_now self.old) {
+          other_text = other_text_after (Some uri.now) self.old.other.server.table
+              (option_map string_bytes self.old.other_text);
+        }) }
+        ensures same { OnOk result (IsSameRun self.old self.new) }
     {
         if let Some(document) = self.other.server().store().get(uri) {
             self.other_text = Some(document.text().to_string(self.alloc)?);
@@ -120,8 +124,11 @@ impl Compare {
 
     /// Keeps the URI of another document than the first one that ends so.
     fn keep_second(&mut self, uri: &str) -> Result<(), AllocError>
-        ensures { OnOk result (option_map string_bytes self.new.second
-            ≡ second_with uri.now self.old.tracked (option_map string_bytes self.old.second)) }
+        ensures known { OnOk result (comparing_now self.new ≡ record (comparing_now self.old) {
+          second = second_with uri.now self.old.tracked
+              (option_map string_bytes self.old.second);
+        }) }
+        ensures same { OnOk result (IsSameRun self.old self.new) }
     {
         let Some(tracked) = &self.tracked else {
             return Ok(());
@@ -135,12 +142,13 @@ impl Compare {
     /// Keeps the text of a document that a record has opened or changed, if it is the first one that
     /// ends so; else its URI.
     fn follow(&mut self, uri: &str, opens: bool) -> Result<(), AllocError>
-        ensures tracked { OnOk result (self.new.tracked
-            ≡ tracked_after opens self.old.session.records
-            (entry_at self.old.session.server.table uri.now) self.old.tracked) }
-        ensures second { OnOk result (option_map string_bytes self.new.second
-            ≡ second_after (entry_at self.old.session.server.table uri.now) self.old.tracked
-            (option_map string_bytes self.old.second)) }
+        ensures known { OnOk result (comparing_now self.new ≡ record (comparing_now self.old) {
+          tracked = tracked_after opens self.old.session.records
+              (entry_at self.old.session.server.table uri.now) self.old.tracked;
+          second = second_after (entry_at self.old.session.server.table uri.now) self.old.tracked
+              (option_map string_bytes self.old.second);
+        }) }
+        ensures same { OnOk result (IsSameRun self.old self.new) }
     {
         let number = self.session.records();
         let Some(document) = self.session.server().store().get(uri) else {
@@ -156,7 +164,8 @@ impl Compare {
 
     /// Takes what a record with this verdict did to the document that it is about.
     fn learn(&mut self, uri: Option<&str>, opens: bool, verdict: &Verdict) -> Result<(), AllocError>
-        ensures { OnOk result (comparing_now self.new
+        ensures same { OnOk result (IsSameRun self.old self.new) }
+        ensures known { OnOk result (comparing_now self.new
             ≡ learned opens (option_map (λ uri. uri.now) uri.entry) (verdict_view verdict.now)
             self.old.session (comparing_now self.old)) }
     {

@@ -128,7 +128,7 @@ fn push_own_line(
     line: &[u8],
 ) -> Result<(), AllocError>
     ensures { OnOk result (buffer.new.items ≡ buffer.old.items
-        ++ own_line tracked.now.opened (suc index) (owner_at tracked.now.owners index) line.now) }
+        ++ own_line tracked.now.opened_at (suc index) (owner_at tracked.now.owners index) line.now) }
 {
     let owner = owner_at(tracked.owners(), index);
     push_words(buffer, "line ")?;

@@ -1,9 +1,10 @@
 //! The document that is compared, and which record changed each of its lines last.
 
-ghost use Rattle.std.specs.Prelude.{◌≡◌, IfOk, OnOk, string_bytes};
+ghost use Rattle.std.specs.Prelude.{◌≡◌, IfOk, OnOk, length, string_bytes};
 ghost use Rattle.std.specs.Str.{bytes_eq};
 ghost use Rattle.lsp_replay.specs.inside.Compared.{item};
 ghost use Rattle.lsp_replay.specs.Compared.{changed_by, opened_by};
+ghost use Rattle.lsp_replay.specs.Differing.{lines_of};
 
 use crate::differing::lines::{lines_of, owners_after};
 use std::alloc::{AllocError, Global};
@@ -31,8 +32,8 @@ impl Model for Tracked {
     ghost view = { λ t. record {
       uri = string_bytes t.uri;
       text = string_bytes t.text;
-      opened = t.opened;
-      made = t.made;
+      opened_at = t.opened;
+      made_at = t.made;
       owners = t.owners.items;
     } };
 
@@ -50,9 +51,8 @@ impl Tracked {
         ensures { IfOk result
             (λ t. t ≡ opened_by number (item uri.now (string_bytes text))) }
     {
-        let lines = lines_of(alloc, text.as_bytes())?;
         let mut owners = Vec::new(alloc);
-        owners.resize(lines.len(), number)?;
+        owners.resize(count_lines(alloc, &text)?, number)?;
         Ok(Tracked {
             uri: String::from_str(alloc, uri)?,
             text,
@@ -97,14 +97,14 @@ impl Tracked {
 
     /// Returns the number of the record that opened the document last.
     pub fn opened(&self) -> u64
-        ensures { result ≡ self.now.opened }
+        ensures { result ≡ self.now.opened_at }
     {
         self.opened
     }
 
     /// Returns the number of the record that made the text.
     pub fn made(&self) -> u64
-        ensures { result ≡ self.now.made }
+        ensures { result ≡ self.now.made_at }
     {
         self.made
     }
@@ -115,4 +115,11 @@ impl Tracked {
     {
         self.owners.as_slice()
     }
+}
+
+/// Returns how many lines a text has.
+fn count_lines(alloc: Global, text: &str) -> Result<usize, AllocError>
+    ensures { IfOk result (λ count. count ≡ length (lines_of text.now)) }
+{
+    Ok(lines_of(alloc, text.as_bytes())?.len())
 }

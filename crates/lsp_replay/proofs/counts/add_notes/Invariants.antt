@@ -1,6 +1,6 @@
 use Rattle.std.specs.Prelude.{◌≡◌, drop}
 use Rattle.lsp_replay.specs.Counts.{tallied_notes}
-use Rattle.lsp_replay.proofs.counts.tally_notes.Given as goal
+use Rattle.lsp_replay.proofs.counts.add_notes.Given as goal
 
 abbrev pub invariant-loop-note : goal.invariant-loop-note
 invariant-loop-note l = tallied_notes l.notes l.number l.fn.tallies.items
