@@ -1,5 +1,5 @@
 -- A record that is read once is judged as one that is judged from its bytes.
-use Rattle.std.proofs.Common.{◌≡◌, ◌≢◌, ◌⊎◌, inl, inr, ℕ, Bool, true, false, List, Option, Some, None, refl, sym, ap, ◌∙◌, subst}
+use Rattle.std.proofs.Common.{◌≡◌, ◌⊎◌, inl, inr, ℕ, Bool, true, false, List, Option, Some, None, refl, sym, ap, ◌∙◌}
 use Rattle.std.specs.Prelude.{◌&&◌, is_none, if◌then◌else◌}
 use Rattle.lsp_log.specs.declared.record.Version.{Version}
 use Rattle.lsp_log.specs.declared.record.Head.{Head}

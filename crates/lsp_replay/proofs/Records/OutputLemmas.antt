@@ -1,7 +1,6 @@
 -- What a command writes from a record on, by what it writes of the record and what it knows after it.
 use Rattle.std.proofs.Common.{◌≡◌, ◌≢◌, List, ◌∷◌, refl, sym, ap, ◌∙◌}
 use Rattle.lsp_log.specs.Log.{Record}
-use Rattle.lsp_replay.specs.RunOutput.{RunOutput}
 use Rattle.lsp_replay.specs.Commands.{RecordOutput, View, followed_by, output_in, unless_bad}
 use Rattle.lsp_replay.specs.Session.{Session, Verdict, answered, recorded, bad, judge}
 

@@ -1,6 +1,6 @@
 -- The texts of a JSON value are UTF-8, where the text that it was read from is.
 -- ---- tokens
-use Rattle.std.proofs.Common.{◌≡◌, ℕ, zero, suc, ◌<◌, Bool, true, false, ◌&&◌, List, [], ◌∷◌, length, Option, Some, None, option_map, option_and_then, IsUtf8, subst, arith, ◌-◌, Ordering, Less, Equal, Greater, FitsSigned, ◌≤◌, ◌^◌, nat_lt, nat_le}
+use Rattle.std.proofs.Common.{◌≡◌, ℕ, zero, suc, ◌<◌, Bool, true, false, ◌&&◌, List, [], ◌∷◌, length, Option, Some, None, option_map, option_and_then, IsUtf8, subst, arith, Ordering, Less, Equal, Greater, FitsSigned, ◌≤◌, ◌^◌, nat_lt, nat_le}
 use Rattle.std.specs.Prelude.{⊤, if◌then◌else◌, pos, Float}
 use Rattle.std.specs.Int.{w64}
 use Rattle.std.proofs.Math.IntN.{neg_ℤ}

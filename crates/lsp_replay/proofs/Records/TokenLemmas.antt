@@ -8,7 +8,6 @@ use Rattle.json.specs.Token.{Token}
 use Rattle.json.specs.Word.{word, head, literal, number_before, ends_word, after_number}
 use Rattle.json.specs.Ascii.{true_text, false_text, null_text}
 use Rattle.json.specs.Lex.{Lexeme, token, comma, colon, Class, quote, backslash, operator, space, other, class, operator_lexeme, string_token, Mode, between, in_word, in_string, in_escape, lex_byte, lex, Place, fresh, after_value, after_comma, after_key, begins_colon, may_begin, may_close, if_allowed, place_token, punctuate, tokens}
-use Rattle.serde_json.specs.Data.{null, boolean, number, string}
 use Rattle.lsp_replay.proofs.Records.ContentLemmas.{GoodText, content_utf8, behind_ascii}
 
 abbrev HasText : Token → Type 0

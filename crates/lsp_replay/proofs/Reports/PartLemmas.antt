@@ -30,6 +30,14 @@ module _ (part : PartData) (old : Option (List ℕ)) (s : Session) (r : Record) 
       ∙ ap (λ (l : Option (List ℕ)). part_step part l t) (sym kept))
       last (kept ∙ ap (λ (u : Session). last_text_in part.uri old u.server.table) session) t session
 
+  pub part_continues : (bytes : List ℕ) → bytes ≡ [] → is_last part.at t.records ≡ false → (more : List Record)
+      → replayed_in part old s (r ∷ more) ≡ written_first bytes (replayed_in part last t more)
+  part_continues bytes empty other more =
+      goes more
+      ∙ ap (λ (b : Bool). step_with (if b then ends (part_bytes part.uri last t.server.table)
+      (Ok (part_outcome part.uri last (session_outcome t))) else writes []) last t more) other
+      ∙ ap (λ (b : List ℕ). written_first b (replayed_in part last t more)) (sym empty)
+
   pub part_ends : (bytes : List ℕ) (outcome : Outcome) → is_last part.at t.records ≡ true
       → bytes ≡ part_bytes part.uri last t.server.table → outcome ≡ part_outcome part.uri last (session_outcome t)
       → (more : List Record) → replayed_in part old s (r ∷ more) ≡ stopped bytes (Ok outcome)

@@ -1,5 +1,5 @@
 -- The statement of a run case by case says the same as the one by its output and a cause.
-use Rattle.std.proofs.Common.{◌≡◌, ◌⊎◌, inl, inr, ℕ, ◌<◌, Bool, true, false, List, [], ◌∷◌, ◌++◌, length, Option, Some, None, refl, sym, ap, ◌∙◌, subst, append_assoc, append-nil, arith}
+use Rattle.std.proofs.Common.{◌≡◌, ◌⊎◌, inl, inr, ℕ, ◌<◌, Bool, true, false, List, [], ◌∷◌, ◌++◌, length, Option, Some, None, refl, sym, ap, ◌∙◌, append_assoc, append-nil, arith}
 use Rattle.std.specs.Prelude.{Result, Ok, Err}
 use Rattle.std.specs.Io.KnownBytes.{Appends}
 use Rattle.lsp_frame.specs.Frame.{frame}
@@ -11,7 +11,7 @@ use Rattle.lsp_stream.specs.declared.fault.EngineFault.TheVariants.{Read, Write,
 use Rattle.lsp_log.specs.Log.{LogRules, Record, Log, IsMalformed, IsBadMark, mark_of}
 use Rattle.lsp_replay.specs.RunOutput.{RunOutput}
 use Rattle.lsp_replay.specs.Engine.{PortState, all_of, last_of}
-use Rattle.lsp_replay.specs.AllRecords.{IsCause, IsObserved, all_output, is_cut_off, last_if}
+use Rattle.lsp_replay.specs.AllRecords.{IsCause, IsObserved, is_cut_off, last_if}
 use Rattle.lsp_replay.specs.inside.AllRecords.{EndedBy, IsFaultReported, IsFirstPart, IsRunReport, IsShort, Passed}
 use Rattle.lsp_replay.proofs.Runs.EngineLemmas.{still_short}
 

@@ -1,5 +1,5 @@
 -- The faults, the turns and the calls of a run.
-use Rattle.std.proofs.Common.{◌≡◌, ℕ, ◌-◌, ◌≤◌, Bool, true, false, List, Option, Result, Ok, Err, refl, sym, ◌∙◌, ap, subst, arith, inl, inr, ◌⊎◌, ◌||◌, not}
+use Rattle.std.proofs.Common.{◌≡◌, ℕ, ◌≤◌, Bool, true, false, List, Option, Result, Ok, Err, refl, sym, ◌∙◌, ap, subst, arith, inl, inr, ◌⊎◌, ◌||◌, not}
 use Rattle.std.specs.Prelude.{◌≢◌, nat_eq, IfErr, OnOk}
 use Rattle.std.specs.Io.KnownBytes.{IsAtEnd}
 use Rattle.std.proofs.lemmas.Bool.{eqb-true}
@@ -13,7 +13,7 @@ use Rattle.lsp_replay.specs.inside.Engine.{IsPieceFault}
 use Rattle.lsp_replay.specs.inside.Progress.{BothSpend}
 use Rattle.lsp_stream.specs.Ports.{Rose}
 use Rattle.lsp_stream.specs.Turns.{Spends, StaysWell, StaysFlushed}
-use Rattle.lsp_replay.proofs.Runs.PieceLemmas.{ended_not, read_fault}
+use Rattle.lsp_replay.proofs.Runs.PieceLemmas.{ended_not}
 
 -- Which calls were made when a fault came.
 pub called_fault : (reads_old reads_new writes_old writes_new allowed turns : ℕ) (read_failed write_failed ended : Bool)

@@ -9,7 +9,7 @@ use Rattle.lsp_server.specs.Step.{ServerData}
 use Rattle.lsp_log.specs.Log.{Record}
 use Rattle.lsp_stream.specs.declared.fault.EngineFault.{EngineFault}
 use Rattle.lsp_stream.specs.declared.fault.EngineFault.TheVariants.{BadLog, BodyTooLong, NoMemory}
-use Rattle.lsp_replay.specs.Commands.{RecordOutput, followed_by, writes}
+use Rattle.lsp_replay.specs.Commands.{followed_by, writes}
 use Rattle.lsp_replay.specs.RunOutput.{stopped}
 use Rattle.lsp_replay.specs.inside.RunOutput.{IsRecordFault, after}
 use Rattle.lsp_message.specs.Message.{reading}
@@ -154,6 +154,10 @@ module _ (s : Session) (front singles : List ℕ) (series : Option SquashData) (
       changes canonical is ∙ gives_begun s.server is.params its_front (its_front ++ canonical) front singles series
       batches
       other begun
+
+  pub told_bad : verdict ≡ bad → squash_step s here r (judge s r) ≡ faulty (BadLog r.head.place)
+  told_bad is =
+      ap (λ v. step_if s.server r its_front here (change_in (incoming_of (reading r.body))) v) (sym error ∙ is)
 
   pub told_too_long : (p : ChangeData) → change_in (incoming_of (reading r.body)) ≡ Some p → verdict ≡ answered changed
       → s.server.config.limits.max_body < length (canonical_change_body s.server p)

@@ -1,5 +1,5 @@
 -- What there is to note of a record that was read.
-use Rattle.std.specs.Prelude.{ℕ, Bool, List, []}
+use Rattle.std.specs.Prelude.{Bool, List, []}
 use Rattle.lsp_text.specs.Units.{units_in}
 use Rattle.lsp_message.specs.Message.{Reading}
 use Rattle.lsp_server.specs.Step.{ServerData}

@@ -2,7 +2,7 @@
 //!
 //! `first` writes the members that say what a record is, `values` the others.
 
-ghost use Rattle.std.specs.Prelude.{◌≡◌, ◌++◌, IfOk, refl, OnOk, codes, decimal, false, option_map};
+ghost use Rattle.std.specs.Prelude.{◌≡◌, ◌++◌, ◌&&◌, IfOk, refl, OnOk, codes, decimal, false, option_map};
 ghost use Rattle.lsp_message.specs.Message.{reading};
 ghost use Rattle.lsp_message.specs.Seen.{change_view};
 ghost use Rattle.lsp_server.specs.Incoming.{incoming_of};
@@ -95,8 +95,8 @@ impl Trace {
     {
         let store = self.session.server().store();
         let document = document_of(store, facts.uri.as_deref());
-        let has_text = self.details.texts && has_changed(&facts.verdict);
-        let has_body = self.details.bodies && is_json;
+        let has_text = self.has_text(&facts.verdict);
+        let has_body = self.has_body(is_json);
         push_word(buffer, &facts.verdict)?;
         push_why(buffer, store.limits(), facts)?;
         push_mention(buffer, facts.last)?;
@@ -106,6 +106,21 @@ impl Trace {
         push_text(self.alloc, buffer, has_text, &document)?;
         push_body(buffer, has_body, body)?;
         push_words(buffer, "}\n")
+    }
+
+    /// Returns whether the last record's line has the document's text, if the document is open.
+    fn has_text(&self, verdict: &Verdict) -> bool
+        ensures { result
+            ≡ (self.now.details.texts && has_changed (verdict_view verdict.now)) }
+    {
+        self.details.texts && has_changed(verdict)
+    }
+
+    /// Returns whether the last record's line has its body.
+    fn has_body(&self, is_json: bool) -> bool
+        ensures { result ≡ (self.now.details.bodies && is_json) }
+    {
+        self.details.bodies && is_json
     }
 }
 

@@ -9,8 +9,8 @@ pub returns-clause-ok : goal.returns-clause-ok
 returns-clause-ok c = λ max_body canonical_log body room len error.
     appended_framed max_body (record { head = c.args.head; raw = c.args.raw.now; body = body })
     (line_if c.args.head.line_due) (mark_of c.args.head.version c.args.head.side) canonical_log room
-    c.args.buffer.now.items _ 64 len
+    c.args.canonical.now.bytes.items _ 64 len
     (rw (c.in-Some.is, c.in_ok-within_limit.ensures.ok) at error)
     (ap (drop c.put_front-start.result) (take_at c.put_front-start.new.buffer _ _ (c.put_front-start.auto.buffer
     ∙ c.deref_mut.ensures.len))
-    ∙ (rw c.deref_mut.ensures.value at c.put_front-start.ensures))
+    ∙ (rw (c.deref_mut.ensures.value, c.swap.ensures.x_after) at c.put_front-start.ensures))

@@ -1,8 +1,9 @@
-use Rattle.std.proofs.Common.{◌≢◌, ap, ◌∙◌, sym, inr}
+use Rattle.std.proofs.Common.{◌≢◌, inr}
+use Rattle.std.proofs.lemmas.Result.{err_from_is_err_and}
 use Rattle.lsp_replay.specs.Session.{bad}
 use Rattle.lsp_replay.specs.inside.Verdicts.{verdict_view}
 use Rattle.lsp_replay.proofs.Records.TakenLemmas.{seen_joined, seen_open, unjoined}
-use Rattle.lsp_replay.proofs.Squash.SquashingLemmas.{told_as_it_is, told_more, told_next, told_too_long}
+use Rattle.lsp_replay.proofs.Squash.SquashingLemmas.{told_as_it_is, told_bad, told_more, told_next, told_too_long}
 use Rattle.lsp_replay.proofs.printer.squashing.Squashing.write_read.Goals as goal
 
 -- any record but an accepted change
@@ -22,10 +23,23 @@ returns-in_default-clause-ok c =
           c.take.result c.take.ensures.value c.args.buffer.now.items c.requires.empty
           c.take-2.new.witness.batches ended not_bad (rw (c.in_default.is, ← taken.judged) at writing)
           c.push_end.new.output.items c.push_front.new.output.items c.extend_from_slice.new.self.items
-          c.in_ok-push_end-in_default.ensures c.in_ok-push_front-in_default.ensures
-          c.in_ok-extend_from_slice-in_default.ensures.items
+          c.in_ok-push_end.ensures c.in_ok-push_front.ensures
+          c.in_ok-extend_from_slice.ensures.items
           c.take.new.self c.take.ensures.after _ _;
     })
+
+pub returns-in_err-in_log-clause-error : goal.returns-in_err-in_log-clause-error
+returns-in_err-in_log-clause-error c =
+    let taken = c.in_ok-taken.ensures c.args.head c.args._body.now c.requires.is_read in
+    let p = err_from_is_err_and c.from_residual-in_err-in_log.result c.from_residual-in_err-in_log.ensures.1 in
+    rw (← c.self.view_is, p.1, p.2, c.in_err-in_log.ensures.error.0)
+    (inr (
+      tt,
+      told_bad c.self.inside.session c.self.inside.texts.front.items c.self.inside.texts.singles.items
+          c.self.inside.batches
+          (record { head = c.args.head; raw = c.args.raw.now; body = c.args._body.now })
+          (verdict_view c.in_ok-taken.taken.verdict) taken.judged c.in_err-in_log.ensures.error.1,
+    ))
 
 pub returns-in-TooLong-clause-error : goal.returns-in-TooLong-clause-error
 returns-in-TooLong-clause-error c =
@@ -83,7 +97,7 @@ invariant_of-self-in-Continues c =
     let taken = c.in_ok-taken.ensures c.args.head c.args._body.now c.requires.is_read in
     rw c.in-Continues.is at (seen_open c.new-joiner.ensures taken c.in-Some.writing c.in-Some.is)
 
-pub invariant_of-self : goal.invariant_of-self
-invariant_of-self c =
+pub invariant_of-self-in-Begins : goal.invariant_of-self-in-Begins
+invariant_of-self-in-Begins c =
     let taken = c.in_ok-taken.ensures c.args.head c.args._body.now c.requires.is_read in
     rw c.in-Begins.is at (seen_open c.new-joiner.ensures taken c.in-Some.writing c.in-Some.is)

@@ -11,6 +11,6 @@ returns c =
     c.in_ok-push_word.ensures (rw limits at c.in_ok-push_why.ensures) c.in_ok-push_mention.ensures
     (rw c.deref.ensures.value at c.in_ok-push_noted.ensures) (rw document at c.in_ok-push_version.ensures)
     (rw c.deref-2.ensures.value at c.in_ok-push_canonical.ensures)
-    (rw (document, c.has_changed.ensures) at c.in_ok-push_text.ensures)
-    c.in_ok-push_body.ensures)
+    (rw (document, c.has_text-has_text.ensures) at c.in_ok-push_text.ensures)
+    (rw c.has_body-has_body.ensures at c.in_ok-push_body.ensures))
     c.push_words.ensures

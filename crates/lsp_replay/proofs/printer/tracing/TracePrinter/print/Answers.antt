@@ -1,7 +1,13 @@
-use Rattle.std.proofs.Common.{◌∙◌}
+use Rattle.std.proofs.Common.{◌≡◌, ◌++◌, ◌∷◌, sym, subst, ◌∙◌}
 use Rattle.std.proofs.lemmas.List.{nil_from_length}
 use Rattle.lsp_log.specs.Log.{Record}
-use Rattle.lsp_replay.specs.Trace.{tracing}
+use Rattle.lsp_message.specs.Message.{reading}
+use Rattle.lsp_server.specs.Incoming.{incoming_of}
+use Rattle.lsp_stream.specs.Ports.{one_more}
+use Rattle.lsp_replay.specs.RunOutput.{written_first}
+use Rattle.lsp_replay.specs.Trace.{first_members, tracing}
+use Rattle.lsp_replay.specs.declared.printer.tracing.Trace.{Trace}
+use Rattle.lsp_replay.specs.inside.Lines.{lines_in}
 use Rattle.lsp_replay.proofs.KnownLemmas.{line_first}
 use Rattle.lsp_replay.proofs.Records.TakenLemmas.{seen_written}
 use Rattle.lsp_replay.proofs.Reports.TraceLemmas.{line_is}
@@ -10,20 +16,25 @@ use Rattle.lsp_replay.proofs.printer.tracing.TracePrinter.print.Goals as goal
 pub returns-clause-ok : goal.returns-clause-ok
 returns-clause-ok c = λ more.
     let r : Record = record { head = c.args.head; raw = c.args._raw.now; body = c.args.body.now } in
-    let details = c.args.self.now.details in
-    let known = c.args.self.now.known in
-    let s = c.args.self.now.session in
+    let old = c.push_asked.new.self in
+    let same = c.push_asked.ensures.unchanged in
     let t = c.take.new.session in
+    let bytes = c.push_facts.new.buffer.items in
     let facts = c.in_ok-facts.ensures.facts in
     let session = c.in_ok-facts.ensures.session in
     let before = c.clear.new.self in
-    let written = seen_written s t c.args.head c.args.body.now before c.take.new.witness c.in_ok-clear.ensures.nothing
-    c.in_ok-facts.ensures.shown in
+    let written = seen_written old.session t c.args.head c.args.body.now before c.take.new.witness
+    c.in_ok-clear.ensures.nothing c.in_ok-facts.ensures.shown in
+    let members = subst (λ (trace : Trace). c.push_asked.new.buffer.items ≡ c.args.buffer.now.items
+    ++ first_members (one_more trace.session.records) c.args.head (incoming_of (reading c.args.body.now)))
+    (sym same) c.in_ok-is_json.ensures.members in
     rw c.more.ensures
-    (line_first (tracing details) known s r (λ e. c.in_ok-facts.ensures.in_log (facts.verdict ∙ e))
-    c.push_facts.new.buffer.items
-    (line_is details known s r t session c.in_ok-facts.facts facts c.take.new.witness before.bytes.items
-    (nil_from_length before.bytes.items c.in_ok-clear.ensures.room) written c.in_ok-is_json.is_json
-    c.in_ok-is_json.ensures.is_json c.args.buffer.now.items c.push_asked.new.buffer.items _ c.requires.empty
-    c.in_ok-is_json.ensures.members c.in_ok-push_facts.ensures)
-    t session c.take.new.self c.in_ok-facts.ensures.known more)
+    (subst (λ (trace : Trace). lines_in (tracing trace.details) trace.known trace.session (r ∷ more)
+    ≡ written_first bytes (lines_in (tracing old.details) c.take.new.self t more)) same
+    (line_first (tracing old.details) old.known old.session r (λ e. c.in_ok-facts.ensures.in_log (facts.verdict ∙ e))
+    bytes
+    (line_is old.details old.known old.session r t session c.in_ok-facts.facts facts c.take.new.witness
+    before.bytes.items (nil_from_length before.bytes.items c.in_ok-clear.ensures.room) written c.in_ok-is_json.is_json
+    c.in_ok-is_json.ensures.is_json c.args.buffer.now.items c.push_asked.new.buffer.items _ c.requires.empty members
+    c.in_ok-push_facts.ensures)
+    t session c.take.new.self c.in_ok-facts.ensures.known more))

@@ -1,4 +1,3 @@
-use Rattle.std.proofs.Common.{rules}
 use Rattle.lsp_replay.proofs.session.joining.JoinerWitness.see.Goals as goal
 
 pub join-requires-clause-planned : goal.join-requires-clause-planned
