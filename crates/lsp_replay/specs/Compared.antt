@@ -1,5 +1,5 @@
 -- `compare`: whether a document's last text is that of a file, and else which message made it so.
-use Rattle.std.specs.Prelude.{ℕ, zero, suc, ◌+◌, ◌-◌, Bool, true, false, not, ◌&&◌, ◌||◌, ◌==◌, if◌then◌else◌, nat_lt, max, length, drop, take, replicate, slice_get, List, [], ◌∷◌, ◌++◌, Option, Some, None, codes, decimal, flat_map, option_and_then}
+use Rattle.std.specs.Prelude.{ℕ, zero, suc, ◌+◌, ◌-◌, Bool, true, false, not, ◌&&◌, ◌||◌, ◌==◌, if◌then◌else◌, nat_lt, max, length, drop, take, replicate, List, [], ◌∷◌, ◌++◌, Option, Some, None, codes, decimal, flat_map, option_and_then}
 use Rattle.std.specs.Str.{bytes_eq}
 use Rattle.std.specs.String.{string_bytes}
 use Rattle.lsp_text.specs.declared.encoding.Encoding.TheVariants.{Utf32}
@@ -11,7 +11,6 @@ use Rattle.lsp_log.specs.declared.record.Sender.{Sender}
 use Rattle.lsp_log.specs.declared.record.Sender.TheVariants.{Client, Server}
 use Rattle.lsp_log.specs.declared.record.Version.TheVariants.{One}
 use Rattle.lsp_log.specs.Log.{Record}
-use Rattle.lsp_stream.specs.Ports.{one_more}
 use Rattle.lsp_replay.specs.declared.commands.compared.Comparison.{Comparison}
 use Rattle.lsp_replay.specs.declared.commands.Settings.{Settings}
 use Rattle.lsp_replay.specs.declared.outcome.Missing.TheVariants as missing

@@ -1,5 +1,5 @@
 -- How two texts differ: whether only by line ends and the like, or by which lines. Texts are bytes.
-use Rattle.std.specs.Prelude.{ℕ, zero, suc, ◌+◌, ◌-◌, Bool, true, false, not, ◌&&◌, ◌||◌, ◌==◌, if◌then◌else◌, nat_lt, min, length, map, drop, take, replicate, reverse, slice_get, List, [], ◌∷◌, ◌++◌, Option, Some, None, codes, flat_map}
+use Rattle.std.specs.Prelude.{ℕ, zero, suc, ◌+◌, ◌-◌, Bool, true, false, not, ◌&&◌, ◌||◌, ◌==◌, if◌then◌else◌, length, drop, take, replicate, reverse, slice_get, List, [], ◌∷◌, ◌++◌, Option, Some, None, codes}
 use Rattle.std.specs.Str.{bytes_eq}
 
 -- ---- the lines of a text (LSP 3.17, Text Documents: '\n', '\r\n' and '\r' end a line)
