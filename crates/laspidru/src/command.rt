@@ -14,6 +14,12 @@ use lsp_replay::{
 };
 use std::alloc::{AllocError, Global};
 
+/// Each line of `explain`, with the notes that are no habits.
+const LISTING: Listing = Listing {
+    brief: false,
+    all: false,
+};
+
 /// The name of a command, as C passes it by its number.
 #[derive(Clone, Copy, Debug, PartialEq, Eq)]
 pub enum CommandName {
@@ -142,14 +148,7 @@ fn run_between(
 {
     match command {
         Command::Check => check(alloc, reader, writer, settings, u64::MAX),
-        Command::Explain => explain(
-            alloc,
-            reader,
-            writer,
-            settings,
-            Listing::default(),
-            u64::MAX,
-        ),
+        Command::Explain => explain(alloc, reader, writer, settings, LISTING, u64::MAX),
         Command::Trace(details) => trace(alloc, reader, writer, settings, details, u64::MAX),
         Command::Replay => replay(alloc, reader, writer, settings, u64::MAX),
         Command::ReplayPart(part) => replay_part(alloc, reader, writer, settings, part, u64::MAX),
