@@ -123,7 +123,10 @@ fn check_call(options: &ArgMatches<'_>) -> Option<Call>
 fn is_explained(options: &ArgMatches<'_>) -> bool
     ensures { IsExplained options.now result }
 {
-    options.get_flag("explain") || options.get_flag("brief") || options.get_flag("all")
+    let explain = options.get_flag("explain");
+    let brief = options.get_flag("brief");
+    let all = options.get_flag("all");
+    explain || brief || all
 }
 
 /// Returns which records `check` has lines of, and with which notes.
