@@ -424,7 +424,8 @@ module _ (server : ServerData) (p : ChangeData) {plan : Plan} (q : IsPlanOfChang
       → ((on : IsPlanOn store plan) → document ≡ on.entry) → before ≡ squash_of limits encoding document
       → IsSquashOfPlan store plan before next
       → IsBegun server p next × IsOpenIn (server_after server p) next
-  plan_begun {encoding = encoding} {document = document} {before = before} {next = next} limits_is encoding_is document_is begun added =
+  plan_begun {encoding = encoding} {document = document} {before = before} {next = next}
+      limits_is encoding_is document_is begun added =
       let same_limits : store.limits ≡ server.config.limits = ap (λ (d : StoreData). d.limits) same in
       let is : before ≡ squash_of server.config.limits (session_encoding server) entry =
       begun ∙ ap (λ (l : LimitsData). squash_of l encoding document) (limits_is ∙ same_limits)
