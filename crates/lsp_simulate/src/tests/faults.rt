@@ -80,7 +80,7 @@ static STATUSES: [&str; 5] = [
     "2 the command line is wrong",
     "3 reading or writing failed",
     "4 out of memory",
-    "5 a line is no event",
+    "5 a line is no",
 ];
 
 /// Returns the first status that a text doesn't name.
