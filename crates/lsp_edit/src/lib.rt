@@ -34,7 +34,7 @@ mod text_edits;
 
 pub use change::{Change, MAX_NEW_TEXT, fits};
 pub use composed::{MAX_OLD_TEXT, compose};
-pub use delta::{Delta, Put};
+pub use delta::{Delta, Left, Put};
 pub use fault::{EditFault, Side};
 pub use indexed::IndexedText;
 pub use indexed::fault::BatchFault;

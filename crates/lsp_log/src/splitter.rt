@@ -136,6 +136,8 @@ impl Splitter {
               raw = self.old.framer.buffered;
               body = body;
             } ∷ [])) self.new }
+        ensures none { (IsFrame self.old.framer.limits.max_body self.old.framer.buffered → ⊥) →
+            self.new ≡ self.old }
     {
         if let Some(raw) = self.framer.spelling() {
             let len = raw.len() as u64;

@@ -85,7 +85,9 @@ read_by text body parsed answer same utf8 ok refused memory unmarked h =
 utf8_at : (body : List ℕ) (m : MessageData) (b : Bool) → is_utf8 body ≡ b → reading body ≡ message m → IsUtf8 body
 utf8_at body m true valid is = IsUtf8-from_is_utf8 body valid
 utf8_at body m false broken is =
-    absurd (let e : not_json ≡ message m = sym (not_json_at body false broken (λ u. absurd (never body broken u))) ∙ is in
+    absurd (let unread : reading body ≡ not_json = not_json_at body false broken
+    (λ u. absurd (never body broken u)) in
+    let e : not_json ≡ message m = sym unread ∙ is in
     cc)
   where
     never : (body : List ℕ) → is_utf8 body ≡ false → IsUtf8 body → ⊥

@@ -243,7 +243,8 @@ module _ (units : ℕ → ℕ) (left : Result (List ℕ) (ℕ × Fault)) (AreAll
       record {
         same = ap (λ (m : ℕ). text_after_changes units m (chars next) (map content_change more)) n ∙ l;
         ends = λ others have.
-            let met : AreTextEnds units (chars draft) (content_change change ∷ map content_change more) (end ∷ others) = (
+            let met : AreTextEnds units (chars draft) (content_change change ∷ map content_change more)
+            (end ∷ others) = (
               at,
               λ left made_too. let e : chars next ≡ left = cc in
                   subst (λ (t : List ℕ). AreTextEnds units t (map content_change more) others) e have,
