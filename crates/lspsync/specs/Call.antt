@@ -102,12 +102,14 @@ pub record AreDetails (options : ArgMatches) (details : Details) : Type 0 where
 -- The call of a subcommand with this name and these options.
 abbrev pub IsCallNamed : List ℕ → ArgMatches → Call → Type 0
 IsCallNamed name options (call.Serve config) = (name ≡ codes "serve") × IsConfig options config
-IsCallNamed name options (call.Check settings) = (name ≡ codes "check")
+IsCallNamed name options (call.Check settings live) = (name ≡ codes "check")
     × AreSettings options settings × IsFlag options (codes "explain") false
-IsCallNamed name options (call.Explain settings) = (name ≡ codes "check")
+    × IsFlag options (codes "live") live
+IsCallNamed name options (call.Explain settings live) = (name ≡ codes "check")
     × AreSettings options settings × IsFlag options (codes "explain") true
-IsCallNamed name options (call.Trace settings details) = (name ≡ codes "trace")
-    × AreSettings options settings × AreDetails options details
+    × IsFlag options (codes "live") live
+IsCallNamed name options (call.Trace settings details live) = (name ≡ codes "trace")
+    × AreSettings options settings × AreDetails options details × IsFlag options (codes "live") live
 IsCallNamed name options (call.Replay settings) = (name ≡ codes "replay")
     × AreSettings options settings × IsLogPart options whole
 IsCallNamed name options (call.ReplayPart settings part) = (name ≡ codes "replay")

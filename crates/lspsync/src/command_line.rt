@@ -34,12 +34,23 @@ use std::alloc::{AllocError, Global};
 pub enum Call {
     /// `serve`: run a server's end of a session.
     Serve(Config),
-    /// `check`: print what a server answers to each record of a log.
-    Check(Settings),
+    /// `check`: print what a server answers to each record of a log. With `--live` it is flushed
+    /// before more is read.
+    Check {
+        settings: Settings,
+        live: bool,
+    },
     /// `check --explain`: print of each record why it was refused too, and what to do next.
-    Explain(Settings),
+    Explain {
+        settings: Settings,
+        live: bool,
+    },
     /// `trace`: print a line of JSON for each record of a log.
-    Trace(Settings, Details),
+    Trace {
+        settings: Settings,
+        details: Details,
+        live: bool,
+    },
     /// `replay`: print the documents that are open at the end of a log.
     Replay(Settings),
     /// `replay --at N --uri URI`: print the documents after a record, or a document's last text.
@@ -140,7 +151,7 @@ fn other_call(name: &str, options: &ArgMatches<'_>) -> Option<Call>
     match name {
         "serve" => Some(Call::Serve(config_of(options)?)),
         "check" => check_call(options),
-        "trace" => Some(Call::Trace(settings_of(options, false)?, details_of(options))),
+        "trace" => trace_call(options),
         "normalise" => normalise_call(options),
         "convert" => Some(Call::Convert(settings_of(options, false)?)),
         _ => None,
@@ -153,10 +164,25 @@ fn check_call(options: &ArgMatches<'_>) -> Option<Call>
     ensures none { (call : Call) → IsCallNamed (codes "check") options.now call → IsSome result }
 {
     let settings = settings_of(options, false)?;
+    let live = options.get_flag("live");
     if options.get_flag("explain") {
-        return Some(Call::Explain(settings));
+        return Some(Call::Explain { settings, live });
     }
-    Some(Call::Check(settings))
+    Some(Call::Check { settings, live })
+}
+
+/// Returns the call of `trace`.
+fn trace_call(options: &ArgMatches<'_>) -> Option<Call>
+    ensures some { IfSome result (IsCallNamed (codes "trace") options.now) }
+    ensures none { (call : Call) → IsCallNamed (codes "trace") options.now call → IsSome result }
+{
+    let settings = settings_of(options, false)?;
+    let live = options.get_flag("live");
+    Some(Call::Trace {
+        settings,
+        details: details_of(options),
+        live,
+    })
 }
 
 /// Returns the call of `normalise`, of all messages or of those about the session and the texts.

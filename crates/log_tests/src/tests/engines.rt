@@ -9,9 +9,9 @@ mod words;
 
 use lsp_frame::{Limits, frame};
 use lsp_replay::{
-    CallEnd, Details, EngineFault, Outcome, Part, Settings, Sink, Source, StopReader, StopWriter,
-    Told, check, convert, explain, normalise, normalise_documents, replay, replay_part, serve,
-    trace,
+    CallEnd, Details, Duplex, EngineFault, Outcome, Part, Settings, Sink, Source, StopReader,
+    StopWriter, Told, check, check_live, convert, explain, explain_live, normalise,
+    normalise_documents, replay, replay_part, serve, trace, trace_live,
 };
 use lsp_samples::bodies::{
     ACCEPTED as REPLY, CANONICAL, CHANGE as EDITED, CLOSE, EXIT, INITIALIZE, INITIALIZED, OPEN,
@@ -93,6 +93,10 @@ enum Command {
     Trace,
     /// `check` with reasons.
     Explain,
+    /// `check`, that with reasons and `trace` with the texts, flushed before more is read.
+    CheckLive,
+    ExplainLive,
+    TraceLive,
 }
 
 /// Some bytes of a row.
@@ -188,6 +192,21 @@ fn squashing(settings: Settings) -> Settings {
     }
 }
 
+/// Calls an engine over both ends of a connection.
+fn call_live<R: Source, W: Sink>(
+    alloc: Global,
+    command: Command,
+    ends: &mut Duplex<'_, R, W>,
+    settings: Settings,
+) -> Answer {
+    let turns = u64::MAX;
+    match command {
+        Command::ExplainLive => explain_live(alloc, ends, settings, turns),
+        Command::TraceLive => trace_live(alloc, ends, settings, TEXTS, turns),
+        _ => check_live(alloc, ends, settings, turns),
+    }
+}
+
 /// Calls an engine.
 fn call<R: Source, W: Sink>(
     alloc: Global,
@@ -214,6 +233,9 @@ fn call<R: Source, W: Sink>(
         }
         Command::Explain => explain(alloc, from, to, settings, turns),
         Command::Trace => trace(alloc, from, to, settings, TEXTS, turns),
+        Command::CheckLive | Command::ExplainLive | Command::TraceLive => {
+            call_live(alloc, command, &mut Duplex::new(from, to), settings)
+        }
     }
 }
 

@@ -2,8 +2,11 @@
 
 ghost use Rattle.std.specs.Prelude.{◌≡◌};
 ghost use Rattle.lsp_stream.specs.Ports.{ports};
+ghost use Rattle.lsp_replay.specs.Commands.{log_config};
 ghost use Rattle.lsp_replay.specs.Explained.{explain_engine};
+ghost use Rattle.lsp_replay.specs.Lines.{nothing_known};
 ghost use Rattle.lsp_replay.specs.Run.{IsEngineRun};
+ghost use Rattle.lsp_replay.specs.Session.{opened};
 
 use crate::commands::Settings;
 use crate::facts::Known;
@@ -12,6 +15,20 @@ use crate::pipeline::run;
 use crate::printer::explaining::Explain;
 use lsp_stream::{EngineFault, Sink, Source};
 use std::alloc::Global;
+
+impl Settings {
+    /// Starts `check` with reasons before the first record.
+    pub(super) fn explaining(&self, alloc: Global) -> Explain
+        ensures session { result.session ≡ opened (log_config self.now) }
+        ensures known { result.known ≡ nothing_known }
+    {
+        Explain {
+            session: self.session(alloc),
+            known: Known::nothing(alloc),
+            alloc,
+        }
+    }
+}
 
 /// Writes a line for each record of a log, as [`check`](crate::check) does; where it was refused
 /// the document, why, and the record that opened, closed or refused the document last; where it is
@@ -33,10 +50,6 @@ pub fn explain<R: Source, W: Sink>(
         (ports (R.seen reader.new) (W.seen writer.new)) result }
 {
     let rules = settings.rules(false);
-    let explain = Explain {
-        session: settings.session(alloc),
-        known: Known::nothing(alloc),
-        alloc,
-    };
+    let explain = settings.explaining(alloc);
     run(alloc, reader, writer, explain, None, rules, max_turns)
 }

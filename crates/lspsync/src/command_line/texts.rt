@@ -31,7 +31,10 @@ one of what an editor wrote.
 
 Example, a session with two changes that Laspidru refuses:
   lspsync check examples/stale-version.log
-  lspsync check --explain examples/stale-version.log";
+  lspsync check --explain examples/stale-version.log
+
+Example, a session that goes on, as the editor types:
+  tail -c +1 -f session.log | lspsync check --explain --live";
 
 pub static TRACE: &str = "Print each message of a log as JSON, with the answer and the reason";
 
@@ -132,6 +135,9 @@ if it was closed";
 
 pub static EXPLAIN: &str = "Print why a message was refused or what is suspicious
 too, and at the end what to do next";
+
+pub static LIVE: &str = "Flush what is printed before more is read: for a session
+that goes on";
 
 pub static TEXTS: &str = "Print the document's text too, where a message opened
 or changed it";

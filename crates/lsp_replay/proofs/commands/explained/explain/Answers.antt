@@ -8,8 +8,8 @@ use Rattle.lsp_replay.proofs.commands.explained.explain.Goals as goal
 
 pub returns : goal.returns
 returns g c =
-    let run = rw (c.rules-rules.ensures, c.session.ensures.value, c.nothing.ensures) at c.run.ensures.run in
-    let whole = rw (c.rules-rules.ensures, c.session.ensures.value, c.nothing.ensures) at c.run.ensures.whole in
+    let run = rw (c.rules-rules.ensures, c.explaining-explain.ensures.session, c.explaining-explain.ensures.known) at c.run.ensures.run in
+    let whole = rw (c.rules-rules.ensures, c.explaining-explain.ensures.session, c.explaining-explain.ensures.known) at c.run.ensures.whole in
     record {
       run = run_of c.run.ensures.first c.run.ensures.version (lines explaining) nothing_known
           (opened (log_config c.args.settings)) false run (λ _. whole (λ _. refl));
