@@ -10,10 +10,9 @@ use Rattle.lsp_replay.specs.declared.commands.Settings.{Settings}
 use Rattle.lsp_replay.specs.declared.notes.Note.{Note}
 use Rattle.lsp_replay.specs.RunOutput.{RunOutput}
 use Rattle.lsp_replay.specs.Commands.{change_in, log_config, output_in, verdict_word}
-use Rattle.lsp_replay.specs.Lines.{Known, LineView, lines, nothing_known, uri_of}
-use Rattle.lsp_replay.specs.Mentions.{last_for}
+use Rattle.lsp_replay.specs.Lines.{Known, LineView, is_renamed, last_in, lines, nothing_known, uri_of}
 use Rattle.lsp_replay.specs.Notes.{notes_of, notes_words}
-use Rattle.lsp_replay.specs.Reasons.{reason_words}
+use Rattle.lsp_replay.specs.Reasons.{reason_words, renamed_words}
 use Rattle.lsp_replay.specs.Run.{Engine, log_engine}
 use Rattle.lsp_replay.specs.Session.{Session, Judged, Verdict, answered, is_refused, opened}
 use Rattle.lsp_replay.specs.Trace.{json_string}
@@ -28,13 +27,20 @@ abbrev pub see_words : Option ℕ → List ℕ
 see_words None = []
 see_words (Some number) = codes "; see message " ++ decimal number
 
+-- What is known of the document of a record that is refused.
+pub record Seen : Type 0 where
+  -- may it be another one under a new name?
+  pub renamed : Bool
+  -- the record to look at
+  pub last : Option ℕ
+
 -- What comes after the word of a record that counts as refused, by its document, the change that it
--- asks for, and the record to look at.
-abbrev pub explanation : LimitsData → Option (List ℕ) → Option ChangeData → Option ℕ → Verdict
-    → List ℕ
-explanation limits uri change last (answered answer) = if is_refused answer then
-    document_words uri ++ codes ": " ++ reason_words limits change answer ++ see_words last else []
-explanation limits uri change last verdict = []
+-- asks for, and what is known of the document.
+abbrev pub explanation : LimitsData → Option (List ℕ) → Option ChangeData → Seen → Verdict → List ℕ
+explanation limits uri change seen (answered answer) = if is_refused answer then
+    document_words uri ++ codes ": " ++ reason_words limits change answer
+    ++ renamed_words seen.renamed ++ see_words seen.last else []
+explanation limits uri change seen verdict = []
 
 -- What comes after the word of a record that has notes.
 abbrev pub remark : Option (List ℕ) → List Note → List ℕ
@@ -42,14 +48,28 @@ remark uri [] = []
 remark uri (note ∷ notes) =
     document_words uri ++ codes ": " ++ notes_words (codes "; ") (note ∷ notes)
 
+-- The line of a record with these notes on it, by its number, its document, the change that it asks
+-- for, and what is known of the document.
+abbrev pub line_with : LimitsData → ℕ → Option (List ℕ) → Option ChangeData → Seen → Verdict
+    → List Note → List ℕ
+line_with limits number uri change seen verdict notes =
+    decimal number ++ codes " " ++ verdict_word verdict
+    ++ explanation limits uri change seen verdict ++ remark uri notes ++ codes "\n"
+
+-- What is known of the document of a record.
+abbrev pub seen_in : Known → Option (List ℕ) → Verdict → Seen
+seen_in known uri verdict = record {
+  renamed = is_renamed known uri verdict;
+  last = last_in known uri verdict;
+}
+
 -- A line of `check --explain`, from what is known of the records before, the session before the
 -- record and the judgement of it. `m` is what the record's body asks.
 abbrev pub explained_line : Known → Session → Record → Judged → IncomingData → List ℕ
 explained_line known s r j m =
-    decimal j.session.records ++ codes " " ++ verdict_word j.verdict
-    ++ explanation j.session.server.config.limits (uri_of r.head.side m) (change_in m)
-    (last_for known.mentions (uri_of r.head.side m) j.verdict) j.verdict
-    ++ remark (uri_of r.head.side m) (notes_of s known.ranged r.body j.verdict) ++ codes "\n"
+    line_with j.session.server.config.limits j.session.records (uri_of r.head.side m) (change_in m)
+    (seen_in known (uri_of r.head.side m) j.verdict) j.verdict
+    (notes_of s known.ranged r.body j.verdict)
 
 -- ---- what to do next, after so many refusals
 
@@ -63,7 +83,7 @@ first_advice refusals suspicious =
     else
     codes "Refused messages change nothing. `lspsync replay --at N`: the texts after message N.\n"
 
--- The line after it, by whether a record is refused with S1 or S5.
+-- The line after it, by whether a record is refused with S1, or with S5 and changes.
 abbrev pub lenient_advice : Bool → List ℕ
 lenient_advice strict_refusal = if strict_refusal then
     codes "Many servers don't refuse what is S1 or S5 here. `--lenient` doesn't either.\n"
@@ -73,13 +93,18 @@ lenient_advice strict_refusal = if strict_refusal then
 abbrev pub advice : ℕ → Known → List ℕ
 advice count known = first_advice count known.suspicious ++ lenient_advice known.strict_refusal
 
+-- The lines at the end.
+abbrev pub end_lines : Known → Session → List ℕ
+end_lines known s =
+    if s.records == 0 then codes "The log has no messages.\n" else advice s.refusals known
+
 -- ---- the engine
 
--- `check --explain` writes a line for each record, and at the end the advice.
+-- `check --explain` writes a line for each record, and these at the end.
 abbrev pub explaining : LineView
 explaining = record {
   line = λ known s r j. explained_line known s r j (incoming_of (reading r.body));
-  end_lines = λ known s. advice s.refusals known;
+  end_lines = end_lines;
 }
 
 -- The output of `check --explain`.

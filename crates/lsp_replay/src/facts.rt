@@ -4,8 +4,10 @@
 //! `noting` has what is suspicious of a message, `asked` what a body asks.
 
 ghost use Rattle.std.specs.Prelude.{◌≡◌, ◌≢◌, ◌⊎◌, IfErr, IfOk, OnOk, option_map};
-ghost use Rattle.lsp_replay.specs.Lines.{has_notes, is_strict_refusal, known_after, nothing_known};
-ghost use Rattle.lsp_replay.specs.Mentions.{is_mention, last_for};
+ghost use Rattle.lsp_message.specs.Seen.{change_view};
+ghost use Rattle.lsp_replay.specs.Lines.{has_notes, is_new_name, is_renamed, is_strict_refusal, known_after, last_in};
+ghost use Rattle.lsp_replay.specs.Lines.{nothing_known};
+ghost use Rattle.lsp_replay.specs.Mentions.{is_mention};
 ghost use Rattle.lsp_replay.specs.Session.{bad};
 ghost use Rattle.lsp_replay.specs.inside.Facts.{AreFacts, IsLearned, known_by};
 ghost use Rattle.lsp_replay.specs.inside.Reads.{IsReadOf};
@@ -19,6 +21,8 @@ mod noting;
 use crate::facts::noting::{about_of, notes_if};
 use crate::mentions::Mentions;
 use crate::notes::Note;
+use crate::printer::reasons::is_idle;
+use crate::session::counting::has_changed;
 use crate::session::witness::Witness;
 use crate::session::{RecordBody, Session, Taken, Verdict, in_log};
 use lsp_log::Head;
@@ -50,8 +54,10 @@ pub struct Facts {
     pub uri: Option<String>,
     /// The params of a change that a running server received: what a reason quotes.
     pub change: Option<ChangeParams>,
-    /// The record that opened, closed or refused this document last before, if the documents
-    /// refused this one.
+    /// Whether the document may be another one under a new name, if the documents refused it.
+    pub renamed: bool,
+    /// The record to look at, if the documents refused this one: which made the current version, if
+    /// this one has an old version; else which opened, closed or refused the document last.
     pub last: Option<u64>,
     /// What is suspicious of it, if it was accepted.
     pub notes: Vec<Note>,
@@ -61,12 +67,16 @@ pub struct Facts {
 #[derive(Drop)]
 pub struct Known {
     alloc: Global,
+    // The documents that were opened, closed or refused last.
     mentions: Mentions,
+    // The documents that were opened, changed or closed last.
+    made: Mentions,
     // Whether the server asked for ranges.
     ranged: bool,
     // Whether a record has notes.
     suspicious: bool,
-    // Whether one is refused with S1 or S5, which lenient limits never do.
+    // Whether a record is refused with S1 or S5, which lenient limits never do, and was meant to
+    // change a text.
     strict_refusal: bool,
 }
 
@@ -77,6 +87,7 @@ impl Model for Known {
 
     ghost view = { λ known. record {
       mentions = known.mentions.newest.items;
+      made = known.made.newest.items;
       ranged = known.ranged;
       suspicious = known.suspicious;
       strict_refusal = known.strict_refusal;
@@ -91,6 +102,7 @@ impl Known {
         Known {
             alloc,
             mentions: Mentions::new(alloc),
+            made: Mentions::new(alloc),
             ranged: false,
             suspicious: false,
             strict_refusal: false,
@@ -104,7 +116,7 @@ impl Known {
         self.suspicious
     }
 
-    /// Returns whether a record is refused with S1 or S5.
+    /// Returns whether a record is refused with S1, or with S5 and changes.
     pub fn has_strict_refusal(&self) -> bool
         ensures { result ≡ self.now.strict_refusal }
     {
@@ -156,21 +168,65 @@ impl Known {
             change,
             ranged,
         } = taken;
-        let last = last_for(&self.mentions, uri.as_deref(), &verdict);
-        let counts = is_mention(is_change, &verdict);
-        self.mentions.keep(counts, uri.as_deref(), number)?;
+        let renamed = self.is_renamed(uri.as_deref(), &verdict);
+        let last = self.last_in(uri.as_deref(), &verdict);
         let notes = notes_if(notes, &verdict);
+        let mentioned = is_mention(is_change, &verdict);
+        self.mentions.keep(mentioned, uri.as_deref(), number)?;
+        self.made
+            .keep(has_changed(&verdict), uri.as_deref(), number)?;
         self.ranged = ranged_with(self.ranged, ranged);
         self.suspicious = self.suspicious || has_notes(notes.as_slice());
-        self.strict_refusal = self.strict_refusal || is_strict_refusal(&verdict);
+        let is_strict = is_strict_refusal(change.as_ref(), &verdict);
+        self.strict_refusal = self.strict_refusal || is_strict;
         Ok(Facts {
             number,
             verdict,
             uri,
             change,
+            renamed,
             last,
             notes,
         })
+    }
+
+    /// Returns the record to look at, if the documents refused one about a document: which made the
+    /// current version, if it was an old version that they refused; else which opened, closed or
+    /// refused the document last.
+    fn last_in(&self, uri: Option<&str>, verdict: &Verdict) -> Option<u64>
+        ensures { result ≡ last_in self.now (option_map (λ uri. uri.now) uri.entry)
+            (verdict_view verdict.now) }
+    {
+        match verdict {
+            Verdict::Answered(Answer::Refused(Refusal::Store(StoreFault::StaleVersion { .. }))) =>
+                self.made.last(uri?),
+            Verdict::Answered(Answer::Refused(_)) => self.mentions.last(uri?),
+            _ => None,
+        }
+    }
+
+    /// Returns whether an editor may have renamed a document, if the documents refused a record
+    /// about it.
+    fn is_renamed(&self, uri: Option<&str>, verdict: &Verdict) -> bool
+        ensures { result ≡ is_renamed self.now (option_map (λ uri. uri.now) uri.entry)
+            (verdict_view verdict.now) }
+    {
+        match verdict {
+            Verdict::Answered(Answer::Refused(Refusal::Store(StoreFault::NotOpen))) => {
+                is_new_name(&self.made, uri)
+            }
+            _ => false,
+        }
+    }
+}
+
+/// Returns whether no document of this name was opened, and another was.
+fn is_new_name(made: &Mentions, uri: Option<&str>) -> bool
+    ensures { result ≡ is_new_name made.now.newest.items (option_map (λ uri. uri.now) uri.entry) }
+{
+    match uri {
+        Some(uri) => made.last(uri).is_none() && !made.is_empty(),
+        None => false,
     }
 }
 
@@ -179,18 +235,6 @@ fn ranged_with(before: bool, ranged: Option<bool>) -> bool
     ensures { result ≡ ranged_with before ranged }
 {
     ranged.unwrap_or(before)
-}
-
-/// Returns the record that opened, closed or refused a document last, if the documents refused one
-/// about it.
-fn last_for(mentions: &Mentions, uri: Option<&str>, verdict: &Verdict) -> Option<u64>
-    ensures { result ≡ last_for mentions.now.newest.items
-        (option_map (λ uri. uri.now) uri.entry) (verdict_view verdict.now) }
-{
-    let Verdict::Answered(Answer::Refused(_)) = verdict else {
-        return None;
-    };
-    mentions.last(uri?)
 }
 
 /// Returns whether an answer opens, closes or refuses a document.
@@ -211,14 +255,16 @@ fn has_notes(notes: &[Note]) -> bool
     !notes.is_empty()
 }
 
-/// Returns whether a record is refused with S1 or S5.
-fn is_strict_refusal(verdict: &Verdict) -> bool
-    ensures { result ≡ is_strict_refusal (verdict_view verdict.now) }
+/// Returns whether a record is refused with S1, or with S5 and changes.
+fn is_strict_refusal(change: Option<&ChangeParams>, verdict: &Verdict) -> bool
+    ensures { result ≡ is_strict_refusal (option_map (λ p. change_view p.now) change.entry)
+        (verdict_view verdict.now) }
 {
-    matches!(
-        verdict,
-        Verdict::Answered(Answer::Refused(Refusal::Store(
-            StoreFault::AlreadyOpen | StoreFault::StaleVersion { .. }
-        )))
-    )
+    match verdict {
+        Verdict::Answered(Answer::Refused(Refusal::Store(StoreFault::AlreadyOpen))) => true,
+        Verdict::Answered(Answer::Refused(Refusal::Store(StoreFault::StaleVersion { .. }))) => {
+            !is_idle(change)
+        }
+        _ => false,
+    }
 }

@@ -1,6 +1,7 @@
 //! What of an accepted message is suspicious, though it has a meaning.
 
 pub(crate) mod changes;
+pub(crate) mod returns;
 pub(crate) mod units;
 
 use lsp_edit::Side;
@@ -11,6 +12,8 @@ use lsp_text::Position;
 pub enum Note {
     /// It opens a document that is open.
     OpenAlready,
+    /// It opens a document in which a carriage return ends a line by itself, and a line feed another.
+    LoneReturn,
     /// Its version isn't greater than the current one.
     OldVersion {
         sent: i32,

@@ -5,12 +5,12 @@ use Rattle.lsp_message.specs.Message.{reading}
 use Rattle.lsp_server.specs.Incoming.{incoming_of}
 use Rattle.lsp_log.specs.Log.{Record}
 use Rattle.lsp_replay.specs.declared.facts.Facts.{Facts}
-use Rattle.lsp_replay.specs.Explained.{explained_line}
+use Rattle.lsp_replay.specs.Explained.{explained_line, seen_in}
 use Rattle.lsp_replay.specs.Lines.{Known, uri_of}
-use Rattle.lsp_replay.specs.Mentions.{last_for}
+use Rattle.lsp_replay.specs.Notes.{notes_of}
 use Rattle.lsp_replay.specs.Session.{Session, judge}
 use Rattle.lsp_replay.specs.inside.Facts.{AreFacts, explained_by}
-use Rattle.lsp_replay.proofs.Reports.ReasonLemmas.{explained_at}
+use Rattle.lsp_replay.proofs.Reports.ReasonLemmas.{line_at}
 
 pub line_is : (known : Known) (s : Session) (r : Record) (limits : LimitsData)
     → limits ≡ (judge s r).session.server.config.limits → (facts : Facts) → AreFacts known s r.head r.body facts
@@ -24,9 +24,11 @@ line_is known s r limits limits_are facts are old bytes empty bytes_is =
       are.number,
       are.verdict,
       are.uri,
+      are.renamed,
       are.last,
       are.notes,
       are.change,
-      explained_at (judge s r).session.server.config.limits uri (last_for known.mentions uri (judge s r).verdict) s
-          r.head r.body,
+      line_at (judge s r).session.server.config.limits (judge s r).session.records uri
+          (seen_in known uri (judge s r).verdict)
+          (notes_of s known.ranged r.body (judge s r).verdict) s r.head r.body,
     ) refl

@@ -3,9 +3,10 @@
 
 ghost use Rattle.std.specs.Prelude.{◌≡◌, ◌++◌, refl, OnOk, false, option_map, string_bytes};
 ghost use Rattle.lsp_message.specs.Seen.{change_view};
-ghost use Rattle.lsp_replay.specs.Explained.{advice, document_words, explaining, explanation, first_advice, lenient_advice, remark, see_words};
+ghost use Rattle.lsp_replay.specs.Explained.{advice, document_words, end_lines, explaining, explanation, first_advice};
+ghost use Rattle.lsp_replay.specs.Explained.{lenient_advice, remark, see_words};
 ghost use Rattle.lsp_replay.specs.inside.Lines.{lines_in};
-ghost use Rattle.lsp_replay.specs.inside.Facts.{explained_by};
+ghost use Rattle.lsp_replay.specs.inside.Facts.{explained_by, seen_by};
 ghost use Rattle.lsp_replay.specs.inside.Verdicts.{verdict_view};
 
 use crate::facts::{Facts, Known};
@@ -15,7 +16,7 @@ use crate::outcome::Outcome;
 use crate::printer::Printer;
 use crate::printer::checking::push_verdict;
 use crate::printer::noted::push_notes;
-use crate::printer::reasons::push_reason;
+use crate::printer::reasons::{push_reason, push_renamed};
 use crate::session::counting::is_refused;
 use crate::session::witness::Nothing;
 use crate::session::{RecordBody, Session, Verdict};
@@ -30,6 +31,19 @@ pub struct Explain {
     pub session: Session,
     pub known: Known,
     pub alloc: Global,
+}
+
+impl Explain {
+    /// Writes the lines at the end.
+    fn push_end(&self, buffer: &mut Vec<u8>) -> Result<(), AllocError>
+        ensures { OnOk result (buffer.new.items ≡ buffer.old.items
+            ++ end_lines self.now.known self.now.session) }
+    {
+        if self.session.records() == 0 {
+            return push_words(buffer, "The log has no messages.\n");
+        }
+        push_advice(buffer, self.session.refusals(), &self.known)
+    }
 }
 
 impl Printer for Explain {
@@ -73,7 +87,7 @@ impl Printer for Explain {
         _line_due: bool,
         buffer: &mut Vec<u8>,
     ) -> Result<Option<Outcome>, EngineFault> {
-        push_advice(buffer, self.session.refusals(), &self.known)?;
+        self.push_end(buffer)?;
         Ok(Some(self.session.outcome()))
     }
 }
@@ -105,7 +119,7 @@ fn push_explanation(
 ) -> Result<(), AllocError>
     ensures { OnOk result (buffer.new.items ≡ buffer.old.items
         ++ explanation limits (option_map string_bytes facts.now.uri)
-        (option_map change_view facts.now.change) facts.now.last
+        (option_map change_view facts.now.change) (seen_by facts.now)
         (verdict_view facts.now.verdict)) }
 {
     let Verdict::Answered(answer) = &facts.verdict else {
@@ -117,6 +131,7 @@ fn push_explanation(
     push_document(alloc, buffer, facts.uri.as_deref())?;
     buffer.extend_from_slice(b": ")?;
     push_reason(buffer, limits, facts.change.as_ref(), answer)?;
+    push_renamed(buffer, facts.renamed)?;
     push_see(buffer, facts.last)
 }
 
@@ -178,7 +193,7 @@ fn first_advice(refusals: u64, suspicious: bool) -> &'static str
     }
 }
 
-/// Returns what to try where something was refused with S1 or S5.
+/// Returns what to try where something was refused with S1, or with S5 and changes.
 fn lenient_advice(strict_refusal: bool) -> &'static str
     ensures { result.now ≡ lenient_advice strict_refusal }
 {

@@ -55,7 +55,7 @@ static WORDS: [Answered; 27] = [
     (
         r#"{"jsonrpc":"2.0","method":"textDocument/didClose","params":{"textDocument":{"uri":"file:///c"}}}"#,
         "refused S4",
-        " of \"file:///c\": the document is not open",
+        " of \"file:///c\": the document is not open; its editor may have renamed a document that was open",
     ),
     // A second document, and a third.
     (
@@ -84,7 +84,7 @@ static WORDS: [Answered; 27] = [
     (
         r#"{"jsonrpc":"2.0","method":"textDocument/didChange","params":{"contentChanges":[{"text":"😀"}],"textDocument":{"uri":"file:///a","version":1}}}"#,
         "refused S5",
-        " of \"file:///a\": version 1 was sent, and the current one is 1; see message 19",
+        " of \"file:///a\": version 1 was sent, and the current one is 1; see message 13",
     ),
     (
         r#"{"jsonrpc":"2.0","method":"textDocument/didChange","params":{"contentChanges":[{"text":"😀"}],"textDocument":{"uri":"file:///a","version":2}}}"#,
