@@ -17,6 +17,7 @@ use Rattle.lsp_replay.specs.declared.notes.Note.{Note}
 use Rattle.lsp_replay.specs.declared.session.Taken.{Taken}
 use Rattle.lsp_replay.specs.RunOutput.{written_first}
 use Rattle.lsp_replay.specs.Commands.{change_in, writes}
+use Rattle.lsp_replay.specs.Counts.{rare_notes}
 use Rattle.lsp_replay.specs.Lines.{Known, LineView, is_renamed, is_strict_refusal, known_after, last_in, lines, uri_of}
 use Rattle.lsp_replay.specs.inside.Lines.{lines_in}
 use Rattle.lsp_replay.specs.Mentions.{is_mention}
@@ -118,6 +119,7 @@ module _ (known : Known) (s : Session) (head : Head) (body : List ℕ) (read : B
         renamed = learned.renamed ∙ ap₂ (is_renamed known) uri_is is_taken.judged;
         last = learned.last ∙ ap₂ (last_in known) uri_is is_taken.judged;
         notes = learned.notes ∙ notes_are;
+        rare = learned.rare ∙ ap (rare_notes known.counts) notes_are;
       }
 
       pub known_is : (next : Known) → next ≡ known_by known number about taken

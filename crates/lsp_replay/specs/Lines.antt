@@ -13,6 +13,7 @@ use Rattle.lsp_log.specs.declared.record.Sender.TheVariants.{Client}
 use Rattle.lsp_log.specs.Log.{Record}
 use Rattle.lsp_replay.specs.declared.notes.Note.{Note}
 use Rattle.lsp_replay.specs.Commands.{View, change_in, unless_bad, writes}
+use Rattle.lsp_replay.specs.Counts.{Counts, counts_after, nothing_counted}
 use Rattle.lsp_replay.specs.Mentions.{Mention, is_mention, last_for, last_record, mentioned}
 use Rattle.lsp_replay.specs.Notes.{notes_of, ranged_after}
 use Rattle.lsp_replay.specs.Reasons.{is_empty, is_idle}
@@ -36,10 +37,10 @@ pub record Known : Type 0 where
   pub made : List Mention
   -- did the server ask for ranges?
   pub ranged : Bool
-  -- does one of them have notes?
-  pub suspicious : Bool
   -- is one of them refused with S1 or S5, which lenient limits never do, and meant to change a text?
   pub strict_refusal : Bool
+  -- how often what came
+  pub counts : Counts
 
 -- Before the first record.
 abbrev pub nothing_known : Known
@@ -47,8 +48,8 @@ nothing_known = record {
   mentions = [];
   made = [];
   ranged = false;
-  suspicious = false;
   strict_refusal = false;
+  counts = nothing_counted;
 }
 
 -- Are there notes?
@@ -78,9 +79,10 @@ known_after known s head body j = record {
   mentions = mentions_after known.mentions head.side (incoming_of (reading body)) j;
   made = made_after known.made head.side (incoming_of (reading body)) j;
   ranged = ranged_after known.ranged s head.side body;
-  suspicious = known.suspicious || has_notes (notes_of s known.ranged body j.verdict);
   strict_refusal = known.strict_refusal
       || is_strict_refusal (change_in (incoming_of (reading body))) j.verdict;
+  counts = counts_after known.counts j.session.records j.verdict
+      (notes_of s known.ranged body j.verdict);
 }
 
 -- ---- what is known of a document that a record is refused for

@@ -7,7 +7,7 @@ use Rattle.std.specs.Str.{bytes_eq, chars}
 use Rattle.serde_json.specs.Data.{Data}
 use Rattle.lsp_text.specs.Positions.{denoted, exact_position}
 use Rattle.lsp_text.specs.Units.{units_in}
-use Rattle.lsp_text.specs.declared.encoding.Encoding.TheVariants.{Utf16}
+use Rattle.lsp_text.specs.declared.encoding.Encoding.TheVariants.{Utf16, Utf32}
 use Rattle.lsp_text.specs.declared.position.Position.{Position}
 use Rattle.lsp_text.specs.declared.position.Range.{Range}
 use Rattle.lsp_edit.specs.Batch.{ContentChange, Fault, meaning, ends_of}
@@ -91,11 +91,11 @@ abbrev pub utf16_units : List ℕ → ℕ
 utf16_units characters = sum_by (units_in Utf16) characters
 
 -- The note of a `rangeLength` that is neither the units of what the change replaces nor its UTF-16
--- units.
+-- units. It has the number of these, and that of the characters.
 abbrev pub length_notes : (ℕ → ℕ) → ℕ → Option ℕ → Option (List ℕ) → List Note
 length_notes units index (Some sent) (Some replaced) =
     if sent == utf16_units replaced || sent == sum_by units replaced then [] else
-    WrongLength index sent (utf16_units replaced) ∷ []
+    WrongLength index sent (utf16_units replaced) (sum_by (units_in Utf32) replaced) ∷ []
 length_notes units index sent replaced = []
 
 -- The note that a change's text is what it replaces, character by character.
@@ -260,7 +260,7 @@ note_words (WholeText index) =
 note_words (PastEnd index side sent taken) =
     change_words index ++ side_words side ++ position_words sent ++ past_words sent taken
     ++ position_words taken ++ codes ")"
-note_words (WrongLength index sent replaced) =
+note_words (WrongLength index sent replaced characters) =
     change_words index ++ codes " has the rangeLength " ++ decimal sent ++ codes ", and replaces "
     ++ decimal replaced ++ codes " UTF-16 units"
 note_words (SameText index) = change_words index ++ codes " changes nothing"
@@ -270,3 +270,26 @@ abbrev pub notes_words : List ℕ → List Note → List ℕ
 notes_words between [] = []
 notes_words between (note ∷ notes) =
     note_words note ++ flat_map (λ note. between ++ note_words note) notes
+
+-- ---- the kind of a note, by which notes are counted
+
+-- Whether a `rangeLength` counts characters, as some editors do, or nothing that is known.
+abbrev pub length_kind : Bool → List ℕ
+length_kind true = codes "rangeLength in characters"
+length_kind false = codes "rangeLength"
+
+-- Past which end a position is, by the position that it is taken as.
+abbrev pub past_kind : Position → Position → List ℕ
+past_kind sent taken =
+    if sent.line == taken.line then codes "past the line's end" else codes "past the last line"
+
+-- The kind of a note, in words.
+abbrev pub note_kind : Note → List ℕ
+note_kind OpenAlready = codes "open already"
+note_kind LoneReturn = codes "a CR alone"
+note_kind (OldVersion sent current) = codes "an old version"
+note_kind NoChanges = codes "no changes"
+note_kind (WholeText index) = codes "a whole text"
+note_kind (PastEnd index side sent taken) = past_kind sent taken
+note_kind (WrongLength index sent replaced characters) = length_kind (sent == characters)
+note_kind (SameText index) = codes "changes nothing"

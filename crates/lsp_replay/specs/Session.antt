@@ -73,6 +73,11 @@ abbrev pub has_changed : Verdict → Bool
 has_changed (answered changed) = true
 has_changed verdict = false
 
+-- Does a record count as refused?
+abbrev pub refuses : Verdict → Bool
+refuses (answered answer) = is_refused answer
+refuses verdict = false
+
 -- A count, raised if this counts.
 abbrev pub count_if : Bool → ℕ → ℕ
 count_if counts count = if counts then one_more count else count

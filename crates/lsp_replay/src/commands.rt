@@ -18,7 +18,7 @@ mod normalised;
 mod parts;
 mod traced;
 
-pub use crate::commands::explained::explain;
+pub use crate::commands::explained::{Listing, explain};
 pub use crate::commands::live::{check_live, explain_live, trace_live};
 pub use crate::commands::normalised::{normalise, normalise_documents};
 pub use crate::commands::parts::{Part, replay_part};

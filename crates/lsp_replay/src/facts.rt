@@ -18,6 +18,7 @@ ghost use Rattle.lsp_replay.specs.inside.Verdicts.{verdict_view};
 pub(crate) mod asked;
 mod noting;
 
+use crate::counts::Counts;
 use crate::facts::noting::{about_of, notes_if};
 use crate::mentions::Mentions;
 use crate::notes::Note;
@@ -61,6 +62,8 @@ pub struct Facts {
     pub last: Option<u64>,
     /// What is suspicious of it, if it was accepted.
     pub notes: Vec<Note>,
+    /// The notes whose kinds are no habits.
+    pub rare: Vec<Note>,
 }
 
 /// What is known of the records before one.
@@ -73,11 +76,10 @@ pub struct Known {
     made: Mentions,
     // Whether the server asked for ranges.
     ranged: bool,
-    // Whether a record has notes.
-    suspicious: bool,
     // Whether a record is refused with S1 or S5, which lenient limits never do, and was meant to
     // change a text.
     strict_refusal: bool,
+    counts: Counts,
 }
 
 impl Model for Known {
@@ -89,8 +91,8 @@ impl Model for Known {
       mentions = known.mentions.newest.items;
       made = known.made.newest.items;
       ranged = known.ranged;
-      suspicious = known.suspicious;
       strict_refusal = known.strict_refusal;
+      counts = known.counts;
     } };
 }
 
@@ -104,16 +106,16 @@ impl Known {
             mentions: Mentions::new(alloc),
             made: Mentions::new(alloc),
             ranged: false,
-            suspicious: false,
             strict_refusal: false,
+            counts: Counts::nothing(alloc),
         }
     }
 
-    /// Returns whether a record has notes.
-    pub fn is_suspicious(&self) -> bool
-        ensures { result ≡ self.now.suspicious }
+    /// Returns how often what came.
+    pub fn counts(&self) -> &Counts
+        ensures { result.now ≡ self.now.counts }
     {
-        self.suspicious
+        &self.counts
     }
 
     /// Returns whether a record is refused with S1, or with S5 and changes.
@@ -171,14 +173,15 @@ impl Known {
         let renamed = self.is_renamed(uri.as_deref(), &verdict);
         let last = self.last_in(uri.as_deref(), &verdict);
         let notes = notes_if(notes, &verdict);
+        let rare = self.counts.rare(&notes)?;
         let mentioned = is_mention(is_change, &verdict);
         self.mentions.keep(mentioned, uri.as_deref(), number)?;
         self.made
             .keep(has_changed(&verdict), uri.as_deref(), number)?;
         self.ranged = ranged_with(self.ranged, ranged);
-        self.suspicious = self.suspicious || has_notes(notes.as_slice());
         let is_strict = is_strict_refusal(change.as_ref(), &verdict);
         self.strict_refusal = self.strict_refusal || is_strict;
+        self.counts.count(number, &verdict, &notes)?;
         Ok(Facts {
             number,
             verdict,
@@ -187,6 +190,7 @@ impl Known {
             renamed,
             last,
             notes,
+            rare,
         })
     }
 
@@ -249,7 +253,7 @@ fn is_mention(is_change: bool, verdict: &Verdict) -> bool
 }
 
 /// Returns whether there is a note.
-fn has_notes(notes: &[Note]) -> bool
+pub fn has_notes(notes: &[Note]) -> bool
     ensures { result ≡ has_notes notes.now }
 {
     !notes.is_empty()

@@ -4,6 +4,7 @@
 //! - `commands`: `serve` and `serve_on`, `check` and `explain`, `trace`, `replay` and
 //!   `replay_part`, `normalise` and `normalise_documents`, and `convert`; `check_live`,
 //!   `explain_live` and `trace_live` of a session as it goes on.
+//! - `counts`: how often what came.
 //! - `engine`: the one loop from a reader to a writer; `handler` is what it hands records to.
 //! - `pipeline`: the one handler: it reads a record's body once, leaves out what doesn't stay, and
 //!   hands the rest to a command's printer.
@@ -18,6 +19,7 @@
 #![tactic(auto)]
 
 mod commands;
+mod counts;
 mod engine;
 mod facts;
 mod handler;
@@ -31,7 +33,7 @@ mod printer;
 mod session;
 
 pub use commands::{
-    Details, Part, Settings, check, check_live, convert, explain, explain_live, normalise,
+    Details, Listing, Part, Settings, check, check_live, convert, explain, explain_live, normalise,
     normalise_documents, replay, replay_part, serve, serve_on, trace, trace_live,
 };
 pub use laws::{documents_laws, log_laws};

@@ -76,7 +76,8 @@ logs_rule = record log_rule {
 
 -- The options of `check` that say what it writes of each record, and when.
 abbrev pub check_rules : List Rule
-check_rules = flag_rule (codes "explain") ∷ flag_rule (codes "live") ∷ []
+check_rules = flag_rule (codes "explain") ∷ flag_rule (codes "brief") ∷ flag_rule (codes "all")
+    ∷ flag_rule (codes "live") ∷ []
 
 -- The options of `normalise` that say how a log is written.
 abbrev pub writing_rules : List Rule

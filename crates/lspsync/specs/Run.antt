@@ -43,7 +43,8 @@ live_if false engine = engine
 abbrev pub engine_of : Call → Engine
 engine_of (call.Serve config) = serve_engine config
 engine_of (call.Check settings is_live) = live_if is_live (check_engine settings)
-engine_of (call.Explain settings is_live) = live_if is_live (explain_engine settings)
+engine_of (call.Explain settings listing is_live) =
+    live_if is_live (explain_engine settings listing)
 engine_of (call.Trace settings details is_live) = live_if is_live (trace_engine settings details)
 engine_of (call.Replay settings) = replay_engine settings
 engine_of (call.ReplayPart settings part) = part_engine settings part

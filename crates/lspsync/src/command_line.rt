@@ -11,7 +11,8 @@ ghost use Rattle.std.specs.Prelude.{◌≡◌, ◌≢◌, codes, true, false};
 ghost use Rattle.std.specs.Prelude.{IfOk, IfSome, IsSome, ℕ, map, option_map};
 ghost use Rattle.std.specs.String.{string_bytes};
 ghost use Rattle.lspsync.specs.Call.{AreDetails, AreLimits, AreSettings, AreWordsReadAs, HasNumber};
-ghost use Rattle.lspsync.specs.Call.{IsCallNamed, IsConfig, IsFound, IsLogPart, encoding_given};
+ghost use Rattle.lspsync.specs.Call.{IsCallNamed, IsConfig, IsExplained, IsFound, IsListing};
+ghost use Rattle.lspsync.specs.Call.{IsLogPart, encoding_given};
 ghost use Rattle.lspsync.specs.Call.{file_named, files_given, is_whole, sync_given};
 ghost use Rattle.lsp_frame.specs.Limits.{LimitsData};
 
@@ -24,7 +25,7 @@ use crate::command_line::misplaced::placed;
 use crate::command_line::options::program;
 use clap::{ArgMatches, Error};
 use lsp_frame::Limits;
-use lsp_replay::{Details, Part, Settings};
+use lsp_replay::{Details, Listing, Part, Settings};
 use lsp_server::{ChangeForm, Config, EncodingChoice};
 use lsp_text::Encoding;
 use std::alloc::{AllocError, Global};
@@ -40,9 +41,11 @@ pub enum Call {
         settings: Settings,
         live: bool,
     },
-    /// `check --explain`: print of each record why it was refused too, and what to do next.
+    /// `check --explain`: print of each record, or of some, why it was refused too, and at the end
+    /// what came how often and what to do next.
     Explain {
         settings: Settings,
+        listing: Listing,
         live: bool,
     },
     /// `trace`: print a line of JSON for each record of a log.
@@ -165,10 +168,34 @@ fn check_call(options: &ArgMatches<'_>) -> Option<Call>
 {
     let settings = settings_of(options, false)?;
     let live = options.get_flag("live");
-    if options.get_flag("explain") {
-        return Some(Call::Explain { settings, live });
+    if is_explained(options) {
+        return Some(Call::Explain {
+            settings,
+            listing: listing_of(options),
+            live,
+        });
     }
     Some(Call::Check { settings, live })
+}
+
+/// Returns whether `check` gives reasons: by `--explain`, or by an option that says which.
+fn is_explained(options: &ArgMatches<'_>) -> bool
+    ensures { IsExplained options.now result }
+{
+    let explain = options.get_flag("explain");
+    let brief = options.get_flag("brief");
+    let all = options.get_flag("all");
+    explain || brief || all
+}
+
+/// Returns which records `check` has lines of, and with which notes.
+fn listing_of(options: &ArgMatches<'_>) -> Listing
+    ensures { IsListing options.now result }
+{
+    Listing {
+        brief: options.get_flag("brief"),
+        all: options.get_flag("all"),
+    }
 }
 
 /// Returns the call of `trace`.

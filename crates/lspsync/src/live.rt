@@ -9,8 +9,8 @@ ghost use Rattle.lspsync.specs.Run.{live_if};
 
 use lsp_program::MAX_TURNS;
 use lsp_replay::{
-    Details, Duplex, EngineFault, Outcome, Settings, Sink, Source, check, check_live, explain,
-    explain_live, trace, trace_live,
+    Details, Duplex, EngineFault, Listing, Outcome, Settings, Sink, Source, check, check_live,
+    explain, explain_live, trace, trace_live,
 };
 use std::alloc::Global;
 
@@ -39,17 +39,18 @@ pub fn run_explain<R: Source, W: Sink>(
     input: &mut R,
     output: &mut W,
     settings: Settings,
+    listing: Listing,
     live: bool,
 ) -> Result<Outcome, EngineFault>
-    ensures { IsEngineRun (live_if live (explain_engine settings)) allowed_turns
+    ensures { IsEngineRun (live_if live (explain_engine settings listing)) allowed_turns
         (ports (R.seen input.old) (W.seen output.old))
         (ports (R.seen input.new) (W.seen output.new)) result }
 {
     if live {
         let mut ends = Duplex::new(input, output);
-        return explain_live(alloc, &mut ends, settings, MAX_TURNS);
+        return explain_live(alloc, &mut ends, settings, listing, MAX_TURNS);
     }
-    explain(alloc, input, output, settings, MAX_TURNS)
+    explain(alloc, input, output, settings, listing, MAX_TURNS)
 }
 
 /// Runs `trace`.

@@ -196,7 +196,11 @@ fn obey<R: Source, W: Sink>(
     match call {
         Call::Serve(config) => serve(alloc, input, output, config, MAX_TURNS),
         Call::Check { settings, live } => run_check(alloc, input, output, settings, live),
-        Call::Explain { settings, live } => run_explain(alloc, input, output, settings, live),
+        Call::Explain {
+            settings,
+            listing,
+            live,
+        } => run_explain(alloc, input, output, settings, listing, live),
         Call::Trace {
             settings,
             details,

@@ -13,8 +13,9 @@ use Rattle.lsp_log.specs.declared.record.Sender.{Sender}
 use Rattle.lsp_log.specs.declared.record.Sender.TheVariants.{Client, Server}
 use Rattle.lsp_log.specs.declared.record.Version.{Version}
 use Rattle.lsp_replay.specs.Commands.{change_in}
+use Rattle.lsp_replay.specs.declared.commands.explained.Listing.{Listing}
 use Rattle.lsp_replay.specs.declared.notes.Note.{Note}
-use Rattle.lsp_replay.specs.Explained.{Seen, line_with}
+use Rattle.lsp_replay.specs.Explained.{Seen, listed_line}
 use Rattle.lsp_replay.specs.Lines.{is_strict_refusal}
 use Rattle.lsp_replay.specs.Session.{Session, Verdict, answered, recorded, bad, encoding_for, is_running, judge_client, judge_from, judge_server}
 use Rattle.lsp_replay.specs.Trace.{reason_json}
@@ -113,28 +114,28 @@ module _ {X : Type 0} (f : Option ChangeData → Verdict → X)
       ∙ sym (quiet (change_in (incoming_of (reading body))) (judge_at s head body).verdict q))
       (received_at s body head.version head.side)
 
-module _ (limits : LimitsData) (number : ℕ) (uri : Option (List ℕ)) (seen : Seen) (notes : List Note)
+module _ (listing : Listing) (limits : LimitsData) (number : ℕ) (uri : Option (List ℕ)) (seen : Seen) (notes : List Note)
   where
-    quiet_line : (change : Option ChangeData) (verdict : Verdict) → IsQuiet verdict
-        → line_with limits number uri change seen verdict notes
-        ≡ line_with limits number uri None seen verdict notes
-    quiet_line change recorded q = refl
-    quiet_line change bad q = refl
-    quiet_line change (answered dropped) q = refl
-    quiet_line change (answered (reply m)) q = absurd q
-    quiet_line change (answered changed) q = absurd q
-    quiet_line change (answered ignored) q = absurd q
-    quiet_line change (answered already_ended) q = absurd q
-    quiet_line change (answered (refused why)) q = absurd q
-    quiet_line change (answered (exits status)) q = absurd q
+    quiet_listed : (change : Option ChangeData) (verdict : Verdict) → IsQuiet verdict
+        → listed_line listing limits number uri change seen verdict notes
+        ≡ listed_line listing limits number uri None seen verdict notes
+    quiet_listed change recorded q = refl
+    quiet_listed change bad q = refl
+    quiet_listed change (answered dropped) q = refl
+    quiet_listed change (answered (reply m)) q = absurd q
+    quiet_listed change (answered changed) q = absurd q
+    quiet_listed change (answered ignored) q = absurd q
+    quiet_listed change (answered already_ended) q = absurd q
+    quiet_listed change (answered (refused why)) q = absurd q
+    quiet_listed change (answered (exits status)) q = absurd q
 
-    pub line_at : (s : Session) (head : Head) (body : List ℕ)
-        → line_with limits number uri (received_of s (body_read head.version head.side body)) seen
+    pub listed_at : (s : Session) (head : Head) (body : List ℕ)
+        → listed_line listing limits number uri (received_of s (body_read head.version head.side body)) seen
         (judge_at s head body).verdict notes
-        ≡ line_with limits number uri (change_in (incoming_of (reading body))) seen
+        ≡ listed_line listing limits number uri (change_in (incoming_of (reading body))) seen
         (judge_at s head body).verdict notes
-    line_at =
-        by_received (λ change verdict. line_with limits number uri change seen verdict notes) quiet_line
+    listed_at =
+        by_received (λ change verdict. listed_line listing limits number uri change seen verdict notes) quiet_listed
 
 quiet_strict : (change : Option ChangeData) (verdict : Verdict) → IsQuiet verdict
     → is_strict_refusal change verdict ≡ is_strict_refusal None verdict

@@ -17,10 +17,13 @@ use Rattle.lsp_replay.specs.declared.session.canonical.Appended.{Appended}
 use Rattle.lsp_replay.specs.declared.session.canonical.Appended.TheVariants.{Body}
 use Rattle.lsp_replay.specs.declared.session.canonical.Canonical.{Canonical}
 use Rattle.lsp_replay.specs.Commands.{verdict_word}
-use Rattle.lsp_replay.specs.Explained.{Seen, line_with}
-use Rattle.lsp_replay.specs.Lines.{Known, has_notes, is_renamed, is_strict_refusal, last_in, uri_of}
+use Rattle.lsp_replay.specs.declared.commands.explained.Listing.{Listing}
+use Rattle.lsp_replay.specs.Counts.{counts_after, rare_notes}
+use Rattle.lsp_replay.specs.Explained.{Seen, listed_line}
+use Rattle.lsp_replay.specs.Lines.{Known, is_renamed, is_strict_refusal, last_in, uri_of}
 use Rattle.lsp_replay.specs.Mentions.{is_mention, mentioned}
 use Rattle.lsp_replay.specs.Notes.{notes_if, notes_of}
+use Rattle.lsp_replay.specs.declared.notes.Note.{Note}
 use Rattle.lsp_replay.specs.Reasons.{reason_words, renamed_words}
 use Rattle.lsp_replay.specs.Session.{Session, Verdict, answered, has_changed, is_change, is_refused}
 use Rattle.lsp_replay.specs.Trace.{body_json, document_after, last_members, notes_json, text_json, version_json}
@@ -61,6 +64,8 @@ pub record IsLearned (known : Known) (n : ℕ) (about : About) (taken : Taken) (
   pub last : facts.last
       ≡ last_in known (option_map string_bytes about.uri) (verdict_view taken.verdict)
   pub notes : facts.notes.items ≡ notes_if about.notes.items (verdict_view taken.verdict)
+  pub rare : facts.rare.items
+      ≡ rare_notes known.counts (notes_if about.notes.items (verdict_view taken.verdict))
 
 -- What is known after a record with this number.
 abbrev pub known_by : Known → ℕ → About → Taken → Known
@@ -70,10 +75,10 @@ known_by known number about taken = record {
   made = mentioned (has_changed (verdict_view taken.verdict))
       (option_map string_bytes about.uri) number known.made;
   ranged = ranged_with known.ranged taken.ranged;
-  suspicious = known.suspicious
-      || has_notes (notes_if about.notes.items (verdict_view taken.verdict));
   strict_refusal = known.strict_refusal
       || is_strict_refusal (option_map change_view taken.change) (verdict_view taken.verdict);
+  counts = counts_after known.counts number (verdict_view taken.verdict)
+      (notes_if about.notes.items (verdict_view taken.verdict));
 }
 
 -- Of a record with this head and body, before which the session was `s`.
@@ -90,6 +95,8 @@ pub record AreFacts (known : Known) (s : Session) (head : Head) (body : List ℕ
       (uri_of head.side (incoming_of (reading body))) (judge_at s head body).verdict
   pub notes : facts.notes.items
       ≡ notes_of s known.ranged body (judge_at s head body).verdict
+  pub rare : facts.rare.items
+      ≡ rare_notes known.counts (notes_of s known.ranged body (judge_at s head body).verdict)
 
 -- ---- the lines, by the facts
 
@@ -97,12 +104,16 @@ pub record AreFacts (known : Known) (s : Session) (head : Head) (body : List ℕ
 abbrev pub seen_by : Facts → Seen
 seen_by facts = record { renamed = facts.renamed; last = facts.last }
 
--- A line of `check --explain`.
-abbrev pub explained_by : LimitsData → Facts → List ℕ
-explained_by limits facts =
-    line_with limits facts.number (option_map string_bytes facts.uri)
+-- The notes on the line of `check --explain`.
+abbrev pub listed_by : Listing → Facts → List Note
+listed_by listing facts = if listing.all then facts.notes.items else facts.rare.items
+
+-- A line of `check --explain`, if the record has one.
+abbrev pub explained_by : Listing → LimitsData → Facts → List ℕ
+explained_by listing limits facts =
+    listed_line listing limits facts.number (option_map string_bytes facts.uri)
     (option_map change_view facts.change) (seen_by facts) (verdict_view facts.verdict)
-    facts.notes.items
+    (listed_by listing facts)
 
 -- Why a record was refused, by the change that a running server received.
 abbrev pub reason_of : LimitsData → Option ChangeData → Bool → Verdict → Option (List ℕ)

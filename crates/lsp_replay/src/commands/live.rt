@@ -6,7 +6,7 @@ ghost use Rattle.lsp_replay.specs.Explained.{explain_engine};
 ghost use Rattle.lsp_replay.specs.Run.{IsEngineRun, check_engine, live};
 ghost use Rattle.lsp_replay.specs.Trace.{trace_engine};
 
-use crate::commands::{Details, Settings};
+use crate::commands::{Details, Listing, Settings};
 use crate::outcome::Outcome;
 use crate::pipeline::run_live;
 use lsp_stream::{Duplex, EngineFault, Sink, Source};
@@ -41,9 +41,10 @@ pub fn explain_live<R: Source, W: Sink>(
     alloc: Global,
     ends: &mut Duplex<'_, R, W>,
     settings: Settings,
+    listing: Listing,
     max_turns: u64,
 ) -> Result<Outcome, EngineFault>
-    ensures run { IsEngineRun (live (explain_engine settings)) max_turns
+    ensures run { IsEngineRun (live (explain_engine settings listing)) max_turns
         (ports (R.seen ends.old.reader.now) (W.seen ends.old.writer.now))
         (ports (R.seen ends.new.reader.now) (W.seen ends.new.writer.now)) result }
     // No read came before all that was written was flushed.
@@ -53,7 +54,7 @@ pub fn explain_live<R: Source, W: Sink>(
     ensures same_writer { ends.new.writer.ghost_name ≡ ends.old.writer.ghost_name }
 {
     let rules = settings.rules(false);
-    let explain = settings.explaining(alloc);
+    let explain = settings.explaining(alloc, listing);
     run_live(alloc, ends, explain, rules, max_turns)
 }
 

@@ -53,6 +53,7 @@ fn push_note(buffer: &mut Vec<u8>, note: Note) -> Result<(), AllocError>
             change,
             sent,
             replaced,
+            ..
         } => push_wrong_length(buffer, change, sent, replaced),
         Note::SameText { change } => push_remark(buffer, change, " changes nothing"),
     }

@@ -6,9 +6,9 @@ ghost use Rattle.lspsync.specs.CommandLine.{logs_rule, part_rules, server_rules,
 ghost use Rattle.lspsync.specs.inside.Help.{IsPage, rules_of_limits};
 
 use crate::command_line::texts::{
-    AT, BODIES, CHECK, CHECK_EXAMPLE, CONVERT, CONVERT_EXAMPLE, DOCUMENTS, ENCODING, EXPLAIN, LIVE,
-    NORMALISE, NORMALISE_EXAMPLE, PREFERRED_ENCODING, REPLAY, REPLAY_EXAMPLE, SERVE, SERVE_EXAMPLE,
-    SQUASH, STDIO, SYNC, TEXTS, TRACE, TRACE_EXAMPLE, URI,
+    ALL, AT, BODIES, BRIEF, CHECK, CHECK_EXAMPLE, CONVERT, CONVERT_EXAMPLE, DOCUMENTS, ENCODING,
+    EXPLAIN, LIVE, NORMALISE, NORMALISE_EXAMPLE, PREFERRED_ENCODING, REPLAY, REPLAY_EXAMPLE, SERVE,
+    SERVE_EXAMPLE, SQUASH, STDIO, SYNC, TEXTS, TRACE, TRACE_EXAMPLE, URI,
 };
 use lsp_frame::Limits;
 
@@ -33,7 +33,7 @@ pub enum OwnHelp {
     Nothing,
     /// `--sync` and `--stdio`.
     Serving(ServingHelp),
-    /// `--explain` and `--live`.
+    /// `--explain`, `--brief`, `--all` and `--live`.
     Checking(CheckingHelp),
     /// `--texts`, `--bodies` and `--live`.
     Details(DetailHelp),
@@ -61,6 +61,8 @@ pub struct WritingHelp {
 #[derive(Clone, Copy, Debug)]
 pub struct CheckingHelp {
     pub explain: &'static str,
+    pub brief: &'static str,
+    pub all: &'static str,
     pub live: &'static str,
 }
 
@@ -121,6 +123,8 @@ pub fn check() -> Page
     Page {
         own: OwnHelp::Checking(CheckingHelp {
             explain: EXPLAIN,
+            brief: BRIEF,
+            all: ALL,
             live: LIVE,
         }),
         ..log_page("check", CHECK, CHECK_EXAMPLE)

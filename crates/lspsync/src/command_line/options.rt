@@ -159,7 +159,7 @@ fn with_part<'a>(
         .arg(uri_option(alloc, help.uri))
 }
 
-/// Adds `--explain` and `--live`.
+/// Adds `--explain`, `--brief`, `--all` and `--live`.
 fn with_checking<'a>(
     alloc: Global,
     command: Command<'a>,
@@ -169,6 +169,8 @@ fn with_checking<'a>(
 {
     command
         .arg(flag(alloc, "explain", help.explain))?
+        .arg(flag(alloc, "brief", help.brief))?
+        .arg(flag(alloc, "all", help.all))?
         .arg(flag(alloc, "live", help.live))
 }
 

@@ -12,11 +12,13 @@ returns-clause-run g c =
       c.rules-rules.ensures,
       c.explaining-explain.ensures.session,
       c.explaining-explain.ensures.known,
+      c.explaining-explain.ensures.listing,
     ) at c.run_live.ensures.run in
     let whole = rw (
       c.rules-rules.ensures,
       c.explaining-explain.ensures.session,
       c.explaining-explain.ensures.known,
+      c.explaining-explain.ensures.listing,
     ) at c.run_live.ensures.whole in
-    run_of c.run_live.ensures.first c.run_live.ensures.version (lines explaining) nothing_known
+    run_of c.run_live.ensures.first c.run_live.ensures.version (lines (explaining c.args.listing)) nothing_known
     (opened (log_config c.args.settings)) false run (λ _. whole (λ _. refl))
