@@ -1,6 +1,6 @@
 -- The commands that write a line for each record by what is known of the records before it: `trace`
 -- and `check --explain`.
-use Rattle.std.specs.Prelude.{ℕ, Bool, true, false, not, ◌&&◌, ◌||◌, List, [], ◌∷◌, Option, Some, None, is_none, option_and_then}
+use Rattle.std.specs.Prelude.{ℕ, Bool, true, false, not, ◌&&◌, ◌||◌, if◌then◌else◌, List, [], ◌∷◌, Option, Some, None, is_none}
 use Rattle.lsp_message.specs.Message.{reading}
 use Rattle.lsp_message.specs.Params.{ChangeData}
 use Rattle.lsp_store.specs.declared.fault.StoreFault.TheVariants.{AlreadyOpen, NotOpen, StaleVersion}
@@ -57,11 +57,22 @@ abbrev pub has_notes : List Note → Bool
 has_notes [] = false
 has_notes (note ∷ notes) = true
 
+-- Is a record refused with S1, with S4, with S5?
+abbrev pub is_open_already : Verdict → Bool
+is_open_already (answered (refused (Store AlreadyOpen))) = true
+is_open_already verdict = false
+
+abbrev pub is_not_open : Verdict → Bool
+is_not_open (answered (refused (Store NotOpen))) = true
+is_not_open verdict = false
+
+abbrev pub is_stale : Verdict → Bool
+is_stale (answered (refused (Store (StaleVersion current)))) = true
+is_stale verdict = false
+
 -- Is a record refused with S1, or with S5 and changes? `change` is what it asks for.
 abbrev pub is_strict_refusal : Option ChangeData → Verdict → Bool
-is_strict_refusal change (answered (refused (Store AlreadyOpen))) = true
-is_strict_refusal change (answered (refused (Store (StaleVersion current)))) = not (is_idle change)
-is_strict_refusal change verdict = false
+is_strict_refusal change verdict = is_open_already verdict || is_stale verdict && not (is_idle change)
 
 -- The documents that were opened, closed or refused last, after a record of one side that asks `m`.
 abbrev pub mentions_after : List Mention → Sender → IncomingData → Judged → List Mention
@@ -90,9 +101,8 @@ known_after known s head body j = record {
 -- The record to look at: of an old version the one that made the current version, of another
 -- refusal the last one that opened, closed or refused the document.
 abbrev pub last_in : Known → Option (List ℕ) → Verdict → Option ℕ
-last_in known uri (answered (refused (Store (StaleVersion current)))) =
-    option_and_then (λ uri. last_record uri known.made) uri
-last_in known uri verdict = last_for known.mentions uri verdict
+last_in known uri verdict =
+    if is_stale verdict then last_for known.made uri verdict else last_for known.mentions uri verdict
 
 -- None of this name was opened, and another was.
 abbrev pub is_new_name : List Mention → Option (List ℕ) → Bool
@@ -101,8 +111,7 @@ is_new_name made (Some uri) = is_none (last_record uri made) && not (is_empty ma
 
 -- Its editor may have renamed a document: it isn't open, and none of its name was.
 abbrev pub is_renamed : Known → Option (List ℕ) → Verdict → Bool
-is_renamed known uri (answered (refused (Store NotOpen))) = is_new_name known.made uri
-is_renamed known uri verdict = false
+is_renamed known uri verdict = is_not_open verdict && is_new_name known.made uri
 
 -- ---- the output
 

@@ -5,9 +5,10 @@
 
 ghost use Rattle.std.specs.Prelude.{◌≡◌, ◌≢◌, ◌⊎◌, IfErr, IfOk, OnOk, option_map};
 ghost use Rattle.lsp_message.specs.Seen.{change_view};
-ghost use Rattle.lsp_replay.specs.Lines.{has_notes, is_new_name, is_renamed, is_strict_refusal, known_after, last_in};
-ghost use Rattle.lsp_replay.specs.Lines.{nothing_known};
-ghost use Rattle.lsp_replay.specs.Mentions.{is_mention};
+ghost use Rattle.lsp_replay.specs.Lines.{has_notes, is_new_name, is_not_open, is_open_already};
+ghost use Rattle.lsp_replay.specs.Lines.{is_renamed, is_stale, is_strict_refusal, known_after};
+ghost use Rattle.lsp_replay.specs.Lines.{last_in, nothing_known};
+ghost use Rattle.lsp_replay.specs.Mentions.{is_mention, last_for};
 ghost use Rattle.lsp_replay.specs.Session.{bad};
 ghost use Rattle.lsp_replay.specs.inside.Facts.{AreFacts, IsLearned, known_by};
 ghost use Rattle.lsp_replay.specs.inside.Reads.{IsReadOf};
@@ -201,11 +202,10 @@ impl Known {
         ensures { result ≡ last_in self.now (option_map (λ uri. uri.now) uri.entry)
             (verdict_view verdict.now) }
     {
-        match verdict {
-            Verdict::Answered(Answer::Refused(Refusal::Store(StoreFault::StaleVersion { .. }))) =>
-                self.made.last(uri?),
-            Verdict::Answered(Answer::Refused(_)) => self.mentions.last(uri?),
-            _ => None,
+        if is_stale(verdict) {
+            last_for(&self.made, uri, verdict)
+        } else {
+            last_for(&self.mentions, uri, verdict)
         }
     }
 
@@ -215,13 +215,20 @@ impl Known {
         ensures { result ≡ is_renamed self.now (option_map (λ uri. uri.now) uri.entry)
             (verdict_view verdict.now) }
     {
-        match verdict {
-            Verdict::Answered(Answer::Refused(Refusal::Store(StoreFault::NotOpen))) => {
-                is_new_name(&self.made, uri)
-            }
-            _ => false,
-        }
+        is_not_open(verdict) && is_new_name(&self.made, uri)
     }
+}
+
+/// Returns the record that is about a document last in a list, if the documents refused one about
+/// it.
+fn last_for(mentions: &Mentions, uri: Option<&str>, verdict: &Verdict) -> Option<u64>
+    ensures { result ≡ last_for mentions.now.newest.items
+        (option_map (λ uri. uri.now) uri.entry) (verdict_view verdict.now) }
+{
+    let Verdict::Answered(Answer::Refused(_)) = verdict else {
+        return None;
+    };
+    mentions.last(uri?)
 }
 
 /// Returns whether no document of this name was opened, and another was.
@@ -264,11 +271,35 @@ fn is_strict_refusal(change: Option<&ChangeParams>, verdict: &Verdict) -> bool
     ensures { result ≡ is_strict_refusal (option_map (λ p. change_view p.now) change.entry)
         (verdict_view verdict.now) }
 {
-    match verdict {
-        Verdict::Answered(Answer::Refused(Refusal::Store(StoreFault::AlreadyOpen))) => true,
-        Verdict::Answered(Answer::Refused(Refusal::Store(StoreFault::StaleVersion { .. }))) => {
-            !is_idle(change)
-        }
-        _ => false,
-    }
+    is_open_already(verdict) || is_stale(verdict) && !is_idle(change)
+}
+
+/// Returns whether a record is refused with S1.
+fn is_open_already(verdict: &Verdict) -> bool
+    ensures { result ≡ is_open_already (verdict_view verdict.now) }
+{
+    matches!(
+        verdict,
+        Verdict::Answered(Answer::Refused(Refusal::Store(StoreFault::AlreadyOpen)))
+    )
+}
+
+/// Returns whether a record is refused with S4.
+fn is_not_open(verdict: &Verdict) -> bool
+    ensures { result ≡ is_not_open (verdict_view verdict.now) }
+{
+    matches!(
+        verdict,
+        Verdict::Answered(Answer::Refused(Refusal::Store(StoreFault::NotOpen)))
+    )
+}
+
+/// Returns whether a record is refused with S5.
+fn is_stale(verdict: &Verdict) -> bool
+    ensures { result ≡ is_stale (verdict_view verdict.now) }
+{
+    matches!(
+        verdict,
+        Verdict::Answered(Answer::Refused(Refusal::Store(StoreFault::StaleVersion { .. })))
+    )
 }
