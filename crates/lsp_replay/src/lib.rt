@@ -33,6 +33,6 @@ pub use commands::{
     Details, Part, Settings, check, convert, explain, normalise, normalise_documents, replay,
     replay_part, serve, serve_on, trace,
 };
-pub use laws::{documents_laws, log_laws};
+pub use laws::{documents_laws, json_laws, log_laws};
 pub use lsp_stream::{CallEnd, Duplex, EngineFault, Sink, Source, StopReader, StopWriter, Told};
 pub use outcome::{Missing, Outcome};
