@@ -12,3 +12,4 @@ pub mod Squash
 pub mod Stay
 pub mod Converted
 pub mod Reports
+pub mod JsonLines

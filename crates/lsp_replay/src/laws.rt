@@ -5,6 +5,7 @@
 
 ghost use Rattle.lsp_log.specs.laws.Logs.{UniqueLaw};
 ghost use Rattle.lsp_replay.specs.laws.Documents.{DocumentsLaw, DocumentsStopAlike};
+ghost use Rattle.lsp_replay.specs.laws.JsonLines.{TraceJsonLaw, ReplayJsonLaw};
 ghost use Rattle.lsp_replay.specs.laws.Traced.{TraceLaw};
 ghost use Rattle.lsp_replay.specs.laws.Written.{ReportLaw, CanonicalLogLaw, SquashedLaw, StopsAlike, ConvertedLaw};
 
@@ -44,4 +45,13 @@ pub fn log_laws()
 pub fn documents_laws()
     ensures stops { DocumentsStopAlike }
     ensures documents { DocumentsLaw }
+{}
+
+/// States that what is written as JSON is JSON. It does nothing; its contract says:
+///
+/// - `trace` writes lines, each of them JSON. The value of each is stated.
+/// - So is the line of `replay` for a document.
+pub fn json_laws()
+    ensures trace { TraceJsonLaw }
+    ensures replay { ReplayJsonLaw }
 {}

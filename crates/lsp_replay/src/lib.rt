@@ -36,6 +36,6 @@ pub use commands::{
     Details, Listing, Part, Settings, check, check_live, convert, explain, explain_live, normalise,
     normalise_documents, replay, replay_part, serve, serve_on, trace, trace_live,
 };
-pub use laws::{documents_laws, log_laws};
+pub use laws::{documents_laws, json_laws, log_laws};
 pub use lsp_stream::{CallEnd, Duplex, EngineFault, Sink, Source, StopReader, StopWriter, Told};
 pub use outcome::{Missing, Outcome};

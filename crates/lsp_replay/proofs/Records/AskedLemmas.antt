@@ -37,7 +37,7 @@ held_member name (member l e ms) received =
     held_ordered (slice_cmp nat_cmp name l) (get_member name ms) (Some e) (get_member name ms)
     (held_member name ms received.1) received.0 (held_member name ms received.1)
 
-held_get : (name : List ℕ) (d : Data) → IsHeld d → OnSome IsHeld (get name d)
+pub held_get : (name : List ℕ) (d : Data) → IsHeld d → OnSome IsHeld (get name d)
 held_get name null received = tt
 held_get name (boolean b) received = tt
 held_get name (number n) received = tt
@@ -157,7 +157,7 @@ value_proper d received =
     (row_proper (get (codes "method") d) (get (codes "id") d) d (held_get (codes "id") d received)
     (held_get (codes "params") d received))) tt
 
-value_held : (body : List ℕ) → OnSome IsHeld (json_of body)
+pub value_held : (body : List ℕ) → OnSome IsHeld (json_of body)
 value_held body = by (is_utf8 body) refl
   where
     on_read : (found : Option Data) → IsUtf8 body → read body ≡ found → OnSome IsHeld found
@@ -236,7 +236,7 @@ within_fits (pos n) = cond_both (int_lt (pos n) (negsuc 2147483647) || int_lt (p
 within_fits (negsuc n) = cond_both (int_lt (negsuc n) (negsuc 2147483647) || int_lt (pos 2147483647) (negsuc n)) None
     (Some (negsuc n)) (OnSome (FitsSigned w32)) (λ e. tt) (λ e. record { sfits = grind (arith, nat_tests) })
 
-version_fits : (found : Option Data) → OnSome (FitsSigned w32) (version_in found)
+pub version_fits : (found : Option Data) → OnSome (FitsSigned w32) (version_in found)
 version_fits found = on_then (λ z. ⊤) (FitsSigned w32) version_from (λ z h. within_fits z) (whole_in found)
     (any (whole_in found))
 

@@ -32,7 +32,7 @@ both P true x y p q = p
 both P false x y p q = q
 
 module _ (P : Judged → Type 0) (s : Session) where
-  of_server : P (judged recorded s) → P (judged bad s)
+  pub of_server : P (judged recorded s) → P (judged bad s)
       → ((encoding : Encoding)
       → P (judged recorded (record s { server = with_encoding s.server encoding; expected = None })))
       → (announced : Option (Option Encoding)) → P (judge_server s announced)
@@ -40,7 +40,7 @@ module _ (P : Judged → Type 0) (s : Session) where
   of_server stays refuses goes (Some None) = refuses
   of_server stays refuses goes (Some (Some encoding)) = goes encoding
 
-  of_incoming : (version : Version) (m : IncomingData) → P (judged bad s)
+  pub of_incoming : (version : Version) (m : IncomingData) → P (judged bad s)
       → P (handled s version m (step_on s.server m).state (as_sent (step_on s.server m).answer))
       → P (judge_client s version m)
   of_incoming version m refuses goes =

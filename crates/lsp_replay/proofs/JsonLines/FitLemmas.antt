@@ -1,0 +1,474 @@
+-- The numbers of a session fit their types: counts 64 bits, versions 32 bits. A canonical message is JSON.
+use Rattle.std.proofs.Common.{◌≡◌, ℕ, ℤ, zero, suc, ◌^◌, ◌<◌, ◌≤◌, ⊎_elim, Bool, true, false, List, [], ◌∷◌, ◌++◌, length, map, Option, Some, None, refl, sym, ap, ◌∙◌, subst, arith, take, bytes_eq, FitsSigned}
+use Rattle.std.specs.Prelude.{⊤, codes, if◌then◌else◌, nat_lt, option_and_then, option_map}
+use Rattle.std.specs.Int.{w32, w64}
+use Rattle.std.specs.Option.{option_map_or}
+use Rattle.std.specs.Str.{is_utf8}
+use Rattle.std.proofs.lemmas.Bool.{cases_Bool, ltb-false}
+use Rattle.json.specs.Json.{Json}
+use Rattle.serde_json.specs.Data.{Data, null, boolean, number, string, array, object, Members}
+use Rattle.serde_json.specs.Find.{get, get_member}
+use Rattle.serde_json.specs.Read.{read}
+use Rattle.lsp_frame.specs.Limits.{LimitsData, AreInRange}
+use Rattle.lsp_text.specs.Units.{units_in}
+use Rattle.lsp_text.specs.declared.encoding.Encoding.{Encoding}
+use Rattle.lsp_edit.specs.Batch.{ContentChange}
+use Rattle.lsp_message.specs.Message as msg
+use Rattle.lsp_message.specs.Message.{IdData, MessageData, OutcomeData, Reading, id_in, json_of, message_of, reading}
+use Rattle.lsp_message.specs.Outgoing.{body_of}
+use Rattle.lsp_message.specs.Params.{ChangeData, DocumentItem, change_by, change_of, document_and_changes, document_in, open_by, open_of, version_in, content_change_in}
+use Rattle.lsp_message.specs.Values.{each_of, text_in}
+use Rattle.lsp_message.specs.Written.{value_of}
+use Rattle.lsp_message.specs.laws.Sent.{IsProperId}
+use Rattle.lsp_message.proofs.BodyLemmas.{body_is}
+use Rattle.lsp_store.specs.Message.{canonical_batch, change_body, change_message}
+use Rattle.lsp_store.specs.Table.{Refusal, after_change, after_close, after_open, change_refusal, close_refusal, entry_at, open_refusal, unless_refused}
+use Rattle.lsp_server.specs.Answer.{AnswerData, Sent, as_sent, changed, refused}
+use Rattle.lsp_server.specs.declared.phase.Phase.{Phase}
+use Rattle.lsp_server.specs.declared.phase.Phase.TheVariants.{New, Running, Down, Ended}
+use Rattle.lsp_server.specs.Incoming.{IncomingData, not_json, not_a_message, response, initialize, shutdown, other_request, exit, did_open, did_change, did_close, other_notification, incoming_by, incoming_of}
+use Rattle.lsp_server.specs.Step.{ServerData, content_change_from_data, result_step, session_encoding, step_in, step_on}
+use Rattle.lsp_stream.specs.Ports.{one_more}
+use Rattle.lsp_log.specs.declared.record.Sender.{Sender}
+use Rattle.lsp_log.specs.declared.record.Sender.TheVariants.{Client, Server}
+use Rattle.lsp_log.specs.declared.record.Version.{Version}
+use Rattle.lsp_log.specs.Log.{Record}
+use Rattle.lsp_replay.specs.Commands.{canonical_change_body, canonical_if, canonical_of_record, change_in}
+use Rattle.lsp_replay.specs.Lines.{Known, known_after, mentions_after, uri_of}
+use Rattle.lsp_replay.specs.Mentions.{Mention, is_mention, last_for, last_record, mentioned, most_mentions, without}
+use Rattle.lsp_replay.specs.Session.{Session, Verdict, answered, recorded, bad, encoding_for, is_change, judge, judge_from}
+use Rattle.lsp_replay.specs.Trace.{id_of, is_json, within}
+use Rattle.lsp_replay.proofs.JsonLines.PlainLemmas.{visible_compact}
+use Rattle.lsp_replay.proofs.JsonLines.StringLemmas.{are_visible}
+use Rattle.lsp_replay.proofs.JsonLines.ValueLemmas.{IsJson, read_is}
+use Rattle.lsp_replay.proofs.Records.AskedLemmas.{held_get, id_held, value_held, version_fits}
+use Rattle.lsp_replay.proofs.Records.JudgeLemmas.{asks_change, judged_again, judged_held, of_incoming, of_server}
+use Rattle.lsp_replay.proofs.Records.ReadLemmas.{IsHeld, OnSome, on_map, on_then}
+use Rattle.lsp_replay.proofs.Records.StateLemmas.{IsHeldState}
+
+any : {A : Type 0} (o : Option A) → OnSome (λ (a : A). ⊤) o
+any None = tt
+any (Some a) = tt
+
+-- ---- versions
+
+abbrev VersionFits : ℤ → Type 0
+VersionFits z = FitsSigned w32 z
+
+abbrev pub AreVersions : List DocumentItem → Type 0
+AreVersions [] = ⊤
+AreVersions (entry ∷ table) = VersionFits entry.version × AreVersions table
+
+abbrev IsOpenVersion : DocumentItem → Type 0
+IsOpenVersion p = VersionFits p.version
+
+abbrev IsChangeVersion : ChangeData → Type 0
+IsChangeVersion p = VersionFits p.version
+
+open_version : (ms : Members) → OnSome IsOpenVersion (open_by ms)
+open_version ms =
+    on_then (λ uri. ⊤) IsOpenVersion _
+    (λ uri h. on_then (λ language. ⊤) IsOpenVersion _
+    (λ language i. on_then VersionFits IsOpenVersion _
+    (λ version fits. on_then (λ t. ⊤) IsOpenVersion _ (λ t u. fits) (text_in (get_member (codes "text") ms))
+    (any (text_in (get_member (codes "text") ms))))
+    (version_in (get_member (codes "version") ms)) (version_fits (get_member (codes "version") ms)))
+    (text_in (get_member (codes "languageId") ms)) (any (text_in (get_member (codes "languageId") ms))))
+    (text_in (get_member (codes "uri") ms)) (any (text_in (get_member (codes "uri") ms)))
+
+opened_version : (params : Option Data) → OnSome IsOpenVersion (open_of params)
+opened_version params =
+    on_then (λ ms. ⊤) IsOpenVersion open_by (λ ms h. open_version ms) (document_in params) (any (document_in params))
+
+changed_version : (params : Option Data) → OnSome IsChangeVersion (change_of params)
+changed_version params =
+    on_then (λ p. ⊤) IsChangeVersion (λ p. change_by p.0 p.1)
+    (λ p h. on_then (λ uri. ⊤) IsChangeVersion _
+    (λ uri i. on_then VersionFits IsChangeVersion _
+    (λ version fits. on_then (λ es. ⊤) IsChangeVersion _ (λ es u. fits) (each_of content_change_in p.1)
+    (any (each_of content_change_in p.1)))
+    (version_in (get_member (codes "version") p.0)) (version_fits (get_member (codes "version") p.0)))
+    (text_in (get_member (codes "uri") p.0)) (any (text_in (get_member (codes "uri") p.0))))
+    (document_and_changes params) (any (document_and_changes params))
+
+abbrev HasVersion : IncomingData → Type 0
+HasVersion not_json = ⊤
+HasVersion (not_a_message id) = ⊤
+HasVersion (response id) = ⊤
+HasVersion (initialize id offers) = ⊤
+HasVersion (shutdown id) = ⊤
+HasVersion (other_request id method) = ⊤
+HasVersion exit = ⊤
+HasVersion (did_open params) = OnSome IsOpenVersion params
+HasVersion (did_change params) = OnSome IsChangeVersion params
+HasVersion (did_close params) = ⊤
+HasVersion (other_notification method) = ⊤
+
+either_version : (b : Bool) (x y : IncomingData) → HasVersion x → HasVersion y → HasVersion (if b then x else y)
+either_version true x y p q = p
+either_version false x y p q = q
+
+message_version : (m : MessageData) → HasVersion (incoming_by m)
+message_version (msg.request id method params) =
+    either_version (bytes_eq method (codes "initialize")) _ _ tt
+    (either_version (bytes_eq method (codes "shutdown")) (shutdown id) (other_request id method) tt tt)
+message_version (msg.notification method params) =
+    either_version (bytes_eq method (codes "exit")) exit _ tt
+    (either_version (bytes_eq method (codes "textDocument/didOpen")) (did_open (open_of params)) _
+    (opened_version params)
+    (either_version (bytes_eq method (codes "textDocument/didChange")) (did_change (change_of params)) _
+    (changed_version params)
+    (either_version (bytes_eq method (codes "textDocument/didClose")) (did_close _) (other_notification method) tt tt)))
+message_version (msg.response id outcome) = tt
+
+reading_version : (r : Reading) → HasVersion (incoming_of r)
+reading_version msg.not_json = tt
+reading_version (msg.not_a_message id) = tt
+reading_version (msg.message m) = message_version m
+
+-- ---- the versions of a table
+
+versions_at : (table : List DocumentItem) (uri : List ℕ) → AreVersions table
+    → OnSome IsOpenVersion (entry_at table uri)
+versions_at [] uri kept = tt
+versions_at (first ∷ table) uri kept =
+    ⊎_elim (λ (is : bytes_eq uri first.uri ≡ true). rw is kept.0) (λ (not : bytes_eq uri first.uri ≡ false). rw not
+    (versions_at table uri kept.1)) (cases_Bool (bytes_eq uri first.uri))
+
+versions_close : (table : List DocumentItem) (uri : List ℕ) → AreVersions table → AreVersions (after_close table uri)
+versions_close [] uri kept = tt
+versions_close (first ∷ table) uri kept =
+    ⊎_elim (λ (is : bytes_eq uri first.uri ≡ true). rw is kept.1) (λ (not : bytes_eq uri first.uri ≡ false). rw not (
+      kept.0,
+      versions_close table uri kept.1,
+    )) (cases_Bool (bytes_eq uri first.uri))
+
+versions_last : (table : List DocumentItem) (entry : DocumentItem) → AreVersions table → VersionFits entry.version
+    → AreVersions (table ++ entry ∷ [])
+versions_last [] entry kept is = (is, tt)
+versions_last (first ∷ table) entry kept is = (kept.0, versions_last table entry kept.1 is)
+
+versions_open : (table : List DocumentItem) (entry : DocumentItem) → AreVersions table → VersionFits entry.version
+    → AreVersions (after_open table entry)
+versions_open table entry kept is =
+    versions_last (after_close table entry.uri) entry (versions_close table entry.uri kept) is
+
+versions_change : (units : ℕ → ℕ) (table : List DocumentItem) (uri : List ℕ) (version : ℤ)
+    (batch : List ContentChange) → AreVersions table → VersionFits version
+    → AreVersions (after_change units table uri version batch)
+versions_change units [] uri version batch kept fits = tt
+versions_change units (first ∷ table) uri version batch kept fits =
+    ⊎_elim (λ (is : bytes_eq uri first.uri ≡ true). rw is (fits, kept.1))
+    (λ (not : bytes_eq uri first.uri ≡ false). rw not (kept.0, versions_change units table uri version batch kept.1 fits))
+    (cases_Bool (bytes_eq uri first.uri))
+
+obeyed_versions : (s : ServerData) (refusal : Option Refusal) (next : List DocumentItem) → AreVersions s.table
+    → AreVersions next → AreVersions (result_step s (unless_refused refusal next)).state.table
+obeyed_versions s None next kept is = is
+obeyed_versions s (Some refusal) next kept is = kept
+
+step_versions : (phase : Phase) (s : ServerData) (m : IncomingData) → HasVersion m → AreVersions s.table
+    → AreVersions (step_in phase s m).state.table
+step_versions Ended s m has kept = kept
+step_versions New s not_json has kept = kept
+step_versions New s (not_a_message id) has kept = kept
+step_versions New s (response id) has kept = kept
+step_versions New s exit has kept = kept
+step_versions New s (initialize id None) has kept = kept
+step_versions New s (initialize id (Some offers)) has kept = kept
+step_versions New s (shutdown id) has kept = kept
+step_versions New s (other_request id method) has kept = kept
+step_versions New s (did_open params) has kept = kept
+step_versions New s (did_change params) has kept = kept
+step_versions New s (did_close params) has kept = kept
+step_versions New s (other_notification method) has kept = kept
+step_versions Running s not_json has kept = kept
+step_versions Running s (not_a_message id) has kept = kept
+step_versions Running s (response id) has kept = kept
+step_versions Running s exit has kept = kept
+step_versions Running s (initialize id offers) has kept = kept
+step_versions Running s (shutdown id) has kept = kept
+step_versions Running s (other_request id method) has kept = kept
+step_versions Running s (did_open None) has kept = kept
+step_versions Running s (did_open (Some p)) has kept =
+    obeyed_versions s (open_refusal s.config.limits s.table p) (after_open s.table p) kept (versions_open s.table p kept has)
+step_versions Running s (did_change None) has kept = kept
+step_versions Running s (did_change (Some p)) has kept =
+    let units = units_in (session_encoding s) in
+    let batch = map content_change_from_data p.changes in
+    obeyed_versions s (change_refusal s.config.limits units s.table p.uri p.version batch)
+    (after_change units s.table p.uri p.version batch) kept
+    (versions_change units s.table p.uri p.version batch kept has)
+step_versions Running s (did_close None) has kept = kept
+step_versions Running s (did_close (Some p)) has kept =
+    obeyed_versions s (close_refusal s.table p.uri) (after_close s.table p.uri) kept (versions_close s.table p.uri kept)
+step_versions Running s (other_notification method) has kept = kept
+step_versions Down s not_json has kept = kept
+step_versions Down s (not_a_message id) has kept = kept
+step_versions Down s (response id) has kept = kept
+step_versions Down s exit has kept = kept
+step_versions Down s (initialize id offers) has kept = kept
+step_versions Down s (shutdown id) has kept = kept
+step_versions Down s (other_request id method) has kept = kept
+step_versions Down s (did_open params) has kept = kept
+step_versions Down s (did_change params) has kept = kept
+step_versions Down s (did_close params) has kept = kept
+step_versions Down s (other_notification method) has kept = kept
+
+-- ---- the documents that are known
+
+abbrev IsCount : ℕ → Type 0
+IsCount n = n < 2 ^ 64
+
+abbrev pub AreNumbered : List Mention → Type 0
+AreNumbered [] = ⊤
+AreNumbered (mention ∷ mentions) = IsCount mention.number × AreNumbered mentions
+
+numbered_without : (uri : List ℕ) (mentions : List Mention) → AreNumbered mentions → AreNumbered (without uri mentions)
+numbered_without uri [] are = tt
+numbered_without uri (mention ∷ mentions) are =
+    ⊎_elim (λ (is : bytes_eq mention.uri uri ≡ true). rw is are.1) (λ (not : bytes_eq mention.uri uri ≡ false). rw not (
+      are.0,
+      numbered_without uri mentions are.1,
+    )) (cases_Bool (bytes_eq mention.uri uri))
+
+numbered_take : (n : ℕ) (mentions : List Mention) → AreNumbered mentions → AreNumbered (take n mentions)
+numbered_take zero mentions are = tt
+numbered_take (suc n) [] are = tt
+numbered_take (suc n) (mention ∷ mentions) are = (are.0, numbered_take n mentions are.1)
+
+numbered_more : (counts : Bool) (uri : Option (List ℕ)) (count : ℕ) (mentions : List Mention) → IsCount count
+    → AreNumbered mentions → AreNumbered (mentioned counts uri count mentions)
+numbered_more true (Some uri) count mentions is are =
+    numbered_take most_mentions (record { uri = uri; number = count } ∷ without uri mentions)
+    (is, numbered_without uri mentions are)
+numbered_more true None count mentions is are = are
+numbered_more false uri count mentions is are = are
+
+last_count : (uri : List ℕ) (mentions : List Mention) → AreNumbered mentions → OnSome IsCount (last_record uri mentions)
+last_count uri [] are = tt
+last_count uri (mention ∷ mentions) are =
+    ⊎_elim (λ (is : bytes_eq mention.uri uri ≡ true). rw is are.0) (λ (not : bytes_eq mention.uri uri ≡ false). rw not
+    (last_count uri mentions are.1)) (cases_Bool (bytes_eq mention.uri uri))
+
+found_count : (uri : Option (List ℕ)) (mentions : List Mention) → AreNumbered mentions
+    → OnSome IsCount (option_and_then (λ uri. last_record uri mentions) uri)
+found_count None mentions are = tt
+found_count (Some uri) mentions are = last_count uri mentions are
+
+pub last_fits : (mentions : List Mention) (uri : Option (List ℕ)) (verdict : Verdict) → AreNumbered mentions
+    → OnSome IsCount (last_for mentions uri verdict)
+last_fits mentions uri (answered (refused refusal)) are = found_count uri mentions are
+last_fits mentions uri (answered (AnswerData.reply m)) are = tt
+last_fits mentions uri (answered changed) are = tt
+last_fits mentions uri (answered AnswerData.dropped) are = tt
+last_fits mentions uri (answered AnswerData.ignored) are = tt
+last_fits mentions uri (answered (AnswerData.exits status)) are = tt
+last_fits mentions uri (answered AnswerData.already_ended) are = tt
+last_fits mentions uri recorded are = tt
+last_fits mentions uri bad are = tt
+
+-- ---- a session
+
+pub record IsFit (limits : LimitsData) (known : Known) (s : Session) : Type 0 where
+  pub held : IsHeldState limits s.server
+  pub versions : AreVersions s.server.table
+  pub records : IsCount s.records
+  pub mentions : AreNumbered known.mentions
+
+client_versions : (s : Session) (version : Version) (body : List ℕ) → AreVersions s.server.table
+    → AreVersions (judge_from s version Client body).session.server.table
+client_versions s version body kept =
+    of_incoming (λ j. AreVersions j.session.server.table) s version (incoming_of (reading body)) kept
+    (step_versions s.server.phase s.server (incoming_of (reading body)) (reading_version (reading body)) kept)
+
+from_versions : (s : Session) (version : Version) (side : Sender) (body : List ℕ) → AreVersions s.server.table
+    → AreVersions (judge_from s version side body).session.server.table
+from_versions s version Client body kept = client_versions s version body kept
+from_versions s version Server body kept =
+    of_server (λ j. AreVersions j.session.server.table) s kept kept (λ encoding. kept)
+    (encoding_for s.expected (reading body))
+
+from_records : (s : Session) (version : Version) (side : Sender) (body : List ℕ) → IsCount s.records
+    → IsCount (judge_from s version side body).session.records
+from_records s version Client body is =
+    of_incoming (λ j. IsCount j.session.records) s version (incoming_of (reading body)) is is
+from_records s version Server body is =
+    of_server (λ j. IsCount j.session.records) s is is (λ encoding. is) (encoding_for s.expected (reading body))
+
+one_more_fits : (n : ℕ) → IsCount n → IsCount (one_more n)
+one_more_fits n is = omega arith
+
+pub judged_fits : (limits : LimitsData) (known : Known) (s : Session) (r : Record) → IsFit limits known s
+    → IsFit limits (known_after known s r.head r.body (judge s r)) (judge s r).session
+judged_fits limits known s r fit =
+    let records : IsCount (judge s r).session.records =
+    one_more_fits (judge_from s r.head.version r.head.side r.body).session.records
+    (from_records s r.head.version r.head.side r.body fit.records) in
+    record {
+      held = judged_held limits s r fit.held;
+      versions = from_versions s r.head.version r.head.side r.body fit.versions;
+      records = records;
+      mentions = numbered_more (is_mention (is_change (incoming_of (reading r.body))) (judge s r).verdict)
+          (uri_of r.head.side (incoming_of (reading r.body))) (judge s r).session.records known.mentions records
+          fit.mentions;
+    }
+
+pub document_fits : (table : List DocumentItem) (uri : Option (List ℕ)) → AreVersions table
+    → OnSome IsOpenVersion (option_and_then (entry_at table) uri)
+document_fits table None kept = tt
+document_fits table (Some uri) kept = versions_at table uri kept
+
+-- ---- ids
+
+abbrev HasId : IncomingData → Type 0
+HasId m = OnSome IsProperId (id_of m)
+
+abbrev IdRead : Reading → Type 0
+IdRead msg.not_json = ⊤
+IdRead (msg.not_a_message id) = OnSome IsProperId id
+IdRead (msg.message (msg.request id method params)) = IsProperId id
+IdRead (msg.message (msg.notification method params)) = ⊤
+IdRead (msg.message (msg.response id outcome)) = OnSome IsProperId id
+
+either_id : (b : Bool) (x y : IncomingData) → HasId x → HasId y → HasId (if b then x else y)
+either_id true x y p q = p
+either_id false x y p q = q
+
+id_asked : (r : Reading) → IdRead r → HasId (incoming_of r)
+id_asked msg.not_json is = tt
+id_asked (msg.not_a_message id) is = is
+id_asked (msg.message (msg.request id method params)) is =
+    either_id (bytes_eq method (codes "initialize")) _ _ is
+    (either_id (bytes_eq method (codes "shutdown")) (shutdown id) (other_request id method) is is)
+id_asked (msg.message (msg.notification method params)) is =
+    either_id (bytes_eq method (codes "exit")) exit _ tt
+    (either_id (bytes_eq method (codes "textDocument/didOpen")) (did_open (open_of params)) _ tt
+    (either_id (bytes_eq method (codes "textDocument/didChange")) (did_change (change_of params)) _ tt
+    (either_id (bytes_eq method (codes "textDocument/didClose")) (did_close _) (other_notification method) tt tt)))
+id_asked (msg.message (msg.response id outcome)) is = is
+
+abbrev MessageId : MessageData → Type 0
+MessageId m = IdRead (msg.message m)
+
+response_id : (id : Option IdData) (outcome : Option OutcomeData) → OnSome IsProperId id
+    → OnSome MessageId (option_map (msg.response id) outcome)
+response_id id None is = tt
+response_id id (Some outcome) is = is
+
+named_id : (id : Data) (outcome : Option OutcomeData) → IsHeld id
+    → OnSome MessageId (option_and_then (λ i. option_map (msg.response (Some i)) outcome) (id_in id))
+named_id id outcome is =
+    on_then IsProperId MessageId _ (λ i h. response_id (Some i) outcome h) (id_in id) (id_held id is)
+
+row_id : (method id : Option Data) (value : Data) → OnSome IsHeld id
+    → OnSome MessageId (msg.message_by method id value)
+row_id (Some (string s)) None value is = tt
+row_id (Some (string s)) (Some id) value is =
+    on_then IsProperId MessageId _ (λ i p. p) (id_in id) (id_held id is)
+row_id None None value is = tt
+row_id None (Some null) value is = response_id None (msg.outcome_in value) tt
+row_id None (Some (boolean b)) value is = named_id (boolean b) (msg.outcome_in value) is
+row_id None (Some (number n)) value is = named_id (number n) (msg.outcome_in value) is
+row_id None (Some (string s)) value is = named_id (string s) (msg.outcome_in value) is
+row_id None (Some (array ds)) value is = named_id (array ds) (msg.outcome_in value) is
+row_id None (Some (object ms)) value is = named_id (object ms) (msg.outcome_in value) is
+row_id (Some null) id value is = tt
+row_id (Some (boolean b)) id value is = tt
+row_id (Some (number n)) id value is = tt
+row_id (Some (array ds)) id value is = tt
+row_id (Some (object ms)) id value is = tt
+
+version_id : (two : Bool) (found : Option MessageData) → OnSome MessageId found
+    → OnSome MessageId (if two then found else None)
+version_id true found is = is
+version_id false found is = tt
+
+read_or : {A : Type 0} (P : A → Type 0) (f : A → Reading) (o : Option A) (d : Reading)
+    → ((a : A) → P a → IdRead (f a)) → OnSome P o → IdRead d → IdRead (option_map_or f o d)
+read_or P f None d all is rest = rest
+read_or P f (Some a) d all is rest = all a is
+
+value_id : (d : Data) → IsHeld d → IdRead (message_of d)
+value_id d held =
+    read_or MessageId msg.message (msg.message_in d) (msg.not_a_message (msg.id_found (get (codes "id") d)))
+    (λ m h. h)
+    (version_id (msg.is_version_two (get (codes "jsonrpc") d)) _
+    (row_id (get (codes "method") d) (get (codes "id") d) d (held_get (codes "id") d held)))
+    (on_then IsHeld IsProperId id_in id_held (get (codes "id") d) (held_get (codes "id") d held))
+
+pub id_fits : (body : List ℕ) → HasId (incoming_of (reading body))
+id_fits body = id_asked (reading body) (read_or IsHeld message_of (json_of body) msg.not_json value_id (value_held body) tt)
+
+-- ---- bodies
+
+read_if : (body : List ℕ) (b : Bool) (d : Data) → (if b then read body else None) ≡ Some d → read body ≡ Some d
+read_if body true d e = e
+read_if body false d e = absurd (let no : None ≡ Some d = e in cc)
+
+-- a body that counts as JSON is JSON
+pub body_json : (body : List ℕ) → is_json (incoming_of (reading body)) ≡ true → (j : Json) × IsJson body j
+body_json body h = by (json_of body) refl
+  where
+    by : (o : Option Data) → json_of body ≡ o → (j : Json) × IsJson body j
+    by None e =
+        let none : reading body ≡ msg.not_json = ap (λ o. option_map_or message_of o msg.not_json) e in
+        absurd (let no : false ≡ true = ap (λ r. is_json (incoming_of r)) (sym none) ∙ h in cc)
+    by (Some d) e = read_is body d (read_if body (is_utf8 body) d e)
+
+change_there : (server : ServerData) (change : Option ChangeData) (verdict : Verdict) (body : List ℕ)
+    → canonical_if server change verdict ≡ Some body → (p : ChangeData) × (change ≡ Some p)
+change_there server None verdict body e = absurd (let no : None ≡ Some body = e in cc)
+change_there server (Some p) verdict body e = (p, refl)
+
+is_change_body : (server : ServerData) (p : ChangeData) (verdict : Verdict) (body : List ℕ)
+    → canonical_if server (Some p) verdict ≡ Some body → canonical_change_body server p ≡ body
+is_change_body server p (answered changed) body e =
+    let some : Some (canonical_change_body server p) ≡ Some body = e in cc
+is_change_body server p (answered (AnswerData.reply m)) body e = absurd (let no : None ≡ Some body = e in cc)
+is_change_body server p (answered AnswerData.dropped) body e = absurd (let no : None ≡ Some body = e in cc)
+is_change_body server p (answered AnswerData.ignored) body e = absurd (let no : None ≡ Some body = e in cc)
+is_change_body server p (answered (refused why)) body e = absurd (let no : None ≡ Some body = e in cc)
+is_change_body server p (answered (AnswerData.exits status)) body e = absurd (let no : None ≡ Some body = e in cc)
+is_change_body server p (answered AnswerData.already_ended) body e = absurd (let no : None ≡ Some body = e in cc)
+is_change_body server p recorded body e = absurd (let no : None ≡ Some body = e in cc)
+is_change_body server p bad body e = absurd (let no : None ≡ Some body = e in cc)
+
+visible_change : (uri : List ℕ) (version : ℤ) (batch : List ContentChange)
+    → are_visible (change_body uri version batch) ≡ true
+unfolding change_body
+visible_change uri version batch =
+    ap are_visible (body_is (change_message uri version batch))
+    ∙ visible_compact (value_of (change_message uri version batch))
+
+within_both : (max : ℕ) (o : Option (List ℕ)) (body : List ℕ) → within max o ≡ Some body
+    → (o ≡ Some body) × (length body ≤ max)
+within_both max None body e = absurd (let no : None ≡ Some body = e in cc)
+within_both max (Some other) body e = by (nat_lt max (length other)) refl e
+  where
+    by : (b : Bool) → nat_lt max (length other) ≡ b → (if b then None else Some other) ≡ Some body
+        → (Some other ≡ Some body) × (length body ≤ max)
+    by true is f = absurd (let no : None ≡ Some body = f in cc)
+    by false is f =
+        let same : other ≡ body = (let some : Some other ≡ Some body = f in cc) in
+        let small = ltb-false max (length other) is in
+        (f, subst (λ b. length b ≤ max) same small)
+
+-- a canonical message is JSON without line breaks
+pub canonical_json : (limits : LimitsData) → AreInRange limits → (s : Session) (r : Record) (body : List ℕ)
+    → IsHeldState limits s.server
+    → within s.server.config.limits.max_body (canonical_of_record s r.body (judge s r).verdict) ≡ Some body
+    → ((j : Json) × IsJson body j) × (are_visible body ≡ true)
+canonical_json limits ranges s r body held e =
+    let both = within_both s.server.config.limits.max_body (canonical_of_record s r.body (judge s r).verdict) body e in
+    let short : length body ≤ limits.max_body = omega (arith, both.1, ap (λ (l : LimitsData). l.max_body) held.limit) in
+    let again = judged_again limits ranges s r.head r.body body held both.0 short in
+    let asked = change_there s.server (change_in (incoming_of (reading body))) (judge s r).verdict body again.1 in
+    let change = asks_change (incoming_of (reading body)) asked.0 asked.1 in
+    let first = change_there s.server (change_in (incoming_of (reading r.body))) (judge s r).verdict body both.0 in
+    let is : canonical_change_body s.server first.0 ≡ body =
+    is_change_body s.server first.0 (judge s r).verdict body
+    (ap (λ c. canonical_if s.server c (judge s r).verdict) (sym first.1) ∙ both.0) in (
+      body_json body (ap is_json change),
+      subst (λ b. are_visible b ≡ true) is (visible_change first.0.uri first.0.version _),
+    )

@@ -1,0 +1,49 @@
+-- All lines of `trace`.
+use Rattle.std.proofs.Common.{◌≡◌, ℕ, suc, ◌+◌, ◌^◌, ◌<◌, List, [], ◌∷◌, ◌++◌, refl, arith}
+use Rattle.std.specs.Prelude.{All}
+use Rattle.json.specs.Json.{Json}
+use Rattle.lsp_frame.specs.Limits.{LimitsData, AreInRange}
+use Rattle.lsp_message.specs.Message.{reading}
+use Rattle.lsp_server.specs.Incoming.{incoming_of}
+use Rattle.lsp_log.specs.Log.{Record}
+use Rattle.lsp_replay.specs.declared.commands.traced.Details.{Details}
+use Rattle.lsp_replay.specs.Commands.{followed_by, log_config, unless_bad, writes}
+use Rattle.lsp_replay.specs.RunOutput.{RunOutput}
+use Rattle.lsp_replay.specs.Lines.{Known, known_after, nothing_known}
+use Rattle.lsp_replay.specs.Session.{Session, Verdict, answered, recorded, bad, judge, opened}
+use Rattle.lsp_replay.specs.Trace.{trace_line, tracing}
+use Rattle.lsp_replay.specs.inside.Lines.{lines_in}
+use Rattle.lsp_replay.specs.laws.JsonLines.{AreJsonLines, IsJsonLine, TraceJsonLaw, trace_value, unless_bad_value, values_from}
+use Rattle.lsp_replay.proofs.JsonLines.FitLemmas.{IsFit, judged_fits}
+use Rattle.lsp_replay.proofs.JsonLines.LineLemmas.{trace_json}
+
+by_verdict : (verdict : Verdict) (r : Record) (line : List ℕ) (value : Json) (c : RunOutput) (values : List Json)
+    → IsJsonLine line value → AreJsonLines c.out values
+    → AreJsonLines (followed_by (unless_bad r verdict (writes line)).out (unless_bad r verdict (writes line)).end c).out
+    (unless_bad_value verdict value values)
+by_verdict (answered answer) r line value c values is more = (line, c.out, refl, is, more)
+by_verdict recorded r line value c values is more = (line, c.out, refl, is, more)
+by_verdict bad r line value c values is more = refl
+
+module _ (limits : LimitsData) (ranges : AreInRange limits) (details : Details) where
+  lines_json : (known : Known) (s : Session) (rs : List Record) → All (λ (r : Record). r.head.place < 2 ^ 64) rs
+      → IsFit limits known s
+      → AreJsonLines (lines_in (tracing details) known s rs).out (values_from details known s rs)
+  lines_json known s [] places fits = refl
+  lines_json known s (r ∷ rs) places fits =
+      let next = known_after known s r.head r.body (judge s r) in
+      by_verdict (judge s r).verdict r (trace_line details known s r (judge s r) (incoming_of (reading r.body)))
+      (trace_value details known s r (judge s r) (incoming_of (reading r.body)))
+      (lines_in (tracing details) next (judge s r).session rs) (values_from details next (judge s r).session rs)
+      (trace_json limits ranges details known s r fits (places 0 r (omega arith)))
+      (lines_json next (judge s r).session rs (λ k d l. places (suc k) d (omega arith))
+      (judged_fits limits known s r fits))
+
+pub trace_json_law : TraceJsonLaw
+trace_json_law settings details records ranges places =
+    lines_json settings.limits ranges details nothing_known (opened (log_config settings)) records places (record {
+      held = record { limit = refl; table = tt };
+      versions = tt;
+      records = omega arith;
+      mentions = tt;
+    })

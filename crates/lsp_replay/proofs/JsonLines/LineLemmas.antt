@@ -1,0 +1,294 @@
+-- The line of `trace` for a record, and that of `replay` for a document.
+use Rattle.std.proofs.Common.{◌≡◌, ℕ, ℤ, ◌^◌, ◌<◌, ◌≤◌, Bool, true, false, List, [], ◌∷◌, ◌++◌, map, Option, Some, None, refl, sym, ap, ◌∙◌, subst, arith, append_assoc, decimal, FitsSigned}
+use Rattle.std.specs.Prelude.{⊤, ◌&&◌, codes, flat_map, if◌then◌else◌, option_and_then, option_map}
+use Rattle.std.specs.Fmt.{signed_decimal}
+use Rattle.std.specs.Int.{w32, w64}
+use Rattle.std.proofs.lemmas.Bool.{and_parts}
+use Rattle.json.specs.Json as json
+use Rattle.json.specs.Json.{Json, document}
+use Rattle.json.specs.Print.{escape_byte, quoted}
+use Rattle.json.specs.Tree.{HasNumbers, ItemsHaveNumbers, depth, items_depth}
+use Rattle.json.specs.Value as values
+use Rattle.serde_json.specs.Data as tree
+use Rattle.serde_json.specs.Data.{Data}
+use Rattle.serde_json.specs.View as view
+use Rattle.serde_json.specs.Written.{compact_text, items_outline, items_text, outline}
+use Rattle.lsp_frame.specs.Limits.{LimitsData, AreInRange}
+use Rattle.lsp_message.specs.Message.{IdData, whole, text, reading}
+use Rattle.lsp_message.specs.Outgoing.{document_text}
+use Rattle.lsp_message.specs.Params.{DocumentItem}
+use Rattle.lsp_message.specs.laws.Sent.{IsProperId}
+use Rattle.lsp_server.specs.Answer.{AnswerData, Sent}
+use Rattle.lsp_server.specs.Incoming.{IncomingData, incoming_of}
+use Rattle.lsp_log.specs.Log.{Record}
+use Rattle.lsp_replay.specs.declared.commands.traced.Details.{Details}
+use Rattle.lsp_replay.specs.declared.notes.Note.{Note}
+use Rattle.lsp_replay.specs.Commands.{canonical_of_record, change_in, document_line, verdict_word}
+use Rattle.lsp_replay.specs.Lines.{Known, known_after, uri_of}
+use Rattle.lsp_replay.specs.Mentions.{last_for}
+use Rattle.lsp_replay.specs.Notes.{note_words, notes_of, notes_words}
+use Rattle.lsp_replay.specs.Reasons.{reason_words}
+use Rattle.lsp_replay.specs.Session.{Session, Judged, Verdict, answered, recorded, bad, is_refused, judge}
+use Rattle.lsp_replay.specs.Trace.{body_json, document_after, first_members, has_changed, id_json, id_of, is_json, json_string, last_members, member, method_of, notes_json, reason_json, side_word, text_json, trace_line, version_json, within}
+use Rattle.lsp_replay.specs.laws.JsonLines.{IsJsonLine, body_value, document_value, id_value, integer, members_with, natural, notes_value, reason_value, text_value, trace_value}
+use Rattle.lsp_replay.proofs.JsonLines.FitLemmas as fit
+use Rattle.lsp_replay.proofs.JsonLines.FitLemmas.{IsFit, canonical_json, document_fits, id_fits, judged_fits, last_fits}
+use Rattle.lsp_replay.proofs.JsonLines.PlainLemmas.{escape_plain, quoted_plain}
+use Rattle.lsp_replay.proofs.JsonLines.ReasonPlainLemmas.{plain_note, plain_reason, plain_side, plain_verdict}
+use Rattle.lsp_replay.proofs.JsonLines.StringLemmas.{are_visible}
+use Rattle.lsp_replay.proofs.JsonLines.ValueLemmas.{AreMembers, AreRead, IsFront, IsJson, IsValue, IsValueIf, a_body, a_compact, a_member, a_member_if, a_natural, a_plain, a_quoted, a_string, a_text, an_integer, an_object, last_read, no_more}
+use Rattle.lsp_replay.proofs.Records.ReadLemmas.{OnSome}
+
+-- ---- values that are there or not
+
+strings_if : (o : Option (List ℕ)) → IsValueIf (option_map json_string o) (option_map json.string o)
+unfolding json_string
+strings_if None = tt
+strings_if (Some s) = a_string s
+
+id_if : (id : Option IdData) → OnSome IsProperId id → IsValueIf (option_map id_json id) (option_map id_value id)
+unfolding json_string
+id_if None is = tt
+id_if (Some (whole z)) is = an_integer z is
+id_if (Some (text s)) is = a_string s
+
+naturals_if : (o : Option ℕ) → OnSome (λ n. n < 2 ^ 64) o → IsValueIf (option_map decimal o) (option_map natural o)
+naturals_if None is = tt
+naturals_if (Some n) is = a_natural n is
+
+wider : (z : ℤ) → FitsSigned w32 z → FitsSigned w64 z
+wider z h = let small = h.sfits in record { sfits = omega arith }
+
+version_if : (entry : Option DocumentItem) → OnSome (λ (e : DocumentItem). FitsSigned w32 e.version) entry
+    → IsValueIf (version_json entry) (option_map (λ (e : DocumentItem). integer e.version) entry)
+version_if None is = tt
+version_if (Some entry) is = an_integer entry.version (wider entry.version is)
+
+text_if : (is_asked : Bool) (entry : Option DocumentItem) → IsValueIf (text_json is_asked entry) (text_value is_asked entry)
+unfolding json_string
+text_if false entry = tt
+text_if true None = tt
+text_if true (Some entry) = a_string entry.text
+
+reason_by : (b : Bool) (limits : LimitsData) (m : IncomingData) (answer : AnswerData Sent)
+    → IsValueIf (if b then Some (codes "\"" ++ reason_words limits (change_in m) answer ++ codes "\"") else None)
+    (if b then Some (json.string (reason_words limits (change_in m) answer)) else None)
+reason_by false limits m answer = tt
+reason_by true limits m answer =
+    a_plain (reason_words limits (change_in m) answer) (plain_reason limits (change_in m) answer)
+
+reason_if : (limits : LimitsData) (m : IncomingData) (verdict : Verdict)
+    → IsValueIf (reason_json limits m verdict) (reason_value limits m verdict)
+reason_if limits m (answered answer) = reason_by (is_refused answer) limits m answer
+reason_if limits m recorded = tt
+reason_if limits m bad = tt
+
+-- ---- notes
+
+abbrev note_data : Note → Data
+note_data note = tree.string (note_words note)
+
+notes_from : (notes : List Note)
+    → flat_map (λ note. codes "\",\"" ++ note_words note) notes ++ codes "\"]"
+    ≡ 34 ∷ items_text true (view.items_of (map note_data notes))
+notes_from [] = refl
+notes_from (note ∷ notes) =
+    ap (λ l. 34 ∷ 44 ∷ 34 ∷ l)
+    (append_assoc (note_words note) (flat_map (λ note. codes "\",\"" ++ note_words note) notes) (codes "\"]")
+    ∙ ap (λ l. note_words note ++ l) (notes_from notes)
+    ∙ ap (λ l. l ++ 34 ∷ items_text true (view.items_of (map note_data notes)))
+    (sym (escape_plain (note_words note) (plain_note note)))
+    ∙ sym (append_assoc _ (34 ∷ []) (items_text true (view.items_of (map note_data notes)))))
+
+notes_text : (note : Note) (notes : List Note)
+    → codes "[\"" ++ notes_words (codes "\",\"") (note ∷ notes) ++ codes "\"]"
+    ≡ compact_text (tree.array (view.items_of (map note_data (note ∷ notes))))
+notes_text note notes =
+    ap (λ l. 91 ∷ 34 ∷ l)
+    (append_assoc (note_words note) (flat_map (λ note. codes "\",\"" ++ note_words note) notes) (codes "\"]")
+    ∙ ap (λ l. note_words note ++ l) (notes_from notes)
+    ∙ ap (λ l. l ++ 34 ∷ items_text true (view.items_of (map note_data notes)))
+    (sym (escape_plain (note_words note) (plain_note note)))
+    ∙ sym (append_assoc _ (34 ∷ []) (items_text true (view.items_of (map note_data notes)))))
+
+notes_outline : (notes : List Note) → items_outline (view.items_of (map note_data notes))
+    ≡ values.items_of (map (λ note. json.string (note_words note)) notes)
+notes_outline [] = refl
+notes_outline (note ∷ notes) = ap (json.item (json.string (note_words note))) (notes_outline notes)
+
+notes_numbers : (notes : List Note) → ItemsHaveNumbers (items_outline (view.items_of (map note_data notes)))
+notes_numbers [] = tt
+notes_numbers (note ∷ notes) = (tt, notes_numbers notes)
+
+notes_flat : (notes : List Note) → items_depth (items_outline (view.items_of (map note_data notes))) ≡ 0
+notes_flat [] = refl
+notes_flat (note ∷ notes) = omega (arith, notes_flat notes)
+
+notes_if : (notes : List Note) → IsValueIf (notes_json notes) (notes_value notes)
+notes_if [] = tt
+notes_if (note ∷ notes) =
+    subst (λ j. IsValue (codes "[\"" ++ notes_words (codes "\",\"") (note ∷ notes) ++ codes "\"]") (json.array j))
+    (notes_outline (note ∷ notes))
+    (subst (λ bytes. IsValue bytes (outline (tree.array (view.items_of (map note_data (note ∷ notes))))))
+    (sym (notes_text note notes))
+    (a_compact (tree.array (view.items_of (map note_data (note ∷ notes)))) (notes_numbers (note ∷ notes))
+    (omega (arith, notes_flat (note ∷ notes)))))
+
+-- ---- bodies
+
+body_if : (is_asked : Bool) (body : List ℕ) → (is_asked ≡ true → (j : Json) × IsJson body j)
+    → IsValueIf (body_json is_asked body) (body_value is_asked body)
+body_if false body is = tt
+body_if true body is =
+    let found = is refl in
+    let j = found.0 in
+    subst (λ o. IsValueIf (body_json true body) o) (sym found.1.document) (a_body body j found.1)
+
+canonical_if : (o : Option (List ℕ))
+    → ((body : List ℕ) → o ≡ Some body → ((j : Json) × IsJson body j) × (are_visible body ≡ true))
+    → IsValueIf o (option_and_then document o)
+canonical_if None is = tt
+canonical_if (Some body) is =
+    let found = is body refl in
+    subst (λ v. IsValueIf (Some body) v) (sym found.0.1.document) (a_text body found.0.0 found.1 found.0.1)
+
+-- ---- the line of `trace`
+
+regroup : (a n b p c s q m i u w v z rest : List ℕ)
+    → (a ++ n ++ b ++ p ++ c ++ s ++ q ++ m ++ i ++ u) ++ (w ++ v ++ z ++ rest)
+    ≡ a ++ (n ++ (b ++ (p ++ (c ++ (s ++ (q ++ (m ++ (i ++ (u ++ (w ++ (v ++ (z ++ rest))))))))))))
+regroup a n b p c s q m i u w v z rest = simp append_assoc
+
+module _ (limits : LimitsData) (ranges : AreInRange limits) (details : Details) (known : Known) (s : Session)
+    (r : Record) (fits : IsFit limits known s) (place : r.head.place < 2 ^ 64) where
+  abbrev j : Judged
+  j = judge s r
+
+  abbrev m : IncomingData
+  m = incoming_of (reading r.body)
+
+  abbrev uri : Option (List ℕ)
+  uri = uri_of r.head.side m
+
+  after : IsFit limits (known_after known s r.head r.body j) j.session
+  after = judged_fits limits known s r fits
+
+  abbrev last_texts : List (List ℕ × Option (List ℕ))
+  last_texts =
+      (codes ",\"reason\":", reason_json j.session.server.config.limits m j.verdict)
+      ∷ (codes ",\"last\":", option_map decimal (last_for known.mentions uri j.verdict))
+      ∷ (codes ",\"notes\":", notes_json (notes_of s known.ranged r.body j.verdict))
+      ∷ (codes ",\"version\":", version_json (document_after j.session.server.table uri))
+      ∷ (
+        codes ",\"canonical\":",
+        within s.server.config.limits.max_body (canonical_of_record s r.body j.verdict),
+      )
+      ∷ (
+        codes ",\"text\":",
+        text_json (details.texts && has_changed j.verdict) (document_after j.session.server.table uri),
+      )
+      ∷ (codes ",\"body\":", body_json (details.bodies && is_json m) r.body) ∷ []
+
+  abbrev last_values : List (List ℕ × Option Json)
+  last_values =
+      (codes "reason", reason_value j.session.server.config.limits m j.verdict)
+      ∷ (codes "last", option_map natural (last_for known.mentions uri j.verdict))
+      ∷ (codes "notes", notes_value (notes_of s known.ranged r.body j.verdict))
+      ∷ (
+        codes "version",
+        option_map (λ (e : DocumentItem). integer e.version) (document_after j.session.server.table uri),
+      )
+      ∷ (
+        codes "canonical",
+        option_and_then document
+            (within s.server.config.limits.max_body (canonical_of_record s r.body j.verdict)),
+      )
+      ∷ (
+        codes "text",
+        text_value (details.texts && has_changed j.verdict) (document_after j.session.server.table uri),
+      )
+      ∷ (codes "body", body_value (details.bodies && is_json m) r.body) ∷ []
+
+  are_read : AreRead last_texts last_values
+  unfolding escape_byte
+  are_read = (
+    refl,
+    reason_if j.session.server.config.limits m j.verdict,
+    (
+      refl,
+      naturals_if (last_for known.mentions uri j.verdict) (last_fits known.mentions uri j.verdict fits.mentions),
+      (
+        refl,
+        notes_if (notes_of s known.ranged r.body j.verdict),
+        (
+          refl,
+          version_if (document_after j.session.server.table uri)
+              (document_fits j.session.server.table uri after.versions),
+          (
+            refl,
+            canonical_if (within s.server.config.limits.max_body (canonical_of_record s r.body j.verdict))
+                (λ body e. canonical_json limits ranges s r body fits.held e),
+            (
+              refl,
+              text_if (details.texts && has_changed j.verdict) (document_after j.session.server.table uri),
+              (
+                refl,
+                body_if (details.bodies && is_json m) r.body
+                    (λ e. fit.body_json r.body (and_parts details.bodies (is_json m) e).1),
+                tt,
+              ),
+            ),
+          ),
+        ),
+      ),
+    ),
+  )
+
+  pub trace_json : IsJsonLine (trace_line details known s r j m) (trace_value details known s r j m)
+  unfolding escape_byte
+  trace_json =
+      let word = a_quoted (codes ",\"word\":") (codes "word") (verdict_word j.verdict) (last_members last_texts)
+      (members_with last_values) refl (plain_verdict j.verdict) (last_read last_texts last_values are_read) in
+      let with_uri = a_member_if (codes ",\"uri\":") (codes "uri") _ (option_map json_string uri)
+      (option_map json.string uri) _ refl (strings_if uri) word in
+      let with_id = a_member_if (codes ",\"id\":") (codes "id") _ (option_map id_json (id_of m))
+      (option_map id_value (id_of m)) _ refl (id_if (id_of m) (id_fits r.body)) with_uri in
+      let with_method = a_member_if (codes ",\"method\":") (codes "method") _ (option_map json_string (method_of m))
+      (option_map json.string (method_of m)) _ refl (strings_if (method_of m)) with_id in
+      let from = a_quoted (codes ",\"from\":") (codes "from") (side_word r.head.side) _ _ refl (plain_side r.head.side)
+      with_method in
+      let offset = a_member (codes ",\"offset\":") (codes "offset") (decimal r.head.place) _ (natural r.head.place) _
+      refl (a_natural r.head.place place) from in
+      let line = an_object (codes "{\"number\":") (codes "number") (decimal j.session.records) _
+      (natural j.session.records) _ refl (a_natural j.session.records after.records) offset in
+      subst (λ l. IsJsonLine l (trace_value details known s r j m))
+      (sym (regroup (codes "{\"number\":") (decimal j.session.records) (codes ",\"offset\":") (decimal r.head.place)
+      (codes ",\"from\":\"") (side_word r.head.side) (codes "\"")
+      (member (codes ",\"method\":") (option_map json_string (method_of m)))
+      (member (codes ",\"id\":") (option_map id_json (id_of m)))
+      (member (codes ",\"uri\":") (option_map json_string uri)) (codes ",\"word\":\"") (verdict_word j.verdict)
+      (codes "\"") (last_members last_texts))) line
+
+-- ---- the line of `replay`
+
+document_regroup : (a l b t c u d v e f : List ℕ)
+    → (a ++ l ++ b ++ t ++ c ++ u ++ d ++ v ++ e) ++ f
+    ≡ a ++ (l ++ (b ++ (t ++ (c ++ (u ++ (d ++ (v ++ (e ++ f))))))))
+document_regroup a l b t c u d v e f = simp append_assoc
+
+pub document_json : (entry : DocumentItem) → FitsSigned w32 entry.version
+    → IsJsonLine (document_line entry) (document_value entry)
+unfolding document_line escape_byte
+document_json entry fits =
+    let version = a_member (codes ",\"version\":") (codes "version") (signed_decimal entry.version) (codes "}\n")
+    (integer entry.version) json.no_members refl (an_integer entry.version (wider entry.version fits)) no_more in
+    let with_uri = a_member (codes ",\"uri\":") (codes "uri") (quoted entry.uri) _ (json.string entry.uri) _ refl
+    (a_string entry.uri) version in
+    let with_text = a_member (codes ",\"text\":") (codes "text") (quoted entry.text) _ (json.string entry.text) _ refl
+    (a_string entry.text) with_uri in
+    subst (λ l. IsJsonLine l (document_value entry))
+    (sym (document_regroup (codes "{\"languageId\":") (quoted entry.language) (codes ",\"text\":") (quoted entry.text)
+    (codes ",\"uri\":") (quoted entry.uri) (codes ",\"version\":") (signed_decimal entry.version) (codes "}")
+    (codes "\n")))
+    (an_object (codes "{\"languageId\":") (codes "languageId") (quoted entry.language) _ (json.string entry.language) _
+    refl (a_string entry.language) with_text)

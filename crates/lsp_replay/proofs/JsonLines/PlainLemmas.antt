@@ -1,0 +1,187 @@
+-- Texts that need no escape in a JSON string, and texts without line breaks.
+use Rattle.std.proofs.Common.{◌≡◌, ◌⊎◌, inl, inr, ℕ, ℤ, pos, negsuc, zero, suc, ◌+◌, ◌/◌, ◌%◌, ◌<◌, ◌≤◌, Bool, true, false, cond, ◌&&◌, ◌||◌, ◌==◌, List, [], ◌∷◌, ◌++◌, decimal, refl, sym, ap, ◌∙◌, subst, arith}
+use Rattle.std.specs.Prelude.{if◌then◌else◌, nat_le, nat_lt, not}
+use Rattle.std.specs.Char.{digit_char}
+use Rattle.std.specs.Fmt.{digit_glyph, digits, digits_onto, signed_decimal}
+use Rattle.std.specs.List.{list_all}
+use Rattle.std.proofs.Math.Nat.{mod-lt}
+use Rattle.std.proofs.lemmas.Bool.{and_from, and_parts, cases_Bool, cases_lt, eqb-false, eqb-true, le-leb, le-ltb, leb-true, lt-ltb, ltb-false, ltb-true, ne_eqb, or_cases, or_parts}
+use Rattle.std.proofs.lemmas.List.Folds.{list_all-append}
+use Rattle.json.specs.Run.{is_plain}
+use Rattle.json.specs.Print.{escape, escape_byte, escape_letter, quoted, token_text}
+use Rattle.json.specs.Token as token
+use Rattle.json.proofs.Printed.Strings.{escape_byte_plain}
+use Rattle.serde_json.specs.Data.{Num, unsigned, negative, float, Data, null, boolean, number, string, array, object, Items, no_items, item, Members, no_members, member}
+use Rattle.serde_json.specs.Written.{comma_if, compact_text, items_text, members_text, number_text}
+use Rattle.lsp_replay.proofs.JsonLines.StringLemmas.{are_visible}
+
+-- ---- texts that need no escape
+
+-- no byte needs an escape
+abbrev pub IsPlain : List ℕ → Type 0
+IsPlain s = list_all is_plain s ≡ true
+
+pub plain-append : (xs ys : List ℕ) → IsPlain xs → IsPlain ys → IsPlain (xs ++ ys)
+plain-append xs ys h k = list_all-append is_plain xs ys ∙ and_from (list_all is_plain xs) (list_all is_plain ys) h k
+
+record IsPlainByte (x : ℕ) : Type 0 where
+  quote : x ≡ 34 → ⊥
+  backslash : x ≡ 92 → ⊥
+  high : 32 ≤ x
+
+plain_byte : (x : ℕ) → is_plain x ≡ true → IsPlainByte x
+plain_byte x h =
+    let stop = by ((x == 34) || (x == 92) || nat_lt x 32) h in
+    let parts = stops (x == 34) (x == 92) (nat_lt x 32) stop in
+    record { quote = eqb-false x 34 parts.0; backslash = eqb-false x 92 parts.1; high = ltb-false x 32 parts.2 }
+  where
+    by : (b : Bool) → not b ≡ true → b ≡ false
+    by true e = absurd (let no : false ≡ true = e in cc)
+    by false e = refl
+
+    stops : (a b c : Bool) → (a || b || c) ≡ false → (a ≡ false) × (b ≡ false) × (c ≡ false)
+    stops false false false e = (refl, refl, refl)
+    stops true b c e = absurd (let no : true ≡ false = e in cc)
+    stops false true c e = absurd (let no : true ≡ false = e in cc)
+    stops false false true e = absurd (let no : true ≡ false = e in cc)
+
+pub escape_plain : (s : List ℕ) → IsPlain s → escape s ≡ s
+escape_plain [] h = refl
+escape_plain (x ∷ s) h =
+    let both = and_parts (is_plain x) (list_all is_plain s) h in
+    let byte = plain_byte x both.0 in
+    ap (λ l. l ++ escape s) (escape_byte_plain x byte.quote byte.backslash byte.high)
+    ∙ ap (λ l. x ∷ l) (escape_plain s both.1)
+
+-- a plain text between quotation marks is a string
+pub quoted_plain : (s : List ℕ) → IsPlain s → 34 ∷ (s ++ 34 ∷ []) ≡ quoted s
+quoted_plain s h = ap (λ l. 34 ∷ (l ++ 34 ∷ [])) (sym (escape_plain s h))
+
+-- ---- digits
+
+plain_digit : (d : ℕ) → d < 10 → is_plain (digit_glyph false d) ≡ true
+plain_digit d l = rw (
+  lt-ltb d 10 l,
+  ne_eqb (48 + d) 34 (λ e. omega arith),
+  ne_eqb (48 + d) 92 (λ e. omega arith),
+  le-ltb (48 + d) 32 (omega arith),
+)
+
+either_plain : (b : Bool) (x y : List ℕ) → IsPlain x → IsPlain y → IsPlain (if b then x else y)
+either_plain true x y h k = h
+either_plain false x y h k = k
+
+plain_onto : (k n : ℕ) (acc : List ℕ) → IsPlain acc → IsPlain (digits_onto k 10 false n acc)
+plain_onto zero n acc h = h
+plain_onto (suc k) n acc h =
+    let more : IsPlain (digit_glyph false (n % 10) ∷ acc) =
+    and_from (is_plain (digit_glyph false (n % 10))) (list_all is_plain acc)
+    (plain_digit (n % 10) (mod-lt n (omega arith))) h in
+    either_plain (n / 10 == 0) (digit_glyph false (n % 10) ∷ acc) _ more
+    (plain_onto k (n / 10) (digit_glyph false (n % 10) ∷ acc) more)
+
+pub plain_decimal : (n : ℕ) → IsPlain (decimal n)
+unfolding digits
+plain_decimal n = plain_onto 64 n [] refl
+
+pub plain_signed : (z : ℤ) → IsPlain (signed_decimal z)
+plain_signed (pos n) = plain_decimal n
+plain_signed (negsuc n) = plain_decimal (suc n)
+
+-- ---- texts without line breaks
+
+pub visible-append : (xs ys : List ℕ) → are_visible xs ≡ true → are_visible ys ≡ true → are_visible (xs ++ ys) ≡ true
+visible-append [] ys h k = k
+visible-append (x ∷ xs) ys h k =
+    let both = and_parts (nat_le 32 x) (are_visible xs) h in
+    and_from (nat_le 32 x) (are_visible (xs ++ ys)) both.0 (visible-append xs ys both.1 k)
+
+pub visible_plain : (s : List ℕ) → IsPlain s → are_visible s ≡ true
+visible_plain [] h = refl
+visible_plain (x ∷ s) h =
+    let both = and_parts (is_plain x) (list_all is_plain s) h in
+    let byte = plain_byte x both.0 in
+    and_from (nat_le 32 x) (are_visible s) (le-leb 32 x byte.high) (visible_plain s both.1)
+
+either_visible : (b : Bool) (x y : List ℕ) → (b ≡ true → are_visible x ≡ true) → (b ≡ false → are_visible y ≡ true)
+    → are_visible (cond b x y) ≡ true
+either_visible true x y h k = h refl
+either_visible false x y h k = k refl
+
+letter_high : (a b c d e f : Bool) (x : ℕ) → (a ≡ true → 32 ≤ x)
+    → (l : ℕ) → l ≡ cond a x (cond b 98 (cond c 102 (cond d 110 (cond e 114 (cond f 116 0))))) → 0 < l → 32 ≤ l
+letter_high true b c d e f x h l is some = let high = h refl in omega (arith, is)
+letter_high false true c d e f x h l is some = omega (arith, is)
+letter_high false false true d e f x h l is some = omega (arith, is)
+letter_high false false false true e f x h l is some = omega (arith, is)
+letter_high false false false false true f x h l is some = omega (arith, is)
+letter_high false false false false false true x h l is some = omega (arith, is)
+letter_high false false false false false false x h l is some = absurd (let never : ⊥ = omega (arith, is) in never)
+
+special_high : (x : ℕ) → ((x == 34) || (x == 92)) ≡ true → 32 ≤ x
+special_high x e = by (or_cases (x == 34) (x == 92) e)
+  where
+    by : ((x == 34) ≡ true) ⊎ ((x == 92) ≡ true) → 32 ≤ x
+    by (inl is) = omega (arith, eqb-true x 34 is)
+    by (inr is) = omega (arith, eqb-true x 92 is)
+
+pub one_visible : (x : ℕ) (xs : List ℕ) → 32 ≤ x → are_visible xs ≡ true → are_visible (x ∷ xs) ≡ true
+one_visible x xs l h = and_from (nat_le 32 x) (are_visible xs) (le-leb 32 x l) h
+
+digit_high : (d : ℕ) → 32 ≤ digit_char d
+digit_high d = by (cases_Bool (nat_lt d 10))
+  where
+    by : (nat_lt d 10 ≡ true) ⊎ (nat_lt d 10 ≡ false) → 32 ≤ digit_char d
+    by (inl e) = rw e (omega arith)
+    by (inr e) = rw e (omega arith)
+
+visible_byte : (x : ℕ) → are_visible (escape_byte x) ≡ true
+unfolding escape_byte
+visible_byte x =
+    either_visible (nat_lt 0 (escape_letter x)) _ _
+    (λ e. one_visible (escape_letter x) []
+    (letter_high ((x == 34) || (x == 92)) (x == 8) (x == 12) (x == 10) (x == 13) (x == 9) x (special_high x)
+    (escape_letter x) refl (ltb-true 0 (escape_letter x) e)) refl)
+    (λ e. either_visible (nat_lt x 32) _ _
+    (λ f. one_visible (digit_char (x / 16)) (digit_char (x % 16) ∷ []) (digit_high (x / 16))
+    (one_visible (digit_char (x % 16)) [] (digit_high (x % 16)) refl))
+    (λ f. one_visible x [] (ltb-false x 32 f) refl))
+
+visible_escape : (s : List ℕ) → are_visible (escape s) ≡ true
+visible_escape [] = refl
+visible_escape (x ∷ s) = visible-append (escape_byte x) (escape s) (visible_byte x) (visible_escape s)
+
+pub visible_quoted : (s : List ℕ) → are_visible (quoted s) ≡ true
+visible_quoted s = visible-append (escape s) (34 ∷ []) (visible_escape s) refl
+
+visible_number : (n : Num) → are_visible (number_text n) ≡ true
+visible_number (unsigned n) = visible_plain (decimal n) (plain_decimal n)
+visible_number (negative z) = visible_plain (signed_decimal z) (plain_signed z)
+visible_number (float x) = refl
+
+visible_comma : (later : Bool) → are_visible (comma_if later) ≡ true
+visible_comma true = refl
+visible_comma false = refl
+
+mutual
+  pub visible_compact : (d : Data) → are_visible (compact_text d) ≡ true
+  visible_compact null = refl
+  visible_compact (boolean true) = refl
+  visible_compact (boolean false) = refl
+  visible_compact (number n) = visible_number n
+  visible_compact (string s) = visible_quoted s
+  visible_compact (array ds) = visible_items false ds
+  visible_compact (object ms) = visible_members false ms
+
+  visible_items : (later : Bool) (ds : Items) → are_visible (items_text later ds) ≡ true
+  visible_items later no_items = refl
+  visible_items later (item d ds) =
+      visible-append (comma_if later) (compact_text d ++ items_text true ds) (visible_comma later)
+      (visible-append (compact_text d) (items_text true ds) (visible_compact d) (visible_items true ds))
+
+  visible_members : (later : Bool) (ms : Members) → are_visible (members_text later ms) ≡ true
+  visible_members later no_members = refl
+  visible_members later (member k d ms) =
+      visible-append (comma_if later) (quoted k ++ 58 ∷ (compact_text d ++ members_text true ms)) (visible_comma later)
+      (visible-append (quoted k) (58 ∷ (compact_text d ++ members_text true ms)) (visible_quoted k)
+      (visible-append (compact_text d) (members_text true ms) (visible_compact d) (visible_members true ms)))

@@ -1,0 +1,170 @@
+-- The words of a line need no escape in a JSON string.
+use Rattle.std.proofs.Common.{◌≡◌, ℕ, ℤ, Bool, true, false, ◌==◌, List, [], ◌∷◌, ◌++◌, Option, Some, None, decimal, refl}
+use Rattle.std.specs.Prelude.{codes, if◌then◌else◌}
+use Rattle.std.specs.Fmt.{signed_decimal}
+use Rattle.std.specs.List.{list_all}
+use Rattle.std.proofs.lemmas.List.Folds.{list_all-append}
+use Rattle.json.specs.Run.{is_plain}
+use Rattle.lsp_frame.specs.Limits.{LimitsData}
+use Rattle.lsp_text.specs.declared.position.Position.{Position}
+use Rattle.lsp_text.specs.declared.position.Range.{Range}
+use Rattle.lsp_edit.specs.declared.fault.EditFault.{EditFault}
+use Rattle.lsp_edit.specs.declared.fault.EditFault.TheVariants.{InsideCharacter, ReversedRange, NoMemory as NoMemoryToEdit}
+use Rattle.lsp_edit.specs.declared.fault.Side.{Side}
+use Rattle.lsp_edit.specs.declared.fault.Side.TheVariants.{Start, Stop}
+use Rattle.lsp_message.specs.declared.outgoing.ErrorCode.{ErrorCode}
+use Rattle.lsp_message.specs.declared.outgoing.ErrorCode.TheVariants.{ParseError, InvalidRequest, MethodNotFound, InvalidParams, ServerNotInitialized}
+use Rattle.lsp_message.specs.Params.{ChangeData}
+use Rattle.lsp_store.specs.Faults.{fault_code}
+use Rattle.lsp_store.specs.declared.fault.StoreFault.{StoreFault}
+use Rattle.lsp_store.specs.declared.fault.StoreFault.TheVariants.{AlreadyOpen, TooManyDocuments, TextTooLong, NotOpen, StaleVersion, TooManyChanges, Edit, BodyTooLong, NoMemory}
+use Rattle.lsp_server.specs.Answer.{AnswerData, reply, changed, dropped, ignored, refused, exits, already_ended, Sent}
+use Rattle.lsp_server.specs.Codes.{server_refusal_code}
+use Rattle.lsp_server.specs.declared.answer.Refusal.{Refusal}
+use Rattle.lsp_server.specs.declared.answer.Refusal.TheVariants.{InvalidParams as BadParams, Store}
+use Rattle.lsp_stream.specs.Ports.{one_more}
+use Rattle.lsp_log.specs.declared.record.Sender.{Sender}
+use Rattle.lsp_log.specs.declared.record.Sender.TheVariants.{Client, Server}
+use Rattle.lsp_replay.specs.declared.notes.Note.{Note}
+use Rattle.lsp_replay.specs.declared.notes.Note.TheVariants.{OpenAlready, OldVersion, NoChanges, WholeText, PastEnd, WrongLength, SameText}
+use Rattle.lsp_replay.specs.Commands.{code_word, verdict_word, word_of}
+use Rattle.lsp_replay.specs.Notes.{change_words, note_words, past_words, side_words}
+use Rattle.lsp_replay.specs.Reasons.{edit_reason, end_words, error_reason, position_words, range_sent, reason_words, refusal_reason, store_reason, version_words}
+use Rattle.lsp_replay.specs.Session.{Verdict, answered, recorded, bad}
+use Rattle.lsp_replay.specs.Trace.{side_word}
+use Rattle.lsp_replay.proofs.JsonLines.PlainLemmas.{IsPlain, plain-append, plain_decimal, plain_signed}
+
+-- ---- the word of an answer
+
+pub plain_side : (side : Sender) → IsPlain (side_word side)
+plain_side Client = refl
+plain_side Server = refl
+
+plain_fault : (fault : StoreFault) → IsPlain (fault_code fault)
+plain_fault AlreadyOpen = refl
+plain_fault TooManyDocuments = refl
+plain_fault TextTooLong = refl
+plain_fault NotOpen = refl
+plain_fault (StaleVersion current) = refl
+plain_fault TooManyChanges = refl
+plain_fault (Edit (InsideCharacter change side)) = refl
+plain_fault (Edit (ReversedRange change)) = refl
+plain_fault (Edit NoMemoryToEdit) = refl
+plain_fault (BodyTooLong len) = refl
+plain_fault NoMemory = refl
+
+plain_refusal : (refusal : Refusal) → IsPlain (server_refusal_code refusal)
+plain_refusal BadParams = refl
+plain_refusal (Store fault) = plain_fault fault
+
+plain_code : (code : Option ErrorCode) → IsPlain (code_word code)
+plain_code None = refl
+plain_code (Some ParseError) = refl
+plain_code (Some InvalidRequest) = refl
+plain_code (Some MethodNotFound) = refl
+plain_code (Some InvalidParams) = refl
+plain_code (Some ServerNotInitialized) = refl
+
+pub plain_verdict : (verdict : Verdict) → IsPlain (verdict_word verdict)
+plain_verdict (answered (reply m)) = plain_code m.code
+plain_verdict (answered changed) = refl
+plain_verdict (answered dropped) = refl
+plain_verdict (answered ignored) = refl
+plain_verdict (answered (refused refusal)) = plain_refusal refusal
+plain_verdict (answered (exits status)) = plain_decimal status
+plain_verdict (answered already_ended) = refl
+plain_verdict recorded = refl
+plain_verdict bad = refl
+
+-- ---- the words of a reason
+
+plain_position : (p : Position) → IsPlain (position_words p)
+plain_position p = simp (list_all-append is_plain, plain_decimal)
+
+plain_end : (side : Side) (range : Option Range) → IsPlain (end_words side range)
+plain_end side None = refl
+plain_end Start (Some range) = plain_position range.start
+plain_end Stop (Some range) = plain_position range.stop
+
+plain_version : (p : Option ChangeData) → IsPlain (version_words p)
+plain_version None = refl
+plain_version (Some p) = plain_signed p.version
+
+plain_edit : (p : Option ChangeData) (fault : EditFault) → IsPlain (edit_reason p fault)
+plain_edit p (InsideCharacter change side) =
+    simp (list_all-append is_plain, plain_decimal (one_more change), plain_end side (range_sent p change))
+plain_edit p (ReversedRange change) =
+    simp (
+      list_all-append is_plain,
+      plain_decimal (one_more change),
+      plain_end Start (range_sent p change),
+      plain_end Stop (range_sent p change),
+    )
+plain_edit p NoMemoryToEdit = refl
+
+plain_store : (limits : LimitsData) (p : Option ChangeData) (fault : StoreFault) → IsPlain (store_reason limits p fault)
+plain_store limits p AlreadyOpen = refl
+plain_store limits p TooManyDocuments = plain_decimal limits.max_docs
+plain_store limits p TextTooLong = plain_decimal limits.max_text
+plain_store limits p NotOpen = refl
+plain_store limits p (StaleVersion current) =
+    simp (list_all-append is_plain, plain_version p, plain_signed current)
+plain_store limits p TooManyChanges = simp (list_all-append is_plain, plain_decimal limits.max_changes)
+plain_store limits p (Edit fault) = plain_edit p fault
+plain_store limits p (BodyTooLong len) = refl
+plain_store limits p NoMemory = refl
+
+plain_error : (code : Option ErrorCode) → IsPlain (error_reason code)
+plain_error None = refl
+plain_error (Some ParseError) = refl
+plain_error (Some InvalidRequest) = refl
+plain_error (Some MethodNotFound) = refl
+plain_error (Some InvalidParams) = refl
+plain_error (Some ServerNotInitialized) = refl
+
+pub plain_reason : (limits : LimitsData) (p : Option ChangeData) (answer : AnswerData Sent)
+    → IsPlain (reason_words limits p answer)
+plain_reason limits p (reply m) = plain_error m.code
+plain_reason limits p changed = refl
+plain_reason limits p dropped = refl
+plain_reason limits p ignored = refl
+plain_reason limits p (refused BadParams) = refl
+plain_reason limits p (refused (Store fault)) = plain_store limits p fault
+plain_reason limits p (exits status) = refl
+plain_reason limits p already_ended = refl
+
+-- ---- the words of a note
+
+plain_change : (index : ℕ) → IsPlain (change_words index)
+plain_change index = plain_decimal (one_more index)
+
+plain_from : (side : Side) → IsPlain (side_words side)
+plain_from Start = refl
+plain_from Stop = refl
+
+either_plain : (b : Bool) (x y : List ℕ) → IsPlain x → IsPlain y → IsPlain (if b then x else y)
+either_plain true x y h k = h
+either_plain false x y h k = k
+
+plain_past : (sent taken : Position) → IsPlain (past_words sent taken)
+plain_past sent taken = either_plain (sent.line == taken.line) _ _ refl refl
+
+pub plain_note : (note : Note) → IsPlain (note_words note)
+plain_note OpenAlready = refl
+plain_note (OldVersion sent current) = simp (list_all-append is_plain, plain_signed)
+plain_note NoChanges = refl
+plain_note (WholeText index) =
+    plain-append (change_words index) (codes " is the whole text, and the server asked for ranges")
+    (plain_change index) refl
+plain_note (PastEnd index side sent taken) =
+    plain-append
+    (change_words index ++ side_words side ++ position_words sent ++ past_words sent taken ++ position_words taken)
+    (codes ")")
+    (plain-append (change_words index ++ side_words side ++ position_words sent ++ past_words sent taken)
+    (position_words taken)
+    (plain-append (change_words index ++ side_words side ++ position_words sent) (past_words sent taken)
+    (plain-append (change_words index ++ side_words side) (position_words sent)
+    (plain-append (change_words index) (side_words side) (plain_change index) (plain_from side))
+    (plain_position sent)) (plain_past sent taken)) (plain_position taken)) refl
+plain_note (WrongLength index sent replaced) = simp (list_all-append is_plain, plain_decimal)
+plain_note (SameText index) = plain-append (change_words index) (codes " changes nothing") (plain_change index) refl

@@ -1,0 +1,351 @@
+-- Values and members of an object, as they are written one after another.
+use Rattle.std.proofs.Common.{◌≡◌, ◌⊎◌, inl, inr, ℕ, ℤ, ◌^◌, ◌<◌, ◌≤◌, FitsSigned, Bool, true, false, ◌||◌, ◌==◌, List, [], ◌∷◌, ◌++◌, Option, Some, None, option_and_then, refl, sym, ap, ap₂, ◌∙◌, subst, arith, append_assoc, append-nil, decimal}
+use Rattle.std.specs.Fmt.{signed_decimal}
+use Rattle.std.specs.Int.{w64}
+use Rattle.std.specs.Prelude.{⊤, codes, if◌then◌else◌}
+use Rattle.std.proofs.lemmas.Bool.{cases_Bool, eqb-true, or_cases}
+use Rattle.json.specs.Token.{Token}
+use Rattle.json.specs.Json as json
+use Rattle.json.specs.Json.{Json, Items, Members, document, if_last, value}
+use Rattle.json.specs.Word.{ends_word}
+use Rattle.json.specs.Lex.{Lexeme, token, comma, colon, lex, between, fresh, after_value, begins_colon, punctuate, tokens}
+use Rattle.json.specs.Print.{ends, print, quoted, ArePrintable}
+use Rattle.json.specs.Tree.{depth, members_depth, json_tokens, items_tokens, members_tokens, HasNumbers}
+use Rattle.json.proofs.Nesting.{value-depth}
+use Rattle.json.proofs.Numbered.{ArePrintableOrBad-tokens, value-HasNumbers}
+use Rattle.json.proofs.Printed.Decimals.{IsNumber-decimal, IsNumber-signed_decimal}
+use Rattle.json.proofs.Printed.Trees.{ArePrintable-json_tokens, value-json_tokens}
+use Rattle.json.proofs.Unique.Spelling.{value-json_tokens_back}
+use Rattle.serde_json.specs.Data.{Data, number, unsigned, negative, string}
+use Rattle.serde_json.specs.Read.{max_depth, of_json, read}
+use Rattle.serde_json.specs.Written.{compact_text, outline}
+use Rattle.serde_json.proofs.Texts.{print-outline}
+use Rattle.lsp_replay.specs.laws.JsonLines.{IsJsonLine, member_if, members_with}
+use Rattle.lsp_replay.specs.Trace.{last_members, member, one_line}
+use Rattle.lsp_replay.proofs.JsonLines.PrintedLemmas.{ended, lex-printed, lex-quoted, place, punctuate-printed}
+use Rattle.lsp_replay.proofs.JsonLines.StringLemmas.{are_visible, stays_text, then_some, without}
+use Rattle.lsp_replay.proofs.JsonLines.PlainLemmas.{IsPlain, one_visible, quoted_plain, visible-append, visible_compact, visible_quoted}
+use Rattle.lsp_replay.proofs.JsonLines.WithinLemmas.{kept, punctuate-then, same_lexemes}
+
+-- ---- the last token of a value
+
+ended-append : (b : Bool) (ts us : List Token) → ended b (ts ++ us) ≡ ended (ended b ts) us
+ended-append b [] us = refl
+ended-append b (t ∷ ts) us = ended-append (ends t) ts us
+
+mutual
+  ended-json : (b : Bool) (j : Json) → ended b (json_tokens j) ≡ true
+  ended-json b json.null = refl
+  ended-json b (json.boolean v) = refl
+  ended-json b (json.number s) = refl
+  ended-json b (json.string s) = refl
+  ended-json b (json.array js) = ended-items false js
+  ended-json b (json.object ms) = ended-members false ms
+
+  ended-items : (b : Bool) (js : Items) → ended b (items_tokens js) ≡ true
+  ended-items b json.no_items = refl
+  ended-items b (json.item j js) =
+      ended-append b (json_tokens j) (items_tokens js) ∙ ended-items (ended b (json_tokens j)) js
+
+  ended-members : (b : Bool) (ms : Members) → ended b (members_tokens ms) ≡ true
+  ended-members b json.no_members = refl
+  ended-members b (json.member k j ms) =
+      ended-append false (json_tokens j) (members_tokens ms) ∙ ended-members (ended false (json_tokens j)) ms
+
+-- ---- a value
+
+-- bytes that are a value, before more text
+abbrev pub IsText : List ℕ → Json → Type 0
+IsText bytes j = (r : List ℕ) → ends_word r ≡ true → begins_colon (lex between r) ≡ false
+    → punctuate fresh (lex between (bytes ++ r)) ≡ json_tokens j ++ punctuate after_value (lex between r)
+
+-- a value that was printed
+pub printed_text : (j : Json) → HasNumbers j → IsText (print (json_tokens j)) j
+printed_text j h r e c =
+    let printable = ArePrintable-json_tokens j h in
+    ap (punctuate fresh) (lex-printed false (json_tokens j) r printable (λ z. e))
+    ∙ punctuate-printed false (json_tokens j) (lex between r) printable c
+    ∙ ap (λ b. json_tokens j ++ punctuate (place b) (lex between r)) (ended-json false j)
+
+-- bytes that are a value by themselves
+pub record IsJson (text : List ℕ) (j : Json) : Type 0 where
+  pub document : document text ≡ Some j
+  pub tokens : tokens text ≡ json_tokens j
+  pub numbers : HasNumbers j
+  pub shallow : depth j ≤ max_depth
+
+last_is : (j k : Json) (ts : List Token) → if_last j ts ≡ Some k → (ts ≡ []) × (j ≡ k)
+last_is j k [] e = (refl, let same : Some j ≡ Some k = e in let is : j ≡ k = cc in is)
+last_is j k (t ∷ ts) e = absurd (let no : None ≡ Some k = e in cc)
+
+document_by : (text : List ℕ) (j : Json) → tokens text ≡ json_tokens j → depth j ≤ json.max_depth
+    → document text ≡ Some j
+document_by text j e shallow =
+    ap (option_and_then (λ p. if_last p.0 p.1)) (ap (value json.max_depth) (e ∙ sym (append-nil (json_tokens j)))
+    ∙ value-json_tokens j json.max_depth [] shallow)
+
+-- what `serde_json` reads is JSON
+pub read_is : (text : List ℕ) (d : Data) → read text ≡ Some d → (j : Json) × IsJson text j
+read_is text d e =
+    let found = then_some of_json (option_and_then (λ p. if_last p.0 p.1) (value max_depth (tokens text))) d e in
+    let j : Json = found.0 in
+    let parsed = then_some (λ p. if_last p.0 p.1) (value max_depth (tokens text)) j found.1 in
+    let last = last_is parsed.0.0 j parsed.0.1 parsed.2 in
+    let is : value max_depth (tokens text) ≡ Some (j, []) =
+    parsed.1 ∙ ap₂ (λ (k : Json) (ts : List Token). Some (k, ts)) last.1 last.0 in
+    let same : tokens text ≡ json_tokens j =
+    value-json_tokens_back max_depth (tokens text) [] j is ∙ append-nil (json_tokens j) in
+    let shallow : depth j ≤ max_depth = value-depth max_depth (tokens text) [] j is in (
+      j,
+      record {
+        document = document_by text j same (omega arith);
+        tokens = same;
+        numbers = value-HasNumbers max_depth (tokens text) [] j (ArePrintableOrBad-tokens text) is;
+        shallow = shallow;
+      },
+    )
+
+without_text : (drops : ℕ → Bool) → ((x : ℕ) → drops x ≡ true → (x ≡ 10) ⊎ (x ≡ 13)) → (text : List ℕ) (j : Json)
+    → IsJson text j → IsText (without drops text) j
+without_text drops breaks text j is r e c =
+    let alone : ArePrintable (punctuate fresh (lex between text)) =
+    subst ArePrintable (sym is.tokens) (ArePrintable-json_tokens j is.numbers) in
+    ap (punctuate fresh) (same_lexemes drops breaks r e text fresh alone)
+    ∙ punctuate-then (lex between r) c (lex between text) fresh alone
+    ∙ ap (λ ts. ts ++ punctuate (place (ended false ts)) (lex between r)) is.tokens
+    ∙ ap (λ b. json_tokens j ++ punctuate (place b) (lex between r)) (ended-json false j)
+
+abbrev never : ℕ → Bool
+never x = false
+
+never_without : (text : List ℕ) → without never text ≡ text
+never_without [] = refl
+never_without (x ∷ xs) = ap (λ m. x ∷ m) (never_without xs)
+
+-- JSON within JSON
+pub within_text : (text : List ℕ) (j : Json) → IsJson text j → IsText text j
+within_text text j is =
+    subst (λ bytes. IsText bytes j) (never_without text)
+    (without_text never (λ x e. absurd (let no : false ≡ true = e in cc)) text j is)
+
+abbrev is_break : ℕ → Bool
+is_break x = (x == 10) || (x == 13)
+
+is_break_of : (x : ℕ) → is_break x ≡ true → (x ≡ 10) ⊎ (x ≡ 13)
+is_break_of x e = by (or_cases (x == 10) (x == 13) e)
+  where
+    by : ((x == 10) ≡ true) ⊎ ((x == 13) ≡ true) → (x ≡ 10) ⊎ (x ≡ 13)
+    by (inl is) = inl (eqb-true x 10 is)
+    by (inr is) = inr (eqb-true x 13 is)
+
+one_line_is : (text : List ℕ) → without is_break text ≡ one_line text
+one_line_is [] = refl
+one_line_is (x ∷ xs) = ap (λ m. if is_break x then m else x ∷ m) (one_line_is xs)
+
+gone : (x : ℕ) (xs : List ℕ) → is_break x ≡ true → one_line (x ∷ xs) ≡ one_line xs
+gone x xs e = ap (λ b. if b then one_line xs else x ∷ one_line xs) e
+
+stays : (x : ℕ) (xs : List ℕ) → is_break x ≡ false → one_line (x ∷ xs) ≡ x ∷ one_line xs
+stays x xs e = ap (λ b. if b then one_line xs else x ∷ one_line xs) e
+
+one_line_twice : (xs : List ℕ) → one_line (one_line xs) ≡ one_line xs
+one_line_twice [] = refl
+one_line_twice (x ∷ xs) = by (cases_Bool (is_break x)) (one_line_twice xs)
+  where
+    by : (is_break x ≡ true) ⊎ (is_break x ≡ false) → one_line (one_line xs) ≡ one_line xs
+        → one_line (one_line (x ∷ xs)) ≡ one_line (x ∷ xs)
+    by (inl e) again = ap one_line (gone x xs e) ∙ again ∙ sym (gone x xs e)
+    by (inr e) again = ap one_line (stays x xs e) ∙ stays x (one_line xs) e ∙ ap (λ l. x ∷ l) again ∙ sym (stays x xs e)
+
+either_break : (b : Bool) (x : ℕ) (xs ys zs : List ℕ) → xs ≡ ys ++ zs
+    → (if b then xs else x ∷ xs) ≡ (if b then ys else x ∷ ys) ++ zs
+either_break true x xs ys zs e = e
+either_break false x xs ys zs e = ap (λ l. x ∷ l) e
+
+one_line-append : (xs ys : List ℕ) → one_line (xs ++ ys) ≡ one_line xs ++ one_line ys
+one_line-append [] ys = refl
+one_line-append (x ∷ xs) ys =
+    either_break (is_break x) x (one_line (xs ++ ys)) (one_line xs) (one_line ys) (one_line-append xs ys)
+
+-- a text without line breaks is on one line
+pub unbroken : (s : List ℕ) → are_visible s ≡ true → one_line s ≡ s
+unbroken s h =
+    sym (one_line_is s) ∙ ap (without is_break) (sym (append-nil s))
+    ∙ stays_text is_break (kept is_break is_break_of) s [] h ∙ append-nil s
+
+-- the same on one line
+one_line_text : (text : List ℕ) (j : Json) → IsJson text j → IsText (one_line text) j
+one_line_text text j is =
+    subst (λ bytes. IsText bytes j) (one_line_is text) (without_text is_break is_break_of text j is)
+
+-- ---- a value on one line
+
+pub record IsValue (bytes : List ℕ) (j : Json) : Type 0 where
+  pub shallow : depth j ≤ max_depth
+  pub text : IsText bytes j
+  pub one : one_line bytes ≡ bytes
+
+-- what is printed
+pub a_compact : (d : Data) → HasNumbers (outline d) → depth (outline d) ≤ max_depth
+    → IsValue (compact_text d) (outline d)
+a_compact d numbers shallow = record {
+  shallow = shallow;
+  text = subst (λ bytes. IsText bytes (outline d)) (print-outline d) (printed_text (outline d) numbers);
+  one = unbroken (compact_text d) (visible_compact d);
+}
+
+pub a_string : (s : List ℕ) → IsValue (quoted s) (json.string s)
+a_string s = a_compact (string s) tt (omega arith)
+
+-- a string whose text needs no escape
+pub a_plain : (s : List ℕ) → IsPlain s → IsValue (34 ∷ (s ++ 34 ∷ [])) (json.string s)
+a_plain s h = subst (λ bytes. IsValue bytes (json.string s)) (sym (quoted_plain s h)) (a_string s)
+
+pub a_natural : (n : ℕ) → n < 2 ^ 64 → IsValue (decimal n) (json.number (decimal n))
+a_natural n h = a_compact (number (unsigned n)) (IsNumber-decimal n h) (omega arith)
+
+pub an_integer : (z : ℤ) → FitsSigned w64 z → IsValue (signed_decimal z) (json.number (signed_decimal z))
+an_integer z h = a_compact (number (negative z)) (IsNumber-signed_decimal z h.sfits) (omega arith)
+
+-- JSON without line breaks
+pub a_text : (text : List ℕ) (j : Json) → are_visible text ≡ true → IsJson text j → IsValue text j
+a_text text j h is = record { shallow = is.shallow; text = within_text text j is; one = unbroken text h }
+
+-- JSON on one line
+pub a_body : (text : List ℕ) (j : Json) → IsJson text j → IsValue (one_line text) j
+a_body text j is = record { shallow = is.shallow; text = one_line_text text j is; one = one_line_twice text }
+
+-- ---- the members of an object, with its end
+
+-- the lexemes of a name and the text before it
+abbrev name_visible : (name : List ℕ) → are_visible (quoted name ++ 58 ∷ []) ≡ true
+name_visible name = visible-append (quoted name) (58 ∷ []) (visible_quoted name) refl
+
+-- a line from a part on: its only line break is the line feed at its end
+abbrev pub EndsLine : List ℕ → Type 0
+EndsLine line = line ≡ one_line line ++ codes "\n"
+
+line_before : (front rest : List ℕ) → one_line front ≡ front → EndsLine rest → EndsLine (front ++ rest)
+line_before front rest e h =
+    ap (λ l. front ++ l) h ∙ sym (append_assoc front (one_line rest) (codes "\n"))
+    ∙ ap (λ l. (l ++ one_line rest) ++ codes "\n") (sym e) ∙ ap (λ l. l ++ codes "\n") (sym (one_line-append front rest))
+
+pub record AreMembers (bytes : List ℕ) (ms : Members) : Type 0 where
+  pub shallow : members_depth ms ≤ max_depth
+  pub line : EndsLine bytes
+  pub tokens : punctuate after_value (lex between bytes) ≡ members_tokens ms
+  pub ends : ends_word bytes ≡ true
+  pub no_colon : begins_colon (lex between bytes) ≡ false
+
+pub no_more : AreMembers (codes "}\n") json.no_members
+unfolding lex punctuate
+no_more = record { shallow = omega arith; line = refl; tokens = refl; ends = refl; no_colon = refl }
+
+lex-name : (name r : List ℕ) → lex between (quoted name ++ 58 ∷ r) ≡ token (Token.string name) ∷ colon ∷ lex between r
+unfolding lex
+lex-name name r = lex-quoted name (58 ∷ r)
+
+lex-front : (name r : List ℕ) → lex between (44 ∷ (quoted name ++ 58 ∷ r))
+    ≡ comma ∷ token (Token.string name) ∷ colon ∷ lex between r
+unfolding lex
+lex-front name r = ap (λ ls. comma ∷ ls) (lex-name name r)
+
+lex-first : (name r : List ℕ) → lex between (123 ∷ (quoted name ++ 58 ∷ r))
+    ≡ token Token.begin_object ∷ token (Token.string name) ∷ colon ∷ lex between r
+unfolding lex
+lex-first name r = ap (λ ls. token Token.begin_object ∷ ls) (lex-name name r)
+
+-- the comma and the name before a value
+abbrev pub IsFront : List ℕ → List ℕ → Type 0
+IsFront front name = front ≡ 44 ∷ (quoted name ++ 58 ∷ [])
+
+front_then : (c : ℕ) (front name rest : List ℕ) → front ≡ c ∷ (quoted name ++ 58 ∷ [])
+    → front ++ rest ≡ c ∷ (quoted name ++ 58 ∷ rest)
+front_then c front name rest is =
+    ap (λ l. l ++ rest) is ∙ ap (λ l. c ∷ l) (append_assoc (quoted name) (58 ∷ []) rest)
+
+front_visible : (c : ℕ) (front name : List ℕ) → 32 ≤ c → front ≡ c ∷ (quoted name ++ 58 ∷ [])
+    → one_line front ≡ front
+front_visible c front name l is =
+    ap one_line is ∙ unbroken (c ∷ (quoted name ++ 58 ∷ [])) (one_visible c (quoted name ++ 58 ∷ []) l
+    (name_visible name)) ∙ sym is
+
+-- bytes that are a value, if there is one
+abbrev pub IsValueIf : Option (List ℕ) → Option Json → Type 0
+IsValueIf None None = ⊤
+IsValueIf None (Some j) = ⊥
+IsValueIf (Some bytes) None = ⊥
+IsValueIf (Some bytes) (Some j) = IsValue bytes j
+
+pub a_member : (front name bytes rest : List ℕ) (j : Json) (ms : Members) → IsFront front name → IsValue bytes j
+    → AreMembers rest ms → AreMembers (front ++ (bytes ++ rest)) (json.member name j ms)
+unfolding punctuate
+a_member front name bytes rest j ms is value more =
+    let same = front_then 44 front name (bytes ++ rest) is in
+    let lexed = ap (lex between) same ∙ lex-front name (bytes ++ rest) in
+    let value_shallow = value.shallow in
+    let more_shallow = more.shallow in
+    record {
+      shallow = omega arith;
+      line = line_before front (bytes ++ rest) (front_visible 44 front name (omega arith) is)
+          (line_before bytes rest value.one more.line);
+      tokens = ap (punctuate after_value) lexed
+          ∙ ap (λ ts. Token.key name ∷ ts) (value.text rest more.ends more.no_colon
+          ∙ ap (λ ts. json_tokens j ++ ts) more.tokens);
+      ends = ap ends_word same;
+      no_colon = ap begins_colon lexed;
+    }
+
+pub a_member_if : (front name rest : List ℕ) (o : Option (List ℕ)) (v : Option Json) (ms : Members)
+    → IsFront front name → IsValueIf o v → AreMembers rest ms
+    → AreMembers (member front o ++ rest) (member_if name v ms)
+a_member_if front name rest None None ms is value more = more
+a_member_if front name rest None (Some j) ms is value more = absurd value
+a_member_if front name rest (Some bytes) None ms is value more = absurd value
+a_member_if front name rest (Some bytes) (Some j) ms is value more =
+    subst (λ l. AreMembers l (json.member name j ms)) (sym (append_assoc front bytes rest))
+    (a_member front name bytes rest j ms is value more)
+
+-- a line that is an object, from its first member on
+pub an_object : (front name bytes rest : List ℕ) (j : Json) (ms : Members)
+    → front ≡ 123 ∷ (quoted name ++ 58 ∷ []) → IsValue bytes j → AreMembers rest ms
+    → IsJsonLine (front ++ (bytes ++ rest)) (json.object (json.member name j ms))
+unfolding punctuate
+an_object front name bytes rest j ms is value more =
+    let value_shallow = value.shallow in
+    let more_shallow = more.shallow in
+    record {
+  reads = document_by (front ++ (bytes ++ rest)) (json.object (json.member name j ms))
+      (ap tokens (front_then 123 front name (bytes ++ rest) is)
+      ∙ ap (punctuate fresh) (lex-first name (bytes ++ rest))
+      ∙ ap (λ ts. Token.begin_object ∷ Token.key name ∷ ts) (value.text rest more.ends more.no_colon
+      ∙ ap (λ ts. json_tokens j ++ ts) more.tokens)) (omega arith);
+  ends = line_before front (bytes ++ rest) (front_visible 123 front name (omega arith) is)
+      (line_before bytes rest value.one more.line);
+}
+
+-- ---- members that are there or not
+
+-- the texts of some members are these values
+abbrev pub AreRead : List (List ℕ × Option (List ℕ)) → List (List ℕ × Option Json) → Type 0
+AreRead [] [] = ⊤
+AreRead [] (v ∷ vs) = ⊥
+AreRead (t ∷ ts) [] = ⊥
+AreRead (t ∷ ts) (v ∷ vs) = IsFront t.0 v.0 × IsValueIf t.1 v.1 × AreRead ts vs
+
+pub last_read : (ts : List (List ℕ × Option (List ℕ))) (vs : List (List ℕ × Option Json)) → AreRead ts vs
+    → AreMembers (last_members ts) (members_with vs)
+last_read [] [] are = no_more
+last_read [] (v ∷ vs) are = absurd are
+last_read (t ∷ ts) [] are = absurd are
+last_read (t ∷ ts) (v ∷ vs) are =
+    a_member_if t.0 v.0 (last_members ts) t.1 v.1 (members_with vs) are.0 are.1 (last_read ts vs are.2)
+
+-- a member whose value is a text between quotation marks
+pub a_quoted : (front name s rest : List ℕ) (ms : Members) → IsFront front name → IsPlain s → AreMembers rest ms
+    → AreMembers ((front ++ 34 ∷ []) ++ (s ++ (34 ∷ rest))) (json.member name (json.string s) ms)
+a_quoted front name s rest ms is plain more =
+    subst (λ l. AreMembers l (json.member name (json.string s) ms))
+    (sym (append_assoc front (34 ∷ []) (s ++ (34 ∷ rest))
+    ∙ ap (λ l. front ++ 34 ∷ l) (sym (append_assoc s (34 ∷ []) rest))))
+    (a_member front name (34 ∷ (s ++ 34 ∷ [])) rest (json.string s) ms is (a_plain s plain) more)
