@@ -6,7 +6,7 @@ ghost use Rattle.laspidru.specs.declared.object.Object.{Object as StoredObject};
 ghost use Rattle.laspidru.specs.inside.Stored.{object_if};
 
 use crate::object::Object;
-use raw_box::RawBox;
+use crate::raw_box::RawBox;
 use std::alloc::Global;
 use std::marker::{Model, Send};
 use std::mem::replace;

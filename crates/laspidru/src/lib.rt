@@ -16,8 +16,8 @@
 //!   (`lifecycle`) and its calls on documents (`editing`).
 //! - `ends`: the functions on either end; `documents`: those on its open documents, with those on
 //!   positions and lines (`positions`), text edits (`edits`) and canonical messages (`message`).
-//! - `handle`: a handle that C holds; `object`: the object in it; `end`: an end in it, with its
-//!   last frame and its `stream`; `party`: which end it is.
+//! - `handle`: a handle that C holds, over the pointer of a box (`raw_box`); `object`: the object in
+//!   it; `end`: an end in it, with its last frame and its `stream`; `party`: which end it is.
 //! - `codes`: the codes that the functions return, and `laws` their numbers; `structs`: the plain
 //!   structs that C passes and gets.
 //! - `changes`: a batch as C passes it, and the report of its fault; `bytes`: bytes that C passes
@@ -48,6 +48,7 @@ mod log_reader;
 mod object;
 mod party;
 mod positions;
+mod raw_box;
 mod reports;
 mod server;
 mod stream;

@@ -25,7 +25,7 @@ use Rattle.core.proofs.alloc.Calls.{Al, handle_tells}
 use Rattle.core.proofs.cell.Inside.{Good}
 use Rattle.std_alloc.specs.Box.Ownership.{box_owns}
 use Rattle.std_alloc.proofs.ResultValues.{and_tt}
-use Rattle.raw_box.specs.contracts.RawBox as raw_box
+use Rattle.laspidru.specs.contracts.raw_box.RawBox as raw_box
 
 -- a pointer and a handle
 abbrev pub pair : ℕ → ℕ → Val → Val

@@ -33,11 +33,11 @@ use Rattle.std_alloc.proofs.BoxSteps.Steps.{box_out, box_in}
 use Rattle.std.proofs.raw_atomic.Walks.{proved_at, leaves}
 use Rattle.std_alloc.specs.contracts.boxed.Box.from_raw as callee
 use Rattle.std_alloc.proofs.boxed.Box.from_raw.Met.{met}
-use Rattle.raw_box.proofs.Values.{Row, pair, pair_fits, opens_raw}
-use Rattle.raw_box.specs.contracts.RawBox.into_box as its
-use Rattle.raw_box.specs.contracts.RawBox.into_box.Key.{name}
-use Rattle.raw_box.proofs.RawBox.into_box.Statement.{statement}
-use Rattle.raw_box.proofs.RawBox.into_box.Code as code
+use Rattle.laspidru.proofs.RawBoxes.{Row, pair, pair_fits, opens_raw}
+use Rattle.laspidru.specs.contracts.raw_box.RawBox.into_box as its
+use Rattle.laspidru.specs.contracts.raw_box.RawBox.into_box.Key.{name}
+use Rattle.laspidru.proofs.raw_box.RawBox.into_box.Statement.{statement}
+use Rattle.laspidru.proofs.raw_box.RawBox.into_box.Code as code
 
 pub into_box_spec : {M : Type 1} → statement M
 into_box_spec 𝓤 𝓛 𝓜 𝓡 wired T A laws A-laws g d dx dd allocator glue glued =

@@ -34,11 +34,11 @@ use Rattle.std_alloc.proofs.BoxSteps.Steps.{box_out, box_in}
 use Rattle.std.proofs.raw_atomic.Walks.{proved_at, leaves}
 use Rattle.std_alloc.specs.contracts.boxed.Box.into_raw_with_allocator as callee
 use Rattle.std_alloc.proofs.boxed.Box.into_raw_with_allocator.Met.{met}
-use Rattle.raw_box.proofs.Values.{pair, pair_fits, closes_raw}
-use Rattle.raw_box.specs.contracts.RawBox.from_box as its
-use Rattle.raw_box.specs.contracts.RawBox.from_box.Key.{name}
-use Rattle.raw_box.proofs.RawBox.from_box.Statement.{statement}
-use Rattle.raw_box.proofs.RawBox.from_box.Code as code
+use Rattle.laspidru.proofs.RawBoxes.{pair, pair_fits, closes_raw}
+use Rattle.laspidru.specs.contracts.raw_box.RawBox.from_box as its
+use Rattle.laspidru.specs.contracts.raw_box.RawBox.from_box.Key.{name}
+use Rattle.laspidru.proofs.raw_box.RawBox.from_box.Statement.{statement}
+use Rattle.laspidru.proofs.raw_box.RawBox.from_box.Code as code
 
 pub from_box_spec : {M : Type 1} → statement M
 from_box_spec 𝓤 𝓛 𝓜 𝓡 wired T A laws A-laws g d dx dd allocator glue glued =
