@@ -68,10 +68,15 @@ fitting encoding edits texts document = and_then document (λ text.
     then Ok (record { encoding = encoding; edits = edits_of edits texts; text = text })
     else Err TOO_LONG)
 
+-- The encoding of edits, if it is known and each edit has its text.
+abbrev pub edits_encoding : ℕ → List Edit → List ℕ → Result Encoding ℕ
+edits_encoding number edits texts =
+    and_then (encoding_at number) (λ encoding. unless (refused_edit edits texts) (Ok encoding))
+
 -- A batch as C passes it, or the code of its refusal.
 abbrev pub batch_asked : ℕ → List Edit → List ℕ → Result (List ℕ) ℕ → Result Asked ℕ
-batch_asked number edits texts document = and_then (encoding_at number) (λ encoding.
-    unless (refused_edit edits texts) (fitting encoding edits texts document))
+batch_asked number edits texts document =
+    and_then (edits_encoding number edits texts) (λ encoding. fitting encoding edits texts document)
 
 -- The text after a batch, if that isn't too long.
 abbrev pub text_left_by : Asked → Result (List ℕ) BatchFault

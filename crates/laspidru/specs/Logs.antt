@@ -1,7 +1,6 @@
 -- A command on a log that C asks for, and the result that C gets.
 use Rattle.std.specs.Option.{ok_or}
 use Rattle.std.specs.Prelude.{ℕ, ◌≡◌, ◌≢◌, ◌||◌, not, nat_eq, if◌then◌else◌, Bool, true, false, List, [], length, option_map, string_bytes, Option, Some, None, Result, Ok, Err}
-use Rattle.lsp_frame.specs.Limits.{LimitsData}
 use Rattle.lsp_frame.specs.declared.fault.FrameFault.{FrameFault}
 use Rattle.lsp_frame.specs.declared.fault.FrameFault.TheVariants as frame
 use Rattle.lsp_stream.specs.declared.fault.EngineFault.{EngineFault}
@@ -29,24 +28,16 @@ use Rattle.laspidru.specs.declared.object.Object.{Object}
 use Rattle.laspidru.specs.declared.object.Object.TheVariants.{Output}
 use Rattle.laspidru.specs.Codes.{and_then}
 use Rattle.laspidru.specs.Objects.{encoding_at, uri_asked}
-use Rattle.laspidru.specs.Servers.{limits_asked}
+use Rattle.laspidru.specs.Servers.{bounds, limits_asked}
 
 -- ---- how a log is read
-
--- The limits in the settings of a log.
-abbrev pub log_bounds : LogSettings → LimitsData
-log_bounds settings = record {
-  max_body = settings.max_body;
-  max_text = settings.max_text;
-  max_docs = settings.max_docs;
-  max_changes = settings.max_changes;
-  lenient = settings.lenient;
-}
 
 -- The settings of a log, if the encoding is known and each limit is in its range.
 abbrev pub log_asked : LogSettings → Result Settings ℕ
 log_asked settings = and_then (encoding_at settings.encoding) (λ encoding.
-    and_then (limits_asked (log_bounds settings)) (λ limits. Ok (record {
+    let given = bounds settings.max_body settings.max_text settings.max_docs settings.max_changes
+    settings.lenient in
+    and_then (limits_asked given) (λ limits. Ok (record {
       limits = limits;
       encoding = encoding;
       squash = settings.squash;

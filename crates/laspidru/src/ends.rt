@@ -5,7 +5,7 @@ ghost use Rattle.laspidru.specs.declared.party.Party.TheVariants.{Client as Clie
 ghost use Rattle.laspidru.specs.declared.party.Party.TheVariants.{Server as ServerOf};
 ghost use Rattle.laspidru.specs.Codes.{IsAnswer, IsAnswerOrNoMemory, IsRefusedOr, OnRefused};
 ghost use Rattle.laspidru.specs.Ends.{IsHandled, IsHandledBy, IsState, agreed_encoding, as_end};
-ghost use Rattle.laspidru.specs.Ends.{as_framing, closed, deaf, frame_asked, handling_of};
+ghost use Rattle.laspidru.specs.Ends.{closed, deaf, frame_asked, handling_of};
 ghost use Rattle.laspidru.specs.Ends.{listening, party_phase, party_reason, session_over, store_in};
 ghost use Rattle.laspidru.specs.Ends.{stored_end, stored_framing};
 ghost use Rattle.laspidru.specs.Framers.{IsBodyAnswer};
@@ -14,10 +14,10 @@ ghost use Rattle.laspidru.specs.Taking.{IsTaken};
 
 use crate::answers::{Answer, State, answer_of, reply_of};
 use crate::bytes::copy_from;
-use crate::codes::{EMPTY, ENDED, OK, OTHER_KIND, OUT_OF_MEMORY, WRONG_PHASE};
+use crate::codes::{ENDED, OK, OTHER_KIND, OUT_OF_MEMORY, WRONG_PHASE};
 use crate::end::End;
 use crate::framer::copy_body;
-use crate::handle::Handle;
+use crate::handle::{Handle, with_object};
 use crate::object::Object;
 use crate::party::Party;
 use crate::reports::{
@@ -39,6 +39,21 @@ pub(crate) fn store_of(party: &Party) -> &Store
         Party::Client(client) => client.store(),
     }
 }
+
+/// Gets a code of an open document of the end in a handle, as `with_object` does; NOT_OPEN where
+/// no document of the URI is open.
+macro_rules! with_open {
+    ($handle:ident, $alloc:ident, $uri:ident, |$document:ident| $code:expr) => {
+        $crate::handle::with_object!($handle, $alloc, $crate::object::Object::End(held) => {
+            match $crate::ends::store_of(&held.party).get($uri) {
+                Some($document) => $code,
+                None => $crate::codes::NOT_OPEN,
+            }
+        })
+    };
+}
+
+pub(crate) use with_open;
 
 /// Returns the encoding of positions that was agreed on.
 fn encoding_of_session(party: &Party) -> Option<Encoding>
@@ -192,12 +207,7 @@ pub extern "C" fn laspidru_deliver(
     ensures unchanged { result ≢ OK
         → (handle.new.value ≡ handle.old.value) × (out.new ≡ out.old) }
 {
-    let Some(mut object) = handle.take(alloc) else {
-        return EMPTY;
-    };
-    let code = object_deliver(alloc, &mut object, body, out);
-    handle.put(object);
-    code
+    with_object!(handle, alloc, |object| object_deliver(alloc, &mut object, body, out))
 }
 
 /// Takes bytes of a piece, and handles the message that is whole then.
@@ -267,12 +277,9 @@ pub extern "C" fn laspidru_take(
     ensures unchanged { OnRefused (listening (stored_end handle.old.value))
         ((handle.new.value ≡ handle.old.value) × (taken.new ≡ taken.old) × (out.new ≡ out.old)) }
 {
-    let Some(mut object) = handle.take(alloc) else {
-        return EMPTY;
-    };
-    let code = object_take(alloc, &mut object, piece, taken, out);
-    handle.put(object);
-    code
+    with_object!(handle, alloc, |object| {
+        object_take(alloc, &mut object, piece, taken, out)
+    })
 }
 
 /// Copies the body that an end has buffered.
@@ -281,19 +288,6 @@ fn end_body(held: &End, start: usize, out: &mut [u8], copied: &mut usize) -> u32
     ensures unchanged { result ≢ OK → (out.new ≡ out.old) × (copied.new ≡ copied.old) }
 {
     held.stream.copy_body(start, out, copied)
-}
-
-/// Copies the body that an object's framer or end has buffered.
-fn object_body(object: &Object, start: usize, out: &mut [u8], copied: &mut usize) -> u32
-    ensures answer { IsRefusedOr (as_framing object.now) result
-        (λ framing. IsBodyAnswer framing start result out.old out.new copied.new) }
-    ensures unchanged { result ≢ OK → (out.new ≡ out.old) × (copied.new ≡ copied.old) }
-{
-    match object {
-        Object::Framer(framer) => copy_body(framer, start, out, copied),
-        Object::End(held) => end_body(held, start, out, copied),
-        _ => OTHER_KIND,
-    }
 }
 
 /// Copies the bytes of the body of the message that an end took last, or that a framer has
@@ -313,24 +307,11 @@ pub extern "C" fn laspidru_body(
     ensures handle { handle.new.value ≡ handle.old.value }
     ensures unchanged { result ≢ OK → (out.new ≡ out.old) × (copied.new ≡ copied.old) }
 {
-    let Some(object) = handle.take(alloc) else {
-        return EMPTY;
-    };
-    let code = object_body(&object, start, out, copied);
-    handle.put(object);
-    code
-}
-
-/// Copies the frame of an object's end.
-fn object_frame(object: &Object, start: usize, out: &mut [u8], copied: &mut usize) -> u32
-    ensures answer { IsAnswer (rest_asked start (frame_asked (as_end object.now))) result
-        (IsCopy out.old out.new copied.new) }
-    ensures unchanged { result ≢ OK → (out.new ≡ out.old) × (copied.new ≡ copied.old) }
-{
-    let Object::End(held) = object else {
-        return OTHER_KIND;
-    };
-    copy_from(&held.frame, start, out, copied)
+    with_object!(handle, alloc, |object| match &*object {
+        Object::Framer(framer) => copy_body(framer, start, out, copied),
+        Object::End(held) => end_body(held, start, out, copied),
+        _ => OTHER_KIND,
+    })
 }
 
 /// Copies the bytes of the frame to send from `start` on, as many as `out` has room for, and
@@ -349,12 +330,9 @@ pub extern "C" fn laspidru_frame(
     ensures handle { handle.new.value ≡ handle.old.value }
     ensures unchanged { result ≢ OK → (out.new ≡ out.old) × (copied.new ≡ copied.old) }
 {
-    let Some(object) = handle.take(alloc) else {
-        return EMPTY;
-    };
-    let code = object_frame(&object, start, out, copied);
-    handle.put(object);
-    code
+    with_object!(handle, alloc, Object::End(held) => {
+        copy_from(&held.frame, start, out, copied)
+    })
 }
 
 /// Returns the state of an end's session.
@@ -370,18 +348,6 @@ fn state_of(party: &Party) -> State
     }
 }
 
-/// Returns the state of an object's end.
-fn object_state(object: &Object, out: &mut State) -> u32
-    ensures answer { IsAnswer (as_end object.now) result (λ held. IsState out.new held.party) }
-    ensures unchanged { result ≢ OK → out.new ≡ out.old }
-{
-    let Object::End(held) = object else {
-        return OTHER_KIND;
-    };
-    *out = state_of(&held.party);
-    OK
-}
-
 /// Returns the phase of the session, the encoding that was agreed on (LSP 3.17,
 /// PositionEncodingKind), and how many documents are open. Codes, in this order: EMPTY, OTHER_KIND.
 #[unsafe(no_mangle)]
@@ -391,10 +357,8 @@ pub extern "C" fn laspidru_session_state(alloc: Global, handle: &mut Handle, out
     ensures handle { handle.new.value ≡ handle.old.value }
     ensures unchanged { result ≢ OK → out.new ≡ out.old }
 {
-    let Some(object) = handle.take(alloc) else {
-        return EMPTY;
-    };
-    let code = object_state(&object, out);
-    handle.put(object);
-    code
+    with_object!(handle, alloc, Object::End(held) => {
+        *out = state_of(&held.party);
+        OK
+    })
 }

@@ -57,6 +57,7 @@ mod taken;
 mod texts;
 
 pub use answers::{Answer, Opened, Settings, State};
+pub use client::Call;
 pub use codes::{
     ALREADY_OPEN, BAD_ENCODING, BAD_FRAME, BAD_LENGTH, BAD_LOG, BAD_MAX_BODY, BAD_MAX_CHANGES,
     BAD_MAX_DOCS, BAD_MAX_TEXT, BAD_SERVER, BODY_TOO_LONG, CHANGED, CUT, DROPPED, EMPTY, ENDED,
@@ -72,7 +73,7 @@ pub use handle::Handle;
 pub use laws::number_laws;
 pub use object::Object;
 pub use party::Party;
-pub use reports::{Call, ClientSettings};
+pub use reports::ClientSettings;
 pub use structs::{CPosition, Edit, EditsFault, FaultAt, Line, Size};
 pub use taken::Taken;
 pub use texts::VERSION;

@@ -35,14 +35,6 @@ pub struct ClientSettings {
     pub lenient: bool,
 }
 
-/// A call of the session's lifecycle.
-#[derive(Clone, Copy, Debug, PartialEq, Eq)]
-pub enum Call {
-    Start,
-    Shutdown,
-    Exit,
-}
-
 /// Returns the code of a refused call.
 pub(crate) fn call_code_of(fault: ClientFault) -> u32
     ensures { result ≡ call_code fault }
