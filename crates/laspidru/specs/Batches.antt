@@ -26,7 +26,7 @@ use Rattle.laspidru.specs.declared.structs.CPosition.{CPosition}
 use Rattle.laspidru.specs.declared.structs.Edit.{Edit}
 use Rattle.laspidru.specs.declared.structs.FaultAt.{FaultAt}
 use Rattle.laspidru.specs.Codes.{and_then, unless}
-use Rattle.laspidru.specs.Objects.{IsCopy, encoding_at, position_at, stored_batch}
+use Rattle.laspidru.specs.Objects.{IsCopy, as_batch, encoding_at, in_handle, position_at}
 
 -- The range of an edit, if it isn't one of the whole text.
 abbrev pub range_if : Bool → CPosition → CPosition → Option Range
@@ -115,7 +115,7 @@ pub record IsBatchOf (asked : Asked) (changes : List Change) : Type 0 where
 -- The handle has the canonical batch if there is a text after the batch, or the fault is reported.
 abbrev pub IsCanonicalIf : Result (List ℕ) BatchFault → Asked → ℕ → Option Object → FaultAt → Type 0
 IsCanonicalIf (Ok text) asked code stored out =
-    (code ≡ OK) × IsOkAnd (stored_batch stored) (IsBatchOf asked)
+    (code ≡ OK) × IsOkAnd (in_handle as_batch stored) (IsBatchOf asked)
 IsCanonicalIf (Err fault) asked code stored out = IsReport fault code out
 
 -- A change of a batch, by its number.

@@ -1,5 +1,5 @@
 -- A client that C asks for, the calls on it, and what C gets of them.
-use Rattle.std.specs.Prelude.{ℕ, ℤ, ◌≡◌, ◌⊎◌, false, List, [], length, Option, Some, None, Result, Ok, Err}
+use Rattle.std.specs.Prelude.{ℕ, ℤ, ◌≡◌, ◌⊎◌, false, List, [], length, Option, Some, Result, Ok, Err}
 use Rattle.lsp_frame.specs.Frame.{frame}
 use Rattle.lsp_edit.specs.declared.fault.EditFault.TheVariants as edit
 use Rattle.lsp_message.specs.Outgoing.{body_of}
@@ -14,7 +14,7 @@ use Rattle.lsp_client.specs.declared.phase.Reason.TheVariants.{NotAnAnswer, Erro
 use Rattle.lsp_client.specs.Step.{Call, ClientData, call_result, opens, edits, Order, Sending, DeliveredData, sends, noted, ignored, bad_server, new_client}
 use Rattle.laspidru.specs.declared.answers.Answer.{Answer}
 use Rattle.laspidru.specs.declared.reports.ClientSettings.{ClientSettings}
-use Rattle.laspidru.specs.declared.codes.TheConstants.{BAD_ENCODING, BAD_SERVER, EMPTY, ERROR_ANSWER, IGNORED, NO_SYNC, NOT_AN_ANSWER, NOTED, OK, OTHER_KIND, OUT_OF_MEMORY, REPLIED, WRONG_PHASE}
+use Rattle.laspidru.specs.declared.codes.TheConstants.{BAD_ENCODING, BAD_SERVER, ERROR_ANSWER, IGNORED, NO_SYNC, NOT_AN_ANSWER, NOTED, OK, OTHER_KIND, OUT_OF_MEMORY, REPLIED, WRONG_PHASE}
 use Rattle.laspidru.specs.declared.object.Object.{Object}
 use Rattle.laspidru.specs.declared.object.Object.TheVariants.{End}
 use Rattle.laspidru.specs.declared.party.Party.{Party}
@@ -55,11 +55,6 @@ client_in (Server server) stream = Err OTHER_KIND
 abbrev pub as_client : Object → Result ClientEnd ℕ
 as_client (End held) = client_in held.party held.stream
 as_client other = Err OTHER_KIND
-
--- The client in a handle.
-abbrev pub stored_client : Option Object → Result ClientEnd ℕ
-stored_client (Some object) = as_client object
-stored_client None = Err EMPTY
 
 -- ---- calls
 

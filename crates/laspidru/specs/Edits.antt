@@ -24,7 +24,7 @@ use Rattle.laspidru.specs.declared.structs.Edit.{Edit}
 use Rattle.laspidru.specs.declared.structs.EditsFault.{EditsFault}
 use Rattle.laspidru.specs.Batches.{edits_encoding, is_end, len_of}
 use Rattle.laspidru.specs.Codes.{and_then}
-use Rattle.laspidru.specs.Objects.{position_at, stored_batch}
+use Rattle.laspidru.specs.Objects.{as_batch, in_handle, position_at}
 
 -- The bytes that take a range's place.
 pub record Replacement : Type 0 where
@@ -104,7 +104,8 @@ pub record IsBatchOfAsked (asked : EditsAsked) (changes : List Change) : Type 0 
 -- The handle holds the batch, or the edits are faulty.
 abbrev pub AreBatched : EditsAsked → ℕ → Option Object → EditsFault → Type 0
 AreBatched asked code stored out =
-    ((code ≡ OK) × IsOkAnd (stored_batch stored) (IsBatchOfAsked asked)) ⊎ AreFaulty asked code out
+    ((code ≡ OK) × IsOkAnd (in_handle as_batch stored) (IsBatchOfAsked asked))
+    ⊎ AreFaulty asked code out
 
 -- What changes leave of a text, if that isn't too long.
 abbrev pub text_left : Encoding → List ℕ → List Change → Result (List ℕ) BatchFault

@@ -17,7 +17,7 @@ use Rattle.lsp_replay.specs.Parts.{part_engine}
 use Rattle.lsp_replay.specs.Run.{Engine, IsEngineRun, WritesLog, check_engine, convert_engine, normalise_engine, replay_engine}
 use Rattle.lsp_replay.specs.Trace.{trace_engine}
 use Rattle.lsp_replay.specs.laws.Written.{IsConverted, IsCanonicalLog, IsSquashed}
-use Rattle.laspidru.specs.declared.codes.TheConstants.{BAD_FRAME, BAD_LOG, BODY_TOO_LONG, CUT, EMPTY, NOT_OPEN, OK, OTHER_KIND, OUT_OF_MEMORY, OUT_OF_RANGE, TOO_MANY_TURNS}
+use Rattle.laspidru.specs.declared.codes.TheConstants.{BAD_FRAME, BAD_LOG, BODY_TOO_LONG, CUT, NOT_OPEN, OK, OTHER_KIND, OUT_OF_MEMORY, OUT_OF_RANGE, TOO_MANY_TURNS}
 use Rattle.laspidru.specs.declared.command.Command.{Command}
 use Rattle.laspidru.specs.declared.command.Command.TheVariants as command
 use Rattle.laspidru.specs.declared.command.CommandName.{CommandName}
@@ -27,7 +27,7 @@ use Rattle.laspidru.specs.declared.endings.LogSettings.{LogSettings}
 use Rattle.laspidru.specs.declared.object.Object.{Object}
 use Rattle.laspidru.specs.declared.object.Object.TheVariants.{Output}
 use Rattle.laspidru.specs.Codes.{and_then}
-use Rattle.laspidru.specs.Objects.{encoding_at, uri_asked}
+use Rattle.laspidru.specs.Objects.{encoding_at, in_handle, uri_asked}
 use Rattle.laspidru.specs.Servers.{bounds, limits_asked}
 
 -- ---- how a log is read
@@ -219,15 +219,10 @@ abbrev pub as_output : Object → Result (List ℕ) ℕ
 as_output (Output bytes) = Ok bytes.items
 as_output other = Err OTHER_KIND
 
--- The output in a handle.
-abbrev pub stored_output : Option Object → Result (List ℕ) ℕ
-stored_output (Some object) = as_output object
-stored_output None = Err EMPTY
-
 -- The handle has the output, and C gets the code and the ending; or only the code.
 abbrev pub IsKept : Result (ℕ × Ending) ℕ → List ℕ → ℕ → Option Object → Ending → Type 0
-IsKept (Ok ended) output code stored out = (code ≡ ended.0) × (stored_output stored ≡ Ok output)
-    × (out ≡ ended.1)
+IsKept (Ok ended) output code stored out = (code ≡ ended.0)
+    × (in_handle as_output stored ≡ Ok output) × (out ≡ ended.1)
 IsKept (Err fault) output code stored out = code ≡ fault
 
 -- The same by the result of the command.

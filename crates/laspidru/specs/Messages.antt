@@ -17,8 +17,8 @@ use Rattle.laspidru.specs.Codes.{and_then}
 use Rattle.laspidru.specs.Edits.{EditsAsked, edits_asked}
 use Rattle.laspidru.specs.Ends.{entry_in, entry_text, store_in}
 use Rattle.laspidru.specs.HeldEnds.{EndData}
-use Rattle.laspidru.specs.Logs.{stored_output}
-use Rattle.laspidru.specs.Objects.{uri_asked}
+use Rattle.laspidru.specs.Logs.{as_output}
+use Rattle.laspidru.specs.Objects.{in_handle, uri_asked}
 use Rattle.laspidru.specs.Servers.{store_code}
 
 -- Text edits as C passes them, on the open document of a URI.
@@ -62,7 +62,7 @@ canonical_message_of asked =
 -- The handle has the frame, or its refusal is reported.
 abbrev pub IsMessageLeft : Result (List ℕ) Refusal → ℕ → Option Object → ℕ → FaultAt → Type 0
 IsMessageLeft (Ok frame) code stored len out =
-    (code ≡ OK) × (stored_output stored ≡ Ok frame) × (len ≡ length frame)
+    (code ≡ OK) × (in_handle as_output stored ≡ Ok frame) × (len ≡ length frame)
 IsMessageLeft (Err refusal) code stored len out =
     (code ≡ store_code (documents.refusal_fault refusal))
     × IsStoreReport (documents.refusal_fault refusal) out

@@ -7,7 +7,11 @@ ghost use Rattle.laspidru.specs.Servers.{limit_code, limits_asked, plain_out, re
 ghost use Rattle.laspidru.specs.Servers.{reply_out, store_code};
 
 use crate::changes::encoding_of;
-use crate::codes::{ALREADY_OPEN, BAD_MAX_BODY, BAD_MAX_CHANGES, BAD_MAX_DOCS, BAD_MAX_TEXT, CHANGED, DROPPED, EXITED, IGNORED, INSIDE_CHARACTER, INVALID_PARAMS, NOT_OPEN, OUT_OF_MEMORY, REFUSED, REPLIED, REVERSED_RANGE, STALE_VERSION, TOO_LONG, TOO_MANY_CHANGES, TOO_MANY_DOCUMENTS};
+use crate::codes::{
+    ALREADY_OPEN, BAD_MAX_BODY, BAD_MAX_CHANGES, BAD_MAX_DOCS, BAD_MAX_TEXT, CHANGED, DROPPED,
+    EXITED, IGNORED, INSIDE_CHARACTER, INVALID_PARAMS, NOT_OPEN, OUT_OF_MEMORY, REFUSED, REPLIED,
+    REVERSED_RANGE, STALE_VERSION, TOO_LONG, TOO_MANY_CHANGES, TOO_MANY_DOCUMENTS,
+};
 use lsp_edit::EditFault;
 use lsp_frame::Limits;
 use lsp_message::ErrorCode;

@@ -1,16 +1,16 @@
 //! The functions on canonical batches.
 
 ghost use Rattle.std.specs.Prelude.{◌≡◌, ◌≢◌, None, Ok, length};
-ghost use Rattle.laspidru.specs.Batches.{IsCanonicalIf, IsEdit, IsEditOf};
-ghost use Rattle.laspidru.specs.Batches.{batch_asked, change_asked, fitting, refused_edit};
-ghost use Rattle.laspidru.specs.Batches.{text_left_by};
+ghost use Rattle.laspidru.specs.Batches.{IsCanonicalIf, IsEdit, IsEditOf, batch_asked};
+ghost use Rattle.laspidru.specs.Batches.{change_asked, fitting, refused_edit, text_left_by};
 ghost use Rattle.laspidru.specs.Codes.{IsAnswer, IsAnswerOrNoMemory, unless};
-ghost use Rattle.laspidru.specs.Objects.{in_use, stored_batch};
-ghost use Rattle.laspidru.specs.Objects.{stored_document};
+ghost use Rattle.laspidru.specs.Objects.{as_batch, as_document, in_handle, in_use};
 
 use crate::bytes::copy_bytes;
-use crate::changes::{changes_of, fits, report, edits_encoding_of};
-use crate::codes::{IN_USE, INSIDE_CHARACTER, OK, OUT_OF_MEMORY, OUT_OF_RANGE, REVERSED_RANGE, TOO_LONG, or_return};
+use crate::changes::{changes_of, edits_encoding_of, fits, report};
+use crate::codes::{
+    IN_USE, INSIDE_CHARACTER, OK, OUT_OF_MEMORY, OUT_OF_RANGE, REVERSED_RANGE, TOO_LONG, or_return,
+};
 use crate::handle::{Handle, with_object};
 use crate::object::Object;
 use crate::structs::{CPosition, Edit, FaultAt};
@@ -63,7 +63,7 @@ pub extern "C" fn laspidru_document_canonical(
     fault: &mut FaultAt,
 ) -> u32
     ensures answer { let text =
-        unless (in_use batch.old.value) (stored_document handle.old.value) in
+        unless (in_use batch.old.value) (in_handle as_document handle.old.value) in
         IsAnswerOrNoMemory (batch_asked encoding edits.now texts.now text) result
         (λ asked. IsCanonicalIf (text_left_by asked) asked result batch.new.value fault.new) }
     ensures handle { handle.new.value ≡ handle.old.value }
@@ -82,7 +82,7 @@ pub extern "C" fn laspidru_document_canonical(
 /// Returns how many changes a batch has, in constant time. Codes: EMPTY, OTHER_KIND.
 #[unsafe(no_mangle)]
 pub extern "C" fn laspidru_batch_len(alloc: Global, batch: &mut Handle, out: &mut usize) -> u32
-    ensures answer { IsAnswer (stored_batch batch.old.value) result
+    ensures answer { IsAnswer (in_handle as_batch batch.old.value) result
         (λ changes. out.new ≡ length changes) }
     ensures handle { batch.new.value ≡ batch.old.value }
     ensures unchanged { result ≢ OK → out.new ≡ out.old }
@@ -125,7 +125,7 @@ pub extern "C" fn laspidru_batch_edit(
     out: &mut [u8],
     copied: &mut usize,
 ) -> u32
-    ensures answer { IsAnswer (change_asked index (stored_batch batch.old.value)) result
+    ensures answer { IsAnswer (change_asked index (in_handle as_batch batch.old.value)) result
         (IsEditOf out_edit.new out.old out.new copied.new) }
     ensures handle { batch.new.value ≡ batch.old.value }
     ensures unchanged { result ≢ OK

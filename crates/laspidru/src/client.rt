@@ -10,8 +10,6 @@ mod call;
 mod editing;
 mod lifecycle;
 
-pub use call::Call;
-
 use crate::answers::limits_in;
 use crate::codes::{IN_USE, OK};
 use crate::end::End;
@@ -20,6 +18,7 @@ use crate::object::Object;
 use crate::party::Party;
 use crate::reports::ClientSettings;
 use crate::stream::Stream;
+pub use call::Call;
 use lsp_client::Client;
 use lsp_message::Offers;
 use std::alloc::Global;

@@ -5,14 +5,16 @@ ghost use Rattle.laspidru.specs.declared.object.Object.TheVariants.{Document};
 ghost use Rattle.laspidru.specs.Batches.{IsTextLeft, batch_asked, fitting, refused_edit};
 ghost use Rattle.laspidru.specs.Batches.{text_left_by};
 ghost use Rattle.laspidru.specs.Codes.{IsAnswer, IsAnswerOrNoMemory, unless};
-ghost use Rattle.laspidru.specs.Objects.{IsCopy, IsSize, as_document, in_use, rest_asked};
-ghost use Rattle.laspidru.specs.Objects.{stored_document, text_asked};
+ghost use Rattle.laspidru.specs.Objects.{IsCopy, IsSize, as_document, in_handle, in_use};
+ghost use Rattle.laspidru.specs.Objects.{rest_asked, text_asked};
 
 mod positions;
 
-use crate::bytes::{copy_text, checked_text};
-use crate::changes::{changes_of, fits, report, edits_encoding_of};
-use crate::codes::{IN_USE, INSIDE_CHARACTER, OK, OTHER_KIND, OUT_OF_MEMORY, REVERSED_RANGE, TOO_LONG, or_return};
+use crate::bytes::{checked_text, copy_text};
+use crate::changes::{changes_of, edits_encoding_of, fits, report};
+use crate::codes::{
+    IN_USE, INSIDE_CHARACTER, OK, OTHER_KIND, OUT_OF_MEMORY, REVERSED_RANGE, TOO_LONG, or_return,
+};
 use crate::handle::{Handle, with_object};
 use crate::object::Object;
 use crate::structs::{Edit, FaultAt, Size};
@@ -116,7 +118,7 @@ pub extern "C" fn laspidru_document_change(
     fault: &mut FaultAt,
 ) -> u32
     ensures answer { IsAnswerOrNoMemory
-        (batch_asked encoding edits.now texts.now (stored_document handle.old.value)) result
+        (batch_asked encoding edits.now texts.now (in_handle as_document handle.old.value)) result
         (λ asked. IsTextLeft (text_left_by asked) result handle.new.value fault.new) }
     ensures unchanged { result ≢ OK → handle.new.value ≡ handle.old.value }
     ensures fault { result ≢ INSIDE_CHARACTER → result ≢ REVERSED_RANGE → fault.new ≡ fault.old }
@@ -132,7 +134,7 @@ pub extern "C" fn laspidru_document_change(
 #[tactic(auto, using(lsp_text::proofs::TextLines::IndexesLemmas::indexes_count))]
 #[unsafe(no_mangle)]
 pub extern "C" fn laspidru_document_size(alloc: Global, handle: &mut Handle, out: &mut Size) -> u32
-    ensures answer { IsAnswer (stored_document handle.old.value) result (IsSize out.new) }
+    ensures answer { IsAnswer (in_handle as_document handle.old.value) result (IsSize out.new) }
     ensures handle { handle.new.value ≡ handle.old.value }
     ensures unchanged { result ≢ OK → out.new ≡ out.old }
 {
@@ -155,7 +157,7 @@ pub extern "C" fn laspidru_document_copy(
     out: &mut [u8],
     copied: &mut usize,
 ) -> u32
-    ensures answer { IsAnswer (rest_asked start (stored_document handle.old.value)) result
+    ensures answer { IsAnswer (rest_asked start (in_handle as_document handle.old.value)) result
         (IsCopy out.old out.new copied.new) }
     ensures handle { handle.new.value ≡ handle.old.value }
     ensures unchanged { result ≢ OK → (out.new ≡ out.old) × (copied.new ≡ copied.old) }

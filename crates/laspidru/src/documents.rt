@@ -2,15 +2,15 @@
 
 ghost use Rattle.std.specs.Prelude.{◌≡◌, ◌≢◌};
 ghost use Rattle.laspidru.specs.Codes.{IsAnswer};
-ghost use Rattle.laspidru.specs.Ends.{IsOpened, entry_asked, entry_text, stored_end};
-ghost use Rattle.laspidru.specs.Objects.{IsCopy, rest_asked};
+ghost use Rattle.laspidru.specs.Ends.{IsOpened, as_end, entry_asked, entry_text};
+ghost use Rattle.laspidru.specs.Objects.{IsCopy, in_handle, rest_asked};
 
 mod edits;
 mod message;
 mod positions;
 
 use crate::answers::Opened;
-use crate::bytes::{copy_text, checked_text};
+use crate::bytes::{checked_text, copy_text};
 use crate::codes::{OK, or_return};
 use crate::ends::with_open;
 use crate::handle::Handle;
@@ -26,7 +26,7 @@ pub extern "C" fn laspidru_open_state(
     uri: &[u8],
     out: &mut Opened,
 ) -> u32
-    ensures answer { IsAnswer (entry_asked uri.now (stored_end handle.old.value)) result
+    ensures answer { IsAnswer (entry_asked uri.now (in_handle as_end handle.old.value)) result
         (IsOpened out.new) }
     ensures handle { handle.new.value ≡ handle.old.value }
     ensures unchanged { result ≢ OK → out.new ≡ out.old }
@@ -53,7 +53,7 @@ pub extern "C" fn laspidru_open_text(
     out: &mut [u8],
     copied: &mut usize,
 ) -> u32
-    ensures answer { let document = entry_asked uri.now (stored_end handle.old.value) in
+    ensures answer { let document = entry_asked uri.now (in_handle as_end handle.old.value) in
         IsAnswer (rest_asked start (entry_text document)) result
         (IsCopy out.old out.new copied.new) }
     ensures handle { handle.new.value ≡ handle.old.value }

@@ -9,11 +9,14 @@ ghost use Rattle.laspidru.specs.Edits.{AreApplied, AreBatched, AreFaulty, IsBatc
 ghost use Rattle.laspidru.specs.Edits.{IsEditsReport, IsTooMuch, IsUnlessFaulty, edits_asked};
 ghost use Rattle.laspidru.specs.Edits.{edits_on, fitting_edits, range_or, replacement_of};
 ghost use Rattle.laspidru.specs.Edits.{replacement_with, replacements_of, text_left};
-ghost use Rattle.laspidru.specs.Objects.{as_document, in_use, stored_document};
+ghost use Rattle.laspidru.specs.Objects.{as_document, in_handle, in_use};
 ghost use Rattle.laspidru.specs.inside.Subjects.{subject_text};
 
-use crate::changes::{fits, is_end, position_of, edits_encoding_of};
-use crate::codes::{IN_USE, INSIDE_CHARACTER, OK, OTHER_KIND, OUT_OF_MEMORY, OVERLAP, REVERSED_RANGE, TOO_LONG, or_return};
+use crate::changes::{edits_encoding_of, fits, is_end, position_of};
+use crate::codes::{
+    IN_USE, INSIDE_CHARACTER, OK, OTHER_KIND, OUT_OF_MEMORY, OVERLAP, REVERSED_RANGE, TOO_LONG,
+    or_return,
+};
 use crate::handle::{Handle, with_object};
 use crate::object::Object;
 use crate::structs::{CPosition, Edit, EditsFault};
@@ -58,11 +61,7 @@ fn text_edit_of(alloc: Global, edit: Edit, own: &[u8]) -> Result<TextEdit, Alloc
 }
 
 /// Returns the text edits, each with its part of the texts.
-fn text_edits_of(
-    alloc: Global,
-    edits: &[Edit],
-    texts: &[u8],
-) -> Result<Vec<TextEdit>, AllocError>
+fn text_edits_of(alloc: Global, edits: &[Edit], texts: &[u8]) -> Result<Vec<TextEdit>, AllocError>
     requires { refused_edit edits.now texts.now ≡ None }
     ensures { IfOk result (λ passed.
         map replacement_of passed.items ≡ replacements_of edits.now texts.now) }
@@ -194,7 +193,7 @@ pub extern "C" fn laspidru_document_batch_of_edits(
     fault: &mut EditsFault,
 ) -> u32
     ensures answer { let text =
-        unless (in_use batch.old.value) (stored_document handle.old.value) in
+        unless (in_use batch.old.value) (in_handle as_document handle.old.value) in
         IsAnswerOrNoMemory (edits_asked encoding edits.now texts.now text) result
         (λ asked. AreBatched asked result batch.new.value fault.new) }
     ensures handle { handle.new.value ≡ handle.old.value }
@@ -272,7 +271,7 @@ pub extern "C" fn laspidru_document_apply_edits(
     fault: &mut EditsFault,
 ) -> u32
     ensures answer { IsAnswerOrNoMemory
-        (edits_asked encoding edits.now texts.now (stored_document handle.old.value)) result
+        (edits_asked encoding edits.now texts.now (in_handle as_document handle.old.value)) result
         (λ asked. AreApplied asked result handle.new.value fault.new) }
     ensures unchanged { result ≢ OK → handle.new.value ≡ handle.old.value }
     ensures fault { IsUnlessFaulty result (fault.new ≡ fault.old) }

@@ -6,7 +6,10 @@ ghost use Rattle.laspidru.specs.Logs.{log_asked, missing_code, outcome_out};
 
 use crate::answers::limits_in;
 use crate::changes::encoding_of;
-use crate::codes::{BAD_FRAME, BAD_LOG, BODY_TOO_LONG, CUT, NOT_OPEN, OK, OUT_OF_MEMORY, OUT_OF_RANGE, TOO_MANY_TURNS};
+use crate::codes::{
+    BAD_FRAME, BAD_LOG, BODY_TOO_LONG, CUT, NOT_OPEN, OK, OUT_OF_MEMORY, OUT_OF_RANGE,
+    TOO_MANY_TURNS,
+};
 use lsp_frame::FrameFault;
 use lsp_replay::{EngineFault, Missing, Outcome, Settings};
 

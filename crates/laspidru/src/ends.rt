@@ -5,11 +5,10 @@ ghost use Rattle.laspidru.specs.declared.party.Party.TheVariants.{Client as Clie
 ghost use Rattle.laspidru.specs.declared.party.Party.TheVariants.{Server as ServerOf};
 ghost use Rattle.laspidru.specs.Codes.{IsAnswer, IsAnswerOrNoMemory, IsRefusedOr, OnRefused};
 ghost use Rattle.laspidru.specs.Ends.{IsHandled, IsHandledBy, IsState, agreed_encoding, as_end};
-ghost use Rattle.laspidru.specs.Ends.{closed, deaf, frame_asked, handling_of};
+ghost use Rattle.laspidru.specs.Ends.{as_framing, closed, deaf, frame_asked, handling_of};
 ghost use Rattle.laspidru.specs.Ends.{listening, party_phase, party_reason, session_over, store_in};
-ghost use Rattle.laspidru.specs.Ends.{stored_end, stored_framing};
 ghost use Rattle.laspidru.specs.Framers.{IsBodyAnswer};
-ghost use Rattle.laspidru.specs.Objects.{IsCopy, rest_asked};
+ghost use Rattle.laspidru.specs.Objects.{IsCopy, in_handle, rest_asked};
 ghost use Rattle.laspidru.specs.Taking.{IsTaken};
 
 use crate::answers::{Answer, State, answer_of, reply_of};
@@ -201,13 +200,15 @@ pub extern "C" fn laspidru_deliver(
     body: &[u8],
     out: &mut Answer,
 ) -> u32
-    ensures answer { IsRefusedOr (stored_end handle.old.value) result (λ held.
+    ensures answer { IsRefusedOr (in_handle as_end handle.old.value) result (λ held.
         IsAnswerOrNoMemory (handling_of held.party body.now) result
         (IsHandled held result handle.new.value out.new)) }
     ensures unchanged { result ≢ OK
         → (handle.new.value ≡ handle.old.value) × (out.new ≡ out.old) }
 {
-    with_object!(handle, alloc, |object| object_deliver(alloc, &mut object, body, out))
+    with_object!(handle, alloc, |object| {
+        object_deliver(alloc, &mut object, body, out)
+    })
 }
 
 /// Takes bytes of a piece, and handles the message that is whole then.
@@ -271,10 +272,10 @@ pub extern "C" fn laspidru_take(
     taken: &mut Taken,
     out: &mut Answer,
 ) -> u32
-    ensures answer { IsRefusedOr (listening (stored_end handle.old.value)) result (λ held.
-        IsOkAnd (stored_end handle.new.value) (λ new.
+    ensures answer { IsRefusedOr (listening (in_handle as_end handle.old.value)) result (λ held.
+        IsOkAnd (in_handle as_end handle.new.value) (λ new.
         IsTaken held piece.now result new taken.new out.old out.new)) }
-    ensures unchanged { OnRefused (listening (stored_end handle.old.value))
+    ensures unchanged { OnRefused (listening (in_handle as_end handle.old.value))
         ((handle.new.value ≡ handle.old.value) × (taken.new ≡ taken.old) × (out.new ≡ out.old)) }
 {
     with_object!(handle, alloc, |object| {
@@ -302,7 +303,7 @@ pub extern "C" fn laspidru_body(
     out: &mut [u8],
     copied: &mut usize,
 ) -> u32
-    ensures answer { IsRefusedOr (stored_framing handle.old.value) result
+    ensures answer { IsRefusedOr (in_handle as_framing handle.old.value) result
         (λ framing. IsBodyAnswer framing start result out.old out.new copied.new) }
     ensures handle { handle.new.value ≡ handle.old.value }
     ensures unchanged { result ≢ OK → (out.new ≡ out.old) × (copied.new ≡ copied.old) }
@@ -325,8 +326,8 @@ pub extern "C" fn laspidru_frame(
     out: &mut [u8],
     copied: &mut usize,
 ) -> u32
-    ensures answer { IsAnswer (rest_asked start (frame_asked (stored_end handle.old.value))) result
-        (IsCopy out.old out.new copied.new) }
+    ensures answer { let frame = frame_asked (in_handle as_end handle.old.value) in
+        IsAnswer (rest_asked start frame) result (IsCopy out.old out.new copied.new) }
     ensures handle { handle.new.value ≡ handle.old.value }
     ensures unchanged { result ≢ OK → (out.new ≡ out.old) × (copied.new ≡ copied.old) }
 {
@@ -352,7 +353,7 @@ fn state_of(party: &Party) -> State
 /// PositionEncodingKind), and how many documents are open. Codes, in this order: EMPTY, OTHER_KIND.
 #[unsafe(no_mangle)]
 pub extern "C" fn laspidru_session_state(alloc: Global, handle: &mut Handle, out: &mut State) -> u32
-    ensures answer { IsAnswer (stored_end handle.old.value) result
+    ensures answer { IsAnswer (in_handle as_end handle.old.value) result
         (λ held. IsState out.new held.party) }
     ensures handle { handle.new.value ≡ handle.old.value }
     ensures unchanged { result ≢ OK → out.new ≡ out.old }

@@ -4,8 +4,8 @@ ghost use Rattle.std.specs.Prelude.{◌≡◌, ◌≢◌, ◌↔◌, IsTrue, IsO
 ghost use Rattle.laspidru.specs.declared.object.Object.TheVariants.{Framer as FramerOf};
 ghost use Rattle.laspidru.specs.Codes.{IsAnswer, IsAnswerOrNoMemory, IsRefusedOr, unless};
 ghost use Rattle.laspidru.specs.Framers.{IsBodyAnswer, IsPieceFed, IsReleased, as_framer};
-ghost use Rattle.laspidru.specs.Framers.{framer_limits, stored_framer};
-ghost use Rattle.laspidru.specs.Objects.{in_use};
+ghost use Rattle.laspidru.specs.Framers.{framer_limits};
+ghost use Rattle.laspidru.specs.Objects.{in_handle, in_use};
 ghost use Rattle.laspidru.specs.Streams.{framing_of};
 
 use crate::answers::limits_of;
@@ -65,13 +65,15 @@ pub extern "C" fn laspidru_framer_feed(
     piece: &[u8],
     out: &mut Taken,
 ) -> u32
-    ensures answer { IsRefusedOr (stored_framer handle.old.value) result
-        (λ framing. IsOkAnd (stored_framer handle.new.value)
+    ensures answer { IsRefusedOr (in_handle as_framer handle.old.value) result
+        (λ framing. IsOkAnd (in_handle as_framer handle.new.value)
         (λ new. IsPieceFed framing piece.now result new out.new)) }
     ensures unchanged { result ≢ OK → result ≢ BAD_FRAME
         → (handle.new.value ≡ handle.old.value) × (out.new ≡ out.old) }
 {
-    with_object!(handle, alloc, |object| object_feed(&mut object, piece, out))
+    with_object!(handle, alloc, |object| {
+        object_feed(&mut object, piece, out)
+    })
 }
 
 /// Copies the body that a framer has buffered.
@@ -102,18 +104,18 @@ fn object_next(object: &mut Object) -> u32
 /// is buffered. Codes, in this order: EMPTY, OTHER_KIND. Takes no memory.
 #[unsafe(no_mangle)]
 pub extern "C" fn laspidru_framer_next(alloc: Global, handle: &mut Handle) -> u32
-    ensures answer { IsAnswer (stored_framer handle.old.value) result
-        (λ framing. IsOkAnd (stored_framer handle.new.value) (λ new. IsReleased framing new)) }
+    ensures answer { IsAnswer (in_handle as_framer handle.old.value) result
+        (λ framing. IsOkAnd (in_handle as_framer handle.new.value) (IsReleased framing)) }
     ensures unchanged { result ≢ OK → handle.new.value ≡ handle.old.value }
 {
-    with_object!(handle, alloc, |object| object_next(&mut object))
+    with_object!(handle, alloc, |object| { object_next(&mut object) })
 }
 
 /// Returns whether no byte of a message is buffered and no fault was found, so that the stream may
 /// end here. Codes, in this order: EMPTY, OTHER_KIND.
 #[unsafe(no_mangle)]
 pub extern "C" fn laspidru_framer_at_rest(alloc: Global, handle: &mut Handle, out: &mut bool) -> u32
-    ensures answer { IsAnswer (stored_framer handle.old.value) result
+    ensures answer { IsAnswer (in_handle as_framer handle.old.value) result
         (λ framing. IsTrue out.new ↔ ((framing.buffered ≡ []) × (framing.failed ≡ false))) }
     ensures handle { handle.new.value ≡ handle.old.value }
     ensures unchanged { result ≢ OK → out.new ≡ out.old }

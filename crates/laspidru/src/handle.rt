@@ -136,7 +136,8 @@ impl Handle {
     /// Puts an object into an empty handle, unless out of memory.
     pub(crate) fn fill(&mut self, alloc: Global, object: Object) -> u32
         requires { self.old.value ≡ None }
-        ensures answer { (result ≡ OUT_OF_MEMORY) ⊎ ((result ≡ OK) × (self.new.value ≡ Some object)) }
+        ensures answer { (result ≡ OUT_OF_MEMORY)
+            ⊎ ((result ≡ OK) × (self.new.value ≡ Some object)) }
         ensures unchanged { result ≢ OK → self.new.value ≡ None }
     {
         let Ok(object) = Box::new(alloc, object) else {

@@ -13,11 +13,11 @@
 //!   those on framers; `log`: those on logs; `texts`: the version, what codes mean, and the
 //!   document of a message.
 //! - `server`, `client`: the functions on one end alone, of a client with its lifecycle
-//!   (`lifecycle`) and its calls on documents (`editing`).
+//!   (`lifecycle`), its calls on documents (`editing`), and what both are over (`call`).
 //! - `ends`: the functions on either end; `documents`: those on its open documents, with those on
 //!   positions and lines (`positions`), text edits (`edits`) and canonical messages (`message`).
-//! - `handle`: a handle that C holds, over the pointer of a box (`raw_box`); `object`: the object in
-//!   it; `end`: an end in it, with its last frame and its `stream`; `party`: which end it is.
+//! - `handle`: a handle that C holds, over the pointer of a box (`raw_box`); `object`: the object
+//!   in it; `end`: an end in it, with its last frame and its `stream`; `party`: which end it is.
 //! - `codes`: the codes that the functions return, and `laws` their numbers; `structs`: the plain
 //!   structs that C passes and gets.
 //! - `changes`: a batch as C passes it, and the report of its fault; `bytes`: bytes that C passes

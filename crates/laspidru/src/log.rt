@@ -2,11 +2,11 @@
 
 ghost use Rattle.std.specs.Prelude.{◌≡◌, ◌≢◌, ◌⊎◌, None};
 ghost use Rattle.laspidru.specs.Codes.{IsAnswer, IsAnswerOrNoMemory, unless};
-ghost use Rattle.laspidru.specs.Logs.{IsCommandRun, IsEnded, IsUnlessEnded, RunAsked, run_asked};
-ghost use Rattle.laspidru.specs.Logs.{stored_output};
-ghost use Rattle.laspidru.specs.Objects.{IsCopy, in_use, rest_asked};
+ghost use Rattle.laspidru.specs.Logs.{IsCommandRun, IsEnded, IsUnlessEnded, RunAsked, as_output};
+ghost use Rattle.laspidru.specs.Logs.{run_asked};
+ghost use Rattle.laspidru.specs.Objects.{IsCopy, in_handle, in_use, rest_asked};
 
-use crate::bytes::{copy_from, checked_text};
+use crate::bytes::{checked_text, copy_from};
 use crate::codes::{IN_USE, OK, OUT_OF_MEMORY, OUT_OF_RANGE, or_return};
 use crate::command::{CommandName, CommandRun, command_named, command_of, run_command};
 use crate::endings::{Ending, LogSettings, ending_of, log_settings_of};
@@ -108,7 +108,7 @@ pub extern "C" fn laspidru_output_copy(
     out: &mut [u8],
     copied: &mut usize,
 ) -> u32
-    ensures answer { IsAnswer (rest_asked start (stored_output handle.old.value)) result
+    ensures answer { IsAnswer (rest_asked start (in_handle as_output handle.old.value)) result
         (IsCopy out.old out.new copied.new) }
     ensures handle { handle.new.value ≡ handle.old.value }
     ensures unchanged { result ≢ OK → (out.new ≡ out.old) × (copied.new ≡ copied.old) }

@@ -3,8 +3,9 @@
 ghost use Rattle.std.specs.Prelude.{◌≡◌, ◌≢◌, IfErr, IfOk, OnErr, Some, string_bytes};
 ghost use Rattle.lsp_client.specs.Seen.{IsFaultOf, IsSent};
 ghost use Rattle.lsp_client.specs.Step.{call_result, orders};
-ghost use Rattle.laspidru.specs.Clients.{IsCallOn, as_client, open_asked, stored_client};
+ghost use Rattle.laspidru.specs.Clients.{IsCallOn, as_client, open_asked};
 ghost use Rattle.laspidru.specs.inside.Calls.{call_made};
+ghost use Rattle.laspidru.specs.Objects.{in_handle};
 
 use crate::codes::{OK, OTHER_KIND};
 use crate::handle::{Handle, with_object};
@@ -106,10 +107,12 @@ fn object_call(alloc: Global, object: &mut Object, call: Call<'_>, len: &mut usi
 
 /// Makes a call by the client of a handle.
 pub(crate) fn call(alloc: Global, handle: &mut Handle, call: Call<'_>, len: &mut usize) -> u32
-    ensures answer { IsCallOn (stored_client handle.old.value) (call_made call) result
+    ensures answer { IsCallOn (in_handle as_client handle.old.value) (call_made call) result
         handle.new.value len.new }
     ensures unchanged { result ≢ OK
         → (handle.new.value ≡ handle.old.value) × (len.new ≡ len.old) }
 {
-    with_object!(handle, alloc, |object| object_call(alloc, &mut object, call, len))
+    with_object!(handle, alloc, |object| {
+        object_call(alloc, &mut object, call, len)
+    })
 }

@@ -5,9 +5,9 @@ ghost use Rattle.lsp_client.specs.Seen.{IsFaultOf, IsSent};
 ghost use Rattle.lsp_client.specs.Step.{call_result, closes, orders};
 ghost use Rattle.laspidru.specs.Batches.{refused_edit};
 ghost use Rattle.laspidru.specs.Clients.{IsCallOn, IsWritten, as_client, edit_asked, open_asked};
-ghost use Rattle.laspidru.specs.Clients.{opening_asked, stored_client};
+ghost use Rattle.laspidru.specs.Clients.{opening_asked};
 ghost use Rattle.laspidru.specs.Codes.{IsRefusedOr, both, unless};
-ghost use Rattle.laspidru.specs.Objects.{uri_asked};
+ghost use Rattle.laspidru.specs.Objects.{in_handle, uri_asked};
 
 use crate::bytes::checked_text;
 use crate::changes::{changes_of, refusal_of};
@@ -36,7 +36,7 @@ pub extern "C" fn laspidru_client_open(
     len: &mut usize,
 ) -> u32
     ensures answer { IsRefusedOr (opening_asked uri.now language.now text.now) result (λ asked.
-        IsCallOn (stored_client handle.old.value)
+        IsCallOn (in_handle as_client handle.old.value)
         (orders (open_asked asked.uri asked.language version asked.text)) result
         handle.new.value len.new) }
     ensures unchanged { result ≢ OK
@@ -133,12 +133,12 @@ pub extern "C" fn laspidru_client_edit(
     len: &mut usize,
 ) -> u32
     ensures answer { let client = unless (refused_edit edits.now texts.now)
-        (stored_client handle.old.value) in
+        (in_handle as_client handle.old.value) in
         IsRefusedOr (uri_asked uri.now) result (λ named.
         IsCallOn client (orders (edit_asked named version edits.now texts.now)) result
         handle.new.value len.new) }
     ensures report { let client = unless (refused_edit edits.now texts.now)
-        (stored_client handle.old.value) in
+        (in_handle as_client handle.old.value) in
         IsRefusedOr (both (uri_asked uri.now) client) result
         (λ asked. IsWritten (call_result asked.1.client
         (orders (edit_asked asked.0 version edits.now texts.now))) result fault.new) }
@@ -167,7 +167,7 @@ pub extern "C" fn laspidru_client_close(
     len: &mut usize,
 ) -> u32
     ensures answer { IsRefusedOr (uri_asked uri.now) result (λ named.
-        IsCallOn (stored_client handle.old.value) (orders (closes named)) result
+        IsCallOn (in_handle as_client handle.old.value) (orders (closes named)) result
         handle.new.value len.new) }
     ensures unchanged { result ≢ OK
         → (handle.new.value ≡ handle.old.value) × (len.new ≡ len.old) }

@@ -2,7 +2,8 @@
 
 ghost use Rattle.std.specs.Prelude.{◌≡◌, ◌≢◌};
 ghost use Rattle.lsp_client.specs.Step.{exits, shuts_down, starts};
-ghost use Rattle.laspidru.specs.Clients.{IsCallOn, stored_client};
+ghost use Rattle.laspidru.specs.Clients.{IsCallOn, as_client};
+ghost use Rattle.laspidru.specs.Objects.{in_handle};
 
 use crate::client::call::{Call, call};
 use crate::codes::OK;
@@ -15,8 +16,8 @@ use std::alloc::Global;
 /// [`Client::start`].
 #[unsafe(no_mangle)]
 pub extern "C" fn laspidru_client_start(alloc: Global, handle: &mut Handle, len: &mut usize) -> u32
-    ensures answer { IsCallOn (stored_client handle.old.value) starts result handle.new.value
-        len.new }
+    ensures answer { IsCallOn (in_handle as_client handle.old.value) starts result
+        handle.new.value len.new }
     ensures unchanged { result ≢ OK
         → (handle.new.value ≡ handle.old.value) × (len.new ≡ len.old) }
 {
@@ -32,8 +33,8 @@ pub extern "C" fn laspidru_client_shutdown(
     handle: &mut Handle,
     len: &mut usize,
 ) -> u32
-    ensures answer { IsCallOn (stored_client handle.old.value) shuts_down result handle.new.value
-        len.new }
+    ensures answer { IsCallOn (in_handle as_client handle.old.value) shuts_down result
+        handle.new.value len.new }
     ensures unchanged { result ≢ OK
         → (handle.new.value ≡ handle.old.value) × (len.new ≡ len.old) }
 {
@@ -44,8 +45,8 @@ pub extern "C" fn laspidru_client_shutdown(
 /// this order: EMPTY, OTHER_KIND, WRONG_PHASE; OUT_OF_MEMORY. Costs [`Client::exit`].
 #[unsafe(no_mangle)]
 pub extern "C" fn laspidru_client_exit(alloc: Global, handle: &mut Handle, len: &mut usize) -> u32
-    ensures answer { IsCallOn (stored_client handle.old.value) exits result handle.new.value
-        len.new }
+    ensures answer { IsCallOn (in_handle as_client handle.old.value) exits result
+        handle.new.value len.new }
     ensures unchanged { result ≢ OK
         → (handle.new.value ≡ handle.old.value) × (len.new ≡ len.old) }
 {

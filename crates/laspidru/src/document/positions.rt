@@ -2,8 +2,8 @@
 
 ghost use Rattle.std.specs.Prelude.{◌≡◌, ◌≢◌};
 ghost use Rattle.laspidru.specs.Codes.{IsAnswer, IsRefusedOr, both};
-ghost use Rattle.laspidru.specs.Objects.{IsLineExtent, IsPositionAt, encoding_at};
-ghost use Rattle.laspidru.specs.Objects.{line_asked, offset_asked, position_at, stored_document};
+ghost use Rattle.laspidru.specs.Objects.{IsLineExtent, IsPositionAt, as_document, encoding_at};
+ghost use Rattle.laspidru.specs.Objects.{in_handle, line_asked, offset_asked, position_at};
 
 use crate::changes::encoding_of;
 use crate::codes::{OK, or_return};
@@ -22,7 +22,7 @@ pub extern "C" fn laspidru_document_line(
     line: u32,
     out: &mut Line,
 ) -> u32
-    ensures answer { IsAnswer (line_asked line (stored_document handle.old.value)) result
+    ensures answer { IsAnswer (line_asked line (in_handle as_document handle.old.value)) result
         (IsLineExtent line out.new) }
     ensures handle { handle.new.value ≡ handle.old.value }
     ensures unchanged { result ≢ OK → out.new ≡ out.old }
@@ -44,7 +44,7 @@ pub extern "C" fn laspidru_document_offset(
     position: CPosition,
     out: &mut usize,
 ) -> u32
-    ensures answer { let document = stored_document handle.old.value in IsAnswer
+    ensures answer { let document = in_handle as_document handle.old.value in IsAnswer
         (offset_asked (position_at position) (encoding_at encoding) document) result
         (λ offset. out.new ≡ offset) }
     ensures handle { handle.new.value ≡ handle.old.value }
@@ -69,7 +69,7 @@ pub extern "C" fn laspidru_document_position(
     out: &mut CPosition,
 ) -> u32
     ensures answer { IsRefusedOr
-        (both (encoding_at encoding) (stored_document handle.old.value)) result
+        (both (encoding_at encoding) (in_handle as_document handle.old.value)) result
         (λ asked. IsPositionAt offset asked.0 asked.1 result out.new) }
     ensures handle { handle.new.value ≡ handle.old.value }
     ensures unchanged { result ≢ OK → out.new ≡ out.old }

@@ -3,12 +3,12 @@
 ghost use Rattle.std.specs.Prelude.{◌≡◌, ◌≢◌};
 ghost use Rattle.laspidru.specs.Codes.{IsAnswerOrNoMemory, unless};
 ghost use Rattle.laspidru.specs.Edits.{AreBatched, IsUnlessFaulty};
-ghost use Rattle.laspidru.specs.Ends.{stored_end};
+ghost use Rattle.laspidru.specs.Ends.{as_end};
 ghost use Rattle.laspidru.specs.Messages.{edits_named};
-ghost use Rattle.laspidru.specs.Objects.{in_use};
+ghost use Rattle.laspidru.specs.Objects.{in_handle, in_use};
 
-use crate::changes::edits_encoding_of;
 use crate::bytes::checked_text;
+use crate::changes::edits_encoding_of;
 use crate::codes::{IN_USE, OK, or_return};
 use crate::edits::{Subject, put_batch_of_edits};
 use crate::ends::with_open;
@@ -35,7 +35,7 @@ pub extern "C" fn laspidru_open_batch_of_edits(
     fault: &mut EditsFault,
 ) -> u32
     ensures answer { let held =
-        unless (in_use batch.old.value) (stored_end handle.old.value) in
+        unless (in_use batch.old.value) (in_handle as_end handle.old.value) in
         IsAnswerOrNoMemory (edits_named uri.now encoding edits.now texts.now held) result
         (λ asked. AreBatched asked result batch.new.value fault.new) }
     ensures handle { handle.new.value ≡ handle.old.value }

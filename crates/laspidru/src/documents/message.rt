@@ -3,10 +3,10 @@
 ghost use Rattle.std.specs.Prelude.{◌≡◌, ◌≢◌, ◌⊎◌, None};
 ghost use Rattle.laspidru.specs.Batches.{edits_of, refused_edit};
 ghost use Rattle.laspidru.specs.Codes.{IsAnswerOrNoMemory, unless};
-ghost use Rattle.laspidru.specs.Ends.{store_in, stored_end};
+ghost use Rattle.laspidru.specs.Ends.{as_end, store_in};
 ghost use Rattle.laspidru.specs.Messages.{IsMessageLeft, MessageAsked, canonical_message_of};
 ghost use Rattle.laspidru.specs.Messages.{message_asked};
-ghost use Rattle.laspidru.specs.Objects.{in_use};
+ghost use Rattle.laspidru.specs.Objects.{in_handle, in_use};
 
 use crate::bytes::checked_text;
 use crate::changes::{changes_of, edits_encoding_of};
@@ -37,12 +37,12 @@ fn put_message(
     requires checked { refused_edit edits.now texts.now ≡ None }
     requires empty { output.old.value ≡ None }
     ensures answer { let asked : MessageAsked = record {
-          store = store_in held.now.party;
-          uri = uri.now;
-          version = version;
-          encoding = encoding;
-          edits = edits_of edits.now texts.now;
-        } in (result ≡ OUT_OF_MEMORY)
+      store = store_in held.now.party;
+      uri = uri.now;
+      version = version;
+      encoding = encoding;
+      edits = edits_of edits.now texts.now;
+    } in (result ≡ OUT_OF_MEMORY)
         ⊎ IsMessageLeft (canonical_message_of asked) result output.new.value len.new fault.new }
     ensures unchanged { result ≢ OK → (output.new.value ≡ None) × (len.new ≡ len.old) }
     ensures fault { result ≢ INSIDE_CHARACTER → result ≢ REVERSED_RANGE → fault.new ≡ fault.old }
@@ -86,7 +86,7 @@ pub extern "C" fn laspidru_open_canonical_message(
     len: &mut usize,
 ) -> u32
     ensures answer { let held =
-        unless (in_use output.old.value) (stored_end handle.old.value) in
+        unless (in_use output.old.value) (in_handle as_end handle.old.value) in
         IsAnswerOrNoMemory (message_asked uri.now version encoding edits.now texts.now held)
         result
         (λ asked. IsMessageLeft (canonical_message_of asked) result

@@ -2,9 +2,9 @@
 
 ghost use Rattle.std.specs.Prelude.{◌≡◌, ◌≢◌};
 ghost use Rattle.laspidru.specs.Codes.{IsAnswer, IsRefusedOr, and_then, both};
-ghost use Rattle.laspidru.specs.Ends.{entry_asked, entry_in, entry_text, stored_end};
-ghost use Rattle.laspidru.specs.Objects.{IsLineExtent, IsPositionAt, encoding_at, line_asked};
-ghost use Rattle.laspidru.specs.Objects.{offset_asked, position_at, uri_asked};
+ghost use Rattle.laspidru.specs.Ends.{as_end, entry_asked, entry_in, entry_text};
+ghost use Rattle.laspidru.specs.Objects.{IsLineExtent, IsPositionAt, encoding_at, in_handle};
+ghost use Rattle.laspidru.specs.Objects.{line_asked, offset_asked, position_at, uri_asked};
 
 use crate::bytes::checked_text;
 use crate::changes::encoding_of;
@@ -28,7 +28,7 @@ pub extern "C" fn laspidru_open_offset(
     position: CPosition,
     out: &mut usize,
 ) -> u32
-    ensures answer { let held = stored_end handle.old.value in
+    ensures answer { let held = in_handle as_end handle.old.value in
         IsAnswer (and_then (uri_asked uri.now) (λ named.
         offset_asked (position_at position) (encoding_at encoding)
         (entry_text (and_then held (entry_in named))))) result
@@ -56,7 +56,7 @@ pub extern "C" fn laspidru_open_position(
     offset: usize,
     out: &mut CPosition,
 ) -> u32
-    ensures answer { let held = stored_end handle.old.value in
+    ensures answer { let held = in_handle as_end handle.old.value in
         IsRefusedOr (and_then (uri_asked uri.now) (λ named.
         both (encoding_at encoding) (entry_text (and_then held (entry_in named))))) result
         (λ asked. IsPositionAt offset asked.0 asked.1 result out.new) }
@@ -81,7 +81,7 @@ pub extern "C" fn laspidru_open_line(
     line: u32,
     out: &mut Line,
 ) -> u32
-    ensures answer { let document = entry_asked uri.now (stored_end handle.old.value) in
+    ensures answer { let document = entry_asked uri.now (in_handle as_end handle.old.value) in
         IsAnswer (line_asked line (entry_text document)) result (IsLineExtent line out.new) }
     ensures handle { handle.new.value ≡ handle.old.value }
     ensures unchanged { result ≢ OK → out.new ≡ out.old }
