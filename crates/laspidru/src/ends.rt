@@ -1,8 +1,6 @@
 //! The functions on either end of a session.
 
 ghost use Rattle.std.specs.Prelude.{◌≡◌, ◌≢◌, IsOkAnd, None, Some};
-ghost use Rattle.laspidru.specs.declared.party.Party.TheVariants.{Client as ClientOf};
-ghost use Rattle.laspidru.specs.declared.party.Party.TheVariants.{Server as ServerOf};
 ghost use Rattle.laspidru.specs.Codes.{IsAnswer, IsAnswerOrNoMemory, IsRefusedOr, OnRefused};
 ghost use Rattle.laspidru.specs.Ends.{IsHandled, IsHandledBy, IsState, agreed_encoding, as_end};
 ghost use Rattle.laspidru.specs.Ends.{as_framing, closed, deaf, frame_asked, handling_of};
@@ -23,8 +21,8 @@ use crate::reports::{
     call_code_of, delivered_answer, frame_of, number_of, phase_of, server_phase_of,
 };
 use crate::taken::Taken;
-use lsp_client::{Client, Phase as ClientPhase};
-use lsp_server::{Phase, Server, ServerFault};
+use lsp_client::Phase as ClientPhase;
+use lsp_server::{Phase, ServerFault};
 use lsp_store::Store;
 use lsp_text::Encoding;
 use std::alloc::Global;
@@ -39,8 +37,8 @@ pub(crate) fn store_of(party: &Party) -> &Store
     }
 }
 
-/// Gets a code of an open document of the end in a handle, as `with_object` does; NOT_OPEN where
-/// no document of the URI is open.
+/// Computes a code with an open document of the end in a handle, as `with_object` does. The code is
+/// NOT_OPEN if no document of the URI is open.
 macro_rules! with_open {
     ($handle:ident, $alloc:ident, $uri:ident, |$document:ident| $code:expr) => {
         $crate::handle::with_object!($handle, $alloc, $crate::object::Object::End(held) => {
@@ -107,53 +105,8 @@ fn closed_code(party: &Party) -> Option<u32>
     }
 }
 
-/// Handles a body by a server.
-fn serve(
-    alloc: Global,
-    server: &mut Server,
-    body: &[u8],
-    frame: &mut Vec<u8>,
-    out: &mut Answer,
-) -> u32
-    ensures answer { IsAnswerOrNoMemory (handling_of (ServerOf server.old) body.now) result
-        (IsHandledBy (ServerOf server.new) frame.new.items result out.new) }
-    ensures unchanged { result ≢ OK
-        → (server.new ≡ server.old) × (frame.new ≡ frame.old) × (out.new ≡ out.old) }
-{
-    let answer = match server.handle(body) {
-        Ok(answer) => answer,
-        Err(ServerFault::AlreadyEnded) => return ENDED,
-        Err(ServerFault::NoMemory) => return OUT_OF_MEMORY,
-    };
-    *out = answer_of(&answer);
-    *frame = reply_of(alloc, answer);
-    OK
-}
-
-/// Handles a body by a client.
-#[tactic(auto, using(crate::proofs::Bodies::delivered, crate::proofs::Bodies::delivery_refused))]
-fn hear(
-    alloc: Global,
-    client: &mut Client,
-    body: &[u8],
-    frame: &mut Vec<u8>,
-    out: &mut Answer,
-) -> u32
-    ensures answer { IsAnswerOrNoMemory (handling_of (ClientOf client.old) body.now) result
-        (IsHandledBy (ClientOf client.new) frame.new.items result out.new) }
-    ensures unchanged { result ≢ OK
-        → (client.new ≡ client.old) × (frame.new ≡ frame.old) × (out.new ≡ out.old) }
-{
-    let delivered = match client.deliver(body) {
-        Ok(delivered) => delivered,
-        Err(fault) => return call_code_of(fault),
-    };
-    *out = delivered_answer(&delivered);
-    *frame = frame_of(alloc, delivered);
-    OK
-}
-
 /// Handles a body by an end.
+#[tactic(auto, using(crate::proofs::Bodies::delivered, crate::proofs::Bodies::delivery_refused))]
 fn handled(
     alloc: Global,
     party: &mut Party,
@@ -167,8 +120,23 @@ fn handled(
         → (party.new ≡ party.old) × (frame.new ≡ frame.old) × (out.new ≡ out.old) }
 {
     match party {
-        Party::Server(server) => serve(alloc, server, body, frame, out),
-        Party::Client(client) => hear(alloc, client, body, frame, out),
+        Party::Server(server) => match server.handle(body) {
+            Ok(answer) => {
+                *out = answer_of(&answer);
+                *frame = reply_of(alloc, answer);
+                OK
+            }
+            Err(ServerFault::AlreadyEnded) => ENDED,
+            Err(ServerFault::NoMemory) => OUT_OF_MEMORY,
+        },
+        Party::Client(client) => match client.deliver(body) {
+            Ok(delivered) => {
+                *out = delivered_answer(&delivered);
+                *frame = frame_of(alloc, delivered);
+                OK
+            }
+            Err(fault) => call_code_of(fault),
+        },
     }
 }
 
@@ -187,12 +155,12 @@ fn object_deliver(alloc: Global, object: &mut Object, body: &[u8], out: &mut Ans
 }
 
 /// Handles the body of a message of the other end (LSP 3.17, Base Protocol). The answer is that of
-/// [`Server::handle`], or of [`Client::deliver`], and the end keeps the frame that is to be sent
+/// `Server::handle`, or of `Client::deliver`, and the end keeps the frame that is to be sent
 /// until the next message or call.
 ///
 /// Codes, in this order: EMPTY, OTHER_KIND; ENDED of a server, WRONG_PHASE of a client;
-/// OUT_OF_MEMORY, after which the body may be passed again. Costs [`Server::handle`], or
-/// [`Client::deliver`].
+/// OUT_OF_MEMORY, after which the body may be passed again. Costs `Server::handle`, or
+/// `Client::deliver`.
 #[unsafe(no_mangle)]
 pub extern "C" fn laspidru_deliver(
     alloc: Global,

@@ -108,7 +108,7 @@ pub extern "C" fn laspidru_framer_next(alloc: Global, handle: &mut Handle) -> u3
         (λ framing. IsOkAnd (in_handle as_framer handle.new.value) (IsReleased framing)) }
     ensures unchanged { result ≢ OK → handle.new.value ≡ handle.old.value }
 {
-    with_object!(handle, alloc, |object| { object_next(&mut object) })
+    with_object!(handle, alloc, |object| object_next(&mut object))
 }
 
 /// Returns whether no byte of a message is buffered and no fault was found, so that the stream may

@@ -13,8 +13,9 @@ use std::marker::{Model, Send};
 use std::mem::replace;
 use std::ptr::null_mut;
 
-/// Gets a code of the object in a handle, which stays there; EMPTY of an empty handle. The code of
-/// an object that the pattern doesn't match is OTHER_KIND.
+/// Takes the object out of a handle, computes a code with it, and puts it back. The code of an empty
+/// handle is EMPTY, and that of an object that the pattern doesn't match is OTHER_KIND. It is no
+/// closure, since a proof doesn't know what a closure that isn't called leaves of `out`.
 macro_rules! with_object {
     ($handle:ident, $alloc:ident, |$object:ident| $code:expr) => {{
         let Some(mut $object) = $handle.take($alloc) else {

@@ -1,4 +1,4 @@
-//! The calls of a client's lifecycle.
+//! The calls of a client's lifecycle: those of [`lsp_client::Client`].
 
 ghost use Rattle.std.specs.Prelude.{◌≡◌, ◌≢◌};
 ghost use Rattle.lsp_client.specs.Step.{exits, shuts_down, starts};
@@ -13,7 +13,7 @@ use std::alloc::Global;
 /// Begins the session: the frame of `initialize` is to be sent (LSP 3.17, Initialize Request). The
 /// client keeps the frame until its next accepted call or delivery, and `len` is how many bytes it
 /// has. Codes, in this order: EMPTY, OTHER_KIND, WRONG_PHASE; OUT_OF_MEMORY. Costs
-/// [`Client::start`].
+/// `Client::start`.
 #[unsafe(no_mangle)]
 pub extern "C" fn laspidru_client_start(alloc: Global, handle: &mut Handle, len: &mut usize) -> u32
     ensures answer { IsCallOn (in_handle as_client handle.old.value) starts result
@@ -26,7 +26,7 @@ pub extern "C" fn laspidru_client_start(alloc: Global, handle: &mut Handle, len:
 
 /// Asks the server to shut down: the frame of `shutdown` is to be sent (LSP 3.17, Shutdown
 /// Request). Codes, in this order: EMPTY, OTHER_KIND, WRONG_PHASE; OUT_OF_MEMORY. Costs
-/// [`Client::shutdown`].
+/// `Client::shutdown`.
 #[unsafe(no_mangle)]
 pub extern "C" fn laspidru_client_shutdown(
     alloc: Global,
@@ -42,7 +42,7 @@ pub extern "C" fn laspidru_client_shutdown(
 }
 
 /// Ends the session: the frame of `exit` is to be sent (LSP 3.17, Exit Notification). Codes, in
-/// this order: EMPTY, OTHER_KIND, WRONG_PHASE; OUT_OF_MEMORY. Costs [`Client::exit`].
+/// this order: EMPTY, OTHER_KIND, WRONG_PHASE; OUT_OF_MEMORY. Costs `Client::exit`.
 #[unsafe(no_mangle)]
 pub extern "C" fn laspidru_client_exit(alloc: Global, handle: &mut Handle, len: &mut usize) -> u32
     ensures answer { IsCallOn (in_handle as_client handle.old.value) exits result
