@@ -17,8 +17,8 @@ use denote.Triple.Entry.{alive}
 use denote.Triple.Walked.{Stays, stay_dropped, walk_of}
 use Rattle.core.proofs.alloc.Calls.{Goes-blank}
 use Rattle.std.proofs.raw_atomic.Walks.{proved_at, leaves}
-use Rattle.raw_box.specs.contracts.RawBox as raw_box
-use Rattle.raw_box.proofs.Values.{pair, pair_fits, opens_raw}
+use Rattle.laspidru.specs.contracts.raw_box.RawBox as raw_box
+use Rattle.laspidru.proofs.RawBoxes.{pair, pair_fits, opens_raw}
 use Rattle.std.proofs.alloc.Global.TheLaws as global-laws
 use Rattle.std.specs.contracts.impls.GlobalAllocator.TheImpl.{ghosts}
 use Rattle.std.specs.Prelude.{Some}
