@@ -1,7 +1,7 @@
 -- The numbers of a session fit their types: counts 64 bits, versions 32 bits. A canonical message is JSON.
 use Rattle.std.proofs.Common.{◌≡◌, ℕ, ℤ, zero, suc, ◌^◌, ◌<◌, ◌≤◌, ⊎_elim, Bool, true, false, List, [], ◌∷◌, ◌++◌, length, map, Option, Some, None, refl, sym, ap, ◌∙◌, subst, arith, take, bytes_eq, FitsSigned}
 use Rattle.std.specs.Prelude.{⊤, codes, if◌then◌else◌, nat_lt, option_and_then, option_map}
-use Rattle.std.specs.Int.{w32, w64}
+use Rattle.std.specs.Int.{w32}
 use Rattle.std.specs.Option.{option_map_or}
 use Rattle.std.specs.Str.{is_utf8}
 use Rattle.std.proofs.lemmas.Bool.{cases_Bool, ltb-false}
@@ -11,30 +11,28 @@ use Rattle.serde_json.specs.Find.{get, get_member}
 use Rattle.serde_json.specs.Read.{read}
 use Rattle.lsp_frame.specs.Limits.{LimitsData, AreInRange}
 use Rattle.lsp_text.specs.Units.{units_in}
-use Rattle.lsp_text.specs.declared.encoding.Encoding.{Encoding}
 use Rattle.lsp_edit.specs.Batch.{ContentChange}
 use Rattle.lsp_message.specs.Message as msg
 use Rattle.lsp_message.specs.Message.{IdData, MessageData, OutcomeData, Reading, id_in, json_of, message_of, reading}
-use Rattle.lsp_message.specs.Outgoing.{body_of}
 use Rattle.lsp_message.specs.Params.{ChangeData, DocumentItem, change_by, change_of, document_and_changes, document_in, open_by, open_of, version_in, content_change_in}
 use Rattle.lsp_message.specs.Values.{each_of, text_in}
 use Rattle.lsp_message.specs.Written.{value_of}
 use Rattle.lsp_message.specs.laws.Sent.{IsProperId}
 use Rattle.lsp_message.proofs.BodyLemmas.{body_is}
-use Rattle.lsp_store.specs.Message.{canonical_batch, change_body, change_message}
+use Rattle.lsp_store.specs.Message.{change_body, change_message}
 use Rattle.lsp_store.specs.Table.{Refusal, after_change, after_close, after_open, change_refusal, close_refusal, entry_at, open_refusal, unless_refused}
-use Rattle.lsp_server.specs.Answer.{AnswerData, Sent, as_sent, changed, refused}
+use Rattle.lsp_server.specs.Answer.{AnswerData, changed, refused}
 use Rattle.lsp_server.specs.declared.phase.Phase.{Phase}
 use Rattle.lsp_server.specs.declared.phase.Phase.TheVariants.{New, Running, Down, Ended}
 use Rattle.lsp_server.specs.Incoming.{IncomingData, not_json, not_a_message, response, initialize, shutdown, other_request, exit, did_open, did_change, did_close, other_notification, incoming_by, incoming_of}
-use Rattle.lsp_server.specs.Step.{ServerData, content_change_from_data, result_step, session_encoding, step_in, step_on}
+use Rattle.lsp_server.specs.Step.{ServerData, content_change_from_data, result_step, session_encoding, step_in}
 use Rattle.lsp_stream.specs.Ports.{one_more}
 use Rattle.lsp_log.specs.declared.record.Sender.{Sender}
 use Rattle.lsp_log.specs.declared.record.Sender.TheVariants.{Client, Server}
 use Rattle.lsp_log.specs.declared.record.Version.{Version}
 use Rattle.lsp_log.specs.Log.{Record}
 use Rattle.lsp_replay.specs.Commands.{canonical_change_body, canonical_if, canonical_of_record, change_in}
-use Rattle.lsp_replay.specs.Lines.{Known, known_after, mentions_after, uri_of}
+use Rattle.lsp_replay.specs.Lines.{Known, known_after, uri_of}
 use Rattle.lsp_replay.specs.Mentions.{Mention, is_mention, last_for, last_record, mentioned, most_mentions, without}
 use Rattle.lsp_replay.specs.Session.{Session, Verdict, answered, recorded, bad, encoding_for, is_change, judge, judge_from}
 use Rattle.lsp_replay.specs.Trace.{id_of, is_json, within}
@@ -43,7 +41,7 @@ use Rattle.lsp_replay.proofs.JsonLines.StringLemmas.{are_visible}
 use Rattle.lsp_replay.proofs.JsonLines.ValueLemmas.{IsJson, read_is}
 use Rattle.lsp_replay.proofs.Records.AskedLemmas.{held_get, id_held, value_held, version_fits}
 use Rattle.lsp_replay.proofs.Records.JudgeLemmas.{asks_change, judged_again, judged_held, of_incoming, of_server}
-use Rattle.lsp_replay.proofs.Records.ReadLemmas.{IsHeld, OnSome, on_map, on_then}
+use Rattle.lsp_replay.proofs.Records.ReadLemmas.{IsHeld, OnSome, on_then}
 use Rattle.lsp_replay.proofs.Records.StateLemmas.{IsHeldState}
 
 any : {A : Type 0} (o : Option A) → OnSome (λ (a : A). ⊤) o

@@ -1,13 +1,13 @@
 -- The line of `trace` for a record, and that of `replay` for a document.
-use Rattle.std.proofs.Common.{◌≡◌, ℕ, ℤ, ◌^◌, ◌<◌, ◌≤◌, Bool, true, false, List, [], ◌∷◌, ◌++◌, map, Option, Some, None, refl, sym, ap, ◌∙◌, subst, arith, append_assoc, decimal, FitsSigned}
-use Rattle.std.specs.Prelude.{⊤, ◌&&◌, codes, flat_map, if◌then◌else◌, option_and_then, option_map}
+use Rattle.std.proofs.Common.{◌≡◌, ℕ, ℤ, ◌^◌, ◌<◌, Bool, true, false, List, [], ◌∷◌, ◌++◌, map, Option, Some, None, refl, sym, ap, ◌∙◌, subst, arith, append_assoc, decimal, FitsSigned}
+use Rattle.std.specs.Prelude.{◌&&◌, codes, flat_map, if◌then◌else◌, option_and_then, option_map}
 use Rattle.std.specs.Fmt.{signed_decimal}
 use Rattle.std.specs.Int.{w32, w64}
 use Rattle.std.proofs.lemmas.Bool.{and_parts}
 use Rattle.json.specs.Json as json
 use Rattle.json.specs.Json.{Json, document}
 use Rattle.json.specs.Print.{escape_byte, quoted}
-use Rattle.json.specs.Tree.{HasNumbers, ItemsHaveNumbers, depth, items_depth}
+use Rattle.json.specs.Tree.{ItemsHaveNumbers, items_depth}
 use Rattle.json.specs.Value as values
 use Rattle.serde_json.specs.Data as tree
 use Rattle.serde_json.specs.Data.{Data}
@@ -15,7 +15,6 @@ use Rattle.serde_json.specs.View as view
 use Rattle.serde_json.specs.Written.{compact_text, items_outline, items_text, outline}
 use Rattle.lsp_frame.specs.Limits.{LimitsData, AreInRange}
 use Rattle.lsp_message.specs.Message.{IdData, whole, text, reading}
-use Rattle.lsp_message.specs.Outgoing.{document_text}
 use Rattle.lsp_message.specs.Params.{DocumentItem}
 use Rattle.lsp_message.specs.laws.Sent.{IsProperId}
 use Rattle.lsp_server.specs.Answer.{AnswerData, Sent}
@@ -29,14 +28,14 @@ use Rattle.lsp_replay.specs.Mentions.{last_for}
 use Rattle.lsp_replay.specs.Notes.{note_words, notes_of, notes_words}
 use Rattle.lsp_replay.specs.Reasons.{reason_words}
 use Rattle.lsp_replay.specs.Session.{Session, Judged, Verdict, answered, recorded, bad, is_refused, judge}
-use Rattle.lsp_replay.specs.Trace.{body_json, document_after, first_members, has_changed, id_json, id_of, is_json, json_string, last_members, member, method_of, notes_json, reason_json, side_word, text_json, trace_line, version_json, within}
+use Rattle.lsp_replay.specs.Trace.{body_json, document_after, has_changed, id_json, id_of, is_json, json_string, last_members, member, method_of, notes_json, reason_json, side_word, text_json, trace_line, version_json, within}
 use Rattle.lsp_replay.specs.laws.JsonLines.{IsJsonLine, body_value, document_value, id_value, integer, members_with, natural, notes_value, reason_value, text_value, trace_value}
 use Rattle.lsp_replay.proofs.JsonLines.FitLemmas as fit
 use Rattle.lsp_replay.proofs.JsonLines.FitLemmas.{IsFit, canonical_json, document_fits, id_fits, judged_fits, last_fits}
-use Rattle.lsp_replay.proofs.JsonLines.PlainLemmas.{escape_plain, quoted_plain}
+use Rattle.lsp_replay.proofs.JsonLines.PlainLemmas.{escape_plain}
 use Rattle.lsp_replay.proofs.JsonLines.ReasonPlainLemmas.{plain_note, plain_reason, plain_side, plain_verdict}
 use Rattle.lsp_replay.proofs.JsonLines.StringLemmas.{are_visible}
-use Rattle.lsp_replay.proofs.JsonLines.ValueLemmas.{AreMembers, AreRead, IsFront, IsJson, IsValue, IsValueIf, a_body, a_compact, a_member, a_member_if, a_natural, a_plain, a_quoted, a_string, a_text, an_integer, an_object, last_read, no_more}
+use Rattle.lsp_replay.proofs.JsonLines.ValueLemmas.{AreRead, IsJson, IsValue, IsValueIf, a_body, a_compact, a_member, a_member_if, a_natural, a_plain, a_quoted, a_string, a_text, an_integer, an_object, last_read, no_more}
 use Rattle.lsp_replay.proofs.Records.ReadLemmas.{OnSome}
 
 -- ---- values that are there or not

@@ -1,8 +1,6 @@
 -- The words of a line need no escape in a JSON string.
-use Rattle.std.proofs.Common.{◌≡◌, ℕ, ℤ, Bool, true, false, ◌==◌, List, [], ◌∷◌, ◌++◌, Option, Some, None, decimal, refl}
+use Rattle.std.proofs.Common.{ℕ, Bool, true, false, ◌==◌, List, ◌++◌, Option, Some, None, refl}
 use Rattle.std.specs.Prelude.{codes, if◌then◌else◌}
-use Rattle.std.specs.Fmt.{signed_decimal}
-use Rattle.std.specs.List.{list_all}
 use Rattle.std.proofs.lemmas.List.Folds.{list_all-append}
 use Rattle.json.specs.Run.{is_plain}
 use Rattle.lsp_frame.specs.Limits.{LimitsData}
@@ -27,9 +25,9 @@ use Rattle.lsp_log.specs.declared.record.Sender.{Sender}
 use Rattle.lsp_log.specs.declared.record.Sender.TheVariants.{Client, Server}
 use Rattle.lsp_replay.specs.declared.notes.Note.{Note}
 use Rattle.lsp_replay.specs.declared.notes.Note.TheVariants.{OpenAlready, OldVersion, NoChanges, WholeText, PastEnd, WrongLength, SameText}
-use Rattle.lsp_replay.specs.Commands.{code_word, verdict_word, word_of}
+use Rattle.lsp_replay.specs.Commands.{code_word, verdict_word}
 use Rattle.lsp_replay.specs.Notes.{change_words, note_words, past_words, side_words}
-use Rattle.lsp_replay.specs.Reasons.{edit_reason, end_words, error_reason, position_words, range_sent, reason_words, refusal_reason, store_reason, version_words}
+use Rattle.lsp_replay.specs.Reasons.{edit_reason, end_words, error_reason, position_words, range_sent, reason_words, store_reason, version_words}
 use Rattle.lsp_replay.specs.Session.{Verdict, answered, recorded, bad}
 use Rattle.lsp_replay.specs.Trace.{side_word}
 use Rattle.lsp_replay.proofs.JsonLines.PlainLemmas.{IsPlain, plain-append, plain_decimal, plain_signed}

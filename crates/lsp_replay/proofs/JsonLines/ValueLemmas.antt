@@ -8,7 +8,7 @@ use Rattle.json.specs.Token.{Token}
 use Rattle.json.specs.Json as json
 use Rattle.json.specs.Json.{Json, Items, Members, document, if_last, value}
 use Rattle.json.specs.Word.{ends_word}
-use Rattle.json.specs.Lex.{Lexeme, token, comma, colon, lex, between, fresh, after_value, begins_colon, punctuate, tokens}
+use Rattle.json.specs.Lex.{token, comma, colon, lex, between, fresh, after_value, begins_colon, punctuate, tokens}
 use Rattle.json.specs.Print.{ends, print, quoted, ArePrintable}
 use Rattle.json.specs.Tree.{depth, members_depth, json_tokens, items_tokens, members_tokens, HasNumbers}
 use Rattle.json.proofs.Nesting.{value-depth}
@@ -315,14 +315,14 @@ an_object front name bytes rest j ms is value more =
     let value_shallow = value.shallow in
     let more_shallow = more.shallow in
     record {
-  reads = document_by (front ++ (bytes ++ rest)) (json.object (json.member name j ms))
-      (ap tokens (front_then 123 front name (bytes ++ rest) is)
-      ∙ ap (punctuate fresh) (lex-first name (bytes ++ rest))
-      ∙ ap (λ ts. Token.begin_object ∷ Token.key name ∷ ts) (value.text rest more.ends more.no_colon
-      ∙ ap (λ ts. json_tokens j ++ ts) more.tokens)) (omega arith);
-  ends = line_before front (bytes ++ rest) (front_visible 123 front name (omega arith) is)
-      (line_before bytes rest value.one more.line);
-}
+      reads = document_by (front ++ (bytes ++ rest)) (json.object (json.member name j ms))
+          (ap tokens (front_then 123 front name (bytes ++ rest) is)
+          ∙ ap (punctuate fresh) (lex-first name (bytes ++ rest))
+          ∙ ap (λ ts. Token.begin_object ∷ Token.key name ∷ ts) (value.text rest more.ends more.no_colon
+          ∙ ap (λ ts. json_tokens j ++ ts) more.tokens)) (omega arith);
+      ends = line_before front (bytes ++ rest) (front_visible 123 front name (omega arith) is)
+          (line_before bytes rest value.one more.line);
+    }
 
 -- ---- members that are there or not
 

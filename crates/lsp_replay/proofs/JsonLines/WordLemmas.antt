@@ -1,5 +1,5 @@
 -- A number, `true`, `false` or `null` at the front of a text. No line break is in it.
-use Rattle.std.proofs.Common.{◌≡◌, ◌⊎◌, inl, inr, ℕ, suc, ◌+◌, ◌-◌, ◌<◌, ◌≤◌, Bool, true, false, cond, ◌&&◌, ◌||◌, ◌==◌, List, [], ◌∷◌, ◌++◌, length, take, drop, Option, Some, None, option_and_then, refl, sym, ap, ◌∙◌, subst, arith, append_assoc, length-append, take_at}
+use Rattle.std.proofs.Common.{◌≡◌, ◌⊎◌, inl, inr, ℕ, suc, ◌+◌, ◌-◌, ◌≤◌, Bool, true, false, cond, ◌&&◌, ◌||◌, ◌==◌, List, [], ◌∷◌, ◌++◌, length, take, drop, Option, Some, None, option_and_then, refl, sym, ap, ◌∙◌, subst, arith, append_assoc, length-append, take_at}
 use Rattle.std.specs.Prelude.{if◌then◌else◌, nat_eq, ⊤}
 use Rattle.std.specs.Char.{is_ascii_digit}
 use Rattle.std.specs.List.{prefix_len, starts_with}
@@ -168,10 +168,12 @@ module _ (drops : ℕ → Bool) (kept : (x : ℕ) → 32 ≤ x → drops x ≡ f
       (λ e.
       let both = and_parts (starts_with nat_eq text name) (ends_word (drop (length name) text)) e in
       let found : text ≡ name ++ drop (length name) text =
-      (starts_is Decides-eqb text name (starts_with nat_eq text name) refl).0 both.0 in
-      (is, subst (λ n. ((r : List ℕ) → without drops (n ++ r) ≡ n ++ without drops r)
-      → text ≡ n ++ drop (length name) text → Word drops text t) same
-      (λ k f. record { rest = drop (length name) text; is = f; ended = both.1; stays = k }) stays found))
+      (starts_is Decides-eqb text name (starts_with nat_eq text name) refl).0 both.0 in (
+        is,
+        subst (λ n. ((r : List ℕ) → without drops (n ++ r) ≡ n ++ without drops r)
+            → text ≡ n ++ drop (length name) text → Word drops text t) same
+            (λ k f. record { rest = drop (length name) text; is = f; ended = both.1; stays = k }) stays found,
+      ))
 
   one_of : (text : List ℕ) (b : Bool) (x y : Token) → (IsPrintable x → IsWord text x) → (IsPrintable y → IsWord text y)
       → IsPrintable (cond b x y) → IsWord text (cond b x y)

@@ -88,33 +88,33 @@ body_value is_asked body = if is_asked then document body else None
 -- `canonical` and `body` are what the two bodies are read as.
 abbrev pub trace_value : Details → Known → Session → Record → Judged → IncomingData → Json
 trace_value details known s r j m = object (members_with (
-  (codes "number", Some (natural j.session.records))
-  ∷ (codes "offset", Some (natural r.head.place))
-  ∷ (codes "from", Some (string (side_word r.head.side)))
-  ∷ (codes "method", option_map string (method_of m))
-  ∷ (codes "id", option_map id_value (id_of m))
-  ∷ (codes "uri", option_map string (uri_of r.head.side m))
-  ∷ (codes "word", Some (string (verdict_word j.verdict)))
-  ∷ (codes "reason", reason_value j.session.server.config.limits m j.verdict)
-  ∷ (codes "last", option_map natural (last_for known.mentions (uri_of r.head.side m) j.verdict))
-  ∷ (codes "notes", notes_value (notes_of s known.ranged r.body j.verdict))
-  ∷ (
-    codes "version",
-    option_map (λ entry. integer entry.version)
-        (document_after j.session.server.table (uri_of r.head.side m)),
-  )
-  ∷ (
-    codes "canonical",
-    option_and_then document
-        (within s.server.config.limits.max_body (canonical_of_record s r.body j.verdict)),
-  )
-  ∷ (
-    codes "text",
-    text_value (details.texts && has_changed j.verdict)
-        (document_after j.session.server.table (uri_of r.head.side m)),
-  )
-  ∷ (codes "body", body_value (details.bodies && is_json m) r.body)
-  ∷ []))
+    (codes "number", Some (natural j.session.records))
+    ∷ (codes "offset", Some (natural r.head.place))
+    ∷ (codes "from", Some (string (side_word r.head.side)))
+    ∷ (codes "method", option_map string (method_of m))
+    ∷ (codes "id", option_map id_value (id_of m))
+    ∷ (codes "uri", option_map string (uri_of r.head.side m))
+    ∷ (codes "word", Some (string (verdict_word j.verdict)))
+    ∷ (codes "reason", reason_value j.session.server.config.limits m j.verdict)
+    ∷ (codes "last", option_map natural (last_for known.mentions (uri_of r.head.side m) j.verdict))
+    ∷ (codes "notes", notes_value (notes_of s known.ranged r.body j.verdict))
+    ∷ (
+      codes "version",
+      option_map (λ entry. integer entry.version)
+          (document_after j.session.server.table (uri_of r.head.side m)),
+    )
+    ∷ (
+      codes "canonical",
+      option_and_then document
+          (within s.server.config.limits.max_body (canonical_of_record s r.body j.verdict)),
+    )
+    ∷ (
+      codes "text",
+      text_value (details.texts && has_changed j.verdict)
+          (document_after j.session.server.table (uri_of r.head.side m)),
+    )
+    ∷ (codes "body", body_value (details.bodies && is_json m) r.body)
+    ∷ []))
 
 -- A value and those of the records after it. A record that can't be in a log has none, and ends the
 -- run.
