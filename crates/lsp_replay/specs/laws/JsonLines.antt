@@ -2,14 +2,14 @@
 --
 -- `document` is how Rattle's crate `json` reads JSON (RFC 8259): members are in the order of the
 -- text, and a number is its digits.
-use Rattle.std.specs.Prelude.{ℕ, ℤ, ◌≡◌, ◌<◌, ◌^◌, Bool, ◌&&◌, if◌then◌else◌, List, [], ◌∷◌, ◌++◌, map, Option, Some, None, option_map, option_and_then, All, FitsSigned, codes, decimal}
+use Rattle.std.specs.Prelude.{ℕ, ℤ, ◌≡◌, ◌<◌, ◌^◌, Bool, ◌&&◌, if◌then◌else◌, List, [], ◌∷◌, ◌++◌, map, Option, Some, None, option_map, option_and_then, All, IsUtf8, codes, decimal}
 use Rattle.std.specs.Fmt.{signed_decimal}
-use Rattle.std.specs.Int.{w32}
 use Rattle.json.specs.Json.{Json, number, string, array, object, Members, no_members, member, document}
 use Rattle.json.specs.Value.{items_of}
 use Rattle.lsp_frame.specs.Limits.{LimitsData, AreInRange}
 use Rattle.lsp_message.specs.Message.{IdData, whole, text, reading}
 use Rattle.lsp_message.specs.Params.{DocumentItem}
+use Rattle.lsp_message.specs.laws.Sent.{IsProperDocument}
 use Rattle.lsp_server.specs.Incoming.{IncomingData, incoming_of}
 use Rattle.lsp_log.specs.Log.{Record}
 use Rattle.lsp_replay.specs.declared.commands.Settings.{Settings}
@@ -25,8 +25,9 @@ use Rattle.lsp_replay.specs.Trace.{document_after, has_changed, id_of, is_json, 
 
 -- ---- lines
 
--- A line is JSON with this value. Its one line break is the line feed at its end.
+-- A line is JSON with this value. It is UTF-8, and its one line break is the line feed at its end.
 pub record IsJsonLine (line : List ℕ) (value : Json) : Type 0 where
+  pub utf8 : IsUtf8 line
   pub reads : document line ≡ Some value
   pub ends : line ≡ one_line line ++ codes "\n"
 
@@ -150,7 +151,7 @@ document_value entry =
     (member (codes "text") (string entry.text) (member (codes "uri") (string entry.uri)
     (member (codes "version") (integer entry.version) no_members))))
 
--- A line of `replay` is this value. The version has 32 bits, as in the type of a document.
+-- A line of `replay` is this value, for a document as its type holds it.
 abbrev pub ReplayJsonLaw : Type 0
-ReplayJsonLaw = (entry : DocumentItem) → FitsSigned w32 entry.version
+ReplayJsonLaw = (entry : DocumentItem) → IsProperDocument entry
     → IsJsonLine (document_line entry) (document_value entry)
