@@ -161,7 +161,10 @@ versions_change : (units : ℕ → ℕ) (table : List DocumentItem) (uri : List 
 versions_change units [] uri version batch kept fits = tt
 versions_change units (first ∷ table) uri version batch kept fits =
     ⊎_elim (λ (is : bytes_eq uri first.uri ≡ true). rw is (fits, kept.1))
-    (λ (not : bytes_eq uri first.uri ≡ false). rw not (kept.0, versions_change units table uri version batch kept.1 fits))
+    (λ (not : bytes_eq uri first.uri ≡ false). rw not (
+      kept.0,
+      versions_change units table uri version batch kept.1 fits,
+    ))
     (cases_Bool (bytes_eq uri first.uri))
 
 obeyed_versions : (s : ServerData) (refusal : Option Refusal) (next : List DocumentItem) → AreVersions s.table
@@ -193,7 +196,8 @@ step_versions Running s (shutdown id) has kept = kept
 step_versions Running s (other_request id method) has kept = kept
 step_versions Running s (did_open None) has kept = kept
 step_versions Running s (did_open (Some p)) has kept =
-    obeyed_versions s (open_refusal s.config.limits s.table p) (after_open s.table p) kept (versions_open s.table p kept has)
+    obeyed_versions s (open_refusal s.config.limits s.table p) (after_open s.table p) kept
+    (versions_open s.table p kept has)
 step_versions Running s (did_change None) has kept = kept
 step_versions Running s (did_change (Some p)) has kept =
     let units = units_in (session_encoding s) in
@@ -457,7 +461,8 @@ value_id d held =
     (on_then IsHeld IsProperId id_in id_held (get (codes "id") d) (held_get (codes "id") d held))
 
 asked : (body : List ℕ) → IsAsked (incoming_of (reading body))
-asked body = asked_by (reading body) (read_or IsHeld message_of (json_of body) msg.not_json value_id (value_held body) tt)
+asked body =
+    asked_by (reading body) (read_or IsHeld message_of (json_of body) msg.not_json value_id (value_held body) tt)
 
 pub id_fits : (body : List ℕ) → OnSome IsProperId (id_of (incoming_of (reading body)))
 id_fits body = let is = asked body in is.id

@@ -277,8 +277,8 @@ module _ (limits : LimitsData) (ranges : AreInRange limits) (details : Details) 
       let with_method = a_member_if (codes ",\"method\":") (codes "method") _ (option_map json_string (method_of m))
       (option_map json.string (method_of m)) _ (refl, refl)
       (strings_if (method_of m) (method_utf8 r.body)) with_id in
-      let from = a_quoted (codes ",\"from\":") (codes "from") (side_word r.head.side) _ _ (refl, refl) (plain_side r.head.side)
-      with_method in
+      let from = a_quoted (codes ",\"from\":") (codes "from") (side_word r.head.side) _ _ (refl, refl)
+      (plain_side r.head.side) with_method in
       let offset = a_member (codes ",\"offset\":") (codes "offset") (decimal r.head.place) _ (natural r.head.place) _
       (refl, refl) (a_natural r.head.place place) from in
       let line = an_object (codes "{\"number\":") (codes "number") (decimal j.session.records) _

@@ -26,7 +26,9 @@ abbrev pub IsPlain : List ℕ → Type 0
 IsPlain s = list_all is_ascii_plain s ≡ true
 
 pub plain-append : (xs ys : List ℕ) → IsPlain xs → IsPlain ys → IsPlain (xs ++ ys)
-plain-append xs ys h k = list_all-append is_ascii_plain xs ys ∙ and_from (list_all is_ascii_plain xs) (list_all is_ascii_plain ys) h k
+plain-append xs ys h k =
+    list_all-append is_ascii_plain xs ys
+    ∙ and_from (list_all is_ascii_plain xs) (list_all is_ascii_plain ys) h k
 
 record IsPlainByte (x : ℕ) : Type 0 where
   quote : x ≡ 34 → ⊥

@@ -313,7 +313,8 @@ module _ (drops : ℕ → Bool) (kept : (x : ℕ) → 32 ≤ x → drops x ≡ f
                 step_unit a b c d u (k.inside ++ 34 ∷ r) e ∙ unit_high (k.inside ++ 34 ∷ r) u high ∙ k.reads r;
             lexes = λ r. lex-unit a b c d (k.inside ++ 34 ∷ r) digits ∙ k.lexes r;
           }
-      by u e digits is (inr high) (inl low) = absurd (let no : None ≡ Some s = sym (unit_low xs u true high low) ∙ is in cc)
+      by u e digits is (inr high) (inl low) =
+          absurd (let no : None ≡ Some s = sym (unit_low xs u true high low) ∙ is in cc)
       by u e digits is (inr high) (inr low) =
           let parts = prepended (encode_utf8 u) (content plain xs) s
           (sym (unit_low xs u false high low) ∙ is) in

@@ -272,7 +272,6 @@ a_body text j u is = record {
 
 -- ---- the members of an object, with its end
 
--- the lexemes of a name and the text before it
 abbrev name_visible : (name : List ℕ) → are_visible (quoted name ++ 58 ∷ []) ≡ true
 name_visible name = visible-append (quoted name) (58 ∷ []) (visible_quoted name) refl
 
@@ -283,7 +282,8 @@ EndsLine line = line ≡ one_line line ++ codes "\n"
 line_before : (front rest : List ℕ) → one_line front ≡ front → EndsLine rest → EndsLine (front ++ rest)
 line_before front rest e h =
     ap (λ l. front ++ l) h ∙ sym (append_assoc front (one_line rest) (codes "\n"))
-    ∙ ap (λ l. (l ++ one_line rest) ++ codes "\n") (sym e) ∙ ap (λ l. l ++ codes "\n") (sym (one_line-append front rest))
+    ∙ ap (λ l. (l ++ one_line rest) ++ codes "\n") (sym e)
+    ∙ ap (λ l. l ++ codes "\n") (sym (one_line-append front rest))
 
 pub record AreMembers (bytes : List ℕ) (ms : Members) : Type 0 where
   pub shallow : members_depth ms ≤ max_depth
@@ -295,7 +295,14 @@ pub record AreMembers (bytes : List ℕ) (ms : Members) : Type 0 where
 
 pub no_more : AreMembers (codes "}\n") json.no_members
 unfolding lex punctuate
-no_more = record { shallow = omega arith; line = refl; utf8 = IsUtf8-are_ascii (codes "}\n") refl; tokens = refl; ends = refl; no_colon = refl }
+no_more = record {
+  shallow = omega arith;
+  line = refl;
+  utf8 = IsUtf8-are_ascii (codes "}\n") refl;
+  tokens = refl;
+  ends = refl;
+  no_colon = refl;
+}
 
 lex-name : (name r : List ℕ) → lex between (quoted name ++ 58 ∷ r) ≡ token (Token.string name) ∷ colon ∷ lex between r
 unfolding lex
