@@ -1,49 +1,51 @@
 -- The numbers of a session fit their types: counts 64 bits, versions 32 bits. A canonical message is JSON.
-use Rattle.std.proofs.Common.{◌≡◌, ℕ, ℤ, zero, suc, ◌^◌, ◌<◌, ◌≤◌, ⊎_elim, Bool, true, false, List, [], ◌∷◌, ◌++◌, length, map, Option, Some, None, refl, sym, ap, ◌∙◌, subst, arith, take, bytes_eq, FitsSigned}
+use Rattle.std.proofs.Common.{◌≡◌, ℕ, ℤ, zero, suc, ◌^◌, ◌<◌, ◌≤◌, ⊎_elim, Bool, true, false, List, [], ◌∷◌, ◌++◌, length, map, Option, Some, None, refl, sym, ap, ◌∙◌, subst, arith, take, bytes_eq, FitsSigned, IsUtf8}
 use Rattle.std.specs.Prelude.{⊤, codes, if◌then◌else◌, nat_lt, option_and_then, option_map}
-use Rattle.std.specs.Int.{w32, w64}
+use Rattle.std.specs.Int.{w32}
 use Rattle.std.specs.Option.{option_map_or}
 use Rattle.std.specs.Str.{is_utf8}
 use Rattle.std.proofs.lemmas.Bool.{cases_Bool, ltb-false}
+use Rattle.std.proofs.lemmas.Str.{IsUtf8-from_is_utf8}
 use Rattle.json.specs.Json.{Json}
+use Rattle.json.proofs.Printed.Utf8.{IsUtf8-are_ascii, are_ascii}
 use Rattle.serde_json.specs.Data.{Data, null, boolean, number, string, array, object, Members}
 use Rattle.serde_json.specs.Find.{get, get_member}
 use Rattle.serde_json.specs.Read.{read}
 use Rattle.lsp_frame.specs.Limits.{LimitsData, AreInRange}
 use Rattle.lsp_text.specs.Units.{units_in}
-use Rattle.lsp_text.specs.declared.encoding.Encoding.{Encoding}
 use Rattle.lsp_edit.specs.Batch.{ContentChange}
 use Rattle.lsp_message.specs.Message as msg
 use Rattle.lsp_message.specs.Message.{IdData, MessageData, OutcomeData, Reading, id_in, json_of, message_of, reading}
-use Rattle.lsp_message.specs.Outgoing.{body_of}
-use Rattle.lsp_message.specs.Params.{ChangeData, DocumentItem, change_by, change_of, document_and_changes, document_in, open_by, open_of, version_in, content_change_in}
+use Rattle.lsp_message.specs.Agreement.{offers_of}
+use Rattle.lsp_message.specs.Params.{ChangeData, CloseData, close_by, close_of, DocumentItem, change_by, change_of, document_and_changes, document_in, open_by, open_of, version_in, content_change_in}
 use Rattle.lsp_message.specs.Values.{each_of, text_in}
 use Rattle.lsp_message.specs.Written.{value_of}
 use Rattle.lsp_message.specs.laws.Sent.{IsProperId}
 use Rattle.lsp_message.proofs.BodyLemmas.{body_is}
-use Rattle.lsp_store.specs.Message.{canonical_batch, change_body, change_message}
+use Rattle.lsp_store.specs.Message.{change_body, change_message}
+use Rattle.lsp_store.specs.laws.Tables.{AllWithin}
 use Rattle.lsp_store.specs.Table.{Refusal, after_change, after_close, after_open, change_refusal, close_refusal, entry_at, open_refusal, unless_refused}
-use Rattle.lsp_server.specs.Answer.{AnswerData, Sent, as_sent, changed, refused}
+use Rattle.lsp_server.specs.Answer.{AnswerData, changed, refused}
 use Rattle.lsp_server.specs.declared.phase.Phase.{Phase}
 use Rattle.lsp_server.specs.declared.phase.Phase.TheVariants.{New, Running, Down, Ended}
 use Rattle.lsp_server.specs.Incoming.{IncomingData, not_json, not_a_message, response, initialize, shutdown, other_request, exit, did_open, did_change, did_close, other_notification, incoming_by, incoming_of}
-use Rattle.lsp_server.specs.Step.{ServerData, content_change_from_data, result_step, session_encoding, step_in, step_on}
+use Rattle.lsp_server.specs.Step.{ServerData, content_change_from_data, result_step, session_encoding, step_in}
 use Rattle.lsp_stream.specs.Ports.{one_more}
 use Rattle.lsp_log.specs.declared.record.Sender.{Sender}
 use Rattle.lsp_log.specs.declared.record.Sender.TheVariants.{Client, Server}
 use Rattle.lsp_log.specs.declared.record.Version.{Version}
 use Rattle.lsp_log.specs.Log.{Record}
 use Rattle.lsp_replay.specs.Commands.{canonical_change_body, canonical_if, canonical_of_record, change_in}
-use Rattle.lsp_replay.specs.Lines.{Known, known_after, mentions_after, uri_of}
+use Rattle.lsp_replay.specs.Lines.{Known, known_after, uri_of}
 use Rattle.lsp_replay.specs.Mentions.{Mention, is_mention, last_for, last_record, mentioned, most_mentions, without}
 use Rattle.lsp_replay.specs.Session.{Session, Verdict, answered, recorded, bad, encoding_for, is_change, judge, judge_from}
-use Rattle.lsp_replay.specs.Trace.{id_of, is_json, within}
+use Rattle.lsp_replay.specs.Trace.{id_of, is_json, method_of, within}
 use Rattle.lsp_replay.proofs.JsonLines.PlainLemmas.{visible_compact}
 use Rattle.lsp_replay.proofs.JsonLines.StringLemmas.{are_visible}
 use Rattle.lsp_replay.proofs.JsonLines.ValueLemmas.{IsJson, read_is}
-use Rattle.lsp_replay.proofs.Records.AskedLemmas.{held_get, id_held, value_held, version_fits}
+use Rattle.lsp_replay.proofs.Records.AskedLemmas.{IsProperAsked, changed_held, document_held, held_get, held_member, held_text, id_held, value_held, version_fits}
 use Rattle.lsp_replay.proofs.Records.JudgeLemmas.{asks_change, judged_again, judged_held, of_incoming, of_server}
-use Rattle.lsp_replay.proofs.Records.ReadLemmas.{IsHeld, OnSome, on_map, on_then}
+use Rattle.lsp_replay.proofs.Records.ReadLemmas.{IsHeld, MembersAreHeld, OnSome, on_map, on_then}
 use Rattle.lsp_replay.proofs.Records.StateLemmas.{IsHeldState}
 
 any : {A : Type 0} (o : Option A) → OnSome (λ (a : A). ⊤) o
@@ -159,7 +161,10 @@ versions_change : (units : ℕ → ℕ) (table : List DocumentItem) (uri : List 
 versions_change units [] uri version batch kept fits = tt
 versions_change units (first ∷ table) uri version batch kept fits =
     ⊎_elim (λ (is : bytes_eq uri first.uri ≡ true). rw is (fits, kept.1))
-    (λ (not : bytes_eq uri first.uri ≡ false). rw not (kept.0, versions_change units table uri version batch kept.1 fits))
+    (λ (not : bytes_eq uri first.uri ≡ false). rw not (
+      kept.0,
+      versions_change units table uri version batch kept.1 fits,
+    ))
     (cases_Bool (bytes_eq uri first.uri))
 
 obeyed_versions : (s : ServerData) (refusal : Option Refusal) (next : List DocumentItem) → AreVersions s.table
@@ -191,7 +196,8 @@ step_versions Running s (shutdown id) has kept = kept
 step_versions Running s (other_request id method) has kept = kept
 step_versions Running s (did_open None) has kept = kept
 step_versions Running s (did_open (Some p)) has kept =
-    obeyed_versions s (open_refusal s.config.limits s.table p) (after_open s.table p) kept (versions_open s.table p kept has)
+    obeyed_versions s (open_refusal s.config.limits s.table p) (after_open s.table p) kept
+    (versions_open s.table p kept has)
 step_versions Running s (did_change None) has kept = kept
 step_versions Running s (did_change (Some p)) has kept =
     let units = units_in (session_encoding s) in
@@ -319,34 +325,90 @@ pub document_fits : (table : List DocumentItem) (uri : Option (List ℕ)) → Ar
 document_fits table None kept = tt
 document_fits table (Some uri) kept = versions_at table uri kept
 
--- ---- ids
+-- ---- ids and texts
 
-abbrev HasId : IncomingData → Type 0
-HasId m = OnSome IsProperId (id_of m)
+-- an id fits, and the texts are UTF-8
+record IsAsked (m : IncomingData) : Type 0 where
+  id : OnSome IsProperId (id_of m)
+  method : OnSome IsUtf8 (method_of m)
+  uri : OnSome IsUtf8 (uri_of Client m)
 
 abbrev IdRead : Reading → Type 0
 IdRead msg.not_json = ⊤
 IdRead (msg.not_a_message id) = OnSome IsProperId id
-IdRead (msg.message (msg.request id method params)) = IsProperId id
-IdRead (msg.message (msg.notification method params)) = ⊤
+IdRead (msg.message (msg.request id method params)) = IsProperId id × IsUtf8 method
+IdRead (msg.message (msg.notification method params)) = IsUtf8 method × OnSome IsHeld params
 IdRead (msg.message (msg.response id outcome)) = OnSome IsProperId id
 
-either_id : (b : Bool) (x y : IncomingData) → HasId x → HasId y → HasId (if b then x else y)
-either_id true x y p q = p
-either_id false x y p q = q
+either_asked : (b : Bool) (x y : IncomingData) → IsAsked x → IsAsked y → IsAsked (if b then x else y)
+either_asked true x y p q = p
+either_asked false x y p q = q
 
-id_asked : (r : Reading) → IdRead r → HasId (incoming_of r)
-id_asked msg.not_json is = tt
-id_asked (msg.not_a_message id) is = is
-id_asked (msg.message (msg.request id method params)) is =
-    either_id (bytes_eq method (codes "initialize")) _ _ is
-    (either_id (bytes_eq method (codes "shutdown")) (shutdown id) (other_request id method) is is)
-id_asked (msg.message (msg.notification method params)) is =
-    either_id (bytes_eq method (codes "exit")) exit _ tt
-    (either_id (bytes_eq method (codes "textDocument/didOpen")) (did_open (open_of params)) _ tt
-    (either_id (bytes_eq method (codes "textDocument/didChange")) (did_change (change_of params)) _ tt
-    (either_id (bytes_eq method (codes "textDocument/didClose")) (did_close _) (other_notification method) tt tt)))
-id_asked (msg.message (msg.response id outcome)) is = is
+abbrev HasUri : DocumentItem → Type 0
+HasUri p = IsUtf8 p.uri
+
+open_uri : (ms : Members) → MembersAreHeld ms → OnSome HasUri (open_by ms)
+open_uri ms held =
+    on_then IsUtf8 HasUri _
+    (λ uri u. on_then (λ language. ⊤) HasUri _
+    (λ language i. on_then (λ version. ⊤) HasUri _
+    (λ version j. on_then (λ t. ⊤) HasUri _ (λ t k. u) (text_in (get_member (codes "text") ms))
+    (any (text_in (get_member (codes "text") ms))))
+    (version_in (get_member (codes "version") ms)) (any (version_in (get_member (codes "version") ms))))
+    (text_in (get_member (codes "languageId") ms)) (any (text_in (get_member (codes "languageId") ms))))
+    (text_in (get_member (codes "uri") ms))
+    (held_text (get_member (codes "uri") ms) (held_member (codes "uri") ms held))
+
+abbrev HasCloseUri : CloseData → Type 0
+HasCloseUri p = IsUtf8 p.uri
+
+close_uri : (ms : Members) → MembersAreHeld ms → OnSome HasCloseUri (close_by ms)
+close_uri ms held =
+    on_map IsUtf8 HasCloseUri (λ uri. record { uri = uri }) (λ uri u. u) (text_in (get_member (codes "uri") ms))
+    (held_text (get_member (codes "uri") ms) (held_member (codes "uri") ms held))
+
+plain_method : (method : List ℕ) → are_ascii method ≡ true → OnSome IsUtf8 (Some method)
+plain_method method h = IsUtf8-are_ascii method h
+
+asked_open : (params : Option DocumentItem) → OnSome HasUri params → IsAsked (did_open params)
+asked_open None is = record { id = tt; method = plain_method (codes "textDocument/didOpen") refl; uri = tt }
+asked_open (Some p) is = record { id = tt; method = plain_method (codes "textDocument/didOpen") refl; uri = is }
+
+asked_change : (params : Option ChangeData) → OnSome IsProperAsked params → IsAsked (did_change params)
+asked_change None is = record { id = tt; method = plain_method (codes "textDocument/didChange") refl; uri = tt }
+asked_change (Some p) is = record {
+  id = tt;
+  method = plain_method (codes "textDocument/didChange") refl;
+  uri = is.uri;
+}
+
+asked_close : (params : Option CloseData) → OnSome HasCloseUri params → IsAsked (did_close params)
+asked_close None is = record { id = tt; method = plain_method (codes "textDocument/didClose") refl; uri = tt }
+asked_close (Some p) is = record { id = tt; method = plain_method (codes "textDocument/didClose") refl; uri = is }
+
+asked_by : (r : Reading) → IdRead r → IsAsked (incoming_of r)
+asked_by msg.not_json is = record { id = tt; method = tt; uri = tt }
+asked_by (msg.not_a_message id) is = record { id = is; method = tt; uri = tt }
+asked_by (msg.message (msg.request id method params)) is =
+    either_asked (bytes_eq method (codes "initialize")) (initialize id (offers_of params)) _
+    (record { id = is.0; method = plain_method (codes "initialize") refl; uri = tt })
+    (either_asked (bytes_eq method (codes "shutdown")) (shutdown id) (other_request id method)
+    (record { id = is.0; method = plain_method (codes "shutdown") refl; uri = tt })
+    (record { id = is.0; method = is.1; uri = tt }))
+asked_by (msg.message (msg.notification method params)) is =
+    either_asked (bytes_eq method (codes "exit")) exit _
+    (record { id = tt; method = plain_method (codes "exit") refl; uri = tt })
+    (either_asked (bytes_eq method (codes "textDocument/didOpen")) (did_open (open_of params)) _
+    (asked_open (open_of params) (on_then MembersAreHeld HasUri open_by open_uri (document_in params)
+    (document_held params is.1)))
+    (either_asked (bytes_eq method (codes "textDocument/didChange")) (did_change (change_of params)) _
+    (asked_change (change_of params) (changed_held params is.1))
+    (either_asked (bytes_eq method (codes "textDocument/didClose")) (did_close (close_of params))
+    (other_notification method)
+    (asked_close (close_of params) (on_then MembersAreHeld HasCloseUri close_by close_uri (document_in params)
+    (document_held params is.1)))
+    (record { id = tt; method = is.0; uri = tt }))))
+asked_by (msg.message (msg.response id outcome)) is = record { id = is; method = tt; uri = tt }
 
 abbrev MessageId : MessageData → Type 0
 MessageId m = IdRead (msg.message m)
@@ -361,23 +423,23 @@ named_id : (id : Data) (outcome : Option OutcomeData) → IsHeld id
 named_id id outcome is =
     on_then IsProperId MessageId _ (λ i h. response_id (Some i) outcome h) (id_in id) (id_held id is)
 
-row_id : (method id : Option Data) (value : Data) → OnSome IsHeld id
-    → OnSome MessageId (msg.message_by method id value)
-row_id (Some (string s)) None value is = tt
-row_id (Some (string s)) (Some id) value is =
-    on_then IsProperId MessageId _ (λ i p. p) (id_in id) (id_held id is)
-row_id None None value is = tt
-row_id None (Some null) value is = response_id None (msg.outcome_in value) tt
-row_id None (Some (boolean b)) value is = named_id (boolean b) (msg.outcome_in value) is
-row_id None (Some (number n)) value is = named_id (number n) (msg.outcome_in value) is
-row_id None (Some (string s)) value is = named_id (string s) (msg.outcome_in value) is
-row_id None (Some (array ds)) value is = named_id (array ds) (msg.outcome_in value) is
-row_id None (Some (object ms)) value is = named_id (object ms) (msg.outcome_in value) is
-row_id (Some null) id value is = tt
-row_id (Some (boolean b)) id value is = tt
-row_id (Some (number n)) id value is = tt
-row_id (Some (array ds)) id value is = tt
-row_id (Some (object ms)) id value is = tt
+row_id : (method id : Option Data) (value : Data) → OnSome IsHeld method → OnSome IsHeld id
+    → OnSome IsHeld (get (codes "params") value) → OnSome MessageId (msg.message_by method id value)
+row_id (Some (string s)) None value text is params = (text, params)
+row_id (Some (string s)) (Some id) value text is params =
+    on_then IsProperId MessageId _ (λ i p. (p, text)) (id_in id) (id_held id is)
+row_id None None value text is params = tt
+row_id None (Some null) value text is params = response_id None (msg.outcome_in value) tt
+row_id None (Some (boolean b)) value text is params = named_id (boolean b) (msg.outcome_in value) is
+row_id None (Some (number n)) value text is params = named_id (number n) (msg.outcome_in value) is
+row_id None (Some (string s)) value text is params = named_id (string s) (msg.outcome_in value) is
+row_id None (Some (array ds)) value text is params = named_id (array ds) (msg.outcome_in value) is
+row_id None (Some (object ms)) value text is params = named_id (object ms) (msg.outcome_in value) is
+row_id (Some null) id value text is params = tt
+row_id (Some (boolean b)) id value text is params = tt
+row_id (Some (number n)) id value text is params = tt
+row_id (Some (array ds)) id value text is params = tt
+row_id (Some (object ms)) id value text is params = tt
 
 version_id : (two : Bool) (found : Option MessageData) → OnSome MessageId found
     → OnSome MessageId (if two then found else None)
@@ -394,27 +456,64 @@ value_id d held =
     read_or MessageId msg.message (msg.message_in d) (msg.not_a_message (msg.id_found (get (codes "id") d)))
     (λ m h. h)
     (version_id (msg.is_version_two (get (codes "jsonrpc") d)) _
-    (row_id (get (codes "method") d) (get (codes "id") d) d (held_get (codes "id") d held)))
+    (row_id (get (codes "method") d) (get (codes "id") d) d (held_get (codes "method") d held)
+    (held_get (codes "id") d held) (held_get (codes "params") d held)))
     (on_then IsHeld IsProperId id_in id_held (get (codes "id") d) (held_get (codes "id") d held))
 
-pub id_fits : (body : List ℕ) → HasId (incoming_of (reading body))
-id_fits body = id_asked (reading body) (read_or IsHeld message_of (json_of body) msg.not_json value_id (value_held body) tt)
+asked : (body : List ℕ) → IsAsked (incoming_of (reading body))
+asked body =
+    asked_by (reading body) (read_or IsHeld message_of (json_of body) msg.not_json value_id (value_held body) tt)
+
+pub id_fits : (body : List ℕ) → OnSome IsProperId (id_of (incoming_of (reading body)))
+id_fits body = let is = asked body in is.id
+
+pub method_utf8 : (body : List ℕ) → OnSome IsUtf8 (method_of (incoming_of (reading body)))
+method_utf8 body = let is = asked body in is.method
+
+pub uri_utf8 : (side : Sender) (body : List ℕ) → OnSome IsUtf8 (uri_of side (incoming_of (reading body)))
+uri_utf8 Client body = let is = asked body in is.uri
+uri_utf8 Server body = tt
+
+-- ---- texts
+
+texts_at : (limits : LimitsData) (table : List DocumentItem) (uri : List ℕ) → AllWithin limits table
+    → OnSome (λ (e : DocumentItem). IsUtf8 e.text) (entry_at table uri)
+texts_at limits [] uri kept = tt
+texts_at limits (first ∷ table) uri kept =
+    ⊎_elim (λ (is : bytes_eq uri first.uri ≡ true). rw is kept.0.utf8)
+    (λ (not : bytes_eq uri first.uri ≡ false). rw not (texts_at limits table uri kept.1))
+    (cases_Bool (bytes_eq uri first.uri))
+
+pub text_utf8 : (limits : LimitsData) (table : List DocumentItem) (uri : Option (List ℕ)) → AllWithin limits table
+    → OnSome (λ (e : DocumentItem). IsUtf8 e.text) (option_and_then (entry_at table) uri)
+text_utf8 limits table None kept = tt
+text_utf8 limits table (Some uri) kept = texts_at limits table uri kept
 
 -- ---- bodies
 
-read_if : (body : List ℕ) (b : Bool) (d : Data) → (if b then read body else None) ≡ Some d → read body ≡ Some d
-read_if body true d e = e
+read_if : (body : List ℕ) (b : Bool) (d : Data) → (if b then read body else None) ≡ Some d
+    → (b ≡ true) × (read body ≡ Some d)
+read_if body true d e = (refl, e)
 read_if body false d e = absurd (let no : None ≡ Some d = e in cc)
 
+-- bytes that are JSON in UTF-8
+pub record IsBody (body : List ℕ) : Type 0 where
+  pub value : Json
+  pub json : IsJson body value
+  pub utf8 : IsUtf8 body
+
 -- a body that counts as JSON is JSON
-pub body_json : (body : List ℕ) → is_json (incoming_of (reading body)) ≡ true → (j : Json) × IsJson body j
+pub body_json : (body : List ℕ) → is_json (incoming_of (reading body)) ≡ true → IsBody body
 body_json body h = by (json_of body) refl
   where
-    by : (o : Option Data) → json_of body ≡ o → (j : Json) × IsJson body j
+    by : (o : Option Data) → json_of body ≡ o → IsBody body
     by None e =
         let none : reading body ≡ msg.not_json = ap (λ o. option_map_or message_of o msg.not_json) e in
         absurd (let no : false ≡ true = ap (λ r. is_json (incoming_of r)) (sym none) ∙ h in cc)
-    by (Some d) e = read_is body d (read_if body (is_utf8 body) d e)
+    by (Some d) e =
+        let both = read_if body (is_utf8 body) d e in
+        let found = read_is body d both.1 in
+        record { value = found.0; json = found.1; utf8 = IsUtf8-from_is_utf8 body both.0 }
 
 change_there : (server : ServerData) (change : Option ChangeData) (verdict : Verdict) (body : List ℕ)
     → canonical_if server change verdict ≡ Some body → (p : ChangeData) × (change ≡ Some p)
@@ -458,7 +557,7 @@ within_both max (Some other) body e = by (nat_lt max (length other)) refl e
 pub canonical_json : (limits : LimitsData) → AreInRange limits → (s : Session) (r : Record) (body : List ℕ)
     → IsHeldState limits s.server
     → within s.server.config.limits.max_body (canonical_of_record s r.body (judge s r).verdict) ≡ Some body
-    → ((j : Json) × IsJson body j) × (are_visible body ≡ true)
+    → IsBody body × (are_visible body ≡ true)
 canonical_json limits ranges s r body held e =
     let both = within_both s.server.config.limits.max_body (canonical_of_record s r.body (judge s r).verdict) body e in
     let short : length body ≤ limits.max_body = omega (arith, both.1, ap (λ (l : LimitsData). l.max_body) held.limit) in

@@ -1,5 +1,5 @@
 -- All lines of `trace`.
-use Rattle.std.proofs.Common.{◌≡◌, ℕ, suc, ◌+◌, ◌^◌, ◌<◌, List, [], ◌∷◌, ◌++◌, refl, arith}
+use Rattle.std.proofs.Common.{ℕ, suc, ◌^◌, ◌<◌, List, [], ◌∷◌, refl, arith}
 use Rattle.std.specs.Prelude.{All}
 use Rattle.json.specs.Json.{Json}
 use Rattle.lsp_frame.specs.Limits.{LimitsData, AreInRange}

@@ -1,13 +1,15 @@
 -- The line of `trace` for a record, and that of `replay` for a document.
-use Rattle.std.proofs.Common.{◌≡◌, ℕ, ℤ, ◌^◌, ◌<◌, ◌≤◌, Bool, true, false, List, [], ◌∷◌, ◌++◌, map, Option, Some, None, refl, sym, ap, ◌∙◌, subst, arith, append_assoc, decimal, FitsSigned}
-use Rattle.std.specs.Prelude.{⊤, ◌&&◌, codes, flat_map, if◌then◌else◌, option_and_then, option_map}
+use Rattle.std.proofs.Common.{◌≡◌, ℕ, ℤ, ◌^◌, ◌<◌, Bool, true, false, List, [], ◌∷◌, ◌++◌, map, Option, Some, None, refl, sym, ap, ◌∙◌, subst, arith, append_assoc, decimal, FitsSigned, IsUtf8}
+use Rattle.std.specs.Prelude.{◌&&◌, codes, flat_map, if◌then◌else◌, option_and_then, option_map}
 use Rattle.std.specs.Fmt.{signed_decimal}
 use Rattle.std.specs.Int.{w32, w64}
 use Rattle.std.proofs.lemmas.Bool.{and_parts}
+use Rattle.std.proofs.lemmas.Str.{IsUtf8-append, IsUtf8-nil}
+use Rattle.json.proofs.Printed.Utf8.{IsUtf8-are_ascii}
 use Rattle.json.specs.Json as json
 use Rattle.json.specs.Json.{Json, document}
 use Rattle.json.specs.Print.{escape_byte, quoted}
-use Rattle.json.specs.Tree.{HasNumbers, ItemsHaveNumbers, depth, items_depth}
+use Rattle.json.specs.Tree.{ItemsHaveNumbers, items_depth}
 use Rattle.json.specs.Value as values
 use Rattle.serde_json.specs.Data as tree
 use Rattle.serde_json.specs.Data.{Data}
@@ -15,9 +17,8 @@ use Rattle.serde_json.specs.View as view
 use Rattle.serde_json.specs.Written.{compact_text, items_outline, items_text, outline}
 use Rattle.lsp_frame.specs.Limits.{LimitsData, AreInRange}
 use Rattle.lsp_message.specs.Message.{IdData, whole, text, reading}
-use Rattle.lsp_message.specs.Outgoing.{document_text}
 use Rattle.lsp_message.specs.Params.{DocumentItem}
-use Rattle.lsp_message.specs.laws.Sent.{IsProperId}
+use Rattle.lsp_message.specs.laws.Sent.{IsProperDocument, IsProperId}
 use Rattle.lsp_server.specs.Answer.{AnswerData, Sent}
 use Rattle.lsp_server.specs.Incoming.{IncomingData, incoming_of}
 use Rattle.lsp_log.specs.Log.{Record}
@@ -29,28 +30,28 @@ use Rattle.lsp_replay.specs.Mentions.{last_for}
 use Rattle.lsp_replay.specs.Notes.{note_words, notes_of, notes_words}
 use Rattle.lsp_replay.specs.Reasons.{reason_words}
 use Rattle.lsp_replay.specs.Session.{Session, Judged, Verdict, answered, recorded, bad, is_refused, judge}
-use Rattle.lsp_replay.specs.Trace.{body_json, document_after, first_members, has_changed, id_json, id_of, is_json, json_string, last_members, member, method_of, notes_json, reason_json, side_word, text_json, trace_line, version_json, within}
+use Rattle.lsp_replay.specs.Trace.{body_json, document_after, has_changed, id_json, id_of, is_json, json_string, last_members, member, method_of, notes_json, reason_json, side_word, text_json, trace_line, version_json, within}
 use Rattle.lsp_replay.specs.laws.JsonLines.{IsJsonLine, body_value, document_value, id_value, integer, members_with, natural, notes_value, reason_value, text_value, trace_value}
 use Rattle.lsp_replay.proofs.JsonLines.FitLemmas as fit
-use Rattle.lsp_replay.proofs.JsonLines.FitLemmas.{IsFit, canonical_json, document_fits, id_fits, judged_fits, last_fits}
-use Rattle.lsp_replay.proofs.JsonLines.PlainLemmas.{escape_plain, quoted_plain}
+use Rattle.lsp_replay.proofs.JsonLines.FitLemmas.{IsBody, IsFit, canonical_json, document_fits, id_fits, judged_fits, last_fits, method_utf8, text_utf8, uri_utf8}
+use Rattle.lsp_replay.proofs.JsonLines.PlainLemmas.{escape_plain, utf8_plain}
 use Rattle.lsp_replay.proofs.JsonLines.ReasonPlainLemmas.{plain_note, plain_reason, plain_side, plain_verdict}
 use Rattle.lsp_replay.proofs.JsonLines.StringLemmas.{are_visible}
-use Rattle.lsp_replay.proofs.JsonLines.ValueLemmas.{AreMembers, AreRead, IsFront, IsJson, IsValue, IsValueIf, a_body, a_compact, a_member, a_member_if, a_natural, a_plain, a_quoted, a_string, a_text, an_integer, an_object, last_read, no_more}
+use Rattle.lsp_replay.proofs.JsonLines.ValueLemmas.{AreRead, IsValue, IsValueIf, a_body, a_compact, a_member, a_member_if, a_natural, a_plain, a_quoted, a_string, a_text, an_integer, an_object, last_read, no_more}
 use Rattle.lsp_replay.proofs.Records.ReadLemmas.{OnSome}
 
 -- ---- values that are there or not
 
-strings_if : (o : Option (List ℕ)) → IsValueIf (option_map json_string o) (option_map json.string o)
+strings_if : (o : Option (List ℕ)) → OnSome IsUtf8 o → IsValueIf (option_map json_string o) (option_map json.string o)
 unfolding json_string
-strings_if None = tt
-strings_if (Some s) = a_string s
+strings_if None is = tt
+strings_if (Some s) is = a_string s is
 
 id_if : (id : Option IdData) → OnSome IsProperId id → IsValueIf (option_map id_json id) (option_map id_value id)
 unfolding json_string
 id_if None is = tt
 id_if (Some (whole z)) is = an_integer z is
-id_if (Some (text s)) is = a_string s
+id_if (Some (text s)) is = a_string s is
 
 naturals_if : (o : Option ℕ) → OnSome (λ n. n < 2 ^ 64) o → IsValueIf (option_map decimal o) (option_map natural o)
 naturals_if None is = tt
@@ -64,11 +65,12 @@ version_if : (entry : Option DocumentItem) → OnSome (λ (e : DocumentItem). Fi
 version_if None is = tt
 version_if (Some entry) is = an_integer entry.version (wider entry.version is)
 
-text_if : (is_asked : Bool) (entry : Option DocumentItem) → IsValueIf (text_json is_asked entry) (text_value is_asked entry)
+text_if : (is_asked : Bool) (entry : Option DocumentItem) → OnSome (λ (e : DocumentItem). IsUtf8 e.text) entry
+    → IsValueIf (text_json is_asked entry) (text_value is_asked entry)
 unfolding json_string
-text_if false entry = tt
-text_if true None = tt
-text_if true (Some entry) = a_string entry.text
+text_if false entry is = tt
+text_if true None is = tt
+text_if true (Some entry) is = a_string entry.text is
 
 reason_by : (b : Bool) (limits : LimitsData) (m : IncomingData) (answer : AnswerData Sent)
     → IsValueIf (if b then Some (codes "\"" ++ reason_words limits (change_in m) answer ++ codes "\"") else None)
@@ -124,6 +126,22 @@ notes_flat : (notes : List Note) → items_depth (items_outline (view.items_of (
 notes_flat [] = refl
 notes_flat (note ∷ notes) = omega (arith, notes_flat notes)
 
+notes_utf8 : (notes : List Note) → IsUtf8 (flat_map (λ note. codes "\",\"" ++ note_words note) notes)
+notes_utf8 [] = IsUtf8-nil
+notes_utf8 (note ∷ notes) =
+    IsUtf8-append (codes "\",\"" ++ note_words note) (flat_map (λ note. codes "\",\"" ++ note_words note) notes)
+    (IsUtf8-append (codes "\",\"") (note_words note) (IsUtf8-are_ascii (codes "\",\"") refl)
+    (utf8_plain (note_words note) (plain_note note))) (notes_utf8 notes)
+
+array_utf8 : (note : Note) (notes : List Note)
+    → IsUtf8 (codes "[\"" ++ notes_words (codes "\",\"") (note ∷ notes) ++ codes "\"]")
+array_utf8 note notes =
+    IsUtf8-append (codes "[\"" ++ notes_words (codes "\",\"") (note ∷ notes)) (codes "\"]")
+    (IsUtf8-append (codes "[\"") (notes_words (codes "\",\"") (note ∷ notes)) (IsUtf8-are_ascii (codes "[\"") refl)
+    (IsUtf8-append (note_words note) (flat_map (λ note. codes "\",\"" ++ note_words note) notes)
+    (utf8_plain (note_words note) (plain_note note)) (notes_utf8 notes)))
+    (IsUtf8-are_ascii (codes "\"]") refl)
+
 notes_if : (notes : List Note) → IsValueIf (notes_json notes) (notes_value notes)
 notes_if [] = tt
 notes_if (note ∷ notes) =
@@ -132,25 +150,27 @@ notes_if (note ∷ notes) =
     (subst (λ bytes. IsValue bytes (outline (tree.array (view.items_of (map note_data (note ∷ notes))))))
     (sym (notes_text note notes))
     (a_compact (tree.array (view.items_of (map note_data (note ∷ notes)))) (notes_numbers (note ∷ notes))
-    (omega (arith, notes_flat (note ∷ notes)))))
+    (omega (arith, notes_flat (note ∷ notes))) (subst IsUtf8 (notes_text note notes) (array_utf8 note notes))))
 
 -- ---- bodies
 
-body_if : (is_asked : Bool) (body : List ℕ) → (is_asked ≡ true → (j : Json) × IsJson body j)
+body_if : (is_asked : Bool) (body : List ℕ) → (is_asked ≡ true → IsBody body)
     → IsValueIf (body_json is_asked body) (body_value is_asked body)
 body_if false body is = tt
 body_if true body is =
     let found = is refl in
-    let j = found.0 in
-    subst (λ o. IsValueIf (body_json true body) o) (sym found.1.document) (a_body body j found.1)
+    subst (λ o. IsValueIf (body_json true body) o) (sym found.json.document)
+    (a_body body found.value found.utf8 found.json)
 
 canonical_if : (o : Option (List ℕ))
-    → ((body : List ℕ) → o ≡ Some body → ((j : Json) × IsJson body j) × (are_visible body ≡ true))
+    → ((body : List ℕ) → o ≡ Some body → IsBody body × (are_visible body ≡ true))
     → IsValueIf o (option_and_then document o)
 canonical_if None is = tt
 canonical_if (Some body) is =
-    let found = is body refl in
-    subst (λ v. IsValueIf (Some body) v) (sym found.0.1.document) (a_text body found.0.0 found.1 found.0.1)
+    let both = is body refl in
+    let found = both.0 in
+    subst (λ v. IsValueIf (Some body) v) (sym found.json.document)
+    (a_text body found.value both.1 found.utf8 found.json)
 
 -- ---- the line of `trace`
 
@@ -212,27 +232,28 @@ module _ (limits : LimitsData) (ranges : AreInRange limits) (details : Details) 
   are_read : AreRead last_texts last_values
   unfolding escape_byte
   are_read = (
-    refl,
+    (refl, refl),
     reason_if j.session.server.config.limits m j.verdict,
     (
-      refl,
+      (refl, refl),
       naturals_if (last_for known.mentions uri j.verdict) (last_fits known.mentions uri j.verdict fits.mentions),
       (
-        refl,
+        (refl, refl),
         notes_if (notes_of s known.ranged r.body j.verdict),
         (
-          refl,
+          (refl, refl),
           version_if (document_after j.session.server.table uri)
               (document_fits j.session.server.table uri after.versions),
           (
-            refl,
+            (refl, refl),
             canonical_if (within s.server.config.limits.max_body (canonical_of_record s r.body j.verdict))
                 (λ body e. canonical_json limits ranges s r body fits.held e),
             (
-              refl,
-              text_if (details.texts && has_changed j.verdict) (document_after j.session.server.table uri),
+              (refl, refl),
+              text_if (details.texts && has_changed j.verdict) (document_after j.session.server.table uri)
+                  (text_utf8 limits j.session.server.table uri after.held.table),
               (
-                refl,
+                (refl, refl),
                 body_if (details.bodies && is_json m) r.body
                     (λ e. fit.body_json r.body (and_parts details.bodies (is_json m) e).1),
                 tt,
@@ -248,19 +269,20 @@ module _ (limits : LimitsData) (ranges : AreInRange limits) (details : Details) 
   unfolding escape_byte
   trace_json =
       let word = a_quoted (codes ",\"word\":") (codes "word") (verdict_word j.verdict) (last_members last_texts)
-      (members_with last_values) refl (plain_verdict j.verdict) (last_read last_texts last_values are_read) in
+      (members_with last_values) (refl, refl) (plain_verdict j.verdict) (last_read last_texts last_values are_read) in
       let with_uri = a_member_if (codes ",\"uri\":") (codes "uri") _ (option_map json_string uri)
-      (option_map json.string uri) _ refl (strings_if uri) word in
+      (option_map json.string uri) _ (refl, refl) (strings_if uri (uri_utf8 r.head.side r.body)) word in
       let with_id = a_member_if (codes ",\"id\":") (codes "id") _ (option_map id_json (id_of m))
-      (option_map id_value (id_of m)) _ refl (id_if (id_of m) (id_fits r.body)) with_uri in
+      (option_map id_value (id_of m)) _ (refl, refl) (id_if (id_of m) (id_fits r.body)) with_uri in
       let with_method = a_member_if (codes ",\"method\":") (codes "method") _ (option_map json_string (method_of m))
-      (option_map json.string (method_of m)) _ refl (strings_if (method_of m)) with_id in
-      let from = a_quoted (codes ",\"from\":") (codes "from") (side_word r.head.side) _ _ refl (plain_side r.head.side)
-      with_method in
+      (option_map json.string (method_of m)) _ (refl, refl)
+      (strings_if (method_of m) (method_utf8 r.body)) with_id in
+      let from = a_quoted (codes ",\"from\":") (codes "from") (side_word r.head.side) _ _ (refl, refl)
+      (plain_side r.head.side) with_method in
       let offset = a_member (codes ",\"offset\":") (codes "offset") (decimal r.head.place) _ (natural r.head.place) _
-      refl (a_natural r.head.place place) from in
+      (refl, refl) (a_natural r.head.place place) from in
       let line = an_object (codes "{\"number\":") (codes "number") (decimal j.session.records) _
-      (natural j.session.records) _ refl (a_natural j.session.records after.records) offset in
+      (natural j.session.records) _ refl refl (a_natural j.session.records after.records) offset in
       subst (λ l. IsJsonLine l (trace_value details known s r j m))
       (sym (regroup (codes "{\"number\":") (decimal j.session.records) (codes ",\"offset\":") (decimal r.head.place)
       (codes ",\"from\":\"") (side_word r.head.side) (codes "\"")
@@ -276,19 +298,20 @@ document_regroup : (a l b t c u d v e f : List ℕ)
     ≡ a ++ (l ++ (b ++ (t ++ (c ++ (u ++ (d ++ (v ++ (e ++ f))))))))
 document_regroup a l b t c u d v e f = simp append_assoc
 
-pub document_json : (entry : DocumentItem) → FitsSigned w32 entry.version
+pub document_json : (entry : DocumentItem) → IsProperDocument entry
     → IsJsonLine (document_line entry) (document_value entry)
 unfolding document_line escape_byte
-document_json entry fits =
+document_json entry proper =
     let version = a_member (codes ",\"version\":") (codes "version") (signed_decimal entry.version) (codes "}\n")
-    (integer entry.version) json.no_members refl (an_integer entry.version (wider entry.version fits)) no_more in
-    let with_uri = a_member (codes ",\"uri\":") (codes "uri") (quoted entry.uri) _ (json.string entry.uri) _ refl
-    (a_string entry.uri) version in
-    let with_text = a_member (codes ",\"text\":") (codes "text") (quoted entry.text) _ (json.string entry.text) _ refl
-    (a_string entry.text) with_uri in
+    (integer entry.version) json.no_members (refl, refl) (an_integer entry.version (wider entry.version proper.version))
+    no_more in
+    let with_uri = a_member (codes ",\"uri\":") (codes "uri") (quoted entry.uri) _ (json.string entry.uri) _
+    (refl, refl) (a_string entry.uri proper.uri) version in
+    let with_text = a_member (codes ",\"text\":") (codes "text") (quoted entry.text) _ (json.string entry.text) _
+    (refl, refl) (a_string entry.text proper.text) with_uri in
     subst (λ l. IsJsonLine l (document_value entry))
     (sym (document_regroup (codes "{\"languageId\":") (quoted entry.language) (codes ",\"text\":") (quoted entry.text)
     (codes ",\"uri\":") (quoted entry.uri) (codes ",\"version\":") (signed_decimal entry.version) (codes "}")
     (codes "\n")))
     (an_object (codes "{\"languageId\":") (codes "languageId") (quoted entry.language) _ (json.string entry.language) _
-    refl (a_string entry.language) with_text)
+    refl refl (a_string entry.language proper.language) with_text)

@@ -1,15 +1,15 @@
 -- Texts that need no escape in a JSON string, and texts without line breaks.
-use Rattle.std.proofs.Common.{◌≡◌, ◌⊎◌, inl, inr, ℕ, ℤ, pos, negsuc, zero, suc, ◌+◌, ◌/◌, ◌%◌, ◌<◌, ◌≤◌, Bool, true, false, cond, ◌&&◌, ◌||◌, ◌==◌, List, [], ◌∷◌, ◌++◌, decimal, refl, sym, ap, ◌∙◌, subst, arith}
+use Rattle.std.proofs.Common.{◌≡◌, ◌⊎◌, inl, inr, ℕ, ℤ, pos, negsuc, zero, suc, ◌+◌, ◌/◌, ◌%◌, ◌<◌, ◌≤◌, Bool, true, false, cond, ◌&&◌, ◌||◌, ◌==◌, List, [], ◌∷◌, ◌++◌, decimal, refl, sym, ap, ◌∙◌, arith, IsUtf8}
 use Rattle.std.specs.Prelude.{if◌then◌else◌, nat_le, nat_lt, not}
 use Rattle.std.specs.Char.{digit_char}
 use Rattle.std.specs.Fmt.{digit_glyph, digits, digits_onto, signed_decimal}
 use Rattle.std.specs.List.{list_all}
 use Rattle.std.proofs.Math.Nat.{mod-lt}
-use Rattle.std.proofs.lemmas.Bool.{and_from, and_parts, cases_Bool, cases_lt, eqb-false, eqb-true, le-leb, le-ltb, leb-true, lt-ltb, ltb-false, ltb-true, ne_eqb, or_cases, or_parts}
+use Rattle.std.proofs.lemmas.Bool.{and_from, and_parts, cases_Bool, eqb-false, eqb-true, le-leb, le-ltb, lt-ltb, ltb-false, ltb-true, ne_eqb, or_cases}
 use Rattle.std.proofs.lemmas.List.Folds.{list_all-append}
 use Rattle.json.specs.Run.{is_plain}
-use Rattle.json.specs.Print.{escape, escape_byte, escape_letter, quoted, token_text}
-use Rattle.json.specs.Token as token
+use Rattle.json.specs.Print.{escape, escape_byte, escape_letter, quoted}
+use Rattle.json.proofs.Printed.Utf8.{are_ascii, IsUtf8-are_ascii}
 use Rattle.json.proofs.Printed.Strings.{escape_byte_plain}
 use Rattle.serde_json.specs.Data.{Num, unsigned, negative, float, Data, null, boolean, number, string, array, object, Items, no_items, item, Members, no_members, member}
 use Rattle.serde_json.specs.Written.{comma_if, compact_text, items_text, members_text, number_text}
@@ -17,20 +17,27 @@ use Rattle.lsp_replay.proofs.JsonLines.StringLemmas.{are_visible}
 
 -- ---- texts that need no escape
 
--- no byte needs an escape
+-- a byte of ASCII that needs no escape
+abbrev pub is_ascii_plain : ℕ → Bool
+is_ascii_plain x = is_plain x && nat_lt x 128
+
+-- each byte is such a one
 abbrev pub IsPlain : List ℕ → Type 0
-IsPlain s = list_all is_plain s ≡ true
+IsPlain s = list_all is_ascii_plain s ≡ true
 
 pub plain-append : (xs ys : List ℕ) → IsPlain xs → IsPlain ys → IsPlain (xs ++ ys)
-plain-append xs ys h k = list_all-append is_plain xs ys ∙ and_from (list_all is_plain xs) (list_all is_plain ys) h k
+plain-append xs ys h k =
+    list_all-append is_ascii_plain xs ys
+    ∙ and_from (list_all is_ascii_plain xs) (list_all is_ascii_plain ys) h k
 
 record IsPlainByte (x : ℕ) : Type 0 where
   quote : x ≡ 34 → ⊥
   backslash : x ≡ 92 → ⊥
   high : 32 ≤ x
 
-plain_byte : (x : ℕ) → is_plain x ≡ true → IsPlainByte x
-plain_byte x h =
+plain_byte : (x : ℕ) → is_ascii_plain x ≡ true → IsPlainByte x
+plain_byte x both =
+    let h = (and_parts (is_plain x) (nat_lt x 128) both).0 in
     let stop = by ((x == 34) || (x == 92) || nat_lt x 32) h in
     let parts = stops (x == 34) (x == 92) (nat_lt x 32) stop in
     record { quote = eqb-false x 34 parts.0; backslash = eqb-false x 92 parts.1; high = ltb-false x 32 parts.2 }
@@ -48,7 +55,7 @@ plain_byte x h =
 pub escape_plain : (s : List ℕ) → IsPlain s → escape s ≡ s
 escape_plain [] h = refl
 escape_plain (x ∷ s) h =
-    let both = and_parts (is_plain x) (list_all is_plain s) h in
+    let both = and_parts (is_ascii_plain x) (list_all is_ascii_plain s) h in
     let byte = plain_byte x both.0 in
     ap (λ l. l ++ escape s) (escape_byte_plain x byte.quote byte.backslash byte.high)
     ∙ ap (λ l. x ∷ l) (escape_plain s both.1)
@@ -57,14 +64,24 @@ escape_plain (x ∷ s) h =
 pub quoted_plain : (s : List ℕ) → IsPlain s → 34 ∷ (s ++ 34 ∷ []) ≡ quoted s
 quoted_plain s h = ap (λ l. 34 ∷ (l ++ 34 ∷ [])) (sym (escape_plain s h))
 
+ascii_plain : (s : List ℕ) → IsPlain s → are_ascii s ≡ true
+ascii_plain [] h = refl
+ascii_plain (x ∷ s) h =
+    let both = and_parts (is_ascii_plain x) (list_all is_ascii_plain s) h in
+    and_from (nat_lt x 128) (are_ascii s) (and_parts (is_plain x) (nat_lt x 128) both.0).1 (ascii_plain s both.1)
+
+pub utf8_plain : (s : List ℕ) → IsPlain s → IsUtf8 s
+utf8_plain s h = IsUtf8-are_ascii s (ascii_plain s h)
+
 -- ---- digits
 
-plain_digit : (d : ℕ) → d < 10 → is_plain (digit_glyph false d) ≡ true
+plain_digit : (d : ℕ) → d < 10 → is_ascii_plain (digit_glyph false d) ≡ true
 plain_digit d l = rw (
   lt-ltb d 10 l,
   ne_eqb (48 + d) 34 (λ e. omega arith),
   ne_eqb (48 + d) 92 (λ e. omega arith),
   le-ltb (48 + d) 32 (omega arith),
+  lt-ltb (48 + d) 128 (omega arith),
 )
 
 either_plain : (b : Bool) (x y : List ℕ) → IsPlain x → IsPlain y → IsPlain (if b then x else y)
@@ -75,7 +92,7 @@ plain_onto : (k n : ℕ) (acc : List ℕ) → IsPlain acc → IsPlain (digits_on
 plain_onto zero n acc h = h
 plain_onto (suc k) n acc h =
     let more : IsPlain (digit_glyph false (n % 10) ∷ acc) =
-    and_from (is_plain (digit_glyph false (n % 10))) (list_all is_plain acc)
+    and_from (is_ascii_plain (digit_glyph false (n % 10))) (list_all is_ascii_plain acc)
     (plain_digit (n % 10) (mod-lt n (omega arith))) h in
     either_plain (n / 10 == 0) (digit_glyph false (n % 10) ∷ acc) _ more
     (plain_onto k (n / 10) (digit_glyph false (n % 10) ∷ acc) more)
@@ -99,7 +116,7 @@ visible-append (x ∷ xs) ys h k =
 pub visible_plain : (s : List ℕ) → IsPlain s → are_visible s ≡ true
 visible_plain [] h = refl
 visible_plain (x ∷ s) h =
-    let both = and_parts (is_plain x) (list_all is_plain s) h in
+    let both = and_parts (is_ascii_plain x) (list_all is_ascii_plain s) h in
     let byte = plain_byte x both.0 in
     and_from (nat_le 32 x) (are_visible s) (le-leb 32 x byte.high) (visible_plain s both.1)
 

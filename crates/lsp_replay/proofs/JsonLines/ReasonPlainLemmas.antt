@@ -1,10 +1,7 @@
 -- The words of a line need no escape in a JSON string.
-use Rattle.std.proofs.Common.{◌≡◌, ℕ, ℤ, Bool, true, false, ◌==◌, List, [], ◌∷◌, ◌++◌, Option, Some, None, decimal, refl}
+use Rattle.std.proofs.Common.{ℕ, Bool, true, false, ◌==◌, List, ◌++◌, Option, Some, None, refl}
 use Rattle.std.specs.Prelude.{codes, if◌then◌else◌}
-use Rattle.std.specs.Fmt.{signed_decimal}
-use Rattle.std.specs.List.{list_all}
 use Rattle.std.proofs.lemmas.List.Folds.{list_all-append}
-use Rattle.json.specs.Run.{is_plain}
 use Rattle.lsp_frame.specs.Limits.{LimitsData}
 use Rattle.lsp_text.specs.declared.position.Position.{Position}
 use Rattle.lsp_text.specs.declared.position.Range.{Range}
@@ -27,12 +24,12 @@ use Rattle.lsp_log.specs.declared.record.Sender.{Sender}
 use Rattle.lsp_log.specs.declared.record.Sender.TheVariants.{Client, Server}
 use Rattle.lsp_replay.specs.declared.notes.Note.{Note}
 use Rattle.lsp_replay.specs.declared.notes.Note.TheVariants.{OpenAlready, OldVersion, NoChanges, WholeText, PastEnd, WrongLength, SameText}
-use Rattle.lsp_replay.specs.Commands.{code_word, verdict_word, word_of}
+use Rattle.lsp_replay.specs.Commands.{code_word, verdict_word}
 use Rattle.lsp_replay.specs.Notes.{change_words, note_words, past_words, side_words}
-use Rattle.lsp_replay.specs.Reasons.{edit_reason, end_words, error_reason, position_words, range_sent, reason_words, refusal_reason, store_reason, version_words}
+use Rattle.lsp_replay.specs.Reasons.{edit_reason, end_words, error_reason, position_words, range_sent, reason_words, store_reason, version_words}
 use Rattle.lsp_replay.specs.Session.{Verdict, answered, recorded, bad}
 use Rattle.lsp_replay.specs.Trace.{side_word}
-use Rattle.lsp_replay.proofs.JsonLines.PlainLemmas.{IsPlain, plain-append, plain_decimal, plain_signed}
+use Rattle.lsp_replay.proofs.JsonLines.PlainLemmas.{IsPlain, is_ascii_plain, plain-append, plain_decimal, plain_signed}
 
 -- ---- the word of an answer
 
@@ -79,7 +76,7 @@ plain_verdict bad = refl
 -- ---- the words of a reason
 
 plain_position : (p : Position) → IsPlain (position_words p)
-plain_position p = simp (list_all-append is_plain, plain_decimal)
+plain_position p = simp (list_all-append is_ascii_plain, plain_decimal)
 
 plain_end : (side : Side) (range : Option Range) → IsPlain (end_words side range)
 plain_end side None = refl
@@ -92,10 +89,10 @@ plain_version (Some p) = plain_signed p.version
 
 plain_edit : (p : Option ChangeData) (fault : EditFault) → IsPlain (edit_reason p fault)
 plain_edit p (InsideCharacter change side) =
-    simp (list_all-append is_plain, plain_decimal (one_more change), plain_end side (range_sent p change))
+    simp (list_all-append is_ascii_plain, plain_decimal (one_more change), plain_end side (range_sent p change))
 plain_edit p (ReversedRange change) =
     simp (
-      list_all-append is_plain,
+      list_all-append is_ascii_plain,
       plain_decimal (one_more change),
       plain_end Start (range_sent p change),
       plain_end Stop (range_sent p change),
@@ -108,8 +105,8 @@ plain_store limits p TooManyDocuments = plain_decimal limits.max_docs
 plain_store limits p TextTooLong = plain_decimal limits.max_text
 plain_store limits p NotOpen = refl
 plain_store limits p (StaleVersion current) =
-    simp (list_all-append is_plain, plain_version p, plain_signed current)
-plain_store limits p TooManyChanges = simp (list_all-append is_plain, plain_decimal limits.max_changes)
+    simp (list_all-append is_ascii_plain, plain_version p, plain_signed current)
+plain_store limits p TooManyChanges = simp (list_all-append is_ascii_plain, plain_decimal limits.max_changes)
 plain_store limits p (Edit fault) = plain_edit p fault
 plain_store limits p (BodyTooLong len) = refl
 plain_store limits p NoMemory = refl
@@ -151,7 +148,7 @@ plain_past sent taken = either_plain (sent.line == taken.line) _ _ refl refl
 
 pub plain_note : (note : Note) → IsPlain (note_words note)
 plain_note OpenAlready = refl
-plain_note (OldVersion sent current) = simp (list_all-append is_plain, plain_signed)
+plain_note (OldVersion sent current) = simp (list_all-append is_ascii_plain, plain_signed)
 plain_note NoChanges = refl
 plain_note (WholeText index) =
     plain-append (change_words index) (codes " is the whole text, and the server asked for ranges")
@@ -166,5 +163,5 @@ plain_note (PastEnd index side sent taken) =
     (plain-append (change_words index ++ side_words side) (position_words sent)
     (plain-append (change_words index) (side_words side) (plain_change index) (plain_from side))
     (plain_position sent)) (plain_past sent taken)) (plain_position taken)) refl
-plain_note (WrongLength index sent replaced) = simp (list_all-append is_plain, plain_decimal)
+plain_note (WrongLength index sent replaced) = simp (list_all-append is_ascii_plain, plain_decimal)
 plain_note (SameText index) = plain-append (change_words index) (codes " changes nothing") (plain_change index) refl

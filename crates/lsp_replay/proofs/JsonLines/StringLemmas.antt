@@ -1,7 +1,7 @@
 -- A JSON string up to its closing quotation mark, whatever comes after it. No line break is in it.
-use Rattle.std.proofs.Common.{◌≡◌, ◌≢◌, ◌⊎◌, inl, inr, ℕ, ◌<◌, ◌≤◌, Bool, true, false, cond, ◌&&◌, ◌==◌, List, [], ◌∷◌, ◌++◌, Option, Some, None, option_and_then, refl, sym, ap, ◌∙◌, subst, arith}
+use Rattle.std.proofs.Common.{◌≡◌, ◌⊎◌, inl, inr, ℕ, ◌<◌, ◌≤◌, Bool, true, false, cond, ◌&&◌, ◌==◌, List, [], ◌∷◌, ◌++◌, Option, Some, None, option_and_then, refl, sym, ap, ◌∙◌, subst, arith}
 use Rattle.std.specs.Prelude.{if◌then◌else◌, nat_le}
-use Rattle.std.specs.Char.{is_digit, digit_value, encode_utf8}
+use Rattle.std.specs.Char.{is_digit, encode_utf8}
 use Rattle.std.proofs.lemmas.Bool.{and_parts, cases_Bool, cases_eq, cases_lt, eqb-true, leb-true, le-ltb, lt-ltb, ne_eqb}
 use Rattle.json.specs.Text.{Within, plain, after_backslash, after_u, after_high, content, prepend, code_unit, short_escape, is_high_surrogate, is_low_surrogate, surrogate_pair}
 use Rattle.json.specs.Word.{is_operator, is_space}
@@ -313,7 +313,8 @@ module _ (drops : ℕ → Bool) (kept : (x : ℕ) → 32 ≤ x → drops x ≡ f
                 step_unit a b c d u (k.inside ++ 34 ∷ r) e ∙ unit_high (k.inside ++ 34 ∷ r) u high ∙ k.reads r;
             lexes = λ r. lex-unit a b c d (k.inside ++ 34 ∷ r) digits ∙ k.lexes r;
           }
-      by u e digits is (inr high) (inl low) = absurd (let no : None ≡ Some s = sym (unit_low xs u true high low) ∙ is in cc)
+      by u e digits is (inr high) (inl low) =
+          absurd (let no : None ≡ Some s = sym (unit_low xs u true high low) ∙ is in cc)
       by u e digits is (inr high) (inr low) =
           let parts = prepended (encode_utf8 u) (content plain xs) s
           (sym (unit_low xs u false high low) ∙ is) in

@@ -1,19 +1,22 @@
 -- Values and members of an object, as they are written one after another.
-use Rattle.std.proofs.Common.{◌≡◌, ◌⊎◌, inl, inr, ℕ, ℤ, ◌^◌, ◌<◌, ◌≤◌, FitsSigned, Bool, true, false, ◌||◌, ◌==◌, List, [], ◌∷◌, ◌++◌, Option, Some, None, option_and_then, refl, sym, ap, ap₂, ◌∙◌, subst, arith, append_assoc, append-nil, decimal}
+use Rattle.std.proofs.Common.{◌≡◌, ◌⊎◌, inl, inr, ℕ, suc, ℤ, ◌^◌, ◌<◌, ◌≤◌, FitsSigned, Bool, true, false, ◌||◌, ◌==◌, List, [], ◌∷◌, ◌++◌, Option, Some, None, option_and_then, refl, sym, ap, ap₂, ◌∙◌, subst, arith, append_assoc, append-nil, decimal, IsUtf8, length, get_or}
 use Rattle.std.specs.Fmt.{signed_decimal}
 use Rattle.std.specs.Int.{w64}
 use Rattle.std.specs.Prelude.{⊤, codes, if◌then◌else◌}
-use Rattle.std.proofs.lemmas.Bool.{cases_Bool, eqb-true, or_cases}
+use Rattle.std.proofs.lemmas.Bool.{and_parts, cases_Bool, cases_lt, eqb-true, or_cases}
+use Rattle.std.proofs.lemmas.Str.{IsUtf8-append, IsUtf8-encode, IsUtf8-nil, encode_ascii, inside_one}
+use lib.Utf8.{encode, encodes, scalar, scalars}
 use Rattle.json.specs.Token.{Token}
 use Rattle.json.specs.Json as json
 use Rattle.json.specs.Json.{Json, Items, Members, document, if_last, value}
 use Rattle.json.specs.Word.{ends_word}
-use Rattle.json.specs.Lex.{Lexeme, token, comma, colon, lex, between, fresh, after_value, begins_colon, punctuate, tokens}
+use Rattle.json.specs.Lex.{token, comma, colon, lex, between, fresh, after_value, begins_colon, punctuate, tokens}
 use Rattle.json.specs.Print.{ends, print, quoted, ArePrintable}
 use Rattle.json.specs.Tree.{depth, members_depth, json_tokens, items_tokens, members_tokens, HasNumbers}
 use Rattle.json.proofs.Nesting.{value-depth}
 use Rattle.json.proofs.Numbered.{ArePrintableOrBad-tokens, value-HasNumbers}
 use Rattle.json.proofs.Printed.Decimals.{IsNumber-decimal, IsNumber-signed_decimal}
+use Rattle.json.proofs.Printed.Utf8.{IsUtf8-are_ascii, IsUtf8-quoted, are_ascii}
 use Rattle.json.proofs.Printed.Trees.{ArePrintable-json_tokens, value-json_tokens}
 use Rattle.json.proofs.Unique.Spelling.{value-json_tokens_back}
 use Rattle.serde_json.specs.Data.{Data, number, unsigned, negative, string}
@@ -24,7 +27,7 @@ use Rattle.lsp_replay.specs.laws.JsonLines.{IsJsonLine, member_if, members_with}
 use Rattle.lsp_replay.specs.Trace.{last_members, member, one_line}
 use Rattle.lsp_replay.proofs.JsonLines.PrintedLemmas.{ended, lex-printed, lex-quoted, place, punctuate-printed}
 use Rattle.lsp_replay.proofs.JsonLines.StringLemmas.{are_visible, stays_text, then_some, without}
-use Rattle.lsp_replay.proofs.JsonLines.PlainLemmas.{IsPlain, one_visible, quoted_plain, visible-append, visible_compact, visible_quoted}
+use Rattle.lsp_replay.proofs.JsonLines.PlainLemmas.{IsPlain, one_visible, quoted_plain, visible-append, visible_compact, visible_quoted, plain_decimal, plain_signed, utf8_plain}
 use Rattle.lsp_replay.proofs.JsonLines.WithinLemmas.{kept, punctuate-then, same_lexemes}
 
 -- ---- the last token of a value
@@ -173,6 +176,44 @@ unbroken s h =
     sym (one_line_is s) ∙ ap (without is_break) (sym (append-nil s))
     ∙ stays_text is_break (kept is_break is_break_of) s [] h ∙ append-nil s
 
+visible_high : (xs : List ℕ) → ((k : ℕ) → k < length xs → 128 ≤ get_or xs k 0) → are_visible xs ≡ true
+visible_high [] h = refl
+visible_high (x ∷ xs) h =
+    let high : 128 ≤ x = h 0 (omega arith) in
+    one_visible x xs (omega arith) (visible_high xs (λ k l. h (suc k) (omega arith)))
+
+one_line_char : (c : ℕ) → scalar c ≡ true → IsUtf8 (one_line (encode c))
+one_line_char c ok = by (cases_lt c 128)
+  where
+    small : c < 128 → (is_break c ≡ true) ⊎ (is_break c ≡ false) → IsUtf8 (one_line (c ∷ []))
+    small l (inl e) = subst IsUtf8 (sym (gone c [] e)) IsUtf8-nil
+    small l (inr e) = subst IsUtf8 (encode_ascii c l ∙ sym (stays c [] e)) (IsUtf8-encode c ok)
+
+    high : 128 ≤ c → (k : ℕ) → k < length (encode c) → (get_or (encode c) k 0 < 128) ⊎ (128 ≤ get_or (encode c) k 0)
+        → 128 ≤ get_or (encode c) k 0
+    high l k below (inl low) =
+        absurd (let same : c ≡ get_or (encode c) k 0 = inside_one c [] (encode c) k (sym (append-nil (encode c))) below
+        low in let never : ⊥ = omega arith in never)
+    high l k below (inr is) = is
+
+    by : (c < 128) ⊎ (128 ≤ c) → IsUtf8 (one_line (encode c))
+    by (inl l) = subst (λ bytes. IsUtf8 (one_line bytes)) (sym (encode_ascii c l)) (small l (cases_Bool (is_break c)))
+    by (inr l) =
+        subst IsUtf8
+        (sym (unbroken (encode c) (visible_high (encode c) (λ k below. high l k below
+        (cases_lt (get_or (encode c) k 0) 128))))) (IsUtf8-encode c ok)
+
+one_line_chars : (cs : List ℕ) → scalars cs ≡ true → IsUtf8 (one_line (encodes cs))
+one_line_chars [] e = IsUtf8-nil
+one_line_chars (c ∷ cs) e =
+    let both = and_parts (scalar c) (scalars cs) e in
+    subst IsUtf8 (sym (one_line-append (encode c) (encodes cs)))
+    (IsUtf8-append (one_line (encode c)) (one_line (encodes cs)) (one_line_char c both.0) (one_line_chars cs both.1))
+
+-- a text stays UTF-8 without its line breaks
+one_line_utf8 : (text : List ℕ) → IsUtf8 text → IsUtf8 (one_line text)
+one_line_utf8 text u = subst (λ bytes. IsUtf8 (one_line bytes)) u.1.1 (one_line_chars u.0 u.1.0)
+
 -- the same on one line
 one_line_text : (text : List ℕ) (j : Json) → IsJson text j → IsText (one_line text) j
 one_line_text text j is =
@@ -182,42 +223,55 @@ one_line_text text j is =
 
 pub record IsValue (bytes : List ℕ) (j : Json) : Type 0 where
   pub shallow : depth j ≤ max_depth
+  pub utf8 : IsUtf8 bytes
   pub text : IsText bytes j
   pub one : one_line bytes ≡ bytes
 
 -- what is printed
 pub a_compact : (d : Data) → HasNumbers (outline d) → depth (outline d) ≤ max_depth
-    → IsValue (compact_text d) (outline d)
-a_compact d numbers shallow = record {
+    → IsUtf8 (compact_text d) → IsValue (compact_text d) (outline d)
+a_compact d numbers shallow utf8 = record {
   shallow = shallow;
+  utf8 = utf8;
   text = subst (λ bytes. IsText bytes (outline d)) (print-outline d) (printed_text (outline d) numbers);
   one = unbroken (compact_text d) (visible_compact d);
 }
 
-pub a_string : (s : List ℕ) → IsValue (quoted s) (json.string s)
-a_string s = a_compact (string s) tt (omega arith)
+pub a_string : (s : List ℕ) → IsUtf8 s → IsValue (quoted s) (json.string s)
+a_string s u = a_compact (string s) tt (omega arith) (IsUtf8-quoted s u)
 
 -- a string whose text needs no escape
 pub a_plain : (s : List ℕ) → IsPlain s → IsValue (34 ∷ (s ++ 34 ∷ [])) (json.string s)
-a_plain s h = subst (λ bytes. IsValue bytes (json.string s)) (sym (quoted_plain s h)) (a_string s)
+a_plain s h = subst (λ bytes. IsValue bytes (json.string s)) (sym (quoted_plain s h)) (a_string s (utf8_plain s h))
 
 pub a_natural : (n : ℕ) → n < 2 ^ 64 → IsValue (decimal n) (json.number (decimal n))
 a_natural n h = a_compact (number (unsigned n)) (IsNumber-decimal n h) (omega arith)
+    (utf8_plain (decimal n) (plain_decimal n))
 
 pub an_integer : (z : ℤ) → FitsSigned w64 z → IsValue (signed_decimal z) (json.number (signed_decimal z))
 an_integer z h = a_compact (number (negative z)) (IsNumber-signed_decimal z h.sfits) (omega arith)
+    (utf8_plain (signed_decimal z) (plain_signed z))
 
 -- JSON without line breaks
-pub a_text : (text : List ℕ) (j : Json) → are_visible text ≡ true → IsJson text j → IsValue text j
-a_text text j h is = record { shallow = is.shallow; text = within_text text j is; one = unbroken text h }
+pub a_text : (text : List ℕ) (j : Json) → are_visible text ≡ true → IsUtf8 text → IsJson text j → IsValue text j
+a_text text j h u is = record {
+  shallow = is.shallow;
+  utf8 = u;
+  text = within_text text j is;
+  one = unbroken text h;
+}
 
 -- JSON on one line
-pub a_body : (text : List ℕ) (j : Json) → IsJson text j → IsValue (one_line text) j
-a_body text j is = record { shallow = is.shallow; text = one_line_text text j is; one = one_line_twice text }
+pub a_body : (text : List ℕ) (j : Json) → IsUtf8 text → IsJson text j → IsValue (one_line text) j
+a_body text j u is = record {
+  shallow = is.shallow;
+  utf8 = one_line_utf8 text u;
+  text = one_line_text text j is;
+  one = one_line_twice text;
+}
 
 -- ---- the members of an object, with its end
 
--- the lexemes of a name and the text before it
 abbrev name_visible : (name : List ℕ) → are_visible (quoted name ++ 58 ∷ []) ≡ true
 name_visible name = visible-append (quoted name) (58 ∷ []) (visible_quoted name) refl
 
@@ -228,18 +282,27 @@ EndsLine line = line ≡ one_line line ++ codes "\n"
 line_before : (front rest : List ℕ) → one_line front ≡ front → EndsLine rest → EndsLine (front ++ rest)
 line_before front rest e h =
     ap (λ l. front ++ l) h ∙ sym (append_assoc front (one_line rest) (codes "\n"))
-    ∙ ap (λ l. (l ++ one_line rest) ++ codes "\n") (sym e) ∙ ap (λ l. l ++ codes "\n") (sym (one_line-append front rest))
+    ∙ ap (λ l. (l ++ one_line rest) ++ codes "\n") (sym e)
+    ∙ ap (λ l. l ++ codes "\n") (sym (one_line-append front rest))
 
 pub record AreMembers (bytes : List ℕ) (ms : Members) : Type 0 where
   pub shallow : members_depth ms ≤ max_depth
   pub line : EndsLine bytes
+  pub utf8 : IsUtf8 bytes
   pub tokens : punctuate after_value (lex between bytes) ≡ members_tokens ms
   pub ends : ends_word bytes ≡ true
   pub no_colon : begins_colon (lex between bytes) ≡ false
 
 pub no_more : AreMembers (codes "}\n") json.no_members
 unfolding lex punctuate
-no_more = record { shallow = omega arith; line = refl; tokens = refl; ends = refl; no_colon = refl }
+no_more = record {
+  shallow = omega arith;
+  line = refl;
+  utf8 = IsUtf8-are_ascii (codes "}\n") refl;
+  tokens = refl;
+  ends = refl;
+  no_colon = refl;
+}
 
 lex-name : (name r : List ℕ) → lex between (quoted name ++ 58 ∷ r) ≡ token (Token.string name) ∷ colon ∷ lex between r
 unfolding lex
@@ -257,7 +320,7 @@ lex-first name r = ap (λ ls. token Token.begin_object ∷ ls) (lex-name name r)
 
 -- the comma and the name before a value
 abbrev pub IsFront : List ℕ → List ℕ → Type 0
-IsFront front name = front ≡ 44 ∷ (quoted name ++ 58 ∷ [])
+IsFront front name = (front ≡ 44 ∷ (quoted name ++ 58 ∷ [])) × (are_ascii front ≡ true)
 
 front_then : (c : ℕ) (front name rest : List ℕ) → front ≡ c ∷ (quoted name ++ 58 ∷ [])
     → front ++ rest ≡ c ∷ (quoted name ++ 58 ∷ rest)
@@ -277,18 +340,24 @@ IsValueIf None (Some j) = ⊥
 IsValueIf (Some bytes) None = ⊥
 IsValueIf (Some bytes) (Some j) = IsValue bytes j
 
+front_utf8 : (front bytes rest : List ℕ) {j : Json} → are_ascii front ≡ true → IsValue bytes j → IsUtf8 rest
+    → IsUtf8 (front ++ (bytes ++ rest))
+front_utf8 front bytes rest h value u =
+    IsUtf8-append front (bytes ++ rest) (IsUtf8-are_ascii front h) (IsUtf8-append bytes rest value.utf8 u)
+
 pub a_member : (front name bytes rest : List ℕ) (j : Json) (ms : Members) → IsFront front name → IsValue bytes j
     → AreMembers rest ms → AreMembers (front ++ (bytes ++ rest)) (json.member name j ms)
 unfolding punctuate
 a_member front name bytes rest j ms is value more =
-    let same = front_then 44 front name (bytes ++ rest) is in
+    let same = front_then 44 front name (bytes ++ rest) is.0 in
     let lexed = ap (lex between) same ∙ lex-front name (bytes ++ rest) in
     let value_shallow = value.shallow in
     let more_shallow = more.shallow in
     record {
       shallow = omega arith;
-      line = line_before front (bytes ++ rest) (front_visible 44 front name (omega arith) is)
+      line = line_before front (bytes ++ rest) (front_visible 44 front name (omega arith) is.0)
           (line_before bytes rest value.one more.line);
+      utf8 = front_utf8 front bytes rest is.1 value more.utf8;
       tokens = ap (punctuate after_value) lexed
           ∙ ap (λ ts. Token.key name ∷ ts) (value.text rest more.ends more.no_colon
           ∙ ap (λ ts. json_tokens j ++ ts) more.tokens);
@@ -308,21 +377,22 @@ a_member_if front name rest (Some bytes) (Some j) ms is value more =
 
 -- a line that is an object, from its first member on
 pub an_object : (front name bytes rest : List ℕ) (j : Json) (ms : Members)
-    → front ≡ 123 ∷ (quoted name ++ 58 ∷ []) → IsValue bytes j → AreMembers rest ms
+    → front ≡ 123 ∷ (quoted name ++ 58 ∷ []) → are_ascii front ≡ true → IsValue bytes j → AreMembers rest ms
     → IsJsonLine (front ++ (bytes ++ rest)) (json.object (json.member name j ms))
 unfolding punctuate
-an_object front name bytes rest j ms is value more =
+an_object front name bytes rest j ms is ascii value more =
     let value_shallow = value.shallow in
     let more_shallow = more.shallow in
     record {
-  reads = document_by (front ++ (bytes ++ rest)) (json.object (json.member name j ms))
-      (ap tokens (front_then 123 front name (bytes ++ rest) is)
-      ∙ ap (punctuate fresh) (lex-first name (bytes ++ rest))
-      ∙ ap (λ ts. Token.begin_object ∷ Token.key name ∷ ts) (value.text rest more.ends more.no_colon
-      ∙ ap (λ ts. json_tokens j ++ ts) more.tokens)) (omega arith);
-  ends = line_before front (bytes ++ rest) (front_visible 123 front name (omega arith) is)
-      (line_before bytes rest value.one more.line);
-}
+      utf8 = front_utf8 front bytes rest ascii value more.utf8;
+      reads = document_by (front ++ (bytes ++ rest)) (json.object (json.member name j ms))
+          (ap tokens (front_then 123 front name (bytes ++ rest) is)
+          ∙ ap (punctuate fresh) (lex-first name (bytes ++ rest))
+          ∙ ap (λ ts. Token.begin_object ∷ Token.key name ∷ ts) (value.text rest more.ends more.no_colon
+          ∙ ap (λ ts. json_tokens j ++ ts) more.tokens)) (omega arith);
+      ends = line_before front (bytes ++ rest) (front_visible 123 front name (omega arith) is)
+          (line_before bytes rest value.one more.line);
+    }
 
 -- ---- members that are there or not
 

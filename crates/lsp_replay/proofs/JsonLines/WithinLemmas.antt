@@ -5,11 +5,11 @@ use Rattle.std.proofs.lemmas.Bool.{cases_Bool, eqb-true}
 use Rattle.json.specs.Token.{Token, begin_object, end_object, begin_array, end_array, key, string, number, boolean, null, bad}
 use Rattle.json.specs.Text.{content, plain}
 use Rattle.json.specs.Word.{after_number, ends_word, is_operator, is_space, word}
-use Rattle.json.specs.Lex.{Class, quote, backslash, operator, space, other, class, Lexeme, token, comma, colon, operator_lexeme, string_token, Mode, between, in_string, in_word, lex, lex_byte, Place, fresh, after_value, after_comma, after_key, begins_colon, may_begin, may_close, if_allowed, place_token, punctuate}
+use Rattle.json.specs.Lex.{Class, quote, backslash, operator, space, other, class, Lexeme, token, comma, colon, operator_lexeme, string_token, Mode, between, in_string, lex, lex_byte, Place, fresh, after_value, after_comma, after_key, begins_colon, may_begin, may_close, if_allowed, place_token, punctuate}
 use Rattle.json.specs.Print.{ends, token_text, IsPrintable, ArePrintable}
 use Rattle.lsp_replay.proofs.JsonLines.PrintedLemmas.{ended, lex-token_text, place, token_lexemes}
-use Rattle.lsp_replay.proofs.JsonLines.StringLemmas.{Closed, closed, without}
-use Rattle.lsp_replay.proofs.JsonLines.WordLemmas.{Word, is_word, word_is}
+use Rattle.lsp_replay.proofs.JsonLines.StringLemmas.{closed, without}
+use Rattle.lsp_replay.proofs.JsonLines.WordLemmas.{is_word, word_is}
 
 -- ---- the place after a lexeme
 

@@ -1,5 +1,5 @@
 -- A number, `true`, `false` or `null` at the front of a text. No line break is in it.
-use Rattle.std.proofs.Common.{◌≡◌, ◌⊎◌, inl, inr, ℕ, suc, ◌+◌, ◌-◌, ◌<◌, ◌≤◌, Bool, true, false, cond, ◌&&◌, ◌||◌, ◌==◌, List, [], ◌∷◌, ◌++◌, length, take, drop, Option, Some, None, option_and_then, refl, sym, ap, ◌∙◌, subst, arith, append_assoc, length-append, take_at}
+use Rattle.std.proofs.Common.{◌≡◌, ◌⊎◌, inl, inr, ℕ, suc, ◌+◌, ◌-◌, ◌≤◌, Bool, true, false, cond, ◌&&◌, ◌||◌, ◌==◌, List, [], ◌∷◌, ◌++◌, length, take, drop, Option, Some, None, option_and_then, refl, sym, ap, ◌∙◌, subst, arith, append_assoc, length-append, take_at}
 use Rattle.std.specs.Prelude.{if◌then◌else◌, nat_eq, ⊤}
 use Rattle.std.specs.Char.{is_ascii_digit}
 use Rattle.std.specs.List.{prefix_len, starts_with}
@@ -9,7 +9,7 @@ use Rattle.std.proofs.lemmas.Slice.Eq.{starts_is}
 use Rattle.json.specs.Token.{Token, begin_object, end_object, begin_array, end_array, key, string, number, boolean, null, bad}
 use Rattle.json.specs.Word.{after_digits, after_exponent, after_fraction, after_minus, after_number, after_sign, after_whole, ends_word, head, literal, number_before, word}
 use Rattle.json.specs.Print.{IsPrintable, token_text}
-use Rattle.lsp_replay.proofs.JsonLines.StringLemmas.{stays_text, without}
+use Rattle.lsp_replay.proofs.JsonLines.StringLemmas.{are_visible, stays_text, without}
 
 -- a word at the front of a text
 pub record Word (drops : ℕ → Bool) (text : List ℕ) (t : Token) : Type 0 where
@@ -153,25 +153,29 @@ module _ (drops : ℕ → Bool) (kept : (x : ℕ) → 32 ≤ x → drops x ≡ f
       → IsWord text (number_before text o)
   cut text None h p = absurd p
   cut text (Some rest) h p =
-      let size : length text - length rest ≡ length h.front = omega (arith, ap length h.is, length-append h.front rest) in
+      let size : length text - length rest ≡ length h.front =
+      omega (arith, ap length h.is, length-append h.front rest) in
       let front : take (length text - length rest) text ≡ h.front =
       ap (λ n. take n text) size ∙ ap (take (length h.front)) h.is ∙ take_at h.front rest (length h.front) refl in
       unless_bad text (ends_word rest) (number (take (length text - length rest) text))
       (λ e. subst (λ s. IsWord text (number s)) (sym front)
       (refl, record { rest = rest; is = h.is; ended = e; stays = h.stays })) p
 
-  begun : (text name : List ℕ) (t : Token) → token_text t ≡ name → is_word t ≡ true
-      → ((r : List ℕ) → without drops (name ++ r) ≡ name ++ without drops r)
-      → IsPrintable (literal name t text) → IsWord text (literal name t text)
-  begun text name t same is stays =
+  named : (text : List ℕ) (t : Token) → is_word t ≡ true → are_visible (token_text t) ≡ true
+      → IsPrintable (literal (token_text t) t text) → IsWord text (literal (token_text t) t text)
+  named text t is visible =
+      let name : List ℕ = token_text t in
       unless_bad text (starts_with nat_eq text name && ends_word (drop (length name) text)) t
       (λ e.
-      let both = and_parts (starts_with nat_eq text name) (ends_word (drop (length name) text)) e in
-      let found : text ≡ name ++ drop (length name) text =
-      (starts_is Decides-eqb text name (starts_with nat_eq text name) refl).0 both.0 in
-      (is, subst (λ n. ((r : List ℕ) → without drops (n ++ r) ≡ n ++ without drops r)
-      → text ≡ n ++ drop (length name) text → Word drops text t) same
-      (λ k f. record { rest = drop (length name) text; is = f; ended = both.1; stays = k }) stays found))
+      let both = and_parts (starts_with nat_eq text name) (ends_word (drop (length name) text)) e in (
+        is,
+        record {
+          rest = drop (length name) text;
+          is = (starts_is Decides-eqb text name (starts_with nat_eq text name) refl).0 both.0;
+          ended = both.1;
+          stays = λ r. stays_text drops kept name r visible;
+        },
+      ))
 
   one_of : (text : List ℕ) (b : Bool) (x y : Token) → (IsPrintable x → IsWord text x) → (IsPrintable y → IsWord text y)
       → IsPrintable (cond b x y) → IsWord text (cond b x y)
@@ -181,7 +185,7 @@ module _ (drops : ℕ → Bool) (kept : (x : ℕ) → 32 ≤ x → drops x ≡ f
   pub word_is : (text : List ℕ) → IsPrintable (word text) → IsWord text (word text)
   unfolding word
   word_is text =
-      one_of text (head text == 116) _ _ (begun text (token_text (boolean true)) (boolean true) refl refl (λ r. stays_text drops kept (token_text (boolean true)) r refl))
-      (one_of text (head text == 102) _ _ (begun text (token_text (boolean false)) (boolean false) refl refl (λ r. stays_text drops kept (token_text (boolean false)) r refl))
-      (one_of text (head text == 110) _ _ (begun text (token_text null) null refl refl (λ r. stays_text drops kept (token_text null) r refl))
+      one_of text (head text == 116) _ _ (named text (boolean true) refl refl)
+      (one_of text (head text == 102) _ _ (named text (boolean false) refl refl)
+      (one_of text (head text == 110) _ _ (named text null refl refl)
       (cut text (after_number text) (whole_number text))))

@@ -31,7 +31,7 @@ held_ordered Less a b c p q r = p
 held_ordered Equal a b c p q r = q
 held_ordered Greater a b c p q r = r
 
-held_member : (name : List ℕ) (ms : Members) → MembersAreHeld ms → OnSome IsHeld (get_member name ms)
+pub held_member : (name : List ℕ) (ms : Members) → MembersAreHeld ms → OnSome IsHeld (get_member name ms)
 held_member name no_members received = tt
 held_member name (member l e ms) received =
     held_ordered (slice_cmp nat_cmp name l) (get_member name ms) (Some e) (get_member name ms)
@@ -56,7 +56,7 @@ text_held (string s) received = received
 text_held (array ds) received = tt
 text_held (object ms) received = tt
 
-held_text : (found : Option Data) → OnSome IsHeld found → OnSome IsUtf8 (text_in found)
+pub held_text : (found : Option Data) → OnSome IsHeld found → OnSome IsUtf8 (text_in found)
 held_text found received = on_then IsHeld IsUtf8 as_str text_held found received
 
 object_held : (d : Data) → IsHeld d → OnSome MembersAreHeld (as_object d)
@@ -181,7 +181,7 @@ pub record IsProperAsked (p : ChangeData) : Type 0 where
 abbrev pub IsTextOpened : DocumentItem → Type 0
 IsTextOpened p = IsUtf8 p.text
 
-document_held : (params : Option Data) → OnSome IsHeld params → OnSome MembersAreHeld (document_in params)
+pub document_held : (params : Option Data) → OnSome IsHeld params → OnSome MembersAreHeld (document_in params)
 document_held params received =
     on_then IsHeld MembersAreHeld as_object object_held (member_at (codes "textDocument") params)
     (held_at (codes "textDocument") params received)
@@ -264,7 +264,7 @@ both_held params received =
     (held_at (codes "contentChanges") params received)))
     (document_in params) (document_held params received)
 
-changed_held : (params : Option Data) → OnSome IsHeld params → OnSome IsProperAsked (change_of params)
+pub changed_held : (params : Option Data) → OnSome IsHeld params → OnSome IsProperAsked (change_of params)
 changed_held params received =
     on_then AreBothHeld IsProperAsked (λ p. change_by p.0 p.1) (λ p h. change_held p.0 p.1 h.0 h.1)
     (document_and_changes params) (both_held params received)

@@ -2,14 +2,14 @@
 --
 -- `document` is how Rattle's crate `json` reads JSON (RFC 8259): members are in the order of the
 -- text, and a number is its digits.
-use Rattle.std.specs.Prelude.{ℕ, ℤ, ◌≡◌, ◌<◌, ◌^◌, Bool, ◌&&◌, if◌then◌else◌, List, [], ◌∷◌, ◌++◌, map, Option, Some, None, option_map, option_and_then, All, FitsSigned, codes, decimal}
+use Rattle.std.specs.Prelude.{ℕ, ℤ, ◌≡◌, ◌<◌, ◌^◌, Bool, ◌&&◌, if◌then◌else◌, List, [], ◌∷◌, ◌++◌, map, Option, Some, None, option_map, option_and_then, All, IsUtf8, codes, decimal}
 use Rattle.std.specs.Fmt.{signed_decimal}
-use Rattle.std.specs.Int.{w32}
 use Rattle.json.specs.Json.{Json, number, string, array, object, Members, no_members, member, document}
 use Rattle.json.specs.Value.{items_of}
 use Rattle.lsp_frame.specs.Limits.{LimitsData, AreInRange}
 use Rattle.lsp_message.specs.Message.{IdData, whole, text, reading}
 use Rattle.lsp_message.specs.Params.{DocumentItem}
+use Rattle.lsp_message.specs.laws.Sent.{IsProperDocument}
 use Rattle.lsp_server.specs.Incoming.{IncomingData, incoming_of}
 use Rattle.lsp_log.specs.Log.{Record}
 use Rattle.lsp_replay.specs.declared.commands.Settings.{Settings}
@@ -25,8 +25,9 @@ use Rattle.lsp_replay.specs.Trace.{document_after, has_changed, id_of, is_json, 
 
 -- ---- lines
 
--- A line is JSON with this value. Its one line break is the line feed at its end.
+-- A line is JSON with this value. It is UTF-8, and its one line break is the line feed at its end.
 pub record IsJsonLine (line : List ℕ) (value : Json) : Type 0 where
+  pub utf8 : IsUtf8 line
   pub reads : document line ≡ Some value
   pub ends : line ≡ one_line line ++ codes "\n"
 
@@ -88,33 +89,33 @@ body_value is_asked body = if is_asked then document body else None
 -- `canonical` and `body` are what the two bodies are read as.
 abbrev pub trace_value : Details → Known → Session → Record → Judged → IncomingData → Json
 trace_value details known s r j m = object (members_with (
-  (codes "number", Some (natural j.session.records))
-  ∷ (codes "offset", Some (natural r.head.place))
-  ∷ (codes "from", Some (string (side_word r.head.side)))
-  ∷ (codes "method", option_map string (method_of m))
-  ∷ (codes "id", option_map id_value (id_of m))
-  ∷ (codes "uri", option_map string (uri_of r.head.side m))
-  ∷ (codes "word", Some (string (verdict_word j.verdict)))
-  ∷ (codes "reason", reason_value j.session.server.config.limits m j.verdict)
-  ∷ (codes "last", option_map natural (last_for known.mentions (uri_of r.head.side m) j.verdict))
-  ∷ (codes "notes", notes_value (notes_of s known.ranged r.body j.verdict))
-  ∷ (
-    codes "version",
-    option_map (λ entry. integer entry.version)
-        (document_after j.session.server.table (uri_of r.head.side m)),
-  )
-  ∷ (
-    codes "canonical",
-    option_and_then document
-        (within s.server.config.limits.max_body (canonical_of_record s r.body j.verdict)),
-  )
-  ∷ (
-    codes "text",
-    text_value (details.texts && has_changed j.verdict)
-        (document_after j.session.server.table (uri_of r.head.side m)),
-  )
-  ∷ (codes "body", body_value (details.bodies && is_json m) r.body)
-  ∷ []))
+    (codes "number", Some (natural j.session.records))
+    ∷ (codes "offset", Some (natural r.head.place))
+    ∷ (codes "from", Some (string (side_word r.head.side)))
+    ∷ (codes "method", option_map string (method_of m))
+    ∷ (codes "id", option_map id_value (id_of m))
+    ∷ (codes "uri", option_map string (uri_of r.head.side m))
+    ∷ (codes "word", Some (string (verdict_word j.verdict)))
+    ∷ (codes "reason", reason_value j.session.server.config.limits m j.verdict)
+    ∷ (codes "last", option_map natural (last_for known.mentions (uri_of r.head.side m) j.verdict))
+    ∷ (codes "notes", notes_value (notes_of s known.ranged r.body j.verdict))
+    ∷ (
+      codes "version",
+      option_map (λ entry. integer entry.version)
+          (document_after j.session.server.table (uri_of r.head.side m)),
+    )
+    ∷ (
+      codes "canonical",
+      option_and_then document
+          (within s.server.config.limits.max_body (canonical_of_record s r.body j.verdict)),
+    )
+    ∷ (
+      codes "text",
+      text_value (details.texts && has_changed j.verdict)
+          (document_after j.session.server.table (uri_of r.head.side m)),
+    )
+    ∷ (codes "body", body_value (details.bodies && is_json m) r.body)
+    ∷ []))
 
 -- A value and those of the records after it. A record that can't be in a log has none, and ends the
 -- run.
@@ -150,7 +151,7 @@ document_value entry =
     (member (codes "text") (string entry.text) (member (codes "uri") (string entry.uri)
     (member (codes "version") (integer entry.version) no_members))))
 
--- A line of `replay` is this value. The version has 32 bits, as in the type of a document.
+-- A line of `replay` is this value, for a document as its type holds it.
 abbrev pub ReplayJsonLaw : Type 0
-ReplayJsonLaw = (entry : DocumentItem) → FitsSigned w32 entry.version
+ReplayJsonLaw = (entry : DocumentItem) → IsProperDocument entry
     → IsJsonLine (document_line entry) (document_value entry)
