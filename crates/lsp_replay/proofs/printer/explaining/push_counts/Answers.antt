@@ -8,7 +8,8 @@ returns c =
     let counts = c.args.counts.now in
     seven_words c.push_tallies-2.result _ c.args.buffer.now.items (codes "messages of the editor: ")
     (decimal c.args.messages) (codes ", changed documents: ") (decimal counts.changes) (codes "\n")
-    (flat_map (tally_words (codes "refused by ")) counts.refusals) (flat_map (tally_words (codes "noted ")) counts.noted)
+    (flat_map (tally_words (codes "refused by ")) counts.refusals)
+    (flat_map (tally_words (codes "noted ")) counts.noted)
     (rw (
       c.in_ok-push_tallies.ensures,
       c.in_ok-push_words-3.ensures,
