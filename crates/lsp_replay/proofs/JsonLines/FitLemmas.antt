@@ -36,9 +36,9 @@ use Rattle.lsp_log.specs.declared.record.Sender.TheVariants.{Client, Server}
 use Rattle.lsp_log.specs.declared.record.Version.{Version}
 use Rattle.lsp_log.specs.Log.{Record}
 use Rattle.lsp_replay.specs.Commands.{canonical_change_body, canonical_if, canonical_of_record, change_in}
-use Rattle.lsp_replay.specs.Lines.{Known, known_after, uri_of}
+use Rattle.lsp_replay.specs.Lines.{Known, is_stale_refusal, known_after, last_in, uri_of}
 use Rattle.lsp_replay.specs.Mentions.{Mention, is_mention, last_for, last_record, mentioned, most_mentions, without}
-use Rattle.lsp_replay.specs.Session.{Session, Verdict, answered, recorded, bad, encoding_for, is_change, judge, judge_from}
+use Rattle.lsp_replay.specs.Session.{Session, Verdict, answered, recorded, bad, encoding_for, has_changed, is_change, judge, judge_from}
 use Rattle.lsp_replay.specs.Trace.{id_of, is_json, method_of, within}
 use Rattle.lsp_replay.proofs.JsonLines.PlainLemmas.{visible_compact}
 use Rattle.lsp_replay.proofs.JsonLines.StringLemmas.{are_visible}
@@ -262,17 +262,28 @@ found_count : (uri : Option (List ℕ)) (mentions : List Mention) → AreNumbere
 found_count None mentions are = tt
 found_count (Some uri) mentions are = last_count uri mentions are
 
-pub last_fits : (mentions : List Mention) (uri : Option (List ℕ)) (verdict : Verdict) → AreNumbered mentions
+mention_fits : (mentions : List Mention) (uri : Option (List ℕ)) (verdict : Verdict) → AreNumbered mentions
     → OnSome IsCount (last_for mentions uri verdict)
-last_fits mentions uri (answered (refused refusal)) are = found_count uri mentions are
-last_fits mentions uri (answered (AnswerData.reply m)) are = tt
-last_fits mentions uri (answered changed) are = tt
-last_fits mentions uri (answered AnswerData.dropped) are = tt
-last_fits mentions uri (answered AnswerData.ignored) are = tt
-last_fits mentions uri (answered (AnswerData.exits status)) are = tt
-last_fits mentions uri (answered AnswerData.already_ended) are = tt
-last_fits mentions uri recorded are = tt
-last_fits mentions uri bad are = tt
+mention_fits mentions uri (answered (refused refusal)) are = found_count uri mentions are
+mention_fits mentions uri (answered (AnswerData.reply m)) are = tt
+mention_fits mentions uri (answered changed) are = tt
+mention_fits mentions uri (answered AnswerData.dropped) are = tt
+mention_fits mentions uri (answered AnswerData.ignored) are = tt
+mention_fits mentions uri (answered (AnswerData.exits status)) are = tt
+mention_fits mentions uri (answered AnswerData.already_ended) are = tt
+mention_fits mentions uri recorded are = tt
+mention_fits mentions uri bad are = tt
+
+either_fits : (b : Bool) (x y : Option ℕ) → OnSome IsCount x → OnSome IsCount y
+    → OnSome IsCount (if b then x else y)
+either_fits true x y h k = h
+either_fits false x y h k = k
+
+pub last_fits : (known : Known) (uri : Option (List ℕ)) (verdict : Verdict) → AreNumbered known.made
+    → AreNumbered known.mentions → OnSome IsCount (last_in known uri verdict)
+last_fits known uri verdict made mentions =
+    either_fits (is_stale_refusal verdict) _ _ (mention_fits known.made uri verdict made)
+    (mention_fits known.mentions uri verdict mentions)
 
 -- ---- a session
 
@@ -280,6 +291,7 @@ pub record IsFit (limits : LimitsData) (known : Known) (s : Session) : Type 0 wh
   pub held : IsHeldState limits s.server
   pub versions : AreVersions s.server.table
   pub records : IsCount s.records
+  pub made : AreNumbered known.made
   pub mentions : AreNumbered known.mentions
 
 client_versions : (s : Session) (version : Version) (body : List ℕ) → AreVersions s.server.table
@@ -315,6 +327,9 @@ judged_fits limits known s r fit =
       held = judged_held limits s r fit.held;
       versions = from_versions s r.head.version r.head.side r.body fit.versions;
       records = records;
+      made = numbered_more (has_changed (judge s r).verdict)
+          (uri_of r.head.side (incoming_of (reading r.body))) (judge s r).session.records known.made records
+          fit.made;
       mentions = numbered_more (is_mention (is_change (incoming_of (reading r.body))) (judge s r).verdict)
           (uri_of r.head.side (incoming_of (reading r.body))) (judge s r).session.records known.mentions records
           fit.mentions;

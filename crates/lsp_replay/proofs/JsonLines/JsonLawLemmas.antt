@@ -45,5 +45,6 @@ trace_json_law settings details records ranges places =
       held = record { limit = refl; table = tt };
       versions = tt;
       records = omega arith;
+      made = tt;
       mentions = tt;
     })

@@ -25,17 +25,16 @@ use Rattle.lsp_log.specs.Log.{Record}
 use Rattle.lsp_replay.specs.declared.commands.traced.Details.{Details}
 use Rattle.lsp_replay.specs.declared.notes.Note.{Note}
 use Rattle.lsp_replay.specs.Commands.{canonical_of_record, change_in, document_line, verdict_word}
-use Rattle.lsp_replay.specs.Lines.{Known, known_after, uri_of}
-use Rattle.lsp_replay.specs.Mentions.{last_for}
+use Rattle.lsp_replay.specs.Lines.{Known, is_renamed, known_after, last_in, uri_of}
 use Rattle.lsp_replay.specs.Notes.{note_words, notes_of, notes_words}
-use Rattle.lsp_replay.specs.Reasons.{reason_words}
-use Rattle.lsp_replay.specs.Session.{Session, Judged, Verdict, answered, recorded, bad, is_refused, judge}
-use Rattle.lsp_replay.specs.Trace.{body_json, document_after, has_changed, id_json, id_of, is_json, json_string, last_members, member, method_of, notes_json, reason_json, side_word, text_json, trace_line, version_json, within}
+use Rattle.lsp_replay.specs.Reasons.{reason_words, renamed_words}
+use Rattle.lsp_replay.specs.Session.{Session, Judged, Verdict, answered, recorded, bad, has_changed, is_refused, judge}
+use Rattle.lsp_replay.specs.Trace.{body_json, document_after, id_json, id_of, is_json, json_string, last_members, member, method_of, notes_json, reason_json, side_word, text_json, trace_line, version_json, within}
 use Rattle.lsp_replay.specs.laws.JsonLines.{IsJsonLine, body_value, document_value, id_value, integer, members_with, natural, notes_value, reason_value, text_value, trace_value}
 use Rattle.lsp_replay.proofs.JsonLines.FitLemmas as fit
 use Rattle.lsp_replay.proofs.JsonLines.FitLemmas.{IsBody, IsFit, canonical_json, document_fits, id_fits, judged_fits, last_fits, method_utf8, text_utf8, uri_utf8}
 use Rattle.lsp_replay.proofs.JsonLines.PlainLemmas.{escape_plain, utf8_plain}
-use Rattle.lsp_replay.proofs.JsonLines.ReasonPlainLemmas.{plain_note, plain_reason, plain_side, plain_verdict}
+use Rattle.lsp_replay.proofs.JsonLines.ReasonPlainLemmas.{plain_note, plain_reason_with, plain_side, plain_verdict}
 use Rattle.lsp_replay.proofs.JsonLines.StringLemmas.{are_visible}
 use Rattle.lsp_replay.proofs.JsonLines.ValueLemmas.{AreRead, IsValue, IsValueIf, a_body, a_compact, a_member, a_member_if, a_natural, a_plain, a_quoted, a_string, a_text, an_integer, an_object, last_read, no_more}
 use Rattle.lsp_replay.proofs.Records.ReadLemmas.{OnSome}
@@ -72,18 +71,20 @@ text_if false entry is = tt
 text_if true None is = tt
 text_if true (Some entry) is = a_string entry.text is
 
-reason_by : (b : Bool) (limits : LimitsData) (m : IncomingData) (answer : AnswerData Sent)
-    → IsValueIf (if b then Some (codes "\"" ++ reason_words limits (change_in m) answer ++ codes "\"") else None)
-    (if b then Some (json.string (reason_words limits (change_in m) answer)) else None)
-reason_by false limits m answer = tt
-reason_by true limits m answer =
-    a_plain (reason_words limits (change_in m) answer) (plain_reason limits (change_in m) answer)
+reason_by : (b : Bool) (limits : LimitsData) (m : IncomingData) (renamed : Bool) (answer : AnswerData Sent)
+    → IsValueIf (if b then Some (codes "\"" ++ reason_words limits (change_in m) answer ++ renamed_words renamed
+    ++ codes "\"") else None)
+    (if b then Some (json.string (reason_words limits (change_in m) answer ++ renamed_words renamed)) else None)
+reason_by false limits m renamed answer = tt
+reason_by true limits m renamed answer =
+    a_plain (reason_words limits (change_in m) answer ++ renamed_words renamed)
+    (plain_reason_with limits (change_in m) answer renamed)
 
-reason_if : (limits : LimitsData) (m : IncomingData) (verdict : Verdict)
-    → IsValueIf (reason_json limits m verdict) (reason_value limits m verdict)
-reason_if limits m (answered answer) = reason_by (is_refused answer) limits m answer
-reason_if limits m recorded = tt
-reason_if limits m bad = tt
+reason_if : (limits : LimitsData) (m : IncomingData) (renamed : Bool) (verdict : Verdict)
+    → IsValueIf (reason_json limits m renamed verdict) (reason_value limits m renamed verdict)
+reason_if limits m renamed (answered answer) = reason_by (is_refused answer) limits m renamed answer
+reason_if limits m renamed recorded = tt
+reason_if limits m renamed bad = tt
 
 -- ---- notes
 
@@ -195,8 +196,8 @@ module _ (limits : LimitsData) (ranges : AreInRange limits) (details : Details) 
 
   abbrev last_texts : List (List ℕ × Option (List ℕ))
   last_texts =
-      (codes ",\"reason\":", reason_json j.session.server.config.limits m j.verdict)
-      ∷ (codes ",\"last\":", option_map decimal (last_for known.mentions uri j.verdict))
+      (codes ",\"reason\":", reason_json j.session.server.config.limits m (is_renamed known uri j.verdict) j.verdict)
+      ∷ (codes ",\"last\":", option_map decimal (last_in known uri j.verdict))
       ∷ (codes ",\"notes\":", notes_json (notes_of s known.ranged r.body j.verdict))
       ∷ (codes ",\"version\":", version_json (document_after j.session.server.table uri))
       ∷ (
@@ -211,8 +212,8 @@ module _ (limits : LimitsData) (ranges : AreInRange limits) (details : Details) 
 
   abbrev last_values : List (List ℕ × Option Json)
   last_values =
-      (codes "reason", reason_value j.session.server.config.limits m j.verdict)
-      ∷ (codes "last", option_map natural (last_for known.mentions uri j.verdict))
+      (codes "reason", reason_value j.session.server.config.limits m (is_renamed known uri j.verdict) j.verdict)
+      ∷ (codes "last", option_map natural (last_in known uri j.verdict))
       ∷ (codes "notes", notes_value (notes_of s known.ranged r.body j.verdict))
       ∷ (
         codes "version",
@@ -233,10 +234,10 @@ module _ (limits : LimitsData) (ranges : AreInRange limits) (details : Details) 
   unfolding escape_byte
   are_read = (
     (refl, refl),
-    reason_if j.session.server.config.limits m j.verdict,
+    reason_if j.session.server.config.limits m (is_renamed known uri j.verdict) j.verdict,
     (
       (refl, refl),
-      naturals_if (last_for known.mentions uri j.verdict) (last_fits known.mentions uri j.verdict fits.mentions),
+      naturals_if (last_in known uri j.verdict) (last_fits known uri j.verdict fits.made fits.mentions),
       (
         (refl, refl),
         notes_if (notes_of s known.ranged r.body j.verdict),

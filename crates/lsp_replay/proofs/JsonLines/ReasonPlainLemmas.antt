@@ -1,5 +1,5 @@
 -- The words of a line need no escape in a JSON string.
-use Rattle.std.proofs.Common.{ℕ, Bool, true, false, ◌==◌, List, ◌++◌, Option, Some, None, refl}
+use Rattle.std.proofs.Common.{ℕ, Bool, true, false, ◌==◌, List, [], ◌++◌, Option, Some, None, refl}
 use Rattle.std.specs.Prelude.{codes, if◌then◌else◌}
 use Rattle.std.proofs.lemmas.List.Folds.{list_all-append}
 use Rattle.lsp_frame.specs.Limits.{LimitsData}
@@ -23,10 +23,10 @@ use Rattle.lsp_stream.specs.Ports.{one_more}
 use Rattle.lsp_log.specs.declared.record.Sender.{Sender}
 use Rattle.lsp_log.specs.declared.record.Sender.TheVariants.{Client, Server}
 use Rattle.lsp_replay.specs.declared.notes.Note.{Note}
-use Rattle.lsp_replay.specs.declared.notes.Note.TheVariants.{OpenAlready, OldVersion, NoChanges, WholeText, PastEnd, WrongLength, SameText}
+use Rattle.lsp_replay.specs.declared.notes.Note.TheVariants.{OpenAlready, LoneReturn, OldVersion, NoChanges, WholeText, PastEnd, WrongLength, SameText}
 use Rattle.lsp_replay.specs.Commands.{code_word, verdict_word}
 use Rattle.lsp_replay.specs.Notes.{change_words, note_words, past_words, side_words}
-use Rattle.lsp_replay.specs.Reasons.{edit_reason, end_words, error_reason, position_words, range_sent, reason_words, store_reason, version_words}
+use Rattle.lsp_replay.specs.Reasons.{edit_reason, end_words, error_reason, idle_words, is_idle, position_words, range_sent, reason_words, renamed_words, store_reason, version_words}
 use Rattle.lsp_replay.specs.Session.{Verdict, answered, recorded, bad}
 use Rattle.lsp_replay.specs.Trace.{side_word}
 use Rattle.lsp_replay.proofs.JsonLines.PlainLemmas.{IsPlain, is_ascii_plain, plain-append, plain_decimal, plain_signed}
@@ -99,13 +99,20 @@ plain_edit p (ReversedRange change) =
     )
 plain_edit p NoMemoryToEdit = refl
 
+either_plain : (b : Bool) (x y : List ℕ) → IsPlain x → IsPlain y → IsPlain (if b then x else y)
+either_plain true x y h k = h
+either_plain false x y h k = k
+
+plain_idle : (p : Option ChangeData) → IsPlain (idle_words p)
+plain_idle p = either_plain (is_idle p) (codes ", and it has no changes") [] refl refl
+
 plain_store : (limits : LimitsData) (p : Option ChangeData) (fault : StoreFault) → IsPlain (store_reason limits p fault)
 plain_store limits p AlreadyOpen = refl
 plain_store limits p TooManyDocuments = plain_decimal limits.max_docs
 plain_store limits p TextTooLong = plain_decimal limits.max_text
 plain_store limits p NotOpen = refl
 plain_store limits p (StaleVersion current) =
-    simp (list_all-append is_ascii_plain, plain_version p, plain_signed current)
+    simp (list_all-append is_ascii_plain, plain_version p, plain_signed current, plain_idle p)
 plain_store limits p TooManyChanges = simp (list_all-append is_ascii_plain, plain_decimal limits.max_changes)
 plain_store limits p (Edit fault) = plain_edit p fault
 plain_store limits p (BodyTooLong len) = refl
@@ -119,7 +126,7 @@ plain_error (Some MethodNotFound) = refl
 plain_error (Some InvalidParams) = refl
 plain_error (Some ServerNotInitialized) = refl
 
-pub plain_reason : (limits : LimitsData) (p : Option ChangeData) (answer : AnswerData Sent)
+plain_reason : (limits : LimitsData) (p : Option ChangeData) (answer : AnswerData Sent)
     → IsPlain (reason_words limits p answer)
 plain_reason limits p (reply m) = plain_error m.code
 plain_reason limits p changed = refl
@@ -130,6 +137,12 @@ plain_reason limits p (refused (Store fault)) = plain_store limits p fault
 plain_reason limits p (exits status) = refl
 plain_reason limits p already_ended = refl
 
+pub plain_reason_with : (limits : LimitsData) (p : Option ChangeData) (answer : AnswerData Sent) (renamed : Bool)
+    → IsPlain (reason_words limits p answer ++ renamed_words renamed)
+plain_reason_with limits p answer renamed =
+    plain-append (reason_words limits p answer) (renamed_words renamed) (plain_reason limits p answer)
+    (either_plain renamed (codes "; its editor may have renamed a document that was open") [] refl refl)
+
 -- ---- the words of a note
 
 plain_change : (index : ℕ) → IsPlain (change_words index)
@@ -139,15 +152,12 @@ plain_from : (side : Side) → IsPlain (side_words side)
 plain_from Start = refl
 plain_from Stop = refl
 
-either_plain : (b : Bool) (x y : List ℕ) → IsPlain x → IsPlain y → IsPlain (if b then x else y)
-either_plain true x y h k = h
-either_plain false x y h k = k
-
 plain_past : (sent taken : Position) → IsPlain (past_words sent taken)
 plain_past sent taken = either_plain (sent.line == taken.line) _ _ refl refl
 
 pub plain_note : (note : Note) → IsPlain (note_words note)
 plain_note OpenAlready = refl
+plain_note LoneReturn = refl
 plain_note (OldVersion sent current) = simp (list_all-append is_ascii_plain, plain_signed)
 plain_note NoChanges = refl
 plain_note (WholeText index) =
@@ -163,5 +173,5 @@ plain_note (PastEnd index side sent taken) =
     (plain-append (change_words index ++ side_words side) (position_words sent)
     (plain-append (change_words index) (side_words side) (plain_change index) (plain_from side))
     (plain_position sent)) (plain_past sent taken)) (plain_position taken)) refl
-plain_note (WrongLength index sent replaced) = simp (list_all-append is_ascii_plain, plain_decimal)
+plain_note (WrongLength index sent replaced characters) = simp (list_all-append is_ascii_plain, plain_decimal)
 plain_note (SameText index) = plain-append (change_words index) (codes " changes nothing") (plain_change index) refl

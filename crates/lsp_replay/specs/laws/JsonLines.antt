@@ -16,12 +16,11 @@ use Rattle.lsp_replay.specs.declared.commands.Settings.{Settings}
 use Rattle.lsp_replay.specs.declared.commands.traced.Details.{Details}
 use Rattle.lsp_replay.specs.declared.notes.Note.{Note}
 use Rattle.lsp_replay.specs.Commands.{canonical_of_record, change_in, document_line, log_config, verdict_word}
-use Rattle.lsp_replay.specs.Lines.{Known, known_after, nothing_known, uri_of}
-use Rattle.lsp_replay.specs.Mentions.{last_for}
+use Rattle.lsp_replay.specs.Lines.{Known, is_renamed, known_after, last_in, nothing_known, uri_of}
 use Rattle.lsp_replay.specs.Notes.{note_words, notes_of}
-use Rattle.lsp_replay.specs.Reasons.{reason_words}
-use Rattle.lsp_replay.specs.Session.{Session, Judged, Verdict, answered, bad, is_refused, judge, opened}
-use Rattle.lsp_replay.specs.Trace.{document_after, has_changed, id_of, is_json, method_of, one_line, side_word, traced, within}
+use Rattle.lsp_replay.specs.Reasons.{reason_words, renamed_words}
+use Rattle.lsp_replay.specs.Session.{Session, Judged, Verdict, answered, bad, has_changed, is_refused, judge, opened}
+use Rattle.lsp_replay.specs.Trace.{document_after, id_of, is_json, method_of, one_line, side_word, traced, within}
 
 -- ---- lines
 
@@ -64,11 +63,12 @@ abbrev pub id_value : IdData → Json
 id_value (whole z) = integer z
 id_value (text s) = string s
 
--- Why a record was refused, if it counts as refused.
-abbrev pub reason_value : LimitsData → IncomingData → Verdict → Option Json
-reason_value limits m (answered answer) = if is_refused answer then
-    Some (string (reason_words limits (change_in m) answer)) else None
-reason_value limits m verdict = None
+-- Why a record was refused, if it counts as refused. `renamed`: may its document be another one
+-- under a new name?
+abbrev pub reason_value : LimitsData → IncomingData → Bool → Verdict → Option Json
+reason_value limits m renamed (answered answer) = if is_refused answer then
+    Some (string (reason_words limits (change_in m) answer ++ renamed_words renamed)) else None
+reason_value limits m renamed verdict = None
 
 -- The notes of an accepted record.
 abbrev pub notes_value : List Note → Option Json
@@ -96,8 +96,12 @@ trace_value details known s r j m = object (members_with (
     ∷ (codes "id", option_map id_value (id_of m))
     ∷ (codes "uri", option_map string (uri_of r.head.side m))
     ∷ (codes "word", Some (string (verdict_word j.verdict)))
-    ∷ (codes "reason", reason_value j.session.server.config.limits m j.verdict)
-    ∷ (codes "last", option_map natural (last_for known.mentions (uri_of r.head.side m) j.verdict))
+    ∷ (
+      codes "reason",
+      reason_value j.session.server.config.limits m
+          (is_renamed known (uri_of r.head.side m) j.verdict) j.verdict,
+    )
+    ∷ (codes "last", option_map natural (last_in known (uri_of r.head.side m) j.verdict))
     ∷ (codes "notes", notes_value (notes_of s known.ranged r.body j.verdict))
     ∷ (
       codes "version",
