@@ -1,5 +1,5 @@
 -- How often what came, for the last lines of `check --explain`.
-use Rattle.std.specs.Prelude.{ℕ, Bool, true, false, not, ◌&&◌, ◌==◌, ◌/◌, ◌++◌, if◌then◌else◌, nat_le, List, [], ◌∷◌, Option, Some, None, codes, decimal, flat_map}
+use Rattle.std.specs.Prelude.{ℕ, Bool, not, ◌&&◌, ◌==◌, ◌/◌, ◌++◌, if◌then◌else◌, nat_le, List, [], ◌∷◌, Option, Some, None, codes, decimal, flat_map}
 use Rattle.lsp_server.specs.Answer.{AnswerData, reply, refused, exits, Sent}
 use Rattle.lsp_server.specs.Codes.{server_refusal_code}
 use Rattle.lsp_replay.specs.declared.notes.Note.{Note}
