@@ -2,7 +2,7 @@
 
 ghost use Rattle.std.specs.Prelude.{◌≡◌, IfOk, OnOk, option_map};
 ghost use Rattle.lsp_server.specs.Seen.{answer_view};
-ghost use Rattle.lsp_replay.specs.Counts.{answer_code, refusal_code, counts_after, is_frequent, is_habit};
+ghost use Rattle.lsp_replay.specs.Counts.{answer_code, counted_code, counts_after, is_frequent, is_habit};
 ghost use Rattle.lsp_replay.specs.Counts.{nothing_counted, rare_notes, tallied_notes};
 ghost use Rattle.lsp_replay.specs.inside.Verdicts.{verdict_view};
 
@@ -89,7 +89,7 @@ impl Counts {
         if has_changed(verdict) {
             self.changed = one_more(self.changed);
         }
-        add_if(self.alloc, &mut self.refused, refusal_code(verdict), number)?;
+        add_if(self.alloc, &mut self.refused, counted_code(verdict), number)?;
         add_notes(self.alloc, &mut self.noted, notes, number)
     }
 
@@ -126,8 +126,8 @@ fn is_frequent(changed: u64, count: u64) -> bool
 }
 
 /// Returns the code of a record that counts as refused.
-fn refusal_code(verdict: &Verdict) -> Option<&'static str>
-    ensures { option_map (λ code. code.now) result ≡ refusal_code (verdict_view verdict.now) }
+fn counted_code(verdict: &Verdict) -> Option<&'static str>
+    ensures { option_map (λ code. code.now) result ≡ counted_code (verdict_view verdict.now) }
 {
     let Verdict::Answered(answer) = verdict else {
         return None;
