@@ -1,0 +1,5 @@
+mod FirstLemmas
+mod GapLemmas
+mod HunkLemmas
+mod LineLemmas
+mod ShownLemmas
