@@ -13,7 +13,7 @@ use Rattle.lsp_replay.specs.declared.outcome.Missing.{Missing}
 use Rattle.lsp_replay.specs.declared.outcome.Missing.TheVariants as missing
 use Rattle.lsp_replay.specs.declared.outcome.Outcome.{Outcome}
 use Rattle.lsp_replay.specs.Documents.{WritesDocuments, documents_engine}
-use Rattle.lsp_replay.specs.Explained.{explain_engine}
+use Rattle.lsp_replay.specs.Explained.{default_listing, explain_engine}
 use Rattle.lsp_replay.specs.Parts.{part_engine}
 use Rattle.lsp_replay.specs.Run.{Engine, IsEngineRun, WritesLog, check_engine, convert_engine, normalise_engine, replay_engine}
 use Rattle.lsp_replay.specs.Trace.{trace_engine}
@@ -119,7 +119,7 @@ IsCommand Convert settings uri it = it ≡ command.Convert
 -- The engine of a command.
 abbrev pub command_engine : Command → Settings → Engine
 command_engine command.Check settings = check_engine settings
-command_engine command.Explain settings = explain_engine settings
+command_engine command.Explain settings = explain_engine settings default_listing
 command_engine (command.Trace details) settings = trace_engine settings details
 command_engine command.Replay settings = replay_engine settings
 command_engine (command.ReplayPart part) settings = part_engine settings part

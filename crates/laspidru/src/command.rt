@@ -9,8 +9,8 @@ ghost use Rattle.laspidru.specs.Logs.{name_numbered};
 use crate::endings::LogSettings;
 use crate::log_reader::LogReader;
 use lsp_replay::{
-    Details, EngineFault, Outcome, Part, Settings, Told, check, convert, explain, normalise,
-    normalise_documents, replay, replay_part, trace,
+    Details, EngineFault, Listing, Outcome, Part, Settings, Told, check, convert, explain,
+    normalise, normalise_documents, replay, replay_part, trace,
 };
 use std::alloc::{AllocError, Global};
 
@@ -142,7 +142,14 @@ fn run_between(
 {
     match command {
         Command::Check => check(alloc, reader, writer, settings, u64::MAX),
-        Command::Explain => explain(alloc, reader, writer, settings, u64::MAX),
+        Command::Explain => explain(
+            alloc,
+            reader,
+            writer,
+            settings,
+            Listing::default(),
+            u64::MAX,
+        ),
         Command::Trace(details) => trace(alloc, reader, writer, settings, details, u64::MAX),
         Command::Replay => replay(alloc, reader, writer, settings, u64::MAX),
         Command::ReplayPart(part) => replay_part(alloc, reader, writer, settings, part, u64::MAX),

@@ -16,10 +16,11 @@ use Rattle.lsp_replay.specs.declared.facts.Facts.{Facts}
 use Rattle.lsp_replay.specs.declared.notes.Note.{Note}
 use Rattle.lsp_replay.specs.declared.session.Taken.{Taken}
 use Rattle.lsp_replay.specs.RunOutput.{written_first}
-use Rattle.lsp_replay.specs.Commands.{writes}
-use Rattle.lsp_replay.specs.Lines.{Known, LineView, known_after, lines, uri_of}
+use Rattle.lsp_replay.specs.Commands.{change_in, writes}
+use Rattle.lsp_replay.specs.Counts.{rare_notes}
+use Rattle.lsp_replay.specs.Lines.{Known, LineView, is_renamed, is_strict_refusal, known_after, last_in, lines, uri_of}
 use Rattle.lsp_replay.specs.inside.Lines.{lines_in}
-use Rattle.lsp_replay.specs.Mentions.{is_mention, last_for}
+use Rattle.lsp_replay.specs.Mentions.{is_mention}
 use Rattle.lsp_replay.specs.Notes.{notes_if, notes_of, notes_on, ranged_after}
 use Rattle.lsp_replay.specs.Session.{Session, Verdict, recorded, bad, encoding_for, judge_server, is_change, judge, judge_from}
 use Rattle.lsp_replay.specs.inside.Bodies.{BodyData, body_read}
@@ -30,6 +31,7 @@ use Rattle.lsp_replay.specs.inside.Taken.{IsTaken, ranged_read, ranged_with}
 use Rattle.lsp_replay.specs.inside.Verdicts.{verdict_view}
 use Rattle.lsp_replay.proofs.Canonical.CanonicalLogLemmas.{heard_as}
 use Rattle.lsp_replay.proofs.Records.OutputLemmas.{output_after, unless_not}
+use Rattle.lsp_replay.proofs.Reports.ReasonLemmas.{strict_at}
 
 -- ---- what was read of a record's body, and the body itself
 
@@ -97,6 +99,10 @@ module _ (known : Known) (s : Session) (head : Head) (body : List ℕ) (read : B
         ap₂ notes_if (is_about.notes ∙ ap (notes_on_read s.server known.ranged (reading body)) is_read) is_taken.judged
         ∙ notes_at s body known.ranged head.version head.side
 
+    strict_is : is_strict_refusal (option_map change_view taken.change) (verdict_view taken.verdict)
+        ≡ is_strict_refusal (change_in (incoming_of (reading body))) (judge_at s head body).verdict
+    strict_is = ap₂ is_strict_refusal is_taken.change is_taken.judged ∙ strict_at s head body
+
     ranged_is : ranged_with known.ranged taken.ranged ≡ ranged_after known.ranged s head.side body
     ranged_is = is_taken.heard known.ranged ∙ ranged_at s body known.ranged head.version head.side
 
@@ -110,13 +116,15 @@ module _ (known : Known) (s : Session) (head : Head) (body : List ℕ) (read : B
         verdict = ap verdict_view learned.verdict ∙ is_taken.judged;
         uri = ap (option_map string_bytes) learned.uri ∙ uri_is;
         change = ap (option_map change_view) learned.change ∙ is_taken.change;
-        last = learned.last ∙ ap₂ (last_for known.mentions) uri_is is_taken.judged;
+        renamed = learned.renamed ∙ ap₂ (is_renamed known) uri_is is_taken.judged;
+        last = learned.last ∙ ap₂ (last_in known) uri_is is_taken.judged;
         notes = learned.notes ∙ notes_are;
+        rare = learned.rare ∙ ap (rare_notes known.counts) notes_are;
       }
 
       pub known_is : (next : Known) → next ≡ known_by known number about taken
           → next ≡ known_after known s head body (judge_at s head body)
-      known_is next is = is ∙ rw (mention_is, notes_are, uri_is, is_taken.judged, ranged_is, counted) refl
+      known_is next is = is ∙ rw (mention_is, notes_are, uri_is, strict_is, is_taken.judged, ranged_is, counted) refl
 
 -- ---- a line, and the output after it
 

@@ -1,22 +1,28 @@
 -- `check --explain`: a line of `check` for each record, with the reason where it was refused and
--- the notes where it is suspicious, and at the end what to do next.
-use Rattle.std.specs.Prelude.{ℕ, Bool, ◌==◌, ◌∷◌, ◌++◌, if◌then◌else◌, List, [], Option, Some, None, codes, decimal}
+-- the notes where it is suspicious; at the end what came how often, and what to do next.
+use Rattle.std.specs.Prelude.{ℕ, Bool, false, not, ◌==◌, ◌&&◌, ◌||◌, ◌∷◌, ◌++◌, if◌then◌else◌, List, [], Option, Some, None, codes, decimal}
 use Rattle.lsp_frame.specs.Limits.{LimitsData}
 use Rattle.lsp_message.specs.Message.{reading}
 use Rattle.lsp_message.specs.Params.{ChangeData}
 use Rattle.lsp_server.specs.Incoming.{IncomingData, incoming_of}
 use Rattle.lsp_log.specs.Log.{Record}
 use Rattle.lsp_replay.specs.declared.commands.Settings.{Settings}
+use Rattle.lsp_replay.specs.declared.commands.explained.Listing.{Listing}
 use Rattle.lsp_replay.specs.declared.notes.Note.{Note}
 use Rattle.lsp_replay.specs.RunOutput.{RunOutput}
 use Rattle.lsp_replay.specs.Commands.{change_in, log_config, output_in, verdict_word}
-use Rattle.lsp_replay.specs.Lines.{Known, LineView, lines, nothing_known, uri_of}
-use Rattle.lsp_replay.specs.Mentions.{last_for}
+use Rattle.lsp_replay.specs.Counts.{Counts, counts_words, rare_notes}
+use Rattle.lsp_replay.specs.Tallies.{has_repeated, has_tallies}
+use Rattle.lsp_replay.specs.Lines.{Known, LineView, has_notes, is_renamed, last_in, lines, nothing_known, uri_of}
 use Rattle.lsp_replay.specs.Notes.{notes_of, notes_words}
-use Rattle.lsp_replay.specs.Reasons.{reason_words}
+use Rattle.lsp_replay.specs.Reasons.{reason_words, renamed_words}
 use Rattle.lsp_replay.specs.Run.{Engine, log_engine}
-use Rattle.lsp_replay.specs.Session.{Session, Judged, Verdict, answered, is_refused, opened}
+use Rattle.lsp_replay.specs.Session.{Session, Judged, Verdict, answered, is_refused, opened, refuses}
 use Rattle.lsp_replay.specs.Trace.{json_string}
+
+-- Which lines there are where a user sets nothing: each, with the notes that are no habits.
+abbrev pub default_listing : Listing
+default_listing = record { brief = false; all = false }
 
 -- The document that a record is about, as a JSON string.
 abbrev pub document_words : Option (List ℕ) → List ℕ
@@ -28,13 +34,20 @@ abbrev pub see_words : Option ℕ → List ℕ
 see_words None = []
 see_words (Some number) = codes "; see message " ++ decimal number
 
+-- What is known of the document of a record that is refused.
+pub record Seen : Type 0 where
+  -- may it be another one under a new name?
+  pub renamed : Bool
+  -- the record to look at
+  pub last : Option ℕ
+
 -- What comes after the word of a record that counts as refused, by its document, the change that it
--- asks for, and the record to look at.
-abbrev pub explanation : LimitsData → Option (List ℕ) → Option ChangeData → Option ℕ → Verdict
-    → List ℕ
-explanation limits uri change last (answered answer) = if is_refused answer then
-    document_words uri ++ codes ": " ++ reason_words limits change answer ++ see_words last else []
-explanation limits uri change last verdict = []
+-- asks for, and what is known of the document.
+abbrev pub explanation : LimitsData → Option (List ℕ) → Option ChangeData → Seen → Verdict → List ℕ
+explanation limits uri change seen (answered answer) = if is_refused answer then
+    document_words uri ++ codes ": " ++ reason_words limits change answer
+    ++ renamed_words seen.renamed ++ see_words seen.last else []
+explanation limits uri change seen verdict = []
 
 -- What comes after the word of a record that has notes.
 abbrev pub remark : Option (List ℕ) → List Note → List ℕ
@@ -42,14 +55,47 @@ remark uri [] = []
 remark uri (note ∷ notes) =
     document_words uri ++ codes ": " ++ notes_words (codes "; ") (note ∷ notes)
 
+-- The notes on a record's line: those that are no habits, and with `--all` each.
+abbrev pub listed_notes : Listing → Counts → List Note → List Note
+listed_notes listing counts notes = if listing.all then notes else rare_notes counts notes
+
+-- Has a record a line? With `--brief` only one that counts as refused, or has notes on its line.
+abbrev pub is_listed : Listing → Verdict → List Note → Bool
+is_listed listing verdict notes = not listing.brief || (refuses verdict || has_notes notes)
+
+-- A line, if the record has one.
+abbrev pub if_listed : Bool → List ℕ → List ℕ
+if_listed listed line = if listed then line else []
+
+-- The line of a record with these notes on it, by its number, its document, the change that it asks
+-- for, and what is known of the document.
+abbrev pub line_with : LimitsData → ℕ → Option (List ℕ) → Option ChangeData → Seen → Verdict
+    → List Note → List ℕ
+line_with limits number uri change seen verdict notes =
+    decimal number ++ codes " " ++ verdict_word verdict
+    ++ explanation limits uri change seen verdict ++ remark uri notes ++ codes "\n"
+
+-- The same, unless the record has none.
+abbrev pub listed_line : Listing → LimitsData → ℕ → Option (List ℕ) → Option ChangeData → Seen
+    → Verdict → List Note → List ℕ
+listed_line listing limits number uri change seen verdict notes =
+    if_listed (is_listed listing verdict notes)
+    (line_with limits number uri change seen verdict notes)
+
+-- What is known of the document of a record.
+abbrev pub seen_in : Known → Option (List ℕ) → Verdict → Seen
+seen_in known uri verdict = record {
+  renamed = is_renamed known uri verdict;
+  last = last_in known uri verdict;
+}
+
 -- A line of `check --explain`, from what is known of the records before, the session before the
 -- record and the judgement of it. `m` is what the record's body asks.
-abbrev pub explained_line : Known → Session → Record → Judged → IncomingData → List ℕ
-explained_line known s r j m =
-    decimal j.session.records ++ codes " " ++ verdict_word j.verdict
-    ++ explanation j.session.server.config.limits (uri_of r.head.side m) (change_in m)
-    (last_for known.mentions (uri_of r.head.side m) j.verdict) j.verdict
-    ++ remark (uri_of r.head.side m) (notes_of s known.ranged r.body j.verdict) ++ codes "\n"
+abbrev pub explained_line : Listing → Known → Session → Record → Judged → IncomingData → List ℕ
+explained_line listing known s r j m =
+    listed_line listing j.session.server.config.limits j.session.records (uri_of r.head.side m)
+    (change_in m) (seen_in known (uri_of r.head.side m) j.verdict) j.verdict
+    (listed_notes listing known.counts (notes_of s known.ranged r.body j.verdict))
 
 -- ---- what to do next, after so many refusals
 
@@ -63,29 +109,43 @@ first_advice refusals suspicious =
     else
     codes "Refused messages change nothing. `lspsync replay --at N`: the texts after message N.\n"
 
--- The line after it, by whether a record is refused with S1 or S5.
+-- The line after it, by whether a record is refused with S1, or with S5 and changes.
 abbrev pub lenient_advice : Bool → List ℕ
 lenient_advice strict_refusal = if strict_refusal then
     codes "Many servers don't refuse what is S1 or S5 here. `--lenient` doesn't either.\n"
     else []
 
--- Both lines, by what is known of all records.
-abbrev pub advice : ℕ → Known → List ℕ
-advice count known = first_advice count known.suspicious ++ lenient_advice known.strict_refusal
+-- The line after that, by whether a kind of note came more than once and not each is on its line.
+abbrev pub habit_advice : Bool → List ℕ
+habit_advice repeated = if repeated then
+    codes "A kind of note that comes often is on its first line alone. `--all`: on each.\n"
+    else []
+
+-- The lines, by what is known of all records.
+abbrev pub advice : Listing → ℕ → Known → List ℕ
+advice listing refusals known =
+    first_advice refusals (has_tallies known.counts.noted) ++ lenient_advice known.strict_refusal
+    ++ habit_advice (not listing.all && has_repeated known.counts.noted)
+
+-- The lines at the end: what came how often, and what to do next.
+abbrev pub end_lines : Listing → Known → Session → List ℕ
+end_lines listing known s = if s.records == 0 then codes "The log has no messages.\n"
+    else counts_words s.messages known.counts ++ advice listing s.refusals known
 
 -- ---- the engine
 
--- `check --explain` writes a line for each record, and at the end the advice.
-abbrev pub explaining : LineView
-explaining = record {
-  line = λ known s r j. explained_line known s r j (incoming_of (reading r.body));
-  end_lines = λ known s. advice s.refusals known;
+-- `check --explain` writes a line for each record, or for some, and at the end these lines.
+abbrev pub explaining : Listing → LineView
+explaining listing = record {
+  line = λ known s r j. explained_line listing known s r j (incoming_of (reading r.body));
+  end_lines = end_lines listing;
 }
 
 -- The output of `check --explain`.
-abbrev pub explained : Settings → List Record → RunOutput
-explained settings = output_in (lines explaining) nothing_known (opened (log_config settings))
+abbrev pub explained : Settings → Listing → List Record → RunOutput
+explained settings listing =
+    output_in (lines (explaining listing)) nothing_known (opened (log_config settings))
 
 -- The engine of `check --explain`.
-abbrev pub explain_engine : Settings → Engine
-explain_engine settings = log_engine settings (explained settings)
+abbrev pub explain_engine : Settings → Listing → Engine
+explain_engine settings listing = log_engine settings (explained settings listing)

@@ -9,6 +9,8 @@ pub mod Documents
 pub mod Mentions
 pub mod Reasons
 pub mod Notes
+pub mod Tallies
+pub mod Counts
 pub mod Lines
 pub mod Trace
 pub mod Explained

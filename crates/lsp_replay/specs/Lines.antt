@@ -1,8 +1,9 @@
 -- The commands that write a line for each record by what is known of the records before it: `trace`
 -- and `check --explain`.
-use Rattle.std.specs.Prelude.{ℕ, Bool, true, false, ◌||◌, List, [], ◌∷◌, Option, Some, None}
+use Rattle.std.specs.Prelude.{ℕ, Bool, true, false, not, ◌&&◌, ◌||◌, if◌then◌else◌, List, [], ◌∷◌, Option, Some, None, is_none}
 use Rattle.lsp_message.specs.Message.{reading}
-use Rattle.lsp_store.specs.declared.fault.StoreFault.TheVariants.{AlreadyOpen, StaleVersion}
+use Rattle.lsp_message.specs.Params.{ChangeData}
+use Rattle.lsp_store.specs.declared.fault.StoreFault.TheVariants.{AlreadyOpen, NotOpen, StaleVersion}
 use Rattle.lsp_server.specs.Answer.{refused}
 use Rattle.lsp_server.specs.Incoming.{IncomingData, did_open, did_change, did_close, incoming_of}
 use Rattle.lsp_server.specs.declared.answer.Refusal.TheVariants.{Store}
@@ -11,10 +12,12 @@ use Rattle.lsp_log.specs.declared.record.Sender.{Sender}
 use Rattle.lsp_log.specs.declared.record.Sender.TheVariants.{Client}
 use Rattle.lsp_log.specs.Log.{Record}
 use Rattle.lsp_replay.specs.declared.notes.Note.{Note}
-use Rattle.lsp_replay.specs.Commands.{View, unless_bad, writes}
-use Rattle.lsp_replay.specs.Mentions.{Mention, is_mention, mentioned}
+use Rattle.lsp_replay.specs.Commands.{View, change_in, unless_bad, writes}
+use Rattle.lsp_replay.specs.Counts.{Counts, counts_after, nothing_counted}
+use Rattle.lsp_replay.specs.Mentions.{Mention, is_mention, last_for, last_record, mentioned}
 use Rattle.lsp_replay.specs.Notes.{notes_of, ranged_after}
-use Rattle.lsp_replay.specs.Session.{Session, Judged, Verdict, answered, is_change, session_outcome}
+use Rattle.lsp_replay.specs.Reasons.{is_empty, is_idle}
+use Rattle.lsp_replay.specs.Session.{Session, Judged, Verdict, answered, has_changed, is_change, session_outcome}
 
 -- The document that a record of one side is about: the URI in valid parameters of an editor's
 -- message.
@@ -30,41 +33,85 @@ uri_of side m = None
 pub record Known : Type 0 where
   -- the documents that were opened, closed or refused last
   pub mentions : List Mention
+  -- the documents that were opened, changed or closed last
+  pub made : List Mention
   -- did the server ask for ranges?
   pub ranged : Bool
-  -- does one of them have notes?
-  pub suspicious : Bool
-  -- is one of them refused with S1 or S5, which lenient limits never do?
+  -- is one of them refused with S1 or S5, which lenient limits never do, and meant to change a text?
   pub strict_refusal : Bool
+  -- how often what came
+  pub counts : Counts
 
 -- Before the first record.
 abbrev pub nothing_known : Known
-nothing_known = record { mentions = []; ranged = false; suspicious = false; strict_refusal = false }
+nothing_known = record {
+  mentions = [];
+  made = [];
+  ranged = false;
+  strict_refusal = false;
+  counts = nothing_counted;
+}
 
 -- Are there notes?
 abbrev pub has_notes : List Note → Bool
 has_notes [] = false
 has_notes (note ∷ notes) = true
 
--- Is a record refused with S1 or S5?
-abbrev pub is_strict_refusal : Verdict → Bool
-is_strict_refusal (answered (refused (Store AlreadyOpen))) = true
-is_strict_refusal (answered (refused (Store (StaleVersion current)))) = true
-is_strict_refusal verdict = false
+-- Is a record refused with S1, with S4, with S5?
+abbrev pub is_open_already : Verdict → Bool
+is_open_already (answered (refused (Store AlreadyOpen))) = true
+is_open_already verdict = false
+
+abbrev pub is_not_open : Verdict → Bool
+is_not_open (answered (refused (Store NotOpen))) = true
+is_not_open verdict = false
+
+abbrev pub is_stale : Verdict → Bool
+is_stale (answered (refused (Store (StaleVersion current)))) = true
+is_stale verdict = false
+
+-- Is a record refused with S1, or with S5 and changes? `change` is what it asks for.
+abbrev pub is_strict_refusal : Option ChangeData → Verdict → Bool
+is_strict_refusal change verdict = is_open_already verdict || is_stale verdict && not (is_idle change)
 
 -- The documents that were opened, closed or refused last, after a record of one side that asks `m`.
 abbrev pub mentions_after : List Mention → Sender → IncomingData → Judged → List Mention
 mentions_after mentions side m j =
     mentioned (is_mention (is_change m) j.verdict) (uri_of side m) j.session.records mentions
 
+-- The documents that were opened, changed or closed last, after such a record.
+abbrev pub made_after : List Mention → Sender → IncomingData → Judged → List Mention
+made_after made side m j =
+    mentioned (has_changed j.verdict) (uri_of side m) j.session.records made
+
 -- What is known after a record with this head and body, by the session before it.
 abbrev pub known_after : Known → Session → Head → List ℕ → Judged → Known
 known_after known s head body j = record {
   mentions = mentions_after known.mentions head.side (incoming_of (reading body)) j;
+  made = made_after known.made head.side (incoming_of (reading body)) j;
   ranged = ranged_after known.ranged s head.side body;
-  suspicious = known.suspicious || has_notes (notes_of s known.ranged body j.verdict);
-  strict_refusal = known.strict_refusal || is_strict_refusal j.verdict;
+  strict_refusal = known.strict_refusal
+      || is_strict_refusal (change_in (incoming_of (reading body))) j.verdict;
+  counts = counts_after known.counts j.session.records j.verdict
+      (notes_of s known.ranged body j.verdict);
 }
+
+-- ---- what is known of a document that a record is refused for
+
+-- The record to look at: of an old version the one that made the current version, of another
+-- refusal the last one that opened, closed or refused the document.
+abbrev pub last_in : Known → Option (List ℕ) → Verdict → Option ℕ
+last_in known uri verdict =
+    if is_stale verdict then last_for known.made uri verdict else last_for known.mentions uri verdict
+
+-- None of this name was opened, and another was.
+abbrev pub is_new_name : List Mention → Option (List ℕ) → Bool
+is_new_name made None = false
+is_new_name made (Some uri) = is_none (last_record uri made) && not (is_empty made)
+
+-- Its editor may have renamed a document: it isn't open, and none of its name was.
+abbrev pub is_renamed : Known → Option (List ℕ) → Verdict → Bool
+is_renamed known uri verdict = is_not_open verdict && is_new_name known.made uri
 
 -- ---- the output
 

@@ -1,13 +1,13 @@
 -- What of an accepted message is suspicious, though it has a meaning: its notes, and their words.
 -- These are ASCII, with no quotation mark and no backslash.
-use Rattle.std.specs.Prelude.{ℕ, ℤ, suc, Bool, true, false, ◌&&◌, ◌||◌, ◌==◌, ◌++◌, if◌then◌else◌, nat_lt, int_le, length, map, slice_get, slice_range, sum_by, encode_utf8_all, List, [], ◌∷◌, Option, Some, None, option_and_then, option_map, Result, Ok, Err, codes, decimal, flat_map}
+use Rattle.std.specs.Prelude.{ℕ, ℤ, suc, Bool, true, false, not, ◌&&◌, ◌||◌, ◌==◌, ◌++◌, if◌then◌else◌, nat_lt, int_le, length, map, slice_get, slice_range, sum_by, encode_utf8_all, List, [], ◌∷◌, Option, Some, None, option_and_then, option_map, Result, Ok, Err, codes, decimal, flat_map}
 use Rattle.std.specs.Fmt.{signed_decimal}
 use Rattle.std.specs.Result.{result_ok}
 use Rattle.std.specs.Str.{bytes_eq, chars}
 use Rattle.serde_json.specs.Data.{Data}
 use Rattle.lsp_text.specs.Positions.{denoted, exact_position}
 use Rattle.lsp_text.specs.Units.{units_in}
-use Rattle.lsp_text.specs.declared.encoding.Encoding.TheVariants.{Utf16}
+use Rattle.lsp_text.specs.declared.encoding.Encoding.TheVariants.{Utf16, Utf32}
 use Rattle.lsp_text.specs.declared.position.Position.{Position}
 use Rattle.lsp_text.specs.declared.position.Range.{Range}
 use Rattle.lsp_edit.specs.Batch.{ContentChange, Fault, meaning, ends_of}
@@ -29,7 +29,7 @@ use Rattle.lsp_stream.specs.Ports.{one_more}
 use Rattle.lsp_log.specs.declared.record.Sender.{Sender}
 use Rattle.lsp_log.specs.declared.record.Sender.TheVariants.{Client, Server}
 use Rattle.lsp_replay.specs.declared.notes.Note.{Note}
-use Rattle.lsp_replay.specs.declared.notes.Note.TheVariants.{OpenAlready, OldVersion, NoChanges, WholeText, PastEnd, WrongLength, SameText}
+use Rattle.lsp_replay.specs.declared.notes.Note.TheVariants.{OpenAlready, LoneReturn, OldVersion, NoChanges, WholeText, PastEnd, WrongLength, SameText}
 use Rattle.lsp_replay.specs.Reasons.{position_words}
 use Rattle.lsp_replay.specs.Session.{Session, Verdict, answered, result_for}
 
@@ -91,11 +91,11 @@ abbrev pub utf16_units : List ℕ → ℕ
 utf16_units characters = sum_by (units_in Utf16) characters
 
 -- The note of a `rangeLength` that is neither the units of what the change replaces nor its UTF-16
--- units.
+-- units. It has the number of these, and that of the characters.
 abbrev pub length_notes : (ℕ → ℕ) → ℕ → Option ℕ → Option (List ℕ) → List Note
 length_notes units index (Some sent) (Some replaced) =
     if sent == utf16_units replaced || sent == sum_by units replaced then [] else
-    WrongLength index sent (utf16_units replaced) ∷ []
+    WrongLength index sent (utf16_units replaced) (sum_by (units_in Utf32) replaced) ∷ []
 length_notes units index sent replaced = []
 
 -- The note that a change's text is what it replaces, character by character.
@@ -153,9 +153,29 @@ changing_notes terms p (Some entry) =
     ++ batch_notes terms entry.text (map content_change_from_data p.changes)
 
 -- The note of the opening of a document that is open, which lenient limits accept.
-abbrev pub opening_notes : Option DocumentItem → List Note
-opening_notes None = []
-opening_notes (Some entry) = OpenAlready ∷ []
+abbrev pub open_notes : Option DocumentItem → List Note
+open_notes None = []
+open_notes (Some entry) = OpenAlready ∷ []
+
+-- Does a carriage return end a line by itself? `after`: is the byte before these one?
+abbrev pub has_lone_return : Bool → List ℕ → Bool
+has_lone_return after [] = after
+has_lone_return after (byte ∷ bytes) =
+    (after && not (byte == 10)) || has_lone_return (byte == 13) bytes
+
+-- Is there a line feed?
+abbrev pub has_feed : List ℕ → Bool
+has_feed [] = false
+has_feed (byte ∷ bytes) = byte == 10 || has_feed bytes
+
+-- The note of a text in which a carriage return ends a line by itself, and a line feed another.
+-- Some editors don't count the first as a line end.
+abbrev pub return_notes : List ℕ → List Note
+return_notes text = if has_lone_return false text && has_feed text then LoneReturn ∷ [] else []
+
+-- The notes of the opening of a document with this text, which may be open.
+abbrev pub opening_notes : Option DocumentItem → List ℕ → List Note
+opening_notes entry text = open_notes entry ++ return_notes text
 
 -- What the notes of the changes of a body go by, in the encoding of the session.
 abbrev pub terms_in : ServerData → Bool → Reading → Terms
@@ -168,7 +188,7 @@ terms_in s ranged body = record {
 -- What there is to note of a message on the documents before it, if it is accepted. `ranged`: did
 -- the server ask for ranges?
 abbrev pub notes_on : ServerData → Bool → Reading → IncomingData → List Note
-notes_on s ranged body (did_open (Some p)) = opening_notes (entry_at s.table p.uri)
+notes_on s ranged body (did_open (Some p)) = opening_notes (entry_at s.table p.uri) p.text
 notes_on s ranged body (did_change (Some p))
     = changing_notes (terms_in s ranged body) p (entry_at s.table p.uri)
 notes_on s ranged body m = []
@@ -230,6 +250,7 @@ past_words sent taken =
 -- A note.
 abbrev pub note_words : Note → List ℕ
 note_words OpenAlready = codes "the document was open already"
+note_words LoneReturn = codes "a CR alone ends a line, and an LF another"
 note_words (OldVersion sent current) =
     codes "version " ++ signed_decimal sent ++ codes " was sent, and the current one was "
     ++ signed_decimal current
@@ -239,7 +260,7 @@ note_words (WholeText index) =
 note_words (PastEnd index side sent taken) =
     change_words index ++ side_words side ++ position_words sent ++ past_words sent taken
     ++ position_words taken ++ codes ")"
-note_words (WrongLength index sent replaced) =
+note_words (WrongLength index sent replaced characters) =
     change_words index ++ codes " has the rangeLength " ++ decimal sent ++ codes ", and replaces "
     ++ decimal replaced ++ codes " UTF-16 units"
 note_words (SameText index) = change_words index ++ codes " changes nothing"
@@ -249,3 +270,26 @@ abbrev pub notes_words : List ℕ → List Note → List ℕ
 notes_words between [] = []
 notes_words between (note ∷ notes) =
     note_words note ++ flat_map (λ note. between ++ note_words note) notes
+
+-- ---- the kind of a note, by which notes are counted
+
+-- Whether a `rangeLength` counts characters, as some editors do, or nothing that is known.
+abbrev pub length_kind : Bool → List ℕ
+length_kind true = codes "rangeLength in characters"
+length_kind false = codes "rangeLength"
+
+-- Past which end a position is, by the position that it is taken as.
+abbrev pub past_kind : Position → Position → List ℕ
+past_kind sent taken =
+    if sent.line == taken.line then codes "past the line's end" else codes "past the last line"
+
+-- The kind of a note, in words.
+abbrev pub note_kind : Note → List ℕ
+note_kind OpenAlready = codes "open already"
+note_kind LoneReturn = codes "a CR alone"
+note_kind (OldVersion sent current) = codes "an old version"
+note_kind NoChanges = codes "no changes"
+note_kind (WholeText index) = codes "a whole text"
+note_kind (PastEnd index side sent taken) = past_kind sent taken
+note_kind (WrongLength index sent replaced characters) = length_kind (sent == characters)
+note_kind (SameText index) = codes "changes nothing"

@@ -1,6 +1,6 @@
 -- Why a record was refused, in words for people. They are ASCII, with no quotation mark and no
 -- backslash.
-use Rattle.std.specs.Prelude.{ℕ, ◌++◌, List, [], Option, Some, None, option_and_then, codes, decimal, slice_get}
+use Rattle.std.specs.Prelude.{ℕ, Bool, true, false, ◌∷◌, ◌++◌, if◌then◌else◌, List, [], Option, Some, None, option_and_then, codes, decimal, slice_get}
 use Rattle.std.specs.Fmt.{signed_decimal}
 use Rattle.lsp_frame.specs.Limits.{LimitsData}
 use Rattle.lsp_text.specs.declared.position.Position.{Position}
@@ -25,6 +25,20 @@ use Rattle.lsp_stream.specs.Ports.{one_more}
 abbrev pub version_words : Option ChangeData → List ℕ
 version_words None = []
 version_words (Some p) = signed_decimal p.version
+
+-- Has a list nothing in it?
+abbrev pub is_empty : {A : Type 0} → List A → Bool
+is_empty [] = true
+is_empty (x ∷ xs) = false
+
+-- Is it a change without changes of the text?
+abbrev pub is_idle : Option ChangeData → Bool
+is_idle None = false
+is_idle (Some p) = is_empty p.changes
+
+-- What is said of such a change where its version is refused.
+abbrev pub idle_words : Option ChangeData → List ℕ
+idle_words p = if is_idle p then codes ", and it has no changes" else []
 
 -- The range of one of its changes, by the index of that.
 abbrev pub range_sent : Option ChangeData → ℕ → Option Range
@@ -63,7 +77,7 @@ store_reason limits p TextTooLong =
 store_reason limits p NotOpen = codes "the document is not open"
 store_reason limits p (StaleVersion current) =
     codes "version " ++ version_words p ++ codes " was sent, and the current one is "
-    ++ signed_decimal current
+    ++ signed_decimal current ++ idle_words p
 store_reason limits p TooManyChanges =
     codes "there are more changes than --max-changes allows, " ++ decimal limits.max_changes
     ++ codes ", or their texts have more than 1 GiB"
@@ -92,3 +106,8 @@ reason_words limits p (reply r) = error_reason r.code
 reason_words limits p (refused refusal) = refusal_reason limits p refusal
 reason_words limits p (exits status) = codes "`exit` came without `shutdown`"
 reason_words limits p answer = []
+
+-- What comes after the words where the document was never open, and another one was.
+abbrev pub renamed_words : Bool → List ℕ
+renamed_words renamed =
+    if renamed then codes "; its editor may have renamed a document that was open" else []

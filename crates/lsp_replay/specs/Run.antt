@@ -72,6 +72,10 @@ log_engine settings run_output
       in_parts = false;
     }
 
+-- The same engine, which passes each output on before it reads on.
+abbrev pub live : Engine → Engine
+live engine = record engine { flushes = true }
+
 -- `check`.
 abbrev pub check_engine : Settings → Engine
 check_engine settings = log_engine settings (verdicts settings)

@@ -14,7 +14,7 @@ use Rattle.lsp_message.specs.Agreement.{announced_of}
 use Rattle.lsp_server.specs.declared.phase.Phase.{Phase}
 use Rattle.lsp_server.specs.declared.phase.Phase.TheVariants.{New, Running, Ended}
 use Rattle.lsp_server.specs.Incoming.{IncomingData, incoming_of, did_change, initialize}
-use Rattle.lsp_server.specs.Answer.{AnswerData, reply, refused, exits, Sent, as_sent}
+use Rattle.lsp_server.specs.Answer.{AnswerData, reply, changed, refused, exits, Sent, as_sent}
 use Rattle.lsp_server.specs.declared.config.Config.{Config}
 use Rattle.lsp_server.specs.Step.{ServerData, new_server, step_on, with_encoding}
 use Rattle.lsp_replay.specs.declared.outcome.Outcome.{Outcome}
@@ -67,6 +67,16 @@ is_refused (reply m) = is_refusing m.code
 is_refused (refused refusal) = true
 is_refused (exits status) = not (status == 0)
 is_refused answer = false
+
+-- Does a record change documents?
+abbrev pub has_changed : Verdict → Bool
+has_changed (answered changed) = true
+has_changed verdict = false
+
+-- Does a record count as refused?
+abbrev pub refuses : Verdict → Bool
+refuses (answered answer) = is_refused answer
+refuses verdict = false
 
 -- A count, raised if this counts.
 abbrev pub count_if : Bool → ℕ → ℕ

@@ -8,7 +8,6 @@ use Rattle.lsp_message.specs.Message.{IdData, whole, text, reading}
 use Rattle.lsp_message.specs.Params.{DocumentItem}
 use Rattle.lsp_store.specs.Table.{entry_at}
 use Rattle.lsp_server.specs.Incoming.{IncomingData, not_json, not_a_message, response, initialize, shutdown, other_request, exit, did_open, did_change, did_close, other_notification, incoming_of}
-use Rattle.lsp_server.specs.Answer.{changed}
 use Rattle.lsp_log.specs.declared.record.Head.{Head}
 use Rattle.lsp_log.specs.declared.record.Sender.{Sender}
 use Rattle.lsp_log.specs.declared.record.Sender.TheVariants.{Client, Server}
@@ -18,12 +17,11 @@ use Rattle.lsp_replay.specs.declared.commands.traced.Details.{Details}
 use Rattle.lsp_replay.specs.declared.notes.Note.{Note}
 use Rattle.lsp_replay.specs.RunOutput.{RunOutput}
 use Rattle.lsp_replay.specs.Commands.{canonical_of_record, change_in, log_config, output_in, verdict_word}
-use Rattle.lsp_replay.specs.Lines.{Known, LineView, lines, nothing_known, uri_of}
-use Rattle.lsp_replay.specs.Mentions.{last_for}
+use Rattle.lsp_replay.specs.Lines.{Known, LineView, is_renamed, last_in, lines, nothing_known, uri_of}
 use Rattle.lsp_replay.specs.Notes.{notes_of, notes_words}
-use Rattle.lsp_replay.specs.Reasons.{reason_words}
+use Rattle.lsp_replay.specs.Reasons.{reason_words, renamed_words}
 use Rattle.lsp_replay.specs.Run.{Engine, log_engine}
-use Rattle.lsp_replay.specs.Session.{Session, Judged, Verdict, answered, is_refused, opened}
+use Rattle.lsp_replay.specs.Session.{Session, Judged, Verdict, answered, has_changed, is_refused, opened}
 
 -- ---- members of a line
 
@@ -80,11 +78,13 @@ first_members number head m =
 
 -- ---- what is answered
 
--- Why a record was refused, if it counts as refused.
-abbrev pub reason_json : LimitsData → IncomingData → Verdict → Option (List ℕ)
-reason_json limits m (answered answer) = if is_refused answer then
-    Some (codes "\"" ++ reason_words limits (change_in m) answer ++ codes "\"") else None
-reason_json limits m verdict = None
+-- Why a record was refused, if it counts as refused. `renamed`: may its document be another one
+-- under a new name?
+abbrev pub reason_json : LimitsData → IncomingData → Bool → Verdict → Option (List ℕ)
+reason_json limits m renamed (answered answer) = if is_refused answer then
+    Some (codes "\"" ++ reason_words limits (change_in m) answer ++ renamed_words renamed
+    ++ codes "\"") else None
+reason_json limits m renamed verdict = None
 
 -- The notes of an accepted record, as strings in an array. Without notes there is none.
 abbrev pub notes_json : List Note → Option (List ℕ)
@@ -104,11 +104,6 @@ document_after table uri = option_and_then (entry_at table) uri
 -- The version of an open document.
 abbrev pub version_json : Option DocumentItem → Option (List ℕ)
 version_json document = option_map (λ entry. signed_decimal entry.version) document
-
--- Were the documents changed?
-abbrev pub has_changed : Verdict → Bool
-has_changed (answered changed) = true
-has_changed verdict = false
 
 -- The text of an open document, if it is to be written.
 abbrev pub text_json : Bool → Option DocumentItem → Option (List ℕ)
@@ -143,11 +138,14 @@ last_members (m ∷ more) = member m.0 m.1 ++ last_members more
 abbrev pub trace_line : Details → Known → Session → Record → Judged → IncomingData → List ℕ
 trace_line details known s r j m =
     first_members j.session.records r.head m
-    ++ (codes ",\"word\":\"" ++ verdict_word j.verdict ++ codes "\"" ++ last_members (
-    (codes ",\"reason\":", reason_json j.session.server.config.limits m j.verdict)
+    ++ (codes ",\"word\":\"" ++ verdict_word j.verdict ++ codes "\"" ++ last_members ((
+      codes ",\"reason\":",
+      reason_json j.session.server.config.limits m
+          (is_renamed known (uri_of r.head.side m) j.verdict) j.verdict,
+    )
     ∷ (
       codes ",\"last\":",
-      option_map decimal (last_for known.mentions (uri_of r.head.side m) j.verdict),
+      option_map decimal (last_in known (uri_of r.head.side m) j.verdict),
     )
     ∷ (codes ",\"notes\":", notes_json (notes_of s known.ranged r.body j.verdict))
     ∷ (

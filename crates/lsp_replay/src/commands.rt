@@ -13,11 +13,13 @@ ghost use Rattle.lsp_replay.specs.Run.{serve_engine, check_engine, replay_engine
 ghost use Rattle.lsp_replay.specs.Session.{opened};
 
 mod explained;
+mod live;
 mod normalised;
 mod parts;
 mod traced;
 
-pub use crate::commands::explained::explain;
+pub use crate::commands::explained::{Listing, explain};
+pub use crate::commands::live::{check_live, explain_live, trace_live};
 pub use crate::commands::normalised::{normalise, normalise_documents};
 pub use crate::commands::parts::{Part, replay_part};
 pub use crate::commands::traced::{Details, trace};
@@ -82,6 +84,15 @@ impl Settings {
         ensures in_range { AreInRange self.now.limits }
     {
         Session::new(alloc, self.config())
+    }
+
+    /// Starts `check` before the first record.
+    fn checking(&self, alloc: Global) -> Check
+        ensures { result.session ≡ opened (log_config self.now) }
+    {
+        Check {
+            session: self.session(alloc),
+        }
     }
 
     /// Returns whether the changes of a series are written as one message.
@@ -178,9 +189,7 @@ pub fn check<R: Source, W: Sink>(
         (ports (R.seen reader.new) (W.seen writer.new)) result }
 {
     let rules = settings.rules(false);
-    let check = Check {
-        session: settings.session(alloc),
-    };
+    let check = settings.checking(alloc);
     run(alloc, reader, writer, check, None, rules, max_turns)
 }
 

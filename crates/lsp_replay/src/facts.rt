@@ -4,7 +4,10 @@
 //! `noting` has what is suspicious of a message, `asked` what a body asks.
 
 ghost use Rattle.std.specs.Prelude.{◌≡◌, ◌≢◌, ◌⊎◌, IfErr, IfOk, OnOk, option_map};
-ghost use Rattle.lsp_replay.specs.Lines.{has_notes, is_strict_refusal, known_after, nothing_known};
+ghost use Rattle.lsp_message.specs.Seen.{change_view};
+ghost use Rattle.lsp_replay.specs.Lines.{has_notes, is_new_name, is_not_open, is_open_already};
+ghost use Rattle.lsp_replay.specs.Lines.{is_renamed, is_stale, is_strict_refusal, known_after};
+ghost use Rattle.lsp_replay.specs.Lines.{last_in, nothing_known};
 ghost use Rattle.lsp_replay.specs.Mentions.{is_mention, last_for};
 ghost use Rattle.lsp_replay.specs.Session.{bad};
 ghost use Rattle.lsp_replay.specs.inside.Facts.{AreFacts, IsLearned, known_by};
@@ -16,9 +19,12 @@ ghost use Rattle.lsp_replay.specs.inside.Verdicts.{verdict_view};
 pub(crate) mod asked;
 mod noting;
 
+use crate::counts::Counts;
 use crate::facts::noting::{about_of, notes_if};
 use crate::mentions::Mentions;
 use crate::notes::Note;
+use crate::printer::reasons::is_idle;
+use crate::session::counting::has_changed;
 use crate::session::witness::Witness;
 use crate::session::{RecordBody, Session, Taken, Verdict, in_log};
 use lsp_log::Head;
@@ -50,24 +56,31 @@ pub struct Facts {
     pub uri: Option<String>,
     /// The params of a change that a running server received: what a reason quotes.
     pub change: Option<ChangeParams>,
-    /// The record that opened, closed or refused this document last before, if the documents
-    /// refused this one.
+    /// Whether the document may be another one under a new name, if the documents refused it.
+    pub renamed: bool,
+    /// The record to look at, if the documents refused this one: which made the current version, if
+    /// this one has an old version; else which opened, closed or refused the document last.
     pub last: Option<u64>,
     /// What is suspicious of it, if it was accepted.
     pub notes: Vec<Note>,
+    /// The notes whose kinds are no habits.
+    pub rare: Vec<Note>,
 }
 
 /// What is known of the records before one.
 #[derive(Drop)]
 pub struct Known {
     alloc: Global,
+    // The documents that were opened, closed or refused last.
     mentions: Mentions,
+    // The documents that were opened, changed or closed last.
+    made: Mentions,
     // Whether the server asked for ranges.
     ranged: bool,
-    // Whether a record has notes.
-    suspicious: bool,
-    // Whether one is refused with S1 or S5, which lenient limits never do.
+    // Whether a record is refused with S1 or S5, which lenient limits never do, and was meant to
+    // change a text.
     strict_refusal: bool,
+    counts: Counts,
 }
 
 impl Model for Known {
@@ -77,9 +90,10 @@ impl Model for Known {
 
     ghost view = { λ known. record {
       mentions = known.mentions.newest.items;
+      made = known.made.newest.items;
       ranged = known.ranged;
-      suspicious = known.suspicious;
       strict_refusal = known.strict_refusal;
+      counts = known.counts;
     } };
 }
 
@@ -91,20 +105,21 @@ impl Known {
         Known {
             alloc,
             mentions: Mentions::new(alloc),
+            made: Mentions::new(alloc),
             ranged: false,
-            suspicious: false,
             strict_refusal: false,
+            counts: Counts::nothing(alloc),
         }
     }
 
-    /// Returns whether a record has notes.
-    pub fn is_suspicious(&self) -> bool
-        ensures { result ≡ self.now.suspicious }
+    /// Returns how often what came.
+    pub fn counts(&self) -> &Counts
+        ensures { result.now ≡ self.now.counts }
     {
-        self.suspicious
+        &self.counts
     }
 
-    /// Returns whether a record is refused with S1 or S5.
+    /// Returns whether a record is refused with S1, or with S5 and changes.
     pub fn has_strict_refusal(&self) -> bool
         ensures { result ≡ self.now.strict_refusal }
     {
@@ -156,33 +171,56 @@ impl Known {
             change,
             ranged,
         } = taken;
-        let last = last_for(&self.mentions, uri.as_deref(), &verdict);
-        let counts = is_mention(is_change, &verdict);
-        self.mentions.keep(counts, uri.as_deref(), number)?;
+        let renamed = self.is_renamed(uri.as_deref(), &verdict);
+        let last = self.last_in(uri.as_deref(), &verdict);
         let notes = notes_if(notes, &verdict);
+        let rare = self.counts.rare(&notes)?;
+        let mentioned = is_mention(is_change, &verdict);
+        self.mentions.keep(mentioned, uri.as_deref(), number)?;
+        self.made
+            .keep(has_changed(&verdict), uri.as_deref(), number)?;
         self.ranged = ranged_with(self.ranged, ranged);
-        self.suspicious = self.suspicious || has_notes(notes.as_slice());
-        self.strict_refusal = self.strict_refusal || is_strict_refusal(&verdict);
+        let is_strict = is_strict_refusal(change.as_ref(), &verdict);
+        self.strict_refusal = self.strict_refusal || is_strict;
+        self.counts.count(number, &verdict, &notes)?;
         Ok(Facts {
             number,
             verdict,
             uri,
             change,
+            renamed,
             last,
             notes,
+            rare,
         })
+    }
+
+    /// Returns the record to look at, if the documents refused one about a document: which made the
+    /// current version, if it was an old version that they refused; else which opened, closed or
+    /// refused the document last.
+    fn last_in(&self, uri: Option<&str>, verdict: &Verdict) -> Option<u64>
+        ensures { result ≡ last_in self.now (option_map (λ uri. uri.now) uri.entry)
+            (verdict_view verdict.now) }
+    {
+        if is_stale(verdict) {
+            last_for(&self.made, uri, verdict)
+        } else {
+            last_for(&self.mentions, uri, verdict)
+        }
+    }
+
+    /// Returns whether an editor may have renamed a document, if the documents refused a record
+    /// about it.
+    fn is_renamed(&self, uri: Option<&str>, verdict: &Verdict) -> bool
+        ensures { result ≡ is_renamed self.now (option_map (λ uri. uri.now) uri.entry)
+            (verdict_view verdict.now) }
+    {
+        is_not_open(verdict) && is_new_name(&self.made, uri)
     }
 }
 
-/// Returns whether ranges are asked for after a record, by what it says of that, if it does.
-fn ranged_with(before: bool, ranged: Option<bool>) -> bool
-    ensures { result ≡ ranged_with before ranged }
-{
-    ranged.unwrap_or(before)
-}
-
-/// Returns the record that opened, closed or refused a document last, if the documents refused one
-/// about it.
+/// Returns the record that is about a document last in a list, if the documents refused one about
+/// it.
 fn last_for(mentions: &Mentions, uri: Option<&str>, verdict: &Verdict) -> Option<u64>
     ensures { result ≡ last_for mentions.now.newest.items
         (option_map (λ uri. uri.now) uri.entry) (verdict_view verdict.now) }
@@ -191,6 +229,23 @@ fn last_for(mentions: &Mentions, uri: Option<&str>, verdict: &Verdict) -> Option
         return None;
     };
     mentions.last(uri?)
+}
+
+/// Returns whether no document of this name was opened, and another was.
+fn is_new_name(made: &Mentions, uri: Option<&str>) -> bool
+    ensures { result ≡ is_new_name made.now.newest.items (option_map (λ uri. uri.now) uri.entry) }
+{
+    match uri {
+        Some(uri) => made.last(uri).is_none() && !made.is_empty(),
+        None => false,
+    }
+}
+
+/// Returns whether ranges are asked for after a record, by what it says of that, if it does.
+fn ranged_with(before: bool, ranged: Option<bool>) -> bool
+    ensures { result ≡ ranged_with before ranged }
+{
+    ranged.unwrap_or(before)
 }
 
 /// Returns whether an answer opens, closes or refuses a document.
@@ -205,20 +260,46 @@ fn is_mention(is_change: bool, verdict: &Verdict) -> bool
 }
 
 /// Returns whether there is a note.
-fn has_notes(notes: &[Note]) -> bool
+pub fn has_notes(notes: &[Note]) -> bool
     ensures { result ≡ has_notes notes.now }
 {
     !notes.is_empty()
 }
 
-/// Returns whether a record is refused with S1 or S5.
-fn is_strict_refusal(verdict: &Verdict) -> bool
-    ensures { result ≡ is_strict_refusal (verdict_view verdict.now) }
+/// Returns whether a record is refused with S1, or with S5 and changes.
+fn is_strict_refusal(change: Option<&ChangeParams>, verdict: &Verdict) -> bool
+    ensures { result ≡ is_strict_refusal (option_map (λ p. change_view p.now) change.entry)
+        (verdict_view verdict.now) }
+{
+    is_open_already(verdict) || is_stale(verdict) && !is_idle(change)
+}
+
+/// Returns whether a record is refused with S1.
+fn is_open_already(verdict: &Verdict) -> bool
+    ensures { result ≡ is_open_already (verdict_view verdict.now) }
 {
     matches!(
         verdict,
-        Verdict::Answered(Answer::Refused(Refusal::Store(
-            StoreFault::AlreadyOpen | StoreFault::StaleVersion { .. }
-        )))
+        Verdict::Answered(Answer::Refused(Refusal::Store(StoreFault::AlreadyOpen)))
+    )
+}
+
+/// Returns whether a record is refused with S4.
+fn is_not_open(verdict: &Verdict) -> bool
+    ensures { result ≡ is_not_open (verdict_view verdict.now) }
+{
+    matches!(
+        verdict,
+        Verdict::Answered(Answer::Refused(Refusal::Store(StoreFault::NotOpen)))
+    )
+}
+
+/// Returns whether a record is refused with S5.
+fn is_stale(verdict: &Verdict) -> bool
+    ensures { result ≡ is_stale (verdict_view verdict.now) }
+{
+    matches!(
+        verdict,
+        Verdict::Answered(Answer::Refused(Refusal::Store(StoreFault::StaleVersion { .. })))
     )
 }

@@ -2,7 +2,9 @@
 //! server's end. The streams (`lsp_stream`) are re-exported.
 //!
 //! - `commands`: `serve` and `serve_on`, `check` and `explain`, `trace`, `replay` and
-//!   `replay_part`, `normalise` and `normalise_documents`, and `convert`.
+//!   `replay_part`, `normalise` and `normalise_documents`, and `convert`; `check_live`,
+//!   `explain_live` and `trace_live` of a session as it goes on.
+//! - `counts`: how often what came.
 //! - `engine`: the one loop from a reader to a writer; `handler` is what it hands records to.
 //! - `pipeline`: the one handler: it reads a record's body once, leaves out what doesn't stay, and
 //!   hands the rest to a command's printer.
@@ -17,6 +19,7 @@
 #![tactic(auto)]
 
 mod commands;
+mod counts;
 mod engine;
 mod facts;
 mod handler;
@@ -30,8 +33,8 @@ mod printer;
 mod session;
 
 pub use commands::{
-    Details, Part, Settings, check, convert, explain, normalise, normalise_documents, replay,
-    replay_part, serve, serve_on, trace,
+    Details, Listing, Part, Settings, check, check_live, convert, explain, explain_live, normalise,
+    normalise_documents, replay, replay_part, serve, serve_on, trace, trace_live,
 };
 pub use laws::{documents_laws, log_laws};
 pub use lsp_stream::{CallEnd, Duplex, EngineFault, Sink, Source, StopReader, StopWriter, Told};

@@ -1,8 +1,9 @@
-//! Which record opened, closed or refused a document last.
+//! Which record opened, closed or refused a document last, or made its version.
 
 ghost use Rattle.std.specs.Prelude.{◌≡◌, [], IfOk, OnOk, option_map};
 ghost use Rattle.std.specs.Str.{bytes_eq};
 ghost use Rattle.lsp_replay.specs.Mentions.{last_record, mentioned, newest_first, without};
+ghost use Rattle.lsp_replay.specs.Reasons.{is_empty};
 ghost use Rattle.lsp_replay.specs.inside.Mentions.{IsFoundAt};
 
 use std::alloc::{AllocError, Global};
@@ -71,6 +72,13 @@ impl Mentions {
             alloc,
             newest: Vec::new(alloc),
         }
+    }
+
+    /// Returns whether there is no document.
+    pub fn is_empty(&self) -> bool
+        ensures { result ≡ is_empty self.now.newest.items }
+    {
+        self.newest.is_empty()
     }
 
     /// Returns the number of the record that opened, closed or refused the document with this URI

@@ -1,6 +1,8 @@
 //! What of an accepted message is suspicious, though it has a meaning.
 
 pub(crate) mod changes;
+pub(crate) mod kinds;
+pub(crate) mod returns;
 pub(crate) mod units;
 
 use lsp_edit::Side;
@@ -11,6 +13,8 @@ use lsp_text::Position;
 pub enum Note {
     /// It opens a document that is open.
     OpenAlready,
+    /// It opens a document in which a carriage return ends a line by itself, and a line feed another.
+    LoneReturn,
     /// Its version isn't greater than the current one.
     OldVersion {
         sent: i32,
@@ -31,11 +35,12 @@ pub enum Note {
         taken: Position,
     },
     /// A change's `rangeLength` is neither the units of what it replaces nor its UTF-16 units, whose
-    /// number is `replaced`.
+    /// number is `replaced`. It has so many `characters`.
     WrongLength {
         change: usize,
         sent: u64,
         replaced: usize,
+        characters: usize,
     },
     /// A change's text is what it replaces.
     SameText {

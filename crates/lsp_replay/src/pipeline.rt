@@ -1,7 +1,7 @@
 //! From a record's bytes to a command's output: the body is read once, a record that doesn't stay
 //! is left out, and any other is printed.
 
-ghost use Rattle.std.specs.Prelude.{◌≡◌, ℕ, Err, IfOk, List};
+ghost use Rattle.std.specs.Prelude.{◌≡◌, ℕ, Err, IfOk, List, true};
 ghost use Rattle.lsp_stream.specs.Ports.{ports};
 ghost use Rattle.lsp_log.specs.laws.Logs.{FirstLaw, VersionLaw};
 ghost use Rattle.lsp_replay.specs.Engine.{WroteRecords};
@@ -13,6 +13,7 @@ use crate::engine::{InputRules, run_on};
 use crate::handler::{Given, Handler, Output};
 use crate::outcome::Outcome;
 use crate::printer::Printer;
+use crate::printer::live::Live;
 use crate::session::RecordBody;
 use crate::session::selecting::Selection;
 use lsp_log::Head;
@@ -140,4 +141,34 @@ pub fn run<R: Source, W: Sink, P: Printer + Drop>(
     let mut ends = Duplex::new(reader, writer);
     let mut pipeline = Pipeline::new(alloc, printer, selection);
     run_on(alloc, &mut ends, &mut pipeline, rules, max_turns)
+}
+
+/// Runs a command over both ends of a connection. All that it writes is flushed before more is read.
+pub fn run_live<R: Source, W: Sink, P: Printer + Drop>(
+    alloc: Global,
+    ends: &mut Duplex<'_, R, W>,
+    printer: P,
+    rules: InputRules,
+    max_turns: u64,
+) -> Result<Outcome, EngineFault>
+    ensures run { IsLoopRun (reading_by rules) (P.run_output printer) true max_turns
+        (ports (R.seen ends.old.reader.now) (W.seen ends.old.writer.now))
+        (ports (R.seen ends.new.reader.now) (W.seen ends.new.writer.now)) result }
+    // Where the end has one part, what is written when memory runs out is the output of records,
+    // each whole.
+    ensures whole { ((p : P) → P.parts p ≡ 0) → result ≡ Err EngineFault.NoMemory →
+        WroteRecords (reading_by rules) (P.run_output printer)
+        (R.seen ends.old.reader.now).left (R.seen ends.new.reader.now).left
+        (W.seen ends.old.writer.now).written (W.seen ends.new.writer.now).written }
+    // No read came before all that was written was flushed.
+    ensures in_time { (W.seen ends.old.writer.now).flushed ≡ true →
+        ends.new.read_early ≡ ends.old.read_early }
+    ensures same_reader { ends.new.reader.ghost_name ≡ ends.old.reader.ghost_name }
+    ensures same_writer { ends.new.writer.ghost_name ≡ ends.old.writer.ghost_name }
+    // What its callers take from `lsp_log`.
+    ensures version { VersionLaw }
+    ensures first { FirstLaw }
+{
+    let mut pipeline = Pipeline::new(alloc, Live { printer }, None);
+    run_on(alloc, ends, &mut pipeline, rules, max_turns)
 }

@@ -150,6 +150,13 @@ impl Session {
         &self.server
     }
 
+    /// Returns how many bodies were handled.
+    pub fn messages(&self) -> u64
+        ensures { result ≡ self.now.messages }
+    {
+        self.messages
+    }
+
     /// Returns how many of the handled bodies were refused.
     pub fn refusals(&self) -> u64
         ensures { result ≡ self.now.refusals }

@@ -1,5 +1,5 @@
 -- The calls of the program, by what `clap` finds in its words.
-use Rattle.std.specs.Prelude.{ℕ, ◌≡◌, ◌<◌, ◌^◌, ◌⊎◌, ◌&&◌, ◌∷◌, not, is_some, [], Result, Ok, Err, Bool, true, false, List, All, map, Option, Some, None, codes, option_map, option_and_then, unwrap_or, if◌then◌else◌, Vec}
+use Rattle.std.specs.Prelude.{ℕ, ◌≡◌, ◌<◌, ◌^◌, ◌⊎◌, ◌&&◌, ◌||◌, ◌∷◌, not, is_some, [], Result, Ok, Err, Bool, true, false, List, All, map, Option, Some, None, codes, option_map, option_and_then, unwrap_or, if◌then◌else◌, Vec}
 use Rattle.std.specs.declared.alloc.Global.{Global}
 use Rattle.std.specs.Str.{bytes_eq}
 use Rattle.std.specs.String.{string_bytes}
@@ -21,6 +21,7 @@ use Rattle.lsp_server.specs.declared.config.EncodingChoice.TheVariants.{Negotiat
 use Rattle.lsp_server.specs.declared.config.ChangeForm.{ChangeForm}
 use Rattle.lsp_server.specs.declared.config.ChangeForm.TheVariants.{Incremental, Full}
 use Rattle.lsp_replay.specs.declared.commands.Settings.{Settings}
+use Rattle.lsp_replay.specs.declared.commands.explained.Listing.{Listing}
 use Rattle.lsp_replay.specs.declared.commands.parts.Part.{Part}
 use Rattle.lsp_replay.specs.declared.commands.traced.Details.{Details}
 use Rattle.lspsync.specs.CommandLine.{IsProgram}
@@ -99,15 +100,31 @@ pub record AreDetails (options : ArgMatches) (details : Details) : Type 0 where
   pub texts : IsFlag options (codes "texts") details.texts
   pub bodies : IsFlag options (codes "bodies") details.bodies
 
+-- `check` gives reasons: by `--explain`, or by an option that says which.
+pub record IsExplained (options : ArgMatches) (explained : Bool) : Type 0 where
+  pub explain : Bool
+  pub brief : Bool
+  pub all : Bool
+  pub is_explain : IsFlag options (codes "explain") explain
+  pub is_brief : IsFlag options (codes "brief") brief
+  pub is_all : IsFlag options (codes "all") all
+  pub value : explained ≡ (explain || (brief || all))
+
+-- Which records have a line, and with which notes.
+pub record IsListing (options : ArgMatches) (listing : Listing) : Type 0 where
+  pub brief : IsFlag options (codes "brief") listing.brief
+  pub all : IsFlag options (codes "all") listing.all
+
 -- The call of a subcommand with this name and these options.
 abbrev pub IsCallNamed : List ℕ → ArgMatches → Call → Type 0
 IsCallNamed name options (call.Serve config) = (name ≡ codes "serve") × IsConfig options config
-IsCallNamed name options (call.Check settings) = (name ≡ codes "check")
-    × AreSettings options settings × IsFlag options (codes "explain") false
-IsCallNamed name options (call.Explain settings) = (name ≡ codes "check")
-    × AreSettings options settings × IsFlag options (codes "explain") true
-IsCallNamed name options (call.Trace settings details) = (name ≡ codes "trace")
-    × AreSettings options settings × AreDetails options details
+IsCallNamed name options (call.Check settings live) = (name ≡ codes "check")
+    × AreSettings options settings × IsExplained options false × IsFlag options (codes "live") live
+IsCallNamed name options (call.Explain settings listing live) = (name ≡ codes "check")
+    × AreSettings options settings × IsExplained options true × IsListing options listing
+    × IsFlag options (codes "live") live
+IsCallNamed name options (call.Trace settings details live) = (name ≡ codes "trace")
+    × AreSettings options settings × AreDetails options details × IsFlag options (codes "live") live
 IsCallNamed name options (call.Replay settings) = (name ≡ codes "replay")
     × AreSettings options settings × IsLogPart options whole
 IsCallNamed name options (call.ReplayPart settings part) = (name ≡ codes "replay")

@@ -74,9 +74,10 @@ logs_rule = record log_rule {
   range = Some (record { start_inclusive = 0; end_inclusive = usize_max });
 }
 
--- `check` has `--explain`.
-abbrev pub explain_rule : Rule
-explain_rule = flag_rule (codes "explain")
+-- The options of `check` that say what it writes of each record, and when.
+abbrev pub check_rules : List Rule
+check_rules = flag_rule (codes "explain") ∷ flag_rule (codes "brief") ∷ flag_rule (codes "all")
+    ∷ flag_rule (codes "live") ∷ []
 
 -- The options of `normalise` that say how a log is written.
 abbrev pub writing_rules : List Rule
@@ -94,9 +95,10 @@ uri_rule = text_rule (codes "uri")
 abbrev pub part_rules : List Rule
 part_rules = at_rule ∷ uri_rule ∷ []
 
--- The options of `trace` that say what it writes of each record.
+-- The options of `trace` that say what it writes of each record, and when.
 abbrev pub detail_rules : List Rule
-detail_rules = flag_rule (codes "texts") ∷ flag_rule (codes "bodies") ∷ []
+detail_rules = flag_rule (codes "texts") ∷ flag_rule (codes "bodies") ∷ flag_rule (codes "live")
+    ∷ []
 
 -- The program: its commands, with their options.
 abbrev pub program_app : Choices → Choices → App
@@ -107,7 +109,7 @@ program_app encodings kinds = record {
     has_version = true;
   };
   subs = command_shape (codes "serve") (encoding_rule encodings ∷ server_rules kinds)
-      ∷ command_shape (codes "check") (encoding_rule encodings ∷ explain_rule ∷ logs_rule ∷ [])
+      ∷ command_shape (codes "check") (encoding_rule encodings ∷ check_rules ++ logs_rule ∷ [])
       ∷ command_shape (codes "trace") (encoding_rule encodings ∷ detail_rules ++ logs_rule ∷ [])
       ∷ command_shape (codes "replay") (encoding_rule encodings ∷ part_rules ++ log_rule ∷ [])
       ∷ command_shape (codes "normalise")

@@ -18,7 +18,7 @@ use Rattle.lsp_replay.specs.Documents.{documents_engine}
 use Rattle.lsp_replay.specs.Explained.{explain_engine}
 use Rattle.lsp_replay.specs.Parts.{part_engine}
 use Rattle.lsp_replay.specs.Trace.{trace_engine}
-use Rattle.lsp_replay.specs.Run.{Engine, IsEngineRun, check_engine, convert_engine, normalise_engine, replay_engine, serve_engine}
+use Rattle.lsp_replay.specs.Run.{Engine, IsEngineRun, check_engine, convert_engine, live, normalise_engine, replay_engine, serve_engine}
 use Rattle.lspsync.specs.declared.command_line.Call.{Call}
 use Rattle.lspsync.specs.declared.command_line.Call.TheVariants as call
 use Rattle.lspsync.specs.declared.ends.Ending.{Ending}
@@ -34,12 +34,18 @@ status_of NoMemory = 4
 status_of TooManyTurns = 3
 status_of fault = 5
 
+-- An engine that may pass each output on before it reads on.
+abbrev pub live_if : Bool → Engine → Engine
+live_if true engine = live engine
+live_if false engine = engine
+
 -- The engine that a call names.
 abbrev pub engine_of : Call → Engine
 engine_of (call.Serve config) = serve_engine config
-engine_of (call.Check settings) = check_engine settings
-engine_of (call.Explain settings) = explain_engine settings
-engine_of (call.Trace settings details) = trace_engine settings details
+engine_of (call.Check settings is_live) = live_if is_live (check_engine settings)
+engine_of (call.Explain settings listing is_live) =
+    live_if is_live (explain_engine settings listing)
+engine_of (call.Trace settings details is_live) = live_if is_live (trace_engine settings details)
 engine_of (call.Replay settings) = replay_engine settings
 engine_of (call.ReplayPart settings part) = part_engine settings part
 engine_of (call.Normalise settings) = normalise_engine settings

@@ -11,7 +11,8 @@ ghost use Rattle.std.specs.Prelude.{◌≡◌, ◌≢◌, codes, true, false};
 ghost use Rattle.std.specs.Prelude.{IfOk, IfSome, IsSome, ℕ, map, option_map};
 ghost use Rattle.std.specs.String.{string_bytes};
 ghost use Rattle.lspsync.specs.Call.{AreDetails, AreLimits, AreSettings, AreWordsReadAs, HasNumber};
-ghost use Rattle.lspsync.specs.Call.{IsCallNamed, IsConfig, IsFound, IsLogPart, encoding_given};
+ghost use Rattle.lspsync.specs.Call.{IsCallNamed, IsConfig, IsExplained, IsFound, IsListing};
+ghost use Rattle.lspsync.specs.Call.{IsLogPart, encoding_given};
 ghost use Rattle.lspsync.specs.Call.{file_named, files_given, is_whole, sync_given};
 ghost use Rattle.lsp_frame.specs.Limits.{LimitsData};
 
@@ -24,7 +25,7 @@ use crate::command_line::misplaced::placed;
 use crate::command_line::options::program;
 use clap::{ArgMatches, Error};
 use lsp_frame::Limits;
-use lsp_replay::{Details, Part, Settings};
+use lsp_replay::{Details, Listing, Part, Settings};
 use lsp_server::{ChangeForm, Config, EncodingChoice};
 use lsp_text::Encoding;
 use std::alloc::{AllocError, Global};
@@ -34,12 +35,25 @@ use std::alloc::{AllocError, Global};
 pub enum Call {
     /// `serve`: run a server's end of a session.
     Serve(Config),
-    /// `check`: print what a server answers to each record of a log.
-    Check(Settings),
-    /// `check --explain`: print of each record why it was refused too, and what to do next.
-    Explain(Settings),
+    /// `check`: print what a server answers to each record of a log. With `--live` it is flushed
+    /// before more is read.
+    Check {
+        settings: Settings,
+        live: bool,
+    },
+    /// `check --explain`: print of each record, or of some, why it was refused too, and at the end
+    /// what came how often and what to do next.
+    Explain {
+        settings: Settings,
+        listing: Listing,
+        live: bool,
+    },
     /// `trace`: print a line of JSON for each record of a log.
-    Trace(Settings, Details),
+    Trace {
+        settings: Settings,
+        details: Details,
+        live: bool,
+    },
     /// `replay`: print the documents that are open at the end of a log.
     Replay(Settings),
     /// `replay --at N --uri URI`: print the documents after a record, or a document's last text.
@@ -140,7 +154,7 @@ fn other_call(name: &str, options: &ArgMatches<'_>) -> Option<Call>
     match name {
         "serve" => Some(Call::Serve(config_of(options)?)),
         "check" => check_call(options),
-        "trace" => Some(Call::Trace(settings_of(options, false)?, details_of(options))),
+        "trace" => trace_call(options),
         "normalise" => normalise_call(options),
         "convert" => Some(Call::Convert(settings_of(options, false)?)),
         _ => None,
@@ -153,10 +167,49 @@ fn check_call(options: &ArgMatches<'_>) -> Option<Call>
     ensures none { (call : Call) → IsCallNamed (codes "check") options.now call → IsSome result }
 {
     let settings = settings_of(options, false)?;
-    if options.get_flag("explain") {
-        return Some(Call::Explain(settings));
+    let live = options.get_flag("live");
+    if is_explained(options) {
+        return Some(Call::Explain {
+            settings,
+            listing: listing_of(options),
+            live,
+        });
     }
-    Some(Call::Check(settings))
+    Some(Call::Check { settings, live })
+}
+
+/// Returns whether `check` gives reasons: by `--explain`, or by an option that says which.
+fn is_explained(options: &ArgMatches<'_>) -> bool
+    ensures { IsExplained options.now result }
+{
+    let explain = options.get_flag("explain");
+    let brief = options.get_flag("brief");
+    let all = options.get_flag("all");
+    explain || brief || all
+}
+
+/// Returns which records `check` has lines of, and with which notes.
+fn listing_of(options: &ArgMatches<'_>) -> Listing
+    ensures { IsListing options.now result }
+{
+    Listing {
+        brief: options.get_flag("brief"),
+        all: options.get_flag("all"),
+    }
+}
+
+/// Returns the call of `trace`.
+fn trace_call(options: &ArgMatches<'_>) -> Option<Call>
+    ensures some { IfSome result (IsCallNamed (codes "trace") options.now) }
+    ensures none { (call : Call) → IsCallNamed (codes "trace") options.now call → IsSome result }
+{
+    let settings = settings_of(options, false)?;
+    let live = options.get_flag("live");
+    Some(Call::Trace {
+        settings,
+        details: details_of(options),
+        live,
+    })
 }
 
 /// Returns the call of `normalise`, of all messages or of those about the session and the texts.

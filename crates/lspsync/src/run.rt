@@ -15,11 +15,12 @@ ghost use Rattle.lspsync.specs.Run.{engine_of, nothing_yet, shown_name};
 use crate::command_line::{Call, Task, parse};
 use crate::ends::{Ending, both, end_well, report};
 use crate::files::{Folder, run_file};
+use crate::live::{run_check, run_explain, run_trace};
 use clap::error as clap_error;
 use lsp_program::{MAX_TURNS, USAGE, flush, print, print_text};
 use lsp_replay::{
-    EngineFault, Outcome, Sink, Source, check, convert, explain, normalise, normalise_documents,
-    replay, replay_part, serve, trace,
+    EngineFault, Outcome, Sink, Source, convert, normalise, normalise_documents, replay,
+    replay_part, serve,
 };
 use std::alloc::Global;
 
@@ -194,11 +195,17 @@ fn obey<R: Source, W: Sink>(
 {
     match call {
         Call::Serve(config) => serve(alloc, input, output, config, MAX_TURNS),
-        Call::Check(settings) => check(alloc, input, output, settings, MAX_TURNS),
-        Call::Explain(settings) => explain(alloc, input, output, settings, MAX_TURNS),
-        Call::Trace(settings, details) => {
-            trace(alloc, input, output, settings, details, MAX_TURNS)
-        }
+        Call::Check { settings, live } => run_check(alloc, input, output, settings, live),
+        Call::Explain {
+            settings,
+            listing,
+            live,
+        } => run_explain(alloc, input, output, settings, listing, live),
+        Call::Trace {
+            settings,
+            details,
+            live,
+        } => run_trace(alloc, input, output, settings, details, live),
         Call::Replay(settings) => replay(alloc, input, output, settings, MAX_TURNS),
         Call::ReplayPart(settings, part) => {
             replay_part(alloc, input, output, settings, part, MAX_TURNS)

@@ -9,9 +9,9 @@ mod words;
 
 use lsp_frame::{Limits, frame};
 use lsp_replay::{
-    CallEnd, Details, EngineFault, Outcome, Part, Settings, Sink, Source, StopReader, StopWriter,
-    Told, check, convert, explain, normalise, normalise_documents, replay, replay_part, serve,
-    trace,
+    CallEnd, Details, Duplex, EngineFault, Listing, Outcome, Part, Settings, Sink, Source,
+    StopReader, StopWriter, Told, check, check_live, convert, explain, explain_live, normalise,
+    normalise_documents, replay, replay_part, serve, trace, trace_live,
 };
 use lsp_samples::bodies::{
     ACCEPTED as REPLY, CANONICAL, CHANGE as EDITED, CLOSE, EXIT, INITIALIZE, INITIALIZED, OPEN,
@@ -93,6 +93,13 @@ enum Command {
     Trace,
     /// `check` with reasons.
     Explain,
+    /// The same of what has a reason or notes alone, and with each note.
+    Brief,
+    All,
+    /// `check`, that with reasons and `trace` with the texts, flushed before more is read.
+    CheckLive,
+    ExplainLive,
+    TraceLive,
 }
 
 /// Some bytes of a row.
@@ -188,6 +195,26 @@ fn squashing(settings: Settings) -> Settings {
     }
 }
 
+/// Returns which lines `check` with reasons writes, and with which notes.
+fn listing(brief: bool, all: bool) -> Listing {
+    Listing { brief, all }
+}
+
+/// Calls an engine over both ends of a connection.
+fn call_live<R: Source, W: Sink>(
+    alloc: Global,
+    command: Command,
+    ends: &mut Duplex<'_, R, W>,
+    settings: Settings,
+) -> Answer {
+    let turns = u64::MAX;
+    match command {
+        Command::ExplainLive => explain_live(alloc, ends, settings, listing(false, false), turns),
+        Command::TraceLive => trace_live(alloc, ends, settings, TEXTS, turns),
+        _ => check_live(alloc, ends, settings, turns),
+    }
+}
+
 /// Calls an engine.
 fn call<R: Source, W: Sink>(
     alloc: Global,
@@ -212,8 +239,13 @@ fn call<R: Source, W: Sink>(
             let uri = Some(String::from_str(alloc, "file:///a")?);
             replay_part(alloc, from, to, settings, Part { at, uri }, turns)
         }
-        Command::Explain => explain(alloc, from, to, settings, turns),
+        Command::Explain => explain(alloc, from, to, settings, listing(false, false), turns),
+        Command::Brief => explain(alloc, from, to, settings, listing(true, false), turns),
+        Command::All => explain(alloc, from, to, settings, listing(false, true), turns),
         Command::Trace => trace(alloc, from, to, settings, TEXTS, turns),
+        Command::CheckLive | Command::ExplainLive | Command::TraceLive => {
+            call_live(alloc, command, &mut Duplex::new(from, to), settings)
+        }
     }
 }
 

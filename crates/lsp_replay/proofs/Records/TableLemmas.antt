@@ -16,9 +16,8 @@ use Rattle.lsp_log.specs.declared.record.Sender.{Sender}
 use Rattle.lsp_log.specs.declared.record.Sender.TheVariants.{Client, Server}
 use Rattle.lsp_log.specs.declared.record.Version.{Version}
 use Rattle.lsp_log.specs.Log.{Record}
-use Rattle.lsp_replay.specs.Session.{Session, Judged, answered, bad, judged, handled, is_ended, is_early, judge, judge_from, judge_client, encoding_for}
+use Rattle.lsp_replay.specs.Session.{Session, Judged, answered, bad, has_changed, judged, handled, is_ended, is_early, judge, judge_from, judge_client, encoding_for}
 use Rattle.lsp_replay.specs.Lines.{uri_of}
-use Rattle.lsp_replay.specs.Trace.{has_changed}
 use Rattle.lsp_replay.specs.laws.Traced.{is_document}
 use Rattle.lsp_replay.proofs.Reports.KeptLemmas.{heard_table}
 

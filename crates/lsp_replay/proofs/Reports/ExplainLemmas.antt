@@ -4,29 +4,33 @@ use Rattle.lsp_frame.specs.Limits.{LimitsData}
 use Rattle.lsp_message.specs.Message.{reading}
 use Rattle.lsp_server.specs.Incoming.{incoming_of}
 use Rattle.lsp_log.specs.Log.{Record}
+use Rattle.lsp_replay.specs.declared.commands.explained.Listing.{Listing}
 use Rattle.lsp_replay.specs.declared.facts.Facts.{Facts}
-use Rattle.lsp_replay.specs.Explained.{explained_line}
+use Rattle.lsp_replay.specs.Explained.{explained_line, listed_notes, seen_in}
 use Rattle.lsp_replay.specs.Lines.{Known, uri_of}
-use Rattle.lsp_replay.specs.Mentions.{last_for}
+use Rattle.lsp_replay.specs.Notes.{notes_of}
 use Rattle.lsp_replay.specs.Session.{Session, judge}
 use Rattle.lsp_replay.specs.inside.Facts.{AreFacts, explained_by}
-use Rattle.lsp_replay.proofs.Reports.ReasonLemmas.{explained_at}
+use Rattle.lsp_replay.proofs.Reports.ReasonLemmas.{listed_at}
 
-pub line_is : (known : Known) (s : Session) (r : Record) (limits : LimitsData)
+pub line_is : (listing : Listing) (known : Known) (s : Session) (r : Record) (limits : LimitsData)
     → limits ≡ (judge s r).session.server.config.limits → (facts : Facts) → AreFacts known s r.head r.body facts
-    → (old bytes : List ℕ) → old ≡ [] → bytes ≡ old ++ explained_by limits facts
-    → bytes ≡ explained_line known s r (judge s r) (incoming_of (reading r.body))
-line_is known s r limits limits_are facts are old bytes empty bytes_is =
+    → (old bytes : List ℕ) → old ≡ [] → bytes ≡ old ++ explained_by listing limits facts
+    → bytes ≡ explained_line listing known s r (judge s r) (incoming_of (reading r.body))
+line_is listing known s r limits limits_are facts are old bytes empty bytes_is =
     let uri = uri_of r.head.side (incoming_of (reading r.body)) in
-    bytes_is ∙ ap (λ (bs : List ℕ). bs ++ explained_by limits facts) empty
-    ∙ ap (λ (l : LimitsData). explained_by l facts) limits_are
+    bytes_is ∙ ap (λ (bs : List ℕ). bs ++ explained_by listing limits facts) empty
+    ∙ ap (λ (l : LimitsData). explained_by listing l facts) limits_are
     ∙ rw (
       are.number,
       are.verdict,
       are.uri,
+      are.renamed,
       are.last,
       are.notes,
+      are.rare,
       are.change,
-      explained_at (judge s r).session.server.config.limits uri (last_for known.mentions uri (judge s r).verdict) s
-          r.head r.body,
+      listed_at listing (judge s r).session.server.config.limits (judge s r).session.records uri
+          (seen_in known uri (judge s r).verdict)
+          (listed_notes listing known.counts (notes_of s known.ranged r.body (judge s r).verdict)) s r.head r.body,
     ) refl

@@ -16,6 +16,15 @@ pub one_member : {A E : Type 0} (r : Result A E) (new old front value : List ℕ
 one_member (Ok a) new old front value is = is ∙ append_assoc old front value
 one_member (Err e) new old front value is = tt
 
+parts : (old a b c d e f g : List ℕ) → old ++ a ++ b ++ c ++ d ++ e ++ f ++ g ≡ old ++ (a ++ b ++ c ++ d ++ e ++ f ++ g)
+parts old a b c d e f g = simp append_assoc
+
+-- seven words
+pub seven_words : {A E : Type 0} (r : Result A E) (new old a b c d e f g : List ℕ)
+    → OnOk r (new ≡ old ++ a ++ b ++ c ++ d ++ e ++ f ++ g) → OnOk r (new ≡ old ++ (a ++ b ++ c ++ d ++ e ++ f ++ g))
+seven_words (Ok x) new old a b c d e f g is = is ∙ parts old a b c d e f g
+seven_words (Err x) new old a b c d e f g is = tt
+
 -- ---- the first members
 
 first_parts : (old a d b p c s q m i u : List ℕ) → old ++ a ++ d ++ b ++ p ++ c ++ s ++ q ++ m ++ i ++ u

@@ -13,7 +13,10 @@ use Rattle.lsp_log.specs.declared.record.Sender.{Sender}
 use Rattle.lsp_log.specs.declared.record.Sender.TheVariants.{Client, Server}
 use Rattle.lsp_log.specs.declared.record.Version.{Version}
 use Rattle.lsp_replay.specs.Commands.{change_in}
-use Rattle.lsp_replay.specs.Explained.{explanation}
+use Rattle.lsp_replay.specs.declared.commands.explained.Listing.{Listing}
+use Rattle.lsp_replay.specs.declared.notes.Note.{Note}
+use Rattle.lsp_replay.specs.Explained.{Seen, listed_line}
+use Rattle.lsp_replay.specs.Lines.{is_strict_refusal}
 use Rattle.lsp_replay.specs.Session.{Session, Verdict, answered, recorded, bad, encoding_for, is_running, judge_client, judge_from, judge_server}
 use Rattle.lsp_replay.specs.Trace.{reason_json}
 use Rattle.lsp_replay.specs.inside.Bodies.{body_read}
@@ -111,48 +114,67 @@ module _ {X : Type 0} (f : Option ChangeData → Verdict → X)
       ∙ sym (quiet (change_in (incoming_of (reading body))) (judge_at s head body).verdict q))
       (received_at s body head.version head.side)
 
-quiet_explained : (limits : LimitsData) (uri : Option (List ℕ)) (last : Option ℕ) (change : Option ChangeData)
-    (verdict : Verdict) → IsQuiet verdict → explanation limits uri change last verdict
-    ≡ explanation limits uri None last verdict
-quiet_explained limits uri last change recorded q = refl
-quiet_explained limits uri last change bad q = refl
-quiet_explained limits uri last change (answered dropped) q = refl
-quiet_explained limits uri last change (answered (reply m)) q = absurd q
-quiet_explained limits uri last change (answered changed) q = absurd q
-quiet_explained limits uri last change (answered ignored) q = absurd q
-quiet_explained limits uri last change (answered already_ended) q = absurd q
-quiet_explained limits uri last change (answered (refused why)) q = absurd q
-quiet_explained limits uri last change (answered (exits status)) q = absurd q
+module _ (listing : Listing) (limits : LimitsData) (number : ℕ) (uri : Option (List ℕ)) (seen : Seen) (notes : List Note)
+  where
+    quiet_listed : (change : Option ChangeData) (verdict : Verdict) → IsQuiet verdict
+        → listed_line listing limits number uri change seen verdict notes
+        ≡ listed_line listing limits number uri None seen verdict notes
+    quiet_listed change recorded q = refl
+    quiet_listed change bad q = refl
+    quiet_listed change (answered dropped) q = refl
+    quiet_listed change (answered (reply m)) q = absurd q
+    quiet_listed change (answered changed) q = absurd q
+    quiet_listed change (answered ignored) q = absurd q
+    quiet_listed change (answered already_ended) q = absurd q
+    quiet_listed change (answered (refused why)) q = absurd q
+    quiet_listed change (answered (exits status)) q = absurd q
 
-pub explained_at : (limits : LimitsData) (uri : Option (List ℕ)) (last : Option ℕ) (s : Session) (head : Head)
-    (body : List ℕ)
-    → explanation limits uri (received_of s (body_read head.version head.side body)) last
-    (judge_at s head body).verdict
-    ≡ explanation limits uri (change_in (incoming_of (reading body))) last (judge_at s head body).verdict
-explained_at limits uri last =
-    by_received (λ change verdict. explanation limits uri change last verdict) (quiet_explained limits uri last)
+    pub listed_at : (s : Session) (head : Head) (body : List ℕ)
+        → listed_line listing limits number uri (received_of s (body_read head.version head.side body)) seen
+        (judge_at s head body).verdict notes
+        ≡ listed_line listing limits number uri (change_in (incoming_of (reading body))) seen
+        (judge_at s head body).verdict notes
+    listed_at =
+        by_received (λ change verdict. listed_line listing limits number uri change seen verdict notes) quiet_listed
 
-quiet_reason : (limits : LimitsData) (change : Option ChangeData) (verdict : Verdict) → IsQuiet verdict
-    → reason_of limits change verdict ≡ reason_of limits None verdict
-quiet_reason limits change recorded q = refl
-quiet_reason limits change bad q = refl
-quiet_reason limits change (answered dropped) q = refl
-quiet_reason limits change (answered (reply m)) q = absurd q
-quiet_reason limits change (answered changed) q = absurd q
-quiet_reason limits change (answered ignored) q = absurd q
-quiet_reason limits change (answered already_ended) q = absurd q
-quiet_reason limits change (answered (refused why)) q = absurd q
-quiet_reason limits change (answered (exits status)) q = absurd q
+quiet_strict : (change : Option ChangeData) (verdict : Verdict) → IsQuiet verdict
+    → is_strict_refusal change verdict ≡ is_strict_refusal None verdict
+quiet_strict change recorded q = refl
+quiet_strict change bad q = refl
+quiet_strict change (answered dropped) q = refl
+quiet_strict change (answered (reply m)) q = absurd q
+quiet_strict change (answered changed) q = absurd q
+quiet_strict change (answered ignored) q = absurd q
+quiet_strict change (answered already_ended) q = absurd q
+quiet_strict change (answered (refused why)) q = absurd q
+quiet_strict change (answered (exits status)) q = absurd q
 
-reason_same : (limits : LimitsData) (m : IncomingData) (verdict : Verdict)
-    → reason_of limits (change_in m) verdict ≡ reason_json limits m verdict
-reason_same limits m (answered answer) = refl
-reason_same limits m recorded = refl
-reason_same limits m bad = refl
+pub strict_at : (s : Session) (head : Head) (body : List ℕ)
+    → is_strict_refusal (received_of s (body_read head.version head.side body)) (judge_at s head body).verdict
+    ≡ is_strict_refusal (change_in (incoming_of (reading body))) (judge_at s head body).verdict
+strict_at = by_received is_strict_refusal quiet_strict
 
-pub reason_at : (limits : LimitsData) (s : Session) (head : Head) (body : List ℕ)
-    → reason_of limits (received_of s (body_read head.version head.side body)) (judge_at s head body).verdict
-    ≡ reason_json limits (incoming_of (reading body)) (judge_at s head body).verdict
-reason_at limits s head body =
-    by_received (reason_of limits) (quiet_reason limits) s head body
-    ∙ reason_same limits (incoming_of (reading body)) (judge_at s head body).verdict
+quiet_reason : (limits : LimitsData) (renamed : Bool) (change : Option ChangeData) (verdict : Verdict)
+    → IsQuiet verdict → reason_of limits change renamed verdict ≡ reason_of limits None renamed verdict
+quiet_reason limits renamed change recorded q = refl
+quiet_reason limits renamed change bad q = refl
+quiet_reason limits renamed change (answered dropped) q = refl
+quiet_reason limits renamed change (answered (reply m)) q = absurd q
+quiet_reason limits renamed change (answered changed) q = absurd q
+quiet_reason limits renamed change (answered ignored) q = absurd q
+quiet_reason limits renamed change (answered already_ended) q = absurd q
+quiet_reason limits renamed change (answered (refused why)) q = absurd q
+quiet_reason limits renamed change (answered (exits status)) q = absurd q
+
+reason_same : (limits : LimitsData) (m : IncomingData) (renamed : Bool) (verdict : Verdict)
+    → reason_of limits (change_in m) renamed verdict ≡ reason_json limits m renamed verdict
+reason_same limits m renamed (answered answer) = refl
+reason_same limits m renamed recorded = refl
+reason_same limits m renamed bad = refl
+
+pub reason_at : (limits : LimitsData) (renamed : Bool) (s : Session) (head : Head) (body : List ℕ)
+    → reason_of limits (received_of s (body_read head.version head.side body)) renamed (judge_at s head body).verdict
+    ≡ reason_json limits (incoming_of (reading body)) renamed (judge_at s head body).verdict
+reason_at limits renamed s head body =
+    by_received (λ change verdict. reason_of limits change renamed verdict) (quiet_reason limits renamed) s head body
+    ∙ reason_same limits (incoming_of (reading body)) renamed (judge_at s head body).verdict

@@ -16,12 +16,12 @@ use Rattle.lsp_replay.specs.declared.commands.traced.Details.{Details}
 use Rattle.lsp_replay.specs.RunOutput.{RunOutput, written_first}
 use Rattle.lsp_replay.specs.Commands.{canonical_of_record, check_line, checking, code_word, followed_by, log_config, replaying, report_from, unless_bad, verdict_word, writes}
 use Rattle.lsp_replay.specs.inside.Commands.{run_output_in}
-use Rattle.lsp_replay.specs.Session.{Session, Verdict, answered, recorded, bad, opened, Judged, judge}
+use Rattle.lsp_replay.specs.Session.{Session, Verdict, answered, has_changed, recorded, bad, opened, Judged, judge}
 use Rattle.lsp_replay.specs.Lines.{Known, known_after, nothing_known, uri_of}
 use Rattle.lsp_replay.specs.inside.Lines.{lines_in}
-use Rattle.lsp_replay.specs.Mentions.{last_for}
+use Rattle.lsp_replay.specs.Lines.{is_renamed, last_in}
 use Rattle.lsp_replay.specs.Notes.{notes_of}
-use Rattle.lsp_replay.specs.Trace.{body_json, document_after, first_members, id_json, id_of, has_changed, is_json, json_string, last_members, member, method_of, notes_json, reason_json, side_word, text_json, trace_line, tracing, version_json, within}
+use Rattle.lsp_replay.specs.Trace.{body_json, document_after, first_members, id_json, id_of, is_json, json_string, last_members, member, method_of, notes_json, reason_json, side_word, text_json, trace_line, tracing, version_json, within}
 use Rattle.lsp_replay.specs.laws.Traced.{Line, TraceLaw, checked_line, is_document, traced_line, written_text}
 use Rattle.lsp_replay.proofs.Reports.MemberLemmas.{line_parts}
 use Rattle.lsp_replay.proofs.Records.TableLemmas.{record_keeps}
@@ -58,8 +58,9 @@ module _ (details : Details) (known : Known) (s : Session) (r : Record) (m : Inc
 
   abbrev between : List ℕ
   between =
-      member (codes ",\"reason\":") (reason_json j.session.server.config.limits m j.verdict)
-      ++ member (codes ",\"last\":") (option_map decimal (last_for known.mentions uri j.verdict))
+      member (codes ",\"reason\":")
+      (reason_json j.session.server.config.limits m (is_renamed known uri j.verdict) j.verdict)
+      ++ member (codes ",\"last\":") (option_map decimal (last_in known uri j.verdict))
       ++ member (codes ",\"notes\":") (notes_json (notes_of s known.ranged r.body j.verdict))
       ++ member (codes ",\"version\":") (version_json document) ++ member (codes ",\"canonical\":")
       (within s.server.config.limits.max_body (canonical_of_record s r.body j.verdict))
@@ -82,8 +83,8 @@ module _ (details : Details) (known : Known) (s : Session) (r : Record) (m : Inc
   line_of_trace =
       ap (λ (t : Option (List ℕ)). first_members j.session.records r.head m ++ (codes ",\"word\":\""
       ++ verdict_word j.verdict ++ codes "\"" ++ last_members (
-      (codes ",\"reason\":", reason_json j.session.server.config.limits m j.verdict)
-      ∷ (codes ",\"last\":", option_map decimal (last_for known.mentions uri j.verdict))
+      (codes ",\"reason\":", reason_json j.session.server.config.limits m (is_renamed known uri j.verdict) j.verdict)
+      ∷ (codes ",\"last\":", option_map decimal (last_in known uri j.verdict))
       ∷ (codes ",\"notes\":", notes_json (notes_of s known.ranged r.body j.verdict))
       ∷ (codes ",\"version\":", version_json document)
       ∷ (
@@ -98,8 +99,9 @@ module _ (details : Details) (known : Known) (s : Session) (r : Record) (m : Inc
       (member (codes ",\"id\":") (option_map id_json (id_of m)))
       (member (codes ",\"uri\":") (option_map json_string uri))
       (codes ",\"word\":\"") (verdict_word j.verdict) (codes "\"")
-      (member (codes ",\"reason\":") (reason_json j.session.server.config.limits m j.verdict))
-      (member (codes ",\"last\":") (option_map decimal (last_for known.mentions uri j.verdict)))
+      (member (codes ",\"reason\":")
+      (reason_json j.session.server.config.limits m (is_renamed known uri j.verdict) j.verdict))
+      (member (codes ",\"last\":") (option_map decimal (last_in known uri j.verdict)))
       (member (codes ",\"notes\":") (notes_json (notes_of s known.ranged r.body j.verdict)))
       (member (codes ",\"version\":") (version_json document))
       (member (codes ",\"canonical\":")

@@ -96,10 +96,12 @@ module _ (details : Details) (known : Known) (s : Session) (r : Record) (t : Ses
       ∙ rw (
         are.verdict,
         are.uri,
+        are.renamed,
         are.last,
         json_is,
         are.notes,
         are.change,
-        reason_at (judge s r).session.server.config.limits s r.head r.body,
+        reason_at (judge s r).session.server.config.limits
+            (is_renamed known (uri_of r.head.side m) (judge s r).verdict) s r.head r.body,
         shown,
       ) refl

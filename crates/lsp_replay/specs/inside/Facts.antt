@@ -17,13 +17,16 @@ use Rattle.lsp_replay.specs.declared.session.canonical.Appended.{Appended}
 use Rattle.lsp_replay.specs.declared.session.canonical.Appended.TheVariants.{Body}
 use Rattle.lsp_replay.specs.declared.session.canonical.Canonical.{Canonical}
 use Rattle.lsp_replay.specs.Commands.{verdict_word}
-use Rattle.lsp_replay.specs.Explained.{explanation, remark}
-use Rattle.lsp_replay.specs.Lines.{Known, has_notes, is_strict_refusal, uri_of}
-use Rattle.lsp_replay.specs.Mentions.{is_mention, last_for, mentioned}
+use Rattle.lsp_replay.specs.declared.commands.explained.Listing.{Listing}
+use Rattle.lsp_replay.specs.Counts.{counts_after, rare_notes}
+use Rattle.lsp_replay.specs.Explained.{Seen, listed_line}
+use Rattle.lsp_replay.specs.Lines.{Known, is_renamed, is_strict_refusal, last_in, uri_of}
+use Rattle.lsp_replay.specs.Mentions.{is_mention, mentioned}
 use Rattle.lsp_replay.specs.Notes.{notes_if, notes_of}
-use Rattle.lsp_replay.specs.Reasons.{reason_words}
-use Rattle.lsp_replay.specs.Session.{Session, Verdict, answered, is_change, is_refused}
-use Rattle.lsp_replay.specs.Trace.{body_json, document_after, has_changed, last_members, notes_json, text_json, version_json}
+use Rattle.lsp_replay.specs.declared.notes.Note.{Note}
+use Rattle.lsp_replay.specs.Reasons.{reason_words, renamed_words}
+use Rattle.lsp_replay.specs.Session.{Session, Verdict, answered, has_changed, is_change, is_refused}
+use Rattle.lsp_replay.specs.Trace.{body_json, document_after, last_members, notes_json, text_json, version_json}
 use Rattle.lsp_replay.specs.inside.Bodies.{BodyData, body_read, from_client, from_server}
 use Rattle.lsp_replay.specs.inside.Noting.{notes_on_read}
 use Rattle.lsp_replay.specs.inside.Session.{judge_at}
@@ -56,19 +59,26 @@ pub record IsLearned (known : Known) (n : ℕ) (about : About) (taken : Taken) (
   pub verdict : facts.verdict ≡ taken.verdict
   pub uri : facts.uri ≡ about.uri
   pub change : facts.change ≡ taken.change
+  pub renamed : facts.renamed
+      ≡ is_renamed known (option_map string_bytes about.uri) (verdict_view taken.verdict)
   pub last : facts.last
-      ≡ last_for known.mentions (option_map string_bytes about.uri) (verdict_view taken.verdict)
+      ≡ last_in known (option_map string_bytes about.uri) (verdict_view taken.verdict)
   pub notes : facts.notes.items ≡ notes_if about.notes.items (verdict_view taken.verdict)
+  pub rare : facts.rare.items
+      ≡ rare_notes known.counts (notes_if about.notes.items (verdict_view taken.verdict))
 
 -- What is known after a record with this number.
 abbrev pub known_by : Known → ℕ → About → Taken → Known
 known_by known number about taken = record {
   mentions = mentioned (is_mention about.is_change (verdict_view taken.verdict))
       (option_map string_bytes about.uri) number known.mentions;
+  made = mentioned (has_changed (verdict_view taken.verdict))
+      (option_map string_bytes about.uri) number known.made;
   ranged = ranged_with known.ranged taken.ranged;
-  suspicious = known.suspicious
-      || has_notes (notes_if about.notes.items (verdict_view taken.verdict));
-  strict_refusal = known.strict_refusal || is_strict_refusal (verdict_view taken.verdict);
+  strict_refusal = known.strict_refusal
+      || is_strict_refusal (option_map change_view taken.change) (verdict_view taken.verdict);
+  counts = counts_after known.counts number (verdict_view taken.verdict)
+      (notes_if about.notes.items (verdict_view taken.verdict));
 }
 
 -- Of a record with this head and body, before which the session was `s`.
@@ -79,26 +89,38 @@ pub record AreFacts (known : Known) (s : Session) (head : Head) (body : List ℕ
   pub uri : option_map string_bytes facts.uri ≡ uri_of head.side (incoming_of (reading body))
   pub change : option_map change_view facts.change
       ≡ received_of s (body_read head.version head.side body)
-  pub last : facts.last ≡ last_for known.mentions
+  pub renamed : facts.renamed ≡ is_renamed known
+      (uri_of head.side (incoming_of (reading body))) (judge_at s head body).verdict
+  pub last : facts.last ≡ last_in known
       (uri_of head.side (incoming_of (reading body))) (judge_at s head body).verdict
   pub notes : facts.notes.items
       ≡ notes_of s known.ranged body (judge_at s head body).verdict
+  pub rare : facts.rare.items
+      ≡ rare_notes known.counts (notes_of s known.ranged body (judge_at s head body).verdict)
 
 -- ---- the lines, by the facts
 
--- A line of `check --explain`.
-abbrev pub explained_by : LimitsData → Facts → List ℕ
-explained_by limits facts =
-    decimal facts.number ++ codes " " ++ verdict_word (verdict_view facts.verdict)
-    ++ explanation limits (option_map string_bytes facts.uri) (option_map change_view facts.change)
-    facts.last (verdict_view facts.verdict)
-    ++ remark (option_map string_bytes facts.uri) facts.notes.items ++ codes "\n"
+-- What is known of the document.
+abbrev pub seen_by : Facts → Seen
+seen_by facts = record { renamed = facts.renamed; last = facts.last }
+
+-- The notes on the line of `check --explain`.
+abbrev pub listed_by : Listing → Facts → List Note
+listed_by listing facts = if listing.all then facts.notes.items else facts.rare.items
+
+-- A line of `check --explain`, if the record has one.
+abbrev pub explained_by : Listing → LimitsData → Facts → List ℕ
+explained_by listing limits facts =
+    listed_line listing limits facts.number (option_map string_bytes facts.uri)
+    (option_map change_view facts.change) (seen_by facts) (verdict_view facts.verdict)
+    (listed_by listing facts)
 
 -- Why a record was refused, by the change that a running server received.
-abbrev pub reason_of : LimitsData → Option ChangeData → Verdict → Option (List ℕ)
-reason_of limits change (answered answer) = if is_refused answer then
-    Some (codes "\"" ++ reason_words limits change answer ++ codes "\"") else None
-reason_of limits change verdict = None
+abbrev pub reason_of : LimitsData → Option ChangeData → Bool → Verdict → Option (List ℕ)
+reason_of limits change renamed (answered answer) = if is_refused answer then
+    Some (codes "\"" ++ reason_words limits change answer ++ renamed_words renamed
+    ++ codes "\"") else None
+reason_of limits change renamed verdict = None
 
 -- The canonical message, if its body was appended.
 abbrev pub canonical_json : Option Appended → List ℕ → Option (List ℕ)
@@ -111,7 +133,7 @@ members_by details t canonical is_json facts body =
     codes ",\"word\":\"" ++ verdict_word (verdict_view facts.verdict) ++ codes "\""
     ++ last_members ((
       codes ",\"reason\":",
-      reason_of t.server.config.limits (option_map change_view facts.change)
+      reason_of t.server.config.limits (option_map change_view facts.change) facts.renamed
           (verdict_view facts.verdict),
     )
     ∷ (codes ",\"last\":", option_map decimal facts.last)

@@ -2,8 +2,11 @@
 
 ghost use Rattle.std.specs.Prelude.{◌≡◌};
 ghost use Rattle.lsp_stream.specs.Ports.{ports};
+ghost use Rattle.lsp_replay.specs.Commands.{log_config};
 ghost use Rattle.lsp_replay.specs.Explained.{explain_engine};
+ghost use Rattle.lsp_replay.specs.Lines.{nothing_known};
 ghost use Rattle.lsp_replay.specs.Run.{IsEngineRun};
+ghost use Rattle.lsp_replay.specs.Session.{opened};
 
 use crate::commands::Settings;
 use crate::facts::Known;
@@ -13,10 +16,53 @@ use crate::printer::explaining::Explain;
 use lsp_stream::{EngineFault, Sink, Source};
 use std::alloc::Global;
 
-/// Writes a line for each record of a log, as [`check`](crate::check) does; where it was refused
-/// the document, why, and the record that opened, closed or refused the document last; where it is
-/// suspicious the document and notes; at the end what to do next. The status is 1 if something was
-/// refused, else 0.
+/// Which records have a line of [`explain`], and with which notes.
+#[derive(Clone, Copy, Debug, PartialEq, Eq)]
+pub struct Listing {
+    /// Only records that count as refused, or have notes on their lines.
+    pub brief: bool,
+    /// Each note is on its record's line, also where its kind comes often.
+    pub all: bool,
+}
+
+impl Default for Listing {
+    ghost use Rattle.lsp_replay.specs.Explained.{default_listing};
+
+    ghost is_default = { λ listing. listing ≡ default_listing };
+
+    /// Returns each line, with the notes that are no habits.
+    fn default() -> Listing {
+        Listing {
+            brief: false,
+            all: false,
+        }
+    }
+}
+
+impl Settings {
+    /// Starts `check` with reasons before the first record.
+    pub(super) fn explaining(&self, alloc: Global, listing: Listing) -> Explain
+        ensures session { result.session ≡ opened (log_config self.now) }
+        ensures known { result.known ≡ nothing_known }
+        ensures listing { result.listing ≡ listing }
+    {
+        Explain {
+            session: self.session(alloc),
+            known: Known::nothing(alloc),
+            alloc,
+            listing,
+        }
+    }
+}
+
+/// Writes a line for each record of a log, as [`check`](crate::check) does. Where it was refused it
+/// has the document, why, and the record to look at; where it is suspicious the document and notes.
+/// At the end come the numbers of messages, of refusals by their codes, and of notes by their
+/// kinds, each with the first record, and what to do next. The status is 1 if something was refused,
+/// else 0.
+///
+/// A kind of note that about one of a hundred records has that change documents is a habit: it is
+/// on its first line alone. `listing` has each note on its line, or leaves lines out.
 ///
 /// Errors and memory are those of [`check`](crate::check), with the URIs of 64 documents more. The
 /// body of a change is read once more. The notes of a change of a range cost what the change costs,
@@ -26,17 +72,14 @@ pub fn explain<R: Source, W: Sink>(
     reader: &mut R,
     writer: &mut W,
     settings: Settings,
+    listing: Listing,
     max_turns: u64,
 ) -> Result<Outcome, EngineFault>
-    ensures run { IsEngineRun (explain_engine settings) max_turns
+    ensures run { IsEngineRun (explain_engine settings listing) max_turns
         (ports (R.seen reader.old) (W.seen writer.old))
         (ports (R.seen reader.new) (W.seen writer.new)) result }
 {
     let rules = settings.rules(false);
-    let explain = Explain {
-        session: settings.session(alloc),
-        known: Known::nothing(alloc),
-        alloc,
-    };
+    let explain = settings.explaining(alloc, listing);
     run(alloc, reader, writer, explain, None, rules, max_turns)
 }

@@ -2,7 +2,10 @@
 
 ghost use Rattle.std.specs.Prelude.{◌≡◌};
 ghost use Rattle.lsp_stream.specs.Ports.{ports};
+ghost use Rattle.lsp_replay.specs.Commands.{log_config};
+ghost use Rattle.lsp_replay.specs.Lines.{nothing_known};
 ghost use Rattle.lsp_replay.specs.Run.{IsEngineRun};
+ghost use Rattle.lsp_replay.specs.Session.{opened};
 ghost use Rattle.lsp_replay.specs.Trace.{trace_engine};
 
 use crate::commands::Settings;
@@ -21,6 +24,23 @@ pub struct Details {
     pub texts: bool,
     /// The body, where it is JSON, without its line ends.
     pub bodies: bool,
+}
+
+impl Settings {
+    /// Starts `trace` before the first record.
+    pub(super) fn tracing(&self, alloc: Global, details: Details) -> Trace
+        ensures session { result.session ≡ opened (log_config self.now) }
+        ensures known { result.known ≡ nothing_known }
+        ensures details { result.details ≡ details }
+    {
+        Trace {
+            session: self.session(alloc),
+            alloc,
+            details,
+            known: Known::nothing(alloc),
+            canonical: Canonical::new(alloc),
+        }
+    }
 }
 
 /// Writes a line of JSON for each record of a log: its number, its offset, what it is, what a
@@ -44,12 +64,6 @@ pub fn trace<R: Source, W: Sink>(
         (ports (R.seen reader.new) (W.seen writer.new)) result }
 {
     let rules = settings.rules(false);
-    let trace = Trace {
-        session: settings.session(alloc),
-        alloc,
-        details,
-        known: Known::nothing(alloc),
-        canonical: Canonical::new(alloc),
-    };
+    let trace = settings.tracing(alloc, details);
     run(alloc, reader, writer, trace, None, rules, max_turns)
 }

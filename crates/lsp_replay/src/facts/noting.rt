@@ -5,7 +5,8 @@ ghost use Rattle.lsp_message.specs.Message.{reading};
 ghost use Rattle.lsp_message.specs.Seen.{change_view};
 ghost use Rattle.lsp_server.specs.Seen.{incoming_view};
 ghost use Rattle.lsp_store.specs.Table.{entry_at};
-ghost use Rattle.lsp_replay.specs.Notes.{changing_notes, notes_if, notes_on, opening_notes, terms_in, version_notes};
+ghost use Rattle.lsp_replay.specs.Notes.{changing_notes, notes_if, notes_on, opening_notes};
+ghost use Rattle.lsp_replay.specs.Notes.{return_notes, terms_in, version_notes};
 ghost use Rattle.lsp_replay.specs.inside.Bodies.{body_view};
 ghost use Rattle.lsp_replay.specs.inside.Facts.{IsAbout};
 ghost use Rattle.lsp_replay.specs.inside.Verdicts.{verdict_view};
@@ -14,6 +15,7 @@ use crate::facts::About;
 use crate::facts::asked::{copied_text, is_change, uri_of};
 use crate::notes::Note;
 use crate::notes::changes::{Terms, push_batch_notes};
+use crate::notes::returns::{has_feed, has_lone_return};
 use crate::session::{RecordBody, Verdict};
 use lsp_log::Sender;
 use lsp_message::{ChangeParams, OpenParams, range_lengths};
@@ -64,20 +66,33 @@ fn notes_on(
     }
 }
 
-/// Notes that a document is open that is to be opened.
+/// Notes that a document is open that is to be opened, and what is suspicious of its text.
 fn opening_notes(
     alloc: Global,
     server: &Server,
     params: &OpenParams,
 ) -> Result<Vec<Note>, AllocError>
     ensures { IfOk result (λ notes. notes.items
-        ≡ opening_notes (entry_at server.now.table (string_bytes params.now.uri))) }
+        ≡ opening_notes (entry_at server.now.table (string_bytes params.now.uri))
+        (string_bytes params.now.text)) }
 {
     let mut notes = Vec::new(alloc);
     if server.store().get(&params.uri).is_some() {
         notes.push(Note::OpenAlready)?;
     }
+    push_return_note(&mut notes, &params.text)?;
     Ok(notes)
+}
+
+/// Notes a text in which a carriage return ends a line by itself, and a line feed another.
+fn push_return_note(notes: &mut Vec<Note>, text: &str) -> Result<(), AllocError>
+    ensures { OnOk result (notes.new.items ≡ notes.old.items ++ return_notes text.now) }
+{
+    let bytes = text.as_bytes();
+    if has_lone_return(bytes) && has_feed(bytes) {
+        notes.push(Note::LoneReturn)?;
+    }
+    Ok(())
 }
 
 /// Notes what is suspicious of a change, if its document is open.

@@ -119,7 +119,8 @@ fn push_whole_note(
     Ok(())
 }
 
-/// Notes a `rangeLength` that is neither the units of what is replaced nor its UTF-16 units.
+/// Notes a `rangeLength` that is neither the units of what is replaced nor its UTF-16 units, with
+/// the number of its characters, which some editors count.
 fn push_length_note(
     notes: &mut Vec<Note>,
     encoding: Encoding,
@@ -142,6 +143,7 @@ fn push_length_note(
             change: index,
             sent,
             replaced: units,
+            characters: units_of(Encoding::Utf32, replaced),
         })?;
     }
     Ok(())

@@ -111,7 +111,8 @@ fn push_answer(buffer: &mut Vec<u8>, answer: &Answer) -> Result<(), AllocError>
     Ok(())
 }
 
-fn code_word(code: Option<ErrorCode>) -> &'static str
+/// Returns the word of a reply with this error code, if it has one.
+pub fn code_word(code: Option<ErrorCode>) -> &'static str
     ensures { result.now ≡ code_word code }
 {
     match code {

@@ -1,22 +1,29 @@
 //! `check` with reasons: what a server answers to each record of a log, why it was refused, and
 //! what is suspicious of it.
 
-ghost use Rattle.std.specs.Prelude.{◌≡◌, ◌++◌, refl, OnOk, false, option_map, string_bytes};
+ghost use Rattle.std.specs.Prelude.{◌≡◌, ◌++◌, refl, OnOk, codes, decimal, false, flat_map, option_map, string_bytes};
 ghost use Rattle.lsp_message.specs.Seen.{change_view};
-ghost use Rattle.lsp_replay.specs.Explained.{advice, document_words, explaining, explanation, first_advice, lenient_advice, remark, see_words};
+ghost use Rattle.lsp_replay.specs.Counts.{counts_words};
+ghost use Rattle.lsp_replay.specs.Tallies.{tally_words};
+ghost use Rattle.lsp_replay.specs.Explained.{advice, document_words, end_lines, explaining, explanation, first_advice};
+ghost use Rattle.lsp_replay.specs.Explained.{habit_advice, is_listed, lenient_advice, line_with, remark, see_words};
 ghost use Rattle.lsp_replay.specs.inside.Lines.{lines_in};
-ghost use Rattle.lsp_replay.specs.inside.Facts.{explained_by};
+ghost use Rattle.lsp_replay.specs.inside.Facts.{explained_by, listed_by, seen_by};
 ghost use Rattle.lsp_replay.specs.inside.Verdicts.{verdict_view};
 
-use crate::facts::{Facts, Known};
+use crate::commands::Listing;
+use crate::counts::Counts;
+use crate::counts::tallies::{Tally, has_repeated, has_tallies};
+use crate::facts::{Facts, Known, has_notes};
 use crate::handler::{Given, Output};
 use crate::members::{push_json_string, push_number, push_words};
+use crate::notes::Note;
 use crate::outcome::Outcome;
 use crate::printer::Printer;
 use crate::printer::checking::push_verdict;
 use crate::printer::noted::push_notes;
-use crate::printer::reasons::push_reason;
-use crate::session::counting::is_refused;
+use crate::printer::reasons::{push_reason, push_renamed};
+use crate::session::counting::{is_refused, refuses};
 use crate::session::witness::Nothing;
 use crate::session::{RecordBody, Session, Verdict};
 use lsp_frame::Limits;
@@ -24,16 +31,33 @@ use lsp_log::Head;
 use lsp_stream::EngineFault;
 use std::alloc::{AllocError, Global};
 
-/// Writes a line for each record, and at the end what to do next.
+/// Writes a line for each record, or for some, and at the end what came how often and what to do
+/// next.
 #[derive(Drop)]
 pub struct Explain {
     pub session: Session,
     pub known: Known,
     pub alloc: Global,
+    pub listing: Listing,
+}
+
+impl Explain {
+    /// Writes the lines at the end.
+    fn push_end(&self, buffer: &mut Vec<u8>) -> Result<(), AllocError>
+        ensures { OnOk result (buffer.new.items ≡ buffer.old.items
+            ++ end_lines self.now.listing self.now.known self.now.session) }
+    {
+        if self.session.records() == 0 {
+            return push_words(buffer, "The log has no messages.\n");
+        }
+        push_counts(buffer, self.session.messages(), self.known.counts())?;
+        push_advice(buffer, self.listing, self.session.refusals(), &self.known)
+    }
 }
 
 impl Printer for Explain {
-    ghost run_output = { λ explain. lines_in explaining explain.known explain.session };
+    ghost run_output = { λ explain.
+        lines_in (explaining explain.listing) explain.known explain.session };
 
     ghost reached = { λ explain. explain.session };
 
@@ -64,7 +88,7 @@ impl Printer for Explain {
             .known
             .take(&mut self.session, head, body, read, &mut witness)?;
         let limits = self.session.server().store().limits();
-        push_facts(self.alloc, buffer, limits, &facts)?;
+        push_facts(self.alloc, buffer, self.listing, limits, &facts)?;
         Ok(Given::more(Output::Bytes))
     }
 
@@ -73,26 +97,65 @@ impl Printer for Explain {
         _line_due: bool,
         buffer: &mut Vec<u8>,
     ) -> Result<Option<Outcome>, EngineFault> {
-        push_advice(buffer, self.session.refusals(), &self.known)?;
+        self.push_end(buffer)?;
         Ok(Some(self.session.outcome()))
     }
 }
 
-/// Writes the line of a record.
+/// Writes the line of a record, if it has one.
 fn push_facts(
     alloc: Global,
     buffer: &mut Vec<u8>,
+    listing: Listing,
     limits: Limits,
     facts: &Facts,
 ) -> Result<(), AllocError>
     ensures { OnOk result
-        (buffer.new.items ≡ buffer.old.items ++ explained_by limits facts.now) }
+        (buffer.new.items ≡ buffer.old.items ++ explained_by listing limits facts.now) }
+{
+    let notes = listed_notes(listing, facts);
+    if !is_listed(listing, &facts.verdict, notes) {
+        return Ok(());
+    }
+    push_line(alloc, buffer, limits, facts, notes)
+}
+
+/// Returns the notes on the line of a record: those that are no habits, or each.
+fn listed_notes(listing: Listing, facts: &Facts) -> &[Note]
+    ensures { result.now ≡ listed_by listing facts.now }
+{
+    if listing.all {
+        facts.notes.as_slice()
+    } else {
+        facts.rare.as_slice()
+    }
+}
+
+/// Returns whether a record with these notes on its line has one.
+fn is_listed(listing: Listing, verdict: &Verdict, notes: &[Note]) -> bool
+    ensures { result ≡ is_listed listing (verdict_view verdict.now) notes.now }
+{
+    !listing.brief || refuses(verdict) || has_notes(notes)
+}
+
+/// Writes the line of a record, with these notes.
+fn push_line(
+    alloc: Global,
+    buffer: &mut Vec<u8>,
+    limits: Limits,
+    facts: &Facts,
+    notes: &[Note],
+) -> Result<(), AllocError>
+    ensures { OnOk result (buffer.new.items ≡ buffer.old.items
+        ++ line_with limits facts.now.number (option_map string_bytes facts.now.uri)
+        (option_map change_view facts.now.change) (seen_by facts.now)
+        (verdict_view facts.now.verdict) notes.now) }
 {
     push_number(buffer, facts.number)?;
     buffer.extend_from_slice(b" ")?;
     push_verdict(buffer, &facts.verdict)?;
     push_explanation(alloc, buffer, limits, facts)?;
-    push_remark(alloc, buffer, facts)?;
+    push_remark(alloc, buffer, facts.uri.as_deref(), notes)?;
     buffer.extend_from_slice(b"\n")
 }
 
@@ -105,7 +168,7 @@ fn push_explanation(
 ) -> Result<(), AllocError>
     ensures { OnOk result (buffer.new.items ≡ buffer.old.items
         ++ explanation limits (option_map string_bytes facts.now.uri)
-        (option_map change_view facts.now.change) facts.now.last
+        (option_map change_view facts.now.change) (seen_by facts.now)
         (verdict_view facts.now.verdict)) }
 {
     let Verdict::Answered(answer) = &facts.verdict else {
@@ -117,20 +180,26 @@ fn push_explanation(
     push_document(alloc, buffer, facts.uri.as_deref())?;
     buffer.extend_from_slice(b": ")?;
     push_reason(buffer, limits, facts.change.as_ref(), answer)?;
+    push_renamed(buffer, facts.renamed)?;
     push_see(buffer, facts.last)
 }
 
-/// Writes what is suspicious of a record, if something is.
-fn push_remark(alloc: Global, buffer: &mut Vec<u8>, facts: &Facts) -> Result<(), AllocError>
+/// Writes what is suspicious of a record about a document, if something is.
+fn push_remark(
+    alloc: Global,
+    buffer: &mut Vec<u8>,
+    uri: Option<&str>,
+    notes: &[Note],
+) -> Result<(), AllocError>
     ensures { OnOk result (buffer.new.items ≡ buffer.old.items
-        ++ remark (option_map string_bytes facts.now.uri) facts.now.notes.items) }
+        ++ remark (option_map (λ uri. uri.now) uri.entry) notes.now) }
 {
-    if facts.notes.is_empty() {
+    if notes.is_empty() {
         return Ok(());
     }
-    push_document(alloc, buffer, facts.uri.as_deref())?;
+    push_document(alloc, buffer, uri)?;
     buffer.extend_from_slice(b": ")?;
-    push_notes(buffer, "; ", &facts.notes)
+    push_notes(buffer, "; ", notes)
 }
 
 /// Writes the document that a record is about.
@@ -156,12 +225,59 @@ fn push_see(buffer: &mut Vec<u8>, last: Option<u64>) -> Result<(), AllocError>
     push_number(buffer, number)
 }
 
-/// Writes what to do next, after so many refusals.
-fn push_advice(buffer: &mut Vec<u8>, refusals: u64, known: &Known) -> Result<(), AllocError>
-    ensures { OnOk result (buffer.new.items ≡ buffer.old.items ++ advice refusals known.now) }
+/// Writes how many messages the editor sent, and what came how often.
+fn push_counts(buffer: &mut Vec<u8>, messages: u64, counts: &Counts) -> Result<(), AllocError>
+    ensures { OnOk result
+        (buffer.new.items ≡ buffer.old.items ++ counts_words messages counts.now) }
 {
-    push_words(buffer, first_advice(refusals, known.is_suspicious()))?;
-    push_words(buffer, lenient_advice(known.has_strict_refusal()))
+    push_words(buffer, "messages of the editor: ")?;
+    push_number(buffer, messages)?;
+    push_words(buffer, ", changed documents: ")?;
+    push_number(buffer, counts.changed())?;
+    push_words(buffer, "\n")?;
+    push_tallies(buffer, "refused by ", counts.refused())?;
+    push_tallies(buffer, "noted ", counts.noted())
+}
+
+/// Writes a line for each thing that was counted.
+fn push_tallies(buffer: &mut Vec<u8>, front: &str, tallies: &[Tally]) -> Result<(), AllocError>
+    ensures { OnOk result (buffer.new.items ≡ buffer.old.items
+        ++ flat_map (tally_words front.now) tallies.now) }
+{
+    for tally in tallies {
+        push_tally(buffer, front, tally)?;
+    }
+    Ok(())
+}
+
+/// Writes how often something came, and with which record first.
+fn push_tally(buffer: &mut Vec<u8>, front: &str, tally: &Tally) -> Result<(), AllocError>
+    ensures { OnOk result
+        (buffer.new.items ≡ buffer.old.items ++ tally_words front.now tally.now) }
+{
+    push_words(buffer, front)?;
+    push_words(buffer, tally.words())?;
+    push_words(buffer, ": ")?;
+    push_number(buffer, tally.count())?;
+    push_words(buffer, ", first message ")?;
+    push_number(buffer, tally.first())?;
+    push_words(buffer, "\n")
+}
+
+/// Writes what to do next, after so many refusals.
+fn push_advice(
+    buffer: &mut Vec<u8>,
+    listing: Listing,
+    refusals: u64,
+    known: &Known,
+) -> Result<(), AllocError>
+    ensures { OnOk result
+        (buffer.new.items ≡ buffer.old.items ++ advice listing refusals known.now) }
+{
+    let noted = known.counts().noted();
+    push_words(buffer, first_advice(refusals, has_tallies(noted)))?;
+    push_words(buffer, lenient_advice(known.has_strict_refusal()))?;
+    push_words(buffer, habit_advice(!listing.all && has_repeated(noted)))
 }
 
 /// Returns what to do first, after so many refusals.
@@ -178,7 +294,18 @@ fn first_advice(refusals: u64, suspicious: bool) -> &'static str
     }
 }
 
-/// Returns what to try where something was refused with S1 or S5.
+/// Returns where notes are that aren't on their lines, if some may not be.
+fn habit_advice(repeated: bool) -> &'static str
+    ensures { result.now ≡ habit_advice repeated }
+{
+    if repeated {
+        "A kind of note that comes often is on its first line alone. `--all`: on each.\n"
+    } else {
+        ""
+    }
+}
+
+/// Returns what to try where something was refused with S1, or with S5 and changes.
 fn lenient_advice(strict_refusal: bool) -> &'static str
     ensures { result.now ≡ lenient_advice strict_refusal }
 {

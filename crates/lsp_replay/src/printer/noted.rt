@@ -33,6 +33,7 @@ fn push_note(buffer: &mut Vec<u8>, note: Note) -> Result<(), AllocError>
 {
     match note {
         Note::OpenAlready => push_words(buffer, "the document was open already"),
+        Note::LoneReturn => push_words(buffer, "a CR alone ends a line, and an LF another"),
         Note::OldVersion { sent, current } => push_old_version(buffer, sent, current),
         Note::NoChanges => push_words(buffer, "it has no changes"),
         Note::WholeText { change } => {
@@ -52,6 +53,7 @@ fn push_note(buffer: &mut Vec<u8>, note: Note) -> Result<(), AllocError>
             change,
             sent,
             replaced,
+            ..
         } => push_wrong_length(buffer, change, sent, replaced),
         Note::SameText { change } => push_remark(buffer, change, " changes nothing"),
     }

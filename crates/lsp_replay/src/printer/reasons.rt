@@ -7,7 +7,7 @@ ghost use Rattle.lsp_message.specs.Seen.{change_view};
 ghost use Rattle.lsp_server.specs.Seen.{answer_view};
 ghost use Rattle.lsp_stream.specs.Ports as ports;
 ghost use Rattle.lsp_replay.specs.Reasons.{edit_reason, end_words, error_reason, position_words, range_sent};
-ghost use Rattle.lsp_replay.specs.Reasons.{reason_words, refusal_reason, store_reason, version_words};
+ghost use Rattle.lsp_replay.specs.Reasons.{idle_words, is_idle, reason_words, refusal_reason, renamed_words, store_reason, version_words};
 
 use crate::members::{push_number, push_signed, push_words};
 use crate::session::counting::one_more;
@@ -115,7 +115,7 @@ fn push_change_limit(buffer: &mut Vec<u8>, limit: usize) -> Result<(), AllocErro
     push_words(buffer, ", or their texts have more than 1 GiB")
 }
 
-/// Writes the version that was sent, and the current one.
+/// Writes the version that was sent, the current one, and whether nothing else was sent.
 fn push_stale(
     buffer: &mut Vec<u8>,
     change: Option<&ChangeParams>,
@@ -123,12 +123,48 @@ fn push_stale(
 ) -> Result<(), AllocError>
     ensures { OnOk result (buffer.new.items ≡ buffer.old.items ++ codes "version "
         ++ version_words (option_map (λ p. change_view p.now) change.entry)
-        ++ codes " was sent, and the current one is " ++ signed_decimal held) }
+        ++ codes " was sent, and the current one is " ++ signed_decimal held
+        ++ idle_words (option_map (λ p. change_view p.now) change.entry)) }
 {
     buffer.extend_from_slice(b"version ")?;
     push_version(buffer, change)?;
     buffer.extend_from_slice(b" was sent, and the current one is ")?;
-    push_signed(buffer, i64::from(held))
+    push_signed(buffer, i64::from(held))?;
+    push_idle(buffer, change)
+}
+
+/// Writes that a change has no changes of the text, if it has none.
+fn push_idle(buffer: &mut Vec<u8>, change: Option<&ChangeParams>) -> Result<(), AllocError>
+    ensures { OnOk result (buffer.new.items ≡ buffer.old.items
+        ++ idle_words (option_map (λ p. change_view p.now) change.entry)) }
+{
+    if is_idle(change) {
+        push_words(buffer, ", and it has no changes")?;
+    }
+    Ok(())
+}
+
+/// Returns whether it is a change without changes of the text.
+pub fn is_idle(change: Option<&ChangeParams>) -> bool
+    ensures { result ≡ is_idle (option_map (λ p. change_view p.now) change.entry) }
+{
+    match change {
+        Some(params) => params.changes.is_empty(),
+        None => false,
+    }
+}
+
+/// Writes that an editor may have renamed a document, if it may.
+pub fn push_renamed(buffer: &mut Vec<u8>, renamed: bool) -> Result<(), AllocError>
+    ensures { OnOk result (buffer.new.items ≡ buffer.old.items ++ renamed_words renamed) }
+{
+    if renamed {
+        push_words(
+            buffer,
+            "; its editor may have renamed a document that was open",
+        )?;
+    }
+    Ok(())
 }
 
 /// Writes the version that a change sends.

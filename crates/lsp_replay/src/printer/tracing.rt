@@ -11,7 +11,8 @@ ghost use Rattle.lsp_replay.specs.inside.Facts.{members_by, reason_of};
 ghost use Rattle.lsp_replay.specs.inside.Lines.{lines_in};
 ghost use Rattle.lsp_replay.specs.inside.Reads.{IsReadOf};
 ghost use Rattle.lsp_replay.specs.inside.Verdicts.{verdict_view};
-ghost use Rattle.lsp_replay.specs.Trace.{document_after, first_members, has_changed, is_json, member, notes_json, tracing};
+ghost use Rattle.lsp_replay.specs.Session.{has_changed};
+ghost use Rattle.lsp_replay.specs.Trace.{document_after, first_members, is_json, member, notes_json, tracing};
 
 mod first;
 mod values;
@@ -24,17 +25,16 @@ use crate::notes::Note;
 use crate::outcome::Outcome;
 use crate::printer::Printer;
 use crate::printer::noted::push_notes;
-use crate::printer::reasons::push_reason;
+use crate::printer::reasons::{push_reason, push_renamed};
 use crate::printer::tracing::first::{is_json, push_first};
 use crate::printer::tracing::values::{
     push_body, push_canonical, push_text, push_version, push_word,
 };
 use crate::session::canonical::Canonical;
-use crate::session::counting::{is_refused, one_more};
+use crate::session::counting::{has_changed, is_refused, one_more};
 use crate::session::{RecordBody, Session, Verdict};
 use lsp_frame::Limits;
 use lsp_log::Head;
-use lsp_server::Answer;
 use lsp_store::{Document, Store};
 use lsp_stream::EngineFault;
 use std::alloc::{AllocError, Global};
@@ -113,7 +113,7 @@ impl Trace {
         ensures { result
             ≡ (self.now.details.texts && has_changed (verdict_view verdict.now)) }
     {
-        self.details.texts && is_changed(verdict)
+        self.details.texts && has_changed(verdict)
     }
 
     /// Returns whether the last record's line has its body.
@@ -173,7 +173,8 @@ impl Printer for Trace {
 fn push_why(buffer: &mut Vec<u8>, limits: Limits, facts: &Facts) -> Result<(), AllocError>
     ensures { OnOk result (buffer.new.items ≡ buffer.old.items
         ++ member (codes ",\"reason\":") (reason_of limits
-        (option_map change_view facts.now.change) (verdict_view facts.now.verdict))) }
+        (option_map change_view facts.now.change) facts.now.renamed
+        (verdict_view facts.now.verdict))) }
 {
     let Verdict::Answered(answer) = &facts.verdict else {
         return Ok(());
@@ -184,6 +185,7 @@ fn push_why(buffer: &mut Vec<u8>, limits: Limits, facts: &Facts) -> Result<(), A
     buffer.extend_from_slice(b",\"reason\":")?;
     buffer.extend_from_slice(b"\"")?;
     push_reason(buffer, limits, facts.change.as_ref(), answer)?;
+    push_renamed(buffer, facts.renamed)?;
     buffer.extend_from_slice(b"\"")
 }
 
@@ -194,15 +196,7 @@ fn document_of<'a>(store: &'a Store, uri: Option<&str>) -> Option<Document<'a>>
     store.get(uri?)
 }
 
-/// Returns whether a record changed the documents.
-fn is_changed(verdict: &Verdict) -> bool
-    ensures { result ≡ has_changed (verdict_view verdict.now) }
-{
-    matches!(verdict, Verdict::Answered(Answer::Changed))
-}
-
-/// Writes which record opened, closed or refused the document last before, if there is one to look
-/// at.
+/// Writes which record to look at, if there is one.
 fn push_mention(buffer: &mut Vec<u8>, last: Option<u64>) -> Result<(), AllocError>
     ensures { OnOk result (buffer.new.items ≡ buffer.old.items
         ++ member (codes ",\"last\":") (option_map decimal last)) }

@@ -3,8 +3,10 @@
 ghost use Rattle.std.specs.Prelude.{◌≡◌};
 ghost use Rattle.lsp_server.specs.Seen.{answer_view};
 ghost use Rattle.lsp_stream.specs.Ports.{one_more};
-ghost use Rattle.lsp_replay.specs.Session.{is_refused, is_refusing};
+ghost use Rattle.lsp_replay.specs.Session.{has_changed, is_refused, is_refusing, refuses};
+ghost use Rattle.lsp_replay.specs.inside.Verdicts.{verdict_view};
 
+use crate::session::Verdict;
 use lsp_message::ErrorCode;
 use lsp_server::Answer;
 
@@ -25,6 +27,23 @@ pub fn is_refused(answer: &Answer) -> bool
         Answer::Exit(status) => *status != 0,
         Answer::Changed | Answer::Dropped | Answer::Ignored => false,
     }
+}
+
+/// Returns whether a record counts as refused.
+pub fn refuses(verdict: &Verdict) -> bool
+    ensures { result ≡ refuses (verdict_view verdict.now) }
+{
+    match verdict {
+        Verdict::Answered(answer) => is_refused(answer),
+        Verdict::Recorded | Verdict::Bad => false,
+    }
+}
+
+/// Returns whether a record changed documents.
+pub fn has_changed(verdict: &Verdict) -> bool
+    ensures { result ≡ has_changed (verdict_view verdict.now) }
+{
+    matches!(verdict, Verdict::Answered(Answer::Changed))
 }
 
 /// Returns whether an error reply counts as refused.

@@ -2,18 +2,18 @@
 use Rattle.std.specs.Prelude.{◌≡◌, ◌++◌, ◌∷◌, [], List, codes}
 use Rattle.clap.specs.Words.{Rule, Text}
 use Rattle.clap.specs.declared.builder.value_parser.ValueParser.TheVariants.{Unsigned}
-use Rattle.lspsync.specs.CommandLine.{Choices, detail_rules, explain_rule, flag_rule, log_rule, logs_rule, option_rule, part_rules, server_rules, writing_rules}
+use Rattle.lspsync.specs.CommandLine.{Choices, check_rules, detail_rules, flag_rule, log_rule, logs_rule, option_rule, part_rules, server_rules, writing_rules}
 use Rattle.lspsync.specs.declared.command_line.help.Limit.{Limit}
 use Rattle.lspsync.specs.declared.command_line.help.LimitOptions.{LimitOptions}
 use Rattle.lspsync.specs.declared.command_line.help.OwnHelp.{OwnHelp}
-use Rattle.lspsync.specs.declared.command_line.help.OwnHelp.TheVariants.{Nothing, Serving, Explain, Details, Part, Writing}
+use Rattle.lspsync.specs.declared.command_line.help.OwnHelp.TheVariants.{Nothing, Serving, Checking, Details, Part, Writing}
 use Rattle.lspsync.specs.declared.command_line.help.Page.{Page}
 
 -- The options that a command has beside those of all, by the help of them.
 abbrev pub own_rules : Choices → OwnHelp → List Rule
 own_rules kinds Nothing = []
 own_rules kinds (Serving help) = server_rules kinds
-own_rules kinds (Explain help) = explain_rule ∷ []
+own_rules kinds (Checking help) = check_rules
 own_rules kinds (Details help) = detail_rules
 own_rules kinds (Part help) = part_rules
 own_rules kinds (Writing help) = writing_rules
@@ -21,7 +21,7 @@ own_rules kinds (Writing help) = writing_rules
 -- The file that a command takes, or the files.
 abbrev pub file_rules : OwnHelp → List Rule
 file_rules (Serving help) = []
-file_rules (Explain help) = logs_rule ∷ []
+file_rules (Checking help) = logs_rule ∷ []
 file_rules (Details help) = logs_rule ∷ []
 file_rules own = log_rule ∷ []
 

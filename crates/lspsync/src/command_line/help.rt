@@ -1,14 +1,14 @@
 //! The pages of help. They are in functions, so that proofs don't unfold them.
 
 ghost use Rattle.std.specs.Prelude.{◌≡◌, ◌++◌, ◌∷◌, [], codes};
-ghost use Rattle.lspsync.specs.CommandLine.{detail_rules, explain_rule, limit_rules, log_rule};
+ghost use Rattle.lspsync.specs.CommandLine.{check_rules, detail_rules, limit_rules, log_rule};
 ghost use Rattle.lspsync.specs.CommandLine.{logs_rule, part_rules, server_rules, writing_rules};
 ghost use Rattle.lspsync.specs.inside.Help.{IsPage, rules_of_limits};
 
 use crate::command_line::texts::{
-    AT, BODIES, CHECK, CHECK_EXAMPLE, CONVERT, CONVERT_EXAMPLE, DOCUMENTS, ENCODING, EXPLAIN,
-    NORMALISE, NORMALISE_EXAMPLE, PREFERRED_ENCODING, REPLAY, REPLAY_EXAMPLE, SERVE, SERVE_EXAMPLE,
-    SQUASH, STDIO, SYNC, TEXTS, TRACE, TRACE_EXAMPLE, URI,
+    ALL, AT, BODIES, BRIEF, CHECK, CHECK_EXAMPLE, CONVERT, CONVERT_EXAMPLE, DOCUMENTS, ENCODING,
+    EXPLAIN, LIVE, NORMALISE, NORMALISE_EXAMPLE, PREFERRED_ENCODING, REPLAY, REPLAY_EXAMPLE, SERVE,
+    SERVE_EXAMPLE, SQUASH, STDIO, SYNC, TEXTS, TRACE, TRACE_EXAMPLE, URI,
 };
 use lsp_frame::Limits;
 
@@ -33,9 +33,9 @@ pub enum OwnHelp {
     Nothing,
     /// `--sync` and `--stdio`.
     Serving(ServingHelp),
-    /// `--explain`.
-    Explain(&'static str),
-    /// `--texts` and `--bodies`.
+    /// `--explain`, `--brief`, `--all` and `--live`.
+    Checking(CheckingHelp),
+    /// `--texts`, `--bodies` and `--live`.
     Details(DetailHelp),
     /// `--at` and `--uri`.
     Part(PartHelp),
@@ -57,11 +57,21 @@ pub struct WritingHelp {
     pub squash: &'static str,
 }
 
-/// The help of the options that say what is written of each record.
+/// The help of the options that say what `check` writes of each record, and when.
+#[derive(Clone, Copy, Debug)]
+pub struct CheckingHelp {
+    pub explain: &'static str,
+    pub brief: &'static str,
+    pub all: &'static str,
+    pub live: &'static str,
+}
+
+/// The help of the options that say what `trace` writes of each record, and when.
 #[derive(Clone, Copy, Debug)]
 pub struct DetailHelp {
     pub texts: &'static str,
     pub bodies: &'static str,
+    pub live: &'static str,
 }
 
 /// The help of the options that name a part of a log.
@@ -108,10 +118,15 @@ pub fn serve() -> Page
 }
 
 pub fn check() -> Page
-    ensures { IsPage result (codes "check") (λ _. explain_rule ∷ logs_rule ∷ []) }
+    ensures { IsPage result (codes "check") (λ _. check_rules ++ logs_rule ∷ []) }
 {
     Page {
-        own: OwnHelp::Explain(EXPLAIN),
+        own: OwnHelp::Checking(CheckingHelp {
+            explain: EXPLAIN,
+            brief: BRIEF,
+            all: ALL,
+            live: LIVE,
+        }),
         ..log_page("check", CHECK, CHECK_EXAMPLE)
     }
 }
@@ -123,6 +138,7 @@ pub fn trace() -> Page
         own: OwnHelp::Details(DetailHelp {
             texts: TEXTS,
             bodies: BODIES,
+            live: LIVE,
         }),
         ..log_page("trace", TRACE, TRACE_EXAMPLE)
     }

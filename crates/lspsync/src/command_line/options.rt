@@ -5,8 +5,8 @@ ghost use Rattle.std.specs.Prelude.{◌≡◌, ◌∷◌, [], true, false};
 ghost use Rattle.std.specs.Prelude.{IfOk};
 ghost use Rattle.clap.specs.Words.{app_of, rule_of, with_subcommand};
 ghost use Rattle.clap.specs.declared.builder.value_parser.ValueParser.TheVariants.{Names};
-ghost use Rattle.lspsync.specs.CommandLine.{IsProgram, at_rule, detail_rules, encoding_rule};
-ghost use Rattle.lspsync.specs.CommandLine.{explain_rule, flag_rule, limit_rules, log_rule};
+ghost use Rattle.lspsync.specs.CommandLine.{IsProgram, at_rule, check_rules, detail_rules};
+ghost use Rattle.lspsync.specs.CommandLine.{encoding_rule, flag_rule, limit_rules, log_rule};
 ghost use Rattle.lspsync.specs.CommandLine.{logs_rule, option_rule, part_rules, server_rules};
 ghost use Rattle.lspsync.specs.CommandLine.{sync_rule, uri_rule, writing_rules};
 ghost use Rattle.lspsync.specs.inside.Help.{file_rules, own_rules, rule_of_limit};
@@ -14,7 +14,8 @@ ghost use Rattle.lspsync.specs.inside.Help.{rules_of_limits};
 ghost use Rattle.lspsync.specs.inside.Options.{AddsRules, IsCommand, shape_by, top_app};
 
 use crate::command_line::help::{
-    self, DetailHelp, Limit, LimitOptions, OwnHelp, Page, PartHelp, ServingHelp, WritingHelp,
+    self, CheckingHelp, DetailHelp, Limit, LimitOptions, OwnHelp, Page, PartHelp, ServingHelp,
+    WritingHelp,
 };
 use crate::command_line::texts::{LOG, LOGS};
 use clap::builder::ValueParser;
@@ -111,7 +112,7 @@ fn with_own<'a>(
     match own {
         OwnHelp::Nothing => Ok(command),
         OwnHelp::Serving(help) => with_serving(alloc, command, help, kinds),
-        OwnHelp::Explain(help) => with_explain(alloc, command, help),
+        OwnHelp::Checking(help) => with_checking(alloc, command, help),
         OwnHelp::Details(help) => with_details(alloc, command, help),
         OwnHelp::Part(help) => with_part(alloc, command, help),
         OwnHelp::Writing(help) => with_writing(alloc, command, help),
@@ -158,18 +159,22 @@ fn with_part<'a>(
         .arg(uri_option(alloc, help.uri))
 }
 
-/// Adds `--explain`.
-fn with_explain<'a>(
+/// Adds `--explain`, `--brief`, `--all` and `--live`.
+fn with_checking<'a>(
     alloc: Global,
     command: Command<'a>,
-    help: &'a str,
+    help: CheckingHelp,
 ) -> Result<Command<'a>, AllocError>
-    ensures { IfOk result (AddsRules command.entry (explain_rule ∷ [])) }
+    ensures { IfOk result (AddsRules command.entry check_rules) }
 {
-    command.arg(flag(alloc, "explain", help))
+    command
+        .arg(flag(alloc, "explain", help.explain))?
+        .arg(flag(alloc, "brief", help.brief))?
+        .arg(flag(alloc, "all", help.all))?
+        .arg(flag(alloc, "live", help.live))
 }
 
-/// Adds `--texts` and `--bodies`.
+/// Adds `--texts`, `--bodies` and `--live`.
 fn with_details<'a>(
     alloc: Global,
     command: Command<'a>,
@@ -179,7 +184,8 @@ fn with_details<'a>(
 {
     command
         .arg(flag(alloc, "texts", help.texts))?
-        .arg(flag(alloc, "bodies", help.bodies))
+        .arg(flag(alloc, "bodies", help.bodies))?
+        .arg(flag(alloc, "live", help.live))
 }
 
 /// Adds the file that the command reads, or the files.
@@ -192,7 +198,7 @@ fn with_file<'a>(
 {
     match own {
         OwnHelp::Serving(_) => Ok(command),
-        OwnHelp::Explain(_) | OwnHelp::Details(_) => command.arg(logs(alloc)),
+        OwnHelp::Checking(_) | OwnHelp::Details(_) => command.arg(logs(alloc)),
         OwnHelp::Nothing | OwnHelp::Part(_) | OwnHelp::Writing(_) => command.arg(log(alloc)),
     }
 }

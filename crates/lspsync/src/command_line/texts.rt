@@ -24,14 +24,20 @@ refused where its word is `refused CAUSE`, `exit 1`, or an `error` other than
 
 With `--explain` the line of an error, a refusal or `exit 1` also has the
 document, the reason and the message to see; that of a suspicious message has
-notes. One or two last lines say what to do next.
+notes. The last lines count messages, refusals and notes, each with the first
+message, and say what to do next. A kind of note that comes often is on its
+first line alone; with `--all` it is on each. With `--brief` only lines with a
+reason or notes are printed.
 
 Input that is faulty (F1) at offset 0 is no such log: `lspsync-log-from` makes
 one of what an editor wrote.
 
 Example, a session with two changes that Laspidru refuses:
   lspsync check examples/stale-version.log
-  lspsync check --explain examples/stale-version.log";
+  lspsync check --explain examples/stale-version.log
+
+Example, a session that goes on, as the editor types:
+  tail -c +1 -f session.log | lspsync check --brief --live";
 
 pub static TRACE: &str = "Print each message of a log as JSON, with the answer and the reason";
 
@@ -132,6 +138,15 @@ if it was closed";
 
 pub static EXPLAIN: &str = "Print why a message was refused or what is suspicious
 too, and at the end what to do next";
+
+pub static BRIEF: &str = "Print reasons and notes, and only the lines that have
+them";
+
+pub static ALL: &str = "Print reasons and notes, and each note on its line, also
+where its kind comes often";
+
+pub static LIVE: &str = "Flush what is printed before more is read: for a session
+that goes on";
 
 pub static TEXTS: &str = "Print the document's text too, where a message opened
 or changed it";

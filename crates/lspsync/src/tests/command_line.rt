@@ -3,7 +3,7 @@
 use super::*;
 use crate::command_line::{self, parse};
 use lsp_program::VERSION;
-use lsp_replay::Settings;
+use lsp_replay::{Listing, Settings};
 use lsp_server::Config;
 use std::str;
 use std::test::Fail;
@@ -99,9 +99,26 @@ fn a_call_without_options_has_the_defaults(rt: HostRuntime) -> Result<(), Fail> 
     let documents = command_line::Call::NormaliseDocuments(Settings::default());
     let words = ["lspsync", "normalise", "--documents"];
     assert!(rt; is_call(rt.alloc(), &words, documents));
-    let explain = command_line::Call::Explain(Settings::default());
-    assert!(rt; is_call(rt.alloc(), &["lspsync", "check", "--explain"], explain));
-    let check = command_line::Call::Check(Settings::default());
+    let explain = command_line::Call::Explain {
+        settings: Settings::default(),
+        listing: Listing::default(),
+        live: true,
+    };
+    let words = ["lspsync", "check", "--live", "--explain"];
+    assert!(rt; is_call(rt.alloc(), &words, explain));
+    let brief = command_line::Call::Explain {
+        settings: Settings::default(),
+        listing: Listing {
+            brief: true,
+            all: false,
+        },
+        live: false,
+    };
+    assert!(rt; is_call(rt.alloc(), &["lspsync", "check", "--brief"], brief));
+    let check = command_line::Call::Check {
+        settings: Settings::default(),
+        live: false,
+    };
     assert!(rt; is_call(rt.alloc(), &["lspsync", "check"], check));
     Ok(())
 }

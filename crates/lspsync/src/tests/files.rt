@@ -34,9 +34,10 @@ const BROKEN: &str = "lspsync: broken.log: a call that was to fail\n";
 const NO_URI: &str = "lspsync: good.log: the document was never open\n";
 
 /// Words, the status, the output, and what is printed on standard error.
-static ROWS: [(&str, u8, &str, &str); 9] = [
+static ROWS: [(&str, u8, &str, &str); 10] = [
     ("lspsync check good.log", 0, GOOD, ""),
     ("lspsync check -", 0, GOOD, ""),
+    ("lspsync check --live good.log", 0, GOOD, ""),
     ("lspsync check -- gone.log", 3, "", GONE),
     ("lspsync check broken.log", 3, TWO, BROKEN),
     ("lspsync check cut.log", 5, TWO, CUT),

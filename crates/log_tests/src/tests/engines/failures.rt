@@ -14,7 +14,7 @@ static SERVED: [Case; 1] = [Case {
 }];
 
 /// The log commands over a log of version 1.
-static OVER_1: [Case; 8] = [
+static OVER_1: [Case; 10] = [
     Case {
         command: Command::Check,
         input: Bytes::Frames(WORKED),
@@ -38,6 +38,23 @@ static OVER_1: [Case; 8] = [
         end: Ended(0, 3, 0),
         records: &[],
         flushes: &[],
+    },
+    // Each line is flushed before more is read.
+    Case {
+        command: Command::CheckLive,
+        input: Bytes::Frames(WORKED),
+        output: Bytes::Plain(CHECK_1),
+        end: Ended(0, 3, 0),
+        records: &[(172, 8), (340, 18), (506, 28)],
+        flushes: &[8, 19, 30],
+    },
+    Case {
+        command: Command::TraceLive,
+        input: Bytes::Frames(WORKED),
+        output: Bytes::Plain(TRACED),
+        end: Ended(0, 3, 0),
+        records: &[(172, 84), (340, 218), (506, 584)],
+        flushes: &[84, 219, 586],
     },
     // The text of a document that was closed, and the one that it has after a record.
     Case {

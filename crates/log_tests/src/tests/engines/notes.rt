@@ -83,6 +83,10 @@ static ENCODED: [(Encoding, &str, &[&str]); 3] = [
 const SEE: &str =
     "Nothing was refused; see the notes. `lspsync replay --at N`: the texts after message N.\n";
 
+/// How many messages there are, and how many changed documents, where a document is opened and
+/// changed.
+const THREE: &str = "messages of the editor: 3, changed documents: 2\n";
+
 const COMPARE: &str =
     "Nothing was refused. Compare `lspsync replay --uri URI` with the editor's text.\n";
 
@@ -96,13 +100,13 @@ fn joined(alloc: Global, notes: &[&str], between: &str) -> Result<String, AllocE
     Ok(words)
 }
 
-/// Returns the end of what `check` with reasons writes of a third message with these notes.
+/// Returns what `check` with reasons writes up to a third message with these notes.
 fn explained(alloc: Global, notes: &[&str]) -> Result<String, AllocError> {
     if notes.is_empty() {
-        return format!(in alloc; "\n3 changed\n{COMPARE}");
+        return format!(in alloc; "1 reply\n2 changed\n3 changed\n{THREE}{COMPARE}");
     }
     let words = joined(alloc, notes, "; ")?;
-    format!(in alloc; "\n3 changed of \"file:///a\": {words}\n{SEE}")
+    format!(in alloc; "1 reply\n2 changed\n3 changed of \"file:///a\": {words}\n{THREE}noted ")
 }
 
 /// Returns whether a change has these notes, in a session of this encoding.
@@ -119,7 +123,7 @@ fn is_noted(
     let changed = change(alloc, 2, changes)?;
     let input = log(alloc, &[INITIALIZE, TWO_LINES, changed.as_str()])?;
     let run = run_with(alloc, Command::Explain, &input, settings, SMOOTH)?;
-    Ok(run.output.ends_with(explained(alloc, notes)?.as_bytes()))
+    Ok(run.output.starts_with(explained(alloc, notes)?.as_bytes()))
 }
 
 #[test]
@@ -141,7 +145,7 @@ fn what_is_suspicious_is_noted(rt: HostRuntime) -> Result<(), Fail> {
 
 /// Whole texts, where the server's result of `initialize` is in the log and asks for ranges.
 const RANGES_ASKED: &str =
-    "1 reply\n2 server\n3 changed\n4 changed of \"file:///a\": change 1 is the whole text, and the server asked for ranges\n";
+    "1 reply\n2 server\n3 changed\n4 changed of \"file:///a\": change 1 is the whole text, and the server asked for ranges\nmessages of the editor: 3, changed documents: 2\nnoted a whole text: 1, first message 4\n";
 
 /// Returns whether a whole text is noted in a log of version 2.
 fn is_asked(alloc: Global) -> Result<bool, Fail> {
@@ -158,7 +162,7 @@ fn whole_texts_are_noted_where_ranges_were_asked_for(rt: HostRuntime) -> Result<
 }
 
 const LENIENT: &str =
-    "1 reply\n2 changed\n3 changed of \"file:///a\": the document was open already\n4 changed\n5 changed of \"file:///a\": version 2 was sent, and the current one was 2; change 1 changes nothing\n";
+    "1 reply\n2 changed\n3 changed of \"file:///a\": the document was open already\n4 changed\n5 changed of \"file:///a\": version 2 was sent, and the current one was 2; change 1 changes nothing\nmessages of the editor: 5, changed documents: 4\nnoted open already: 1, first message 3\nnoted an old version: 1, first message 5\nnoted changes nothing: 1, first message 5\n";
 
 /// Returns whether what lenient limits accept is noted.
 fn is_accepted(alloc: Global) -> Result<bool, Fail> {
@@ -176,5 +180,96 @@ fn is_accepted(alloc: Global) -> Result<bool, Fail> {
 #[test]
 fn what_lenient_limits_accept_is_noted(rt: HostRuntime) -> Result<(), Fail> {
     assert!(rt; is_accepted(rt.alloc())?);
+    Ok(())
+}
+
+/// A document is opened with a CR that ends a line and an LF that ends another, another with a CR
+/// alone; then three changes change nothing.
+static SAME: [&str; 6] = [
+    INITIALIZE,
+    r#"{"jsonrpc":"2.0","method":"textDocument/didOpen","params":{"textDocument":{"languageId":"c","text":"a\rb\n","uri":"file:///a","version":1}}}"#,
+    r#"{"jsonrpc":"2.0","method":"textDocument/didOpen","params":{"textDocument":{"languageId":"c","text":"a\rb\r","uri":"file:///b","version":1}}}"#,
+    r#"{"jsonrpc":"2.0","method":"textDocument/didChange","params":{"contentChanges":[{"text":"a\rb\n"}],"textDocument":{"uri":"file:///a","version":2}}}"#,
+    r#"{"jsonrpc":"2.0","method":"textDocument/didChange","params":{"contentChanges":[{"text":"a\rb\n"}],"textDocument":{"uri":"file:///a","version":3}}}"#,
+    r#"{"jsonrpc":"2.0","method":"textDocument/didChange","params":{"contentChanges":[{"text":"a\rb\n"}],"textDocument":{"uri":"file:///a","version":4}}}"#,
+];
+
+/// What comes at the end of all three.
+const SAME_COUNTED: &str =
+    "messages of the editor: 6, changed documents: 5\nnoted a CR alone: 1, first message 2\nnoted changes nothing: 3, first message 4\nNothing was refused; see the notes. `lspsync replay --at N`: the texts after message N.\n";
+
+const HABIT: &str =
+    "A kind of note that comes often is on its first line alone. `--all`: on each.\n";
+
+/// What `check` with reasons writes of this session: where a kind of note is a habit, each note, and
+/// only lines with a reason or notes.
+static LISTED: [(Command, &str, &str); 3] = [
+    (
+        Command::Explain,
+        "1 reply\n2 changed of \"file:///a\": a CR alone ends a line, and an LF another\n3 changed\n4 changed of \"file:///a\": change 1 changes nothing\n5 changed\n6 changed\n",
+        HABIT,
+    ),
+    (
+        Command::All,
+        "1 reply\n2 changed of \"file:///a\": a CR alone ends a line, and an LF another\n3 changed\n4 changed of \"file:///a\": change 1 changes nothing\n5 changed of \"file:///a\": change 1 changes nothing\n6 changed of \"file:///a\": change 1 changes nothing\n",
+        "",
+    ),
+    (
+        Command::Brief,
+        "2 changed of \"file:///a\": a CR alone ends a line, and an LF another\n4 changed of \"file:///a\": change 1 changes nothing\n",
+        HABIT,
+    ),
+];
+
+/// Returns whether a command writes these lines of that session, and this last one.
+fn is_listed(alloc: Global, command: Command, lines: &str, last: &str) -> Result<bool, Fail> {
+    let input = log(alloc, &SAME)?;
+    let run = run_with(alloc, command, &input, settings()?, SMOOTH)?;
+    let output = format!(in alloc; "{lines}{SAME_COUNTED}{last}")?;
+    Ok(run.answer == Ended(0, 6, 0).answer() && run.output.as_slice() == output.as_bytes())
+}
+
+#[test]
+fn a_kind_of_note_that_comes_often_is_said_once(rt: HostRuntime) -> Result<(), Fail> {
+    for (command, lines, last) in &LISTED {
+        assert!(rt;
+            is_listed(rt.alloc(), *command, lines, last)?,
+            "at {command:?}"
+        );
+    }
+    Ok(())
+}
+
+/// A document is opened and changed, and a version comes again without changes; then another name is
+/// changed and closed.
+static LOST: [&str; 6] = [
+    INITIALIZE,
+    OPEN,
+    WHOLE,
+    r#"{"jsonrpc":"2.0","method":"textDocument/didChange","params":{"contentChanges":[],"textDocument":{"uri":"file:///a","version":2}}}"#,
+    r#"{"jsonrpc":"2.0","method":"textDocument/didChange","params":{"contentChanges":[{"text":"b"}],"textDocument":{"uri":"file:///b","version":3}}}"#,
+    r#"{"jsonrpc":"2.0","method":"textDocument/didClose","params":{"textDocument":{"uri":"file:///b"}}}"#,
+];
+
+const LOST_BRIEF: &str =
+    "4 refused S5 of \"file:///a\": version 2 was sent, and the current one is 2, and it has no changes; see message 3\n5 refused S4 of \"file:///b\": the document is not open; its editor may have renamed a document that was open\n6 refused S4 of \"file:///b\": the document is not open; its editor may have renamed a document that was open; see message 5\nmessages of the editor: 6, changed documents: 2\nrefused by S5: 1, first message 4\nrefused by S4: 2, first message 5\nRefused messages change nothing. `lspsync replay --at N`: the texts after message N.\n";
+
+/// Returns whether hooks that are lost, and a document that was renamed, are named.
+fn is_named(alloc: Global) -> Result<bool, Fail> {
+    let input = log(alloc, &LOST)?;
+    let run = run_with(alloc, Command::Brief, &input, settings()?, SMOOTH)?;
+    Ok(run.answer == Ended(1, 6, 3).answer() && run.output.as_slice() == LOST_BRIEF.as_bytes())
+}
+
+/// Returns whether an empty log is called that.
+fn has_no_messages(alloc: Global) -> Result<bool, Fail> {
+    let run = run_with(alloc, Command::Explain, b"", settings()?, SMOOTH)?;
+    Ok(run.output.as_slice() == "The log has no messages.\n".as_bytes())
+}
+
+#[test]
+fn lost_hooks_new_names_and_empty_logs_are_named(rt: HostRuntime) -> Result<(), Fail> {
+    assert!(rt; is_named(rt.alloc())?);
+    assert!(rt; has_no_messages(rt.alloc())?);
     Ok(())
 }

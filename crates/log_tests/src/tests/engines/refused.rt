@@ -173,9 +173,9 @@ static RUNS: [Wanted; 14] = [
             "1 reply\n",
             "2 changed\n",
             "3 refused S1 of \"file:///a\": the document is open already; see message 2\n",
-            "Refused messages change nothing. `lspsync replay --at N`: the texts after message N.\nMany servers don't refuse what is S1 or S5 here. `--lenient` doesn't either.\n",
+            "messages of the editor: 3, changed documents: 1\nrefused by S1: 1, first message 3\nRefused messages change nothing. `lspsync replay --at N`: the texts after message N.\nMany servers don't refuse what is S1 or S5 here. `--lenient` doesn't either.\n",
         ],
-        lengths: &[8, 18, 91, 253],
+        lengths: &[8, 18, 91, 335],
         end: Ended(1, 3, 1),
     },
     // Several changes are noted on a copy of the text.
@@ -186,9 +186,9 @@ static RUNS: [Wanted; 14] = [
             "1 reply\n",
             "2 changed\n",
             "3 changed of \"file:///a\": change 1 changes nothing; change 2 starts at line 1, character 0, past the last line (taken as line 0, character 3)\n",
-            "Nothing was refused; see the notes. `lspsync replay --at N`: the texts after message N.\n",
+            "messages of the editor: 3, changed documents: 2\nnoted changes nothing: 1, first message 3\nnoted past the last line: 1, first message 3\nNothing was refused; see the notes. `lspsync replay --at N`: the texts after message N.\n",
         ],
-        lengths: &[8, 18, 160, 248],
+        lengths: &[8, 18, 160, 383],
         end: Ended(0, 3, 0),
     },
     // The whole of an empty text is replaced by nothing, which is no change.

@@ -1,16 +1,26 @@
-use Rattle.std.proofs.Common.{refl, false}
+use Rattle.std.proofs.Common.{false, refl}
+use Rattle.lsp_replay.specs.Session.{opened}
 use Rattle.lsp_replay.specs.Commands.{log_config}
 use Rattle.lsp_replay.specs.Explained.{explaining}
 use Rattle.lsp_replay.specs.Lines.{lines, nothing_known}
-use Rattle.lsp_replay.specs.Session.{opened}
 use Rattle.lsp_replay.proofs.Runs.RunReportLemmas.{run_of}
 use Rattle.lsp_replay.proofs.commands.explained.explain.Goals as goal
 
 pub returns : goal.returns
 returns g c =
-    let run = rw (c.rules-rules.ensures, c.session.ensures.value, c.nothing.ensures) at c.run.ensures.run in
-    let whole = rw (c.rules-rules.ensures, c.session.ensures.value, c.nothing.ensures) at c.run.ensures.whole in
+    let run = rw (
+      c.rules-rules.ensures,
+      c.explaining-explain.ensures.session,
+      c.explaining-explain.ensures.known,
+      c.explaining-explain.ensures.listing,
+    ) at c.run.ensures.run in
+    let whole = rw (
+      c.rules-rules.ensures,
+      c.explaining-explain.ensures.session,
+      c.explaining-explain.ensures.known,
+      c.explaining-explain.ensures.listing,
+    ) at c.run.ensures.whole in
     record {
-      run = run_of c.run.ensures.first c.run.ensures.version (lines explaining) nothing_known
+      run = run_of c.run.ensures.first c.run.ensures.version (lines (explaining c.args.listing)) nothing_known
           (opened (log_config c.args.settings)) false run (λ _. whole (λ _. refl));
     }

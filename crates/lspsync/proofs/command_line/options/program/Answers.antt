@@ -1,6 +1,6 @@
 use Rattle.std.specs.Prelude.{◌++◌, ◌∷◌, [], codes}
 use Rattle.clap.specs.Words.{app_of}
-use Rattle.lspsync.specs.CommandLine.{detail_rules, explain_rule, log_rule, logs_rule, part_rules, server_rules, writing_rules}
+use Rattle.lspsync.specs.CommandLine.{check_rules, detail_rules, log_rule, logs_rule, part_rules, server_rules, writing_rules}
 use Rattle.lspsync.specs.declared.command_line.options.Values.{Values}
 use Rattle.lspsync.proofs.ProgramLemmas.{program_is, puts}
 use Rattle.lspsync.proofs.command_line.options.program.Goals as goal
@@ -15,7 +15,7 @@ returns c same =
     let one = puts _ (app_of c.in_ok-program.program) _ c.serve.result values (codes "serve")
     server_rules c.serve.ensures same c.in_ok-program.ensures c.top.ensures in
     let two = puts _ (app_of c.in_ok-program-2.program) _ c.check.result values (codes "check")
-    (λ _. explain_rule ∷ logs_rule ∷ []) c.check.ensures same c.in_ok-program-2.ensures one in
+    (λ _. check_rules ++ logs_rule ∷ []) c.check.ensures same c.in_ok-program-2.ensures one in
     let three = puts _ (app_of c.in_ok-program-3.program) _ c.trace.result values (codes "trace")
     (λ _. detail_rules ++ logs_rule ∷ []) c.trace.ensures same c.in_ok-program-3.ensures two in
     let four = puts _ (app_of c.in_ok-program-4.program) _ c.replay.result values (codes "replay")

@@ -4,6 +4,8 @@ use Rattle.lspsync.proofs.command_line.options.with_details.Goals as goal
 
 pub returns : goal.returns
 returns c =
-    adds_after _ c.in_ok-arg.field-0 (_ ∷ []) _ c.arg-2.result (adds_one _ _ c.flag.result _ c.in_ok-arg.ensures
+    adds_after _ c.in_ok-arg.field-0 (_ ∷ []) _ c.arg-3.result (adds_one _ _ c.flag.result _ c.in_ok-arg.ensures
     c.flag.ensures.global c.flag.ensures.rule)
-    (adds _ c.flag-2.result _ c.arg-2.result c.flag-2.ensures.global c.flag-2.ensures.rule c.arg-2.ensures)
+    (adds_after _ c.in_ok-arg-2.field-0 (_ ∷ []) _ c.arg-3.result
+    (adds_one _ _ c.flag-2.result _ c.in_ok-arg-2.ensures c.flag-2.ensures.global c.flag-2.ensures.rule)
+    (adds _ c.flag-3.result _ c.arg-3.result c.flag-3.ensures.global c.flag-3.ensures.rule c.arg-3.ensures))

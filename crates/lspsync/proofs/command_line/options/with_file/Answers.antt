@@ -2,10 +2,10 @@ use Rattle.std.proofs.Common.{inl, inr}
 use Rattle.lspsync.proofs.ProgramLemmas.{adds}
 use Rattle.lspsync.proofs.command_line.options.with_file.Goals as goal
 
-pub returns-in-Explain : goal.returns-in-Explain
-returns-in-Explain c =
+pub returns-in-Checking : goal.returns-in-Checking
+returns-in-Checking c =
     let added = adds _ c.logs.result _ c.arg.result c.logs.ensures.global c.logs.ensures.rule c.arg.ensures in
-    elim c.in-Explain.is [ inl w ↦ rw w.1 added | inr w ↦ rw w.1 added ]
+    elim c.in-Checking.is [ inl w ↦ rw w.1 added | inr w ↦ rw w.1 added ]
 
 pub returns-in-Nothing : goal.returns-in-Nothing
 returns-in-Nothing c =

@@ -9,6 +9,7 @@ use Rattle.lsp_replay.proofs.printer.explaining.ExplainPrinter.print.Goals as go
 pub returns-clause-ok : goal.returns-clause-ok
 returns-clause-ok c = λ more.
     let r : Record = record { head = c.args.head; raw = c.args._raw.now; body = c.args.body.now } in
+    let listing = c.args.self.now.listing in
     let known = c.args.self.now.known in
     let s = c.args.self.now.session in
     let facts = c.in_ok-facts.ensures.facts in
@@ -16,8 +17,8 @@ returns-clause-ok c = λ more.
     let limits = c.limits-limits.ensures ∙ ap (λ store. store.limits) c.store.ensures
     ∙ ap (λ server. server.config.limits) c.server.ensures ∙ ap (λ (u : Session). u.server.config.limits) session in
     rw c.more.ensures
-    (line_first explaining known s r (λ e. c.in_ok-facts.ensures.in_log (facts.verdict ∙ e))
+    (line_first (explaining listing) known s r (λ e. c.in_ok-facts.ensures.in_log (facts.verdict ∙ e))
     c.push_facts.new.buffer.items
-    (line_is known s r c.limits-limits.result limits c.in_ok-facts.facts facts c.args.buffer.now.items _
+    (line_is listing known s r c.limits-limits.result limits c.in_ok-facts.facts facts c.args.buffer.now.items _
     c.requires.empty c.in_ok-push_facts.ensures)
     c.take.new.session session c.take.new.self c.in_ok-facts.ensures.known more)

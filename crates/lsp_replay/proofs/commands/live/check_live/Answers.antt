@@ -1,0 +1,12 @@
+use Rattle.std.proofs.Common.{false, refl}
+use Rattle.lsp_replay.specs.Session.{opened}
+use Rattle.lsp_replay.specs.Commands.{checking, log_config}
+use Rattle.lsp_replay.proofs.Runs.RunReportLemmas.{run_of}
+use Rattle.lsp_replay.proofs.commands.live.check_live.Goals as goal
+
+pub returns-clause-run : goal.returns-clause-run
+returns-clause-run g c =
+    let run = rw (c.rules-rules.ensures, c.checking.ensures) at c.run_live.ensures.run in
+    let whole = rw (c.rules-rules.ensures, c.checking.ensures) at c.run_live.ensures.whole in
+    run_of c.run_live.ensures.first c.run_live.ensures.version checking tt
+    (opened (log_config c.args.settings)) false run (λ _. whole (λ _. refl))

@@ -1,0 +1,24 @@
+use Rattle.std.proofs.Common.{false, refl}
+use Rattle.lsp_replay.specs.Session.{opened}
+use Rattle.lsp_replay.specs.Commands.{log_config}
+use Rattle.lsp_replay.specs.Explained.{explaining}
+use Rattle.lsp_replay.specs.Lines.{lines, nothing_known}
+use Rattle.lsp_replay.proofs.Runs.RunReportLemmas.{run_of}
+use Rattle.lsp_replay.proofs.commands.live.explain_live.Goals as goal
+
+pub returns-clause-run : goal.returns-clause-run
+returns-clause-run g c =
+    let run = rw (
+      c.rules-rules.ensures,
+      c.explaining-explain.ensures.session,
+      c.explaining-explain.ensures.known,
+      c.explaining-explain.ensures.listing,
+    ) at c.run_live.ensures.run in
+    let whole = rw (
+      c.rules-rules.ensures,
+      c.explaining-explain.ensures.session,
+      c.explaining-explain.ensures.known,
+      c.explaining-explain.ensures.listing,
+    ) at c.run_live.ensures.whole in
+    run_of c.run_live.ensures.first c.run_live.ensures.version (lines (explaining c.args.listing)) nothing_known
+    (opened (log_config c.args.settings)) false run (λ _. whole (λ _. refl))

@@ -1,0 +1,12 @@
+use Rattle.std.specs.Prelude.{◌≡◌, ◌≤◌, ◌-◌, drop, length, false}
+use Rattle.lsp_replay.specs.Notes.{has_lone_return}
+use Rattle.lsp_replay.proofs.notes.returns.has_lone_return.Given as goal
+
+abbrev pub invariant-bytes : goal.invariant-bytes
+invariant-bytes l = record {
+  within : l.next ≤ length l.bytes;
+  rest : has_lone_return false l.bytes ≡ has_lone_return l.after (drop l.next l.bytes);
+}
+
+abbrev pub decreases-bytes : goal.decreases-bytes
+decreases-bytes l = length l.bytes - l.next

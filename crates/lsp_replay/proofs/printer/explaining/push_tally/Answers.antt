@@ -1,0 +1,20 @@
+use Rattle.std.specs.Prelude.{codes, decimal}
+use Rattle.lsp_replay.proofs.Reports.MemberLemmas.{seven_words}
+use Rattle.lsp_replay.proofs.printer.explaining.push_tally.Goals as goal
+
+pub returns : goal.returns
+returns c =
+    let t = c.args.tally.now in
+    seven_words c.push_words-5.result _ c.args.buffer.now.items c.args.front.now t.words (codes ": ") (decimal t.count)
+    (codes ", first message ") (decimal t.first) (codes "\n")
+    (rw (
+      c.in_ok-push_number-2.ensures,
+      c.in_ok-push_words-4.ensures,
+      c.in_ok-push_number.ensures,
+      c.in_ok-push_words-3.ensures,
+      c.in_ok-push_words-2.ensures,
+      c.in_ok-push_words.ensures,
+      c.words.ensures,
+      c.count.ensures,
+      c.first.ensures,
+    ) at c.push_words-5.ensures)

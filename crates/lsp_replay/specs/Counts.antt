@@ -1,0 +1,83 @@
+-- How often what came, for the last lines of `check --explain`.
+use Rattle.std.specs.Prelude.{ℕ, Bool, true, false, not, ◌&&◌, ◌==◌, ◌/◌, ◌++◌, if◌then◌else◌, nat_le, List, [], ◌∷◌, Option, Some, None, codes, decimal, flat_map}
+use Rattle.lsp_server.specs.Answer.{AnswerData, reply, refused, exits, Sent}
+use Rattle.lsp_server.specs.Codes.{server_refusal_code}
+use Rattle.lsp_replay.specs.declared.notes.Note.{Note}
+use Rattle.lsp_replay.specs.Commands.{code_word}
+use Rattle.lsp_replay.specs.Notes.{note_kind}
+use Rattle.lsp_replay.specs.Session.{Verdict, answered, count_if, has_changed, is_refused}
+use Rattle.lsp_replay.specs.Tallies.{Tally, count_of, tallied, tallied_if, tally_words}
+
+-- ---- what is counted of each record
+
+-- What is counted of the records of a log.
+pub record Counts : Type 0 where
+  -- how many of them changed documents
+  pub changes : ℕ
+  -- those that count as refused, by their codes
+  pub refusals : List Tally
+  -- the notes of all of them, by their kinds
+  pub noted : List Tally
+
+-- Before the first record.
+abbrev pub nothing_counted : Counts
+nothing_counted = record { changes = 0; refusals = []; noted = [] }
+
+-- The code of an answer that counts as refused.
+abbrev pub answer_code : AnswerData Sent → List ℕ
+answer_code (reply m) = code_word m.code
+answer_code (refused refusal) = server_refusal_code refusal
+answer_code (exits status) = codes "exit 1"
+answer_code answer = []
+
+-- The code of a record that counts as refused.
+abbrev pub code_of : Verdict → Option (List ℕ)
+code_of (answered answer) = if is_refused answer then Some (answer_code answer) else None
+code_of verdict = None
+
+-- Some notes came with the record of this number.
+abbrev pub tallied_notes : List Note → ℕ → List Tally → List Tally
+tallied_notes [] number ts = ts
+tallied_notes (note ∷ notes) number ts =
+    tallied_notes notes number (tallied (note_kind note) number ts)
+
+-- What is counted after a record with this number and these notes.
+abbrev pub counts_after : Counts → ℕ → Verdict → List Note → Counts
+counts_after counts number verdict notes = record {
+  changes = count_if (has_changed verdict) counts.changes;
+  refusals = tallied_if (code_of verdict) number counts.refusals;
+  noted = tallied_notes notes number counts.noted;
+}
+
+-- ---- habits
+
+-- A kind of note is a habit, if it came already, and with about one of so many records that changed
+-- documents. So a kind that comes often is said once, and one that is rare each time.
+abbrev pub habit_rate : ℕ
+habit_rate = 100
+
+-- Is a kind of note a habit that came so often, where so many records changed documents?
+abbrev pub is_frequent : ℕ → ℕ → Bool
+is_frequent changes count = not (count == 0) && nat_le (changes / habit_rate) count
+
+-- Is the kind of a note a habit?
+abbrev pub is_habit : Counts → Note → Bool
+is_habit counts note = is_frequent counts.changes (count_of (note_kind note) counts.noted)
+
+-- The note, unless its kind is a habit.
+abbrev pub rare_note : Counts → Note → List Note
+rare_note counts note = if is_habit counts note then [] else note ∷ []
+
+-- The notes whose kinds are no habits.
+abbrev pub rare_notes : Counts → List Note → List Note
+rare_notes counts notes = flat_map (rare_note counts) notes
+
+-- ---- in words
+
+-- What was counted, and how many of the editor's messages there were.
+abbrev pub counts_words : ℕ → Counts → List ℕ
+counts_words messages counts =
+    codes "messages of the editor: " ++ decimal messages ++ codes ", changed documents: "
+    ++ decimal counts.changes ++ codes "\n"
+    ++ flat_map (tally_words (codes "refused by ")) counts.refusals
+    ++ flat_map (tally_words (codes "noted ")) counts.noted

@@ -1,0 +1,166 @@
+//! How often what came, for the last lines of `check --explain`.
+
+ghost use Rattle.std.specs.Prelude.{◌≡◌, IfOk, OnOk, option_map};
+ghost use Rattle.lsp_server.specs.Seen.{answer_view};
+ghost use Rattle.lsp_replay.specs.Counts.{answer_code, code_of, counts_after, is_frequent, is_habit};
+ghost use Rattle.lsp_replay.specs.Counts.{nothing_counted, rare_notes, tallied_notes};
+ghost use Rattle.lsp_replay.specs.inside.Verdicts.{verdict_view};
+
+pub(crate) mod tallies;
+
+use crate::counts::tallies::{Tally, add, add_if, count_of};
+use crate::notes::Note;
+use crate::notes::kinds::note_kind;
+use crate::printer::checking::code_word;
+use crate::session::Verdict;
+use crate::session::counting::{has_changed, is_refused, one_more};
+use lsp_server::Answer;
+use std::alloc::{AllocError, Global};
+use std::marker::Model;
+
+/// A kind of note is a habit, if about one of so many records that changed documents had it.
+const HABIT_RATE: u64 = 100;
+
+/// What is counted of the records of a log.
+#[derive(Drop)]
+pub struct Counts {
+    alloc: Global,
+    changed: u64,
+    refused: Vec<Tally>,
+    noted: Vec<Tally>,
+}
+
+impl Model for Counts {
+    ghost use Rattle.lsp_replay.specs.Counts as spec;
+
+    ghost Value = { spec.Counts };
+
+    ghost view = { λ counts. record {
+      changes = counts.changed;
+      refusals = counts.refused.items;
+      noted = counts.noted.items;
+    } };
+}
+
+impl Counts {
+    /// Starts before the first record. Takes no memory.
+    pub fn nothing(alloc: Global) -> Self
+        ensures { result ≡ nothing_counted }
+    {
+        Counts {
+            alloc,
+            changed: 0,
+            refused: Vec::new(alloc),
+            noted: Vec::new(alloc),
+        }
+    }
+
+    /// Returns how many records changed documents.
+    pub fn changed(&self) -> u64
+        ensures { result ≡ self.now.changes }
+    {
+        self.changed
+    }
+
+    /// Returns the codes of the records that count as refused.
+    pub fn refused(&self) -> &[Tally]
+        ensures { result.now ≡ self.now.refusals }
+    {
+        self.refused.as_slice()
+    }
+
+    /// Returns the kinds of the notes.
+    pub fn noted(&self) -> &[Tally]
+        ensures { result.now ≡ self.now.noted }
+    {
+        self.noted.as_slice()
+    }
+
+    /// Counts a record with this number and these notes.
+    pub fn count(
+        &mut self,
+        number: u64,
+        verdict: &Verdict,
+        notes: &[Note],
+    ) -> Result<(), AllocError>
+        ensures { OnOk result
+            (self.new ≡ counts_after self.old number (verdict_view verdict.now) notes.now) }
+    {
+        if has_changed(verdict) {
+            self.changed = one_more(self.changed);
+        }
+        add_if(self.alloc, &mut self.refused, code_of(verdict), number)?;
+        add_notes(self.alloc, &mut self.noted, notes, number)
+    }
+
+    /// Returns whether the kind of a note is a habit.
+    fn is_habit(&self, note: Note) -> bool
+        ensures { result ≡ is_habit self.now note }
+    {
+        is_frequent(
+            self.changed,
+            count_of(self.noted.as_slice(), note_kind(note)),
+        )
+    }
+
+    /// Returns the notes whose kinds are no habits.
+    pub fn rare(&self, notes: &[Note]) -> Result<Vec<Note>, AllocError>
+        ensures { IfOk result (λ rare. rare.items ≡ rare_notes self.now notes.now) }
+    {
+        let mut rare = Vec::new(self.alloc);
+        for note in notes {
+            if !self.is_habit(*note) {
+                rare.push(*note)?;
+            }
+        }
+        Ok(rare)
+    }
+}
+
+/// Returns whether a kind of note that came so often is a habit, where so many records changed
+/// documents.
+fn is_frequent(changed: u64, count: u64) -> bool
+    ensures { result ≡ is_frequent changed count }
+{
+    count != 0 && changed / HABIT_RATE <= count
+}
+
+/// Returns the code of a record that counts as refused.
+fn code_of(verdict: &Verdict) -> Option<&'static str>
+    ensures { option_map (λ code. code.now) result ≡ code_of (verdict_view verdict.now) }
+{
+    let Verdict::Answered(answer) = verdict else {
+        return None;
+    };
+    if !is_refused(answer) {
+        return None;
+    }
+    Some(answer_code(answer))
+}
+
+/// Returns the code of an answer that counts as refused.
+fn answer_code(answer: &Answer) -> &'static str
+    ensures { result.now ≡ answer_code (answer_view answer.now) }
+{
+    match answer {
+        Answer::Reply { code, .. } => code_word(*code),
+        Answer::Refused(refusal) => refusal.code(),
+        Answer::Exit(_) => "exit 1",
+        Answer::Changed | Answer::Dropped | Answer::Ignored => "",
+    }
+}
+
+/// Counts the notes that came with the record of this number.
+fn add_notes(
+    alloc: Global,
+    tallies: &mut Vec<Tally>,
+    notes: &[Note],
+    number: u64,
+) -> Result<(), AllocError>
+    ensures { OnOk result (tallies.new.items ≡ tallied_notes notes.now number tallies.old.items) }
+{
+    for note in notes {
+        add(alloc, tallies, note_kind(*note), number)?;
+    }
+    Ok(())
+}
