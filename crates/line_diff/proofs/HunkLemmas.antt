@@ -1,5 +1,5 @@
 -- The places at which two texts have other lines, as a loop finds them.
-use Rattle.std.proofs.Common.{◌≡◌, ℕ, zero, suc, ◌+◌, ◌-◌, ◌<◌, List, ◌++◌, Some, None, length, drop, refl, ap, ◌∙◌, arith}
+use Rattle.std.proofs.Common.{◌≡◌, ℕ, zero, suc, ◌+◌, ◌-◌, ◌<◌, ◌≤◌, List, ◌++◌, Some, None, length, drop, refl, ap, ◌∙◌, arith}
 use Rattle.std.proofs.lemmas.List.{drop-drop, length-drop}
 use Rattle.line_diff.specs.declared.hunks.Gap.{Gap}
 use Rattle.line_diff.specs.Hunks.{hunk_before, hunks_from, last_hunk, next_gap, unless_empty}
@@ -11,14 +11,13 @@ dropped start more lines =
     drop-drop (suc more) start lines ∙ ap (λ k. drop k lines) sum
 
 pub rest_is : (start other_start : ℕ) (lines others : List (List ℕ)) (n m : ℕ) → length lines ≡ n → length others ≡ m
-    → unless_empty (record {
-      start = start;
-      count = n - start;
-      other_start = other_start;
-      other_count = m - other_start;
-    }) ≡ last_hunk start other_start (drop start lines) (drop other_start others)
-rest_is start other_start lines others n m lines_are others_are =
-    rw (length-drop start lines, length-drop other_start others, lines_are, others_are) refl
+    → start ≤ n → other_start ≤ m
+    → unless_empty (record { start = start; end = n; other_start = other_start; other_end = m })
+    ≡ last_hunk start other_start (drop start lines) (drop other_start others)
+rest_is start other_start lines others n m lines_are others_are within within_others =
+    let end : start + (n - start) ≡ n = omega arith in
+    let other_end : other_start + (m - other_start) ≡ m = omega arith in
+    rw (length-drop start lines, length-drop other_start others, lines_are, others_are, end, other_end) refl
 
 module _ (farthest start other_start : ℕ) (lines others : List (List ℕ)) where
   pub hunk_step : (n step : ℕ) (gap : Gap) → step < n

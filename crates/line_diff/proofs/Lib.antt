@@ -2,4 +2,5 @@ mod FirstLemmas
 mod GapLemmas
 mod HunkLemmas
 mod LineLemmas
+mod ReportLemmas
 mod ShownLemmas

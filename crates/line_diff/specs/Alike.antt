@@ -40,7 +40,7 @@ abbrev pub loose : List ℕ → List ℕ
 loose text = without_last_byte 10 (with_feeds false (without_mark text))
 
 -- Are two texts equal but for these?
-abbrev pub are_alike : List ℕ → List ℕ → Bool
+unfoldable pub are_alike : List ℕ → List ℕ → Bool
 are_alike text other = bytes_eq (loose text) (loose other)
 
 -- A text without its byte order mark and its last line end.

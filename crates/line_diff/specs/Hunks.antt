@@ -1,5 +1,5 @@
 -- The places at which two texts have other lines.
-use Rattle.std.specs.Prelude.{ℕ, zero, suc, ◌+◌, ◌-◌, Bool, nat_lt, ◌==◌, if◌then◌else◌, length, drop, slice_get, List, [], ◌∷◌, ◌++◌, Option, Some, None}
+use Rattle.std.specs.Prelude.{ℕ, zero, suc, ◌+◌, ◌-◌, Bool, ◌&&◌, nat_lt, ◌==◌, if◌then◌else◌, length, drop, slice_get, List, [], ◌∷◌, ◌++◌, Option, Some, None}
 use Rattle.line_diff.specs.declared.hunks.Gap.{Gap}
 use Rattle.line_diff.specs.declared.hunks.Hunk.{Hunk}
 use Rattle.line_diff.specs.Common.{are_equal, first_with}
@@ -34,24 +34,25 @@ next_gap farthest lines others = gap_if farthest lines others (nearest farthest 
 
 -- A hunk, unless no line is in it.
 abbrev pub unless_empty : Hunk → List Hunk
-unless_empty hunk = if hunk.count + hunk.other_count == 0 then [] else hunk ∷ []
+unless_empty hunk = if hunk.start == hunk.end && hunk.other_start == hunk.other_end
+    then [] else hunk ∷ []
 
 -- All that is left of two texts, where these are the indexes of the first lines.
 abbrev pub last_hunk : ℕ → ℕ → List (List ℕ) → List (List ℕ) → List Hunk
 last_hunk start other_start lines others = unless_empty (record {
   start = start;
-  count = length lines;
+  end = start + length lines;
   other_start = other_start;
-  other_count = length others;
+  other_end = other_start + length others;
 })
 
 -- The lines before the nearest common one.
 abbrev pub hunk_before : ℕ → ℕ → Gap → List Hunk
 hunk_before start other_start gap = unless_empty (record {
   start = start;
-  count = gap.lines;
+  end = start + gap.lines;
   other_start = other_start;
-  other_count = gap.others;
+  other_end = other_start + gap.others;
 })
 
 -- What comes of a gap, or where there is none.

@@ -70,6 +70,7 @@ fn with_feeds(alloc: Global, text: &[u8]) -> Result<Vec<u8>, AllocError>
 
 /// Returns whether two texts are equal but for line ends, the last line end and a byte order mark.
 /// Fails only where memory runs out. Linear in both texts, which it copies.
+#[tactic(auto, unfolding(crate::specs::Alike::are_alike))]
 pub fn are_alike(alloc: Global, text: &[u8], other: &[u8]) -> Result<bool, AllocError>
     ensures { IfOk result (λ alike. alike ≡ are_alike text.now other.now) }
 {

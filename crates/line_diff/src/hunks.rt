@@ -8,16 +8,14 @@ use crate::lines::line_at;
 use crate::owners::are_equal;
 use std::alloc::{AllocError, Global};
 
-/// A place at which two texts have other lines: after what is common before it, so many lines of one
-/// text have so many of the other in their place.
+/// A place at which two texts have other lines: those from one index to another of the one text, and
+/// those of the other text in their place.
 #[derive(Clone, Copy, Debug, PartialEq, Eq)]
 pub struct Hunk {
-    /// The index of the first line of the one text.
     pub start: usize,
-    pub count: usize,
-    /// The index of the first line of the other text.
+    pub end: usize,
     pub other_start: usize,
-    pub other_count: usize,
+    pub other_end: usize,
 }
 
 /// So many lines of one text, and so many of another, come before a line that is common to both.
@@ -66,7 +64,7 @@ fn next_gap(farthest: usize, lines: &[&str], others: &[&str]) -> Option<Gap>
 fn push_hunk(found: &mut Vec<Hunk>, hunk: Hunk) -> Result<(), AllocError>
     ensures { OnOk result (found.new.items ≡ found.old.items ++ unless_empty hunk) }
 {
-    if hunk.count == 0 && hunk.other_count == 0 {
+    if hunk.start == hunk.end && hunk.other_start == hunk.other_end {
         return Ok(());
     }
     found.push(hunk)?;
@@ -98,9 +96,9 @@ pub fn hunks_of(
         };
         let hunk = Hunk {
             start,
-            count: gap.lines,
+            end: start + gap.lines,
             other_start,
-            other_count: gap.others,
+            other_end: other_start + gap.others,
         };
         push_hunk(&mut found, hunk)?;
         start += gap.lines + 1;
@@ -108,9 +106,9 @@ pub fn hunks_of(
     }
     let rest = Hunk {
         start,
-        count: lines.len() - start,
+        end: lines.len(),
         other_start,
-        other_count: others.len() - other_start,
+        other_end: others.len(),
     };
     push_hunk(&mut found, rest)?;
     Ok(found)

@@ -1,9 +1,8 @@
-//! How two texts differ, line by line, and which of several numbered changes made each line so.
-//! Texts are bytes.
+//! Which of several numbered changes made each line of a text so, and how it differs from a file's.
 //!
-//! - `lines`: the lines of a text.
-//! - `owners`: which change made each of them, given the text before and after each change.
-//! - `hunks`: where two texts have other lines.
+//! - `tracked`: `TrackedText`, a text and which change made each of its lines; `owners` is how.
+//! - `report`: how the text and a file differ, in words.
+//! - `lines`: the lines of a text. `hunks`: where two texts have other lines.
 //! - `alike`: whether texts differ by line ends, the last line end and a byte order mark alone.
 //! - `shown`: a line in quotes, with what can't be seen in it.
 #![tactic(auto)]
@@ -12,10 +11,8 @@ mod alike;
 mod hunks;
 mod lines;
 mod owners;
+mod report;
 mod shown;
+mod tracked;
 
-pub use alike::{are_alike, has_last_end, has_mark, have_same_ends};
-pub use hunks::{Hunk, hunks_of};
-pub use lines::lines_of;
-pub use owners::owners_after;
-pub use shown::push_shown;
+pub use tracked::TrackedText;

@@ -65,8 +65,9 @@ fn owners_kept(
 ) -> Result<Vec<u64>, AllocError>
     requires old { front + back ≤ length owners.now }
     requires new { front + back ≤ after }
-    ensures { IfOk result (λ kept. kept.items
+    ensures value { IfOk result (λ kept. kept.items
         ≡ owners_kept front back owners.now (length owners.now) after number) }
+    ensures length { IfOk result (λ kept. length kept.items ≡ after) }
 {
     let mut kept = Vec::new(alloc);
     kept.extend_from_slice(&owners[..front])?;
@@ -86,8 +87,9 @@ pub fn owners_after(
     new: &str,
 ) -> Result<Vec<u64>, AllocError>
     requires { length owners.now ≡ length (lines_of old.now) }
-    ensures { IfOk result (λ after. after.items
+    ensures value { IfOk result (λ after. after.items
         ≡ owners_after number owners.now (lines_of old.now) (lines_of new.now)) }
+    ensures length { IfOk result (λ after. length after.items ≡ length (lines_of new.now)) }
 {
     let old = lines_of(alloc, old)?;
     let new = lines_of(alloc, new)?;

@@ -42,7 +42,7 @@ returns c =
     let others = map (λ (line : Bor (List ℕ)). line.now) c.args.others.now in
     let rest = rest_is c.gaps.start c.gaps.other_start lines others (length c.args.lines.now)
     (length c.args.others.now) (length-map c.args.lines.now (λ line. line.now))
-    (length-map c.args.others.now (λ line. line.now)) in
+    (length-map c.args.others.now (λ line. line.now)) c.gaps.invariant.within c.gaps.invariant.within_others in
     c.in_ok-push_hunk-2.ensures
     ∙ ap (λ (hunks : List Hunk). c.gaps.found.items ++ hunks) (rest ∙ elim c.gaps-test.branch [
       | else-gaps-test w ↦
