@@ -1,5 +1,6 @@
 //! Which of several numbered changes made each line of a text so, and how it differs from a file's.
 //!
+//! - `compared`: `Comparison`, a file and the document of a session that is compared with it.
 //! - `tracked`: `TrackedText`, a text and which change made each of its lines; `owners` is how.
 //! - `report`: how the text and a file differ, in words.
 //! - `lines`: the lines of a text. `hunks`: where two texts have other lines.
@@ -8,6 +9,7 @@
 #![tactic(auto)]
 
 mod alike;
+mod compared;
 mod hunks;
 mod lines;
 mod owners;
@@ -15,4 +17,5 @@ mod report;
 mod shown;
 mod tracked;
 
+pub use compared::Comparison;
 pub use tracked::TrackedText;

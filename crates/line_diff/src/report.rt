@@ -17,7 +17,7 @@ use std::alloc::{AllocError, Global};
 const FARTHEST: usize = 2_000;
 
 /// Writes words as they are.
-fn push_words(buffer: &mut Vec<u8>, words: &str) -> Result<(), AllocError>
+pub(crate) fn push_words(buffer: &mut Vec<u8>, words: &str) -> Result<(), AllocError>
     ensures { OnOk result (buffer.new.items ≡ buffer.old.items ++ words.now) }
 {
     buffer.extend_from_slice(words.as_bytes())
