@@ -65,6 +65,15 @@ static OVER_1: [Case; 10] = [
         records: &[],
         flushes: &[],
     },
+    // A document is compared with a file.
+    Case {
+        command: Command::Compare("aXc"),
+        input: Bytes::Frames(&[INITIALIZE, OPEN, WHOLE, CLOSE]),
+        output: Bytes::Plain(b"\"file:///a\" after message 3: the text is the file's\n"),
+        end: Ended(0, 4, 0),
+        records: &[],
+        flushes: &[],
+    },
     Case {
         command: Command::Text(Some(2)),
         input: Bytes::Then(&[INITIALIZE, OPEN], b"no header"),
