@@ -1,5 +1,5 @@
 -- A file, and the document of a session that is compared with it.
-use Rattle.std.specs.Prelude.{ℕ, ◌-◌, Bool, false, not, if◌then◌else◌, length, drop, List, [], ◌++◌, Option, Some, None, codes}
+use Rattle.std.specs.Prelude.{ℕ, ◌-◌, Bool, false, if◌then◌else◌, length, drop, List, [], ◌++◌, Option, Some, None, codes}
 use Rattle.std.specs.Str.{bytes_eq}
 use Rattle.line_diff.specs.Report.{report}
 use Rattle.line_diff.specs.Shown.{shown}
@@ -66,14 +66,14 @@ choice_words first second =
     ++ shown second ++ codes "\n"
 
 -- Whether the document's text is the file's, and else how they differ.
-abbrev pub document_words : Followed → List ℕ → List ℕ
-document_words d file = shown d.uri ++ codes " " ++ report d.text file
+abbrev pub followed_words : Followed → List ℕ → List ℕ
+followed_words d file = shown d.uri ++ codes " " ++ report d.text file
 
 -- Nothing is written of a document that was never open.
 abbrev pub words_of : Option Followed → Option (List ℕ) → List ℕ → List ℕ
 words_of None second file = []
 words_of (Some d) (Some second) file = choice_words d.uri second
-words_of (Some d) None file = document_words d file
+words_of (Some d) None file = followed_words d file
 
 unfoldable pub comparison_words : ComparisonData → List ℕ
 comparison_words c = words_of c.document c.second c.file

@@ -2,7 +2,7 @@
 
 ghost use Rattle.std.specs.Prelude.{◌≡◌, ◌++◌, IfOk, OnOk, Option, option_map, string_bytes};
 ghost use Rattle.std.specs.Str.{bytes_eq};
-ghost use Rattle.line_diff.specs.Compared.{choice_words, document_words, ends_so, equality, followed_by, nothing_taken};
+ghost use Rattle.line_diff.specs.Compared.{choice_words, followed_words, ends_so, equality, followed_by, nothing_taken};
 ghost use Rattle.line_diff.specs.Compared.{comparison_words, second_after, taken};
 
 use crate::report::push_words;
@@ -188,7 +188,7 @@ fn push_document(
     file: &str,
 ) -> Result<(), AllocError>
     ensures { OnOk result
-        (buffer.new.items ≡ buffer.old.items ++ document_words document.now file.now) }
+        (buffer.new.items ≡ buffer.old.items ++ followed_words document.now file.now) }
 {
     push_shown(buffer, &document.uri)?;
     push_words(buffer, " ")?;

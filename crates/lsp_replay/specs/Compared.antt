@@ -56,7 +56,10 @@ comparing = record {
   outcome = λ c s. compared_outcome (equality c.document c.second c.file) (session_outcome s);
 }
 
+-- The output of `compare`.
+abbrev pub compared : Settings → ComparisonData → List Record → RunOutput
+compared settings c = output_in comparing c (opened (log_config settings))
+
 -- The engine of `compare`.
 abbrev pub compare_engine : Settings → ComparisonData → Engine
-compare_engine settings c =
-    log_engine settings (output_in comparing c (opened (log_config settings)))
+compare_engine settings c = log_engine settings (compared settings c)

@@ -18,9 +18,10 @@ use Rattle.lsp_replay.proofs.Records.OutputLemmas.{output_after, unless_not}
 
 module _ (c : ComparisonData) (body : List ℕ) (verdict : Verdict) (t : Session) where
   learned_is : (version : Version) (side : Sender)
-      → learned (asks_open (body_read version side body)) (ending_read c.ending (body_read version side body)) verdict t c
-      ≡ learned (is_open (incoming_of (reading body))) (if_ends_so c.ending (uri_of side (incoming_of (reading body))))
-      verdict t c
+      → learned (asks_open (body_read version side body))
+      (ending_read c.ending (body_read version side body)) verdict t c
+      ≡ learned (is_open (incoming_of (reading body)))
+      (if_ends_so c.ending (uri_of side (incoming_of (reading body)))) verdict t c
   learned_is version Client = refl
   learned_is version Server = refl
 

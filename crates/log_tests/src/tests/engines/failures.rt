@@ -14,7 +14,7 @@ static SERVED: [Case; 1] = [Case {
 }];
 
 /// The log commands over a log of version 1.
-static OVER_1: [Case; 10] = [
+static OVER_1: [Case; 11] = [
     Case {
         command: Command::Check,
         input: Bytes::Frames(WORKED),

@@ -99,7 +99,7 @@ impl Wanted {
     }
 }
 
-static RUNS: [Wanted; 14] = [
+static RUNS: [Wanted; 15] = [
     Wanted {
         command: Command::Serve,
         input: Bytes::Frames(&[SHORT]),
