@@ -17,7 +17,7 @@ use Rattle.lsp_replay.specs.declared.session.canonical.Appended.{Appended}
 use Rattle.lsp_replay.specs.declared.session.canonical.Appended.TheVariants.{Body, TooLong}
 use Rattle.lsp_replay.specs.declared.session.canonical.Canonical.{Canonical}
 use Rattle.lsp_replay.specs.Commands.{canonical_of_record}
-use Rattle.lsp_replay.specs.Lines.{Known}
+use Rattle.lsp_replay.specs.Lines.{Known, is_renamed, uri_of}
 use Rattle.lsp_replay.specs.Session.{Session, bad, Judged, judged, judge, judge_from, judge_client, judge_server, encoding_for, handled, is_ended, is_early}
 use Rattle.lsp_replay.specs.Trace.{first_members, is_json, trace_line, within}
 use Rattle.lsp_replay.specs.inside.Facts.{AreFacts, canonical_json, members_by}
