@@ -44,12 +44,12 @@ unfoldable pub are_alike : List ℕ → List ℕ → Bool
 are_alike text other = bytes_eq (loose text) (loose other)
 
 -- A text without its byte order mark and its last line end.
-abbrev pub trimmed : List ℕ → List ℕ
-trimmed text = without_last_byte 13 (without_last_byte 10 (without_mark text))
+abbrev pub without_last_end : List ℕ → List ℕ
+without_last_end text = without_last_byte 13 (without_last_byte 10 (without_mark text))
 
 -- Have two such texts the same line ends, but for a last one that one of them alone has?
 abbrev pub have_same_ends : List ℕ → List ℕ → Bool
 have_same_ends text other =
     if has_last_end text && has_last_end other
     then bytes_eq (without_mark text) (without_mark other)
-    else bytes_eq (trimmed text) (trimmed other)
+    else bytes_eq (without_last_end text) (without_last_end other)

@@ -1,7 +1,7 @@
 -- A file, and the document of a session that is compared with it.
 use Rattle.std.specs.Prelude.{ℕ, ◌-◌, Bool, false, if◌then◌else◌, length, drop, List, [], ◌++◌, Option, Some, None, codes}
 use Rattle.std.specs.Str.{bytes_eq}
-use Rattle.line_diff.specs.Report.{report}
+use Rattle.line_diff.specs.Report.{report_words}
 use Rattle.line_diff.specs.Shown.{shown}
 use Rattle.line_diff.specs.Tracked.{Tracked, changed_by, opened_by}
 
@@ -24,8 +24,8 @@ abbrev pub ends_so : List ℕ → List ℕ → Bool
 ends_so uri ending = bytes_eq (drop (length uri - length ending) uri) ending
 
 -- Before the first message.
-abbrev pub nothing_taken : List ℕ → List ℕ → ComparisonData
-nothing_taken ending file = record {
+abbrev pub new_comparison : List ℕ → List ℕ → ComparisonData
+new_comparison ending file = record {
   ending = ending;
   file = file;
   document = None;
@@ -40,9 +40,9 @@ text_after number text opens before =
     if opens then opened_by number text else changed_by number text before
 
 -- The document. The first one stays.
-abbrev pub followed_by : ℕ → List ℕ → List ℕ → Bool → Option Followed → Followed
-followed_by number uri text opens None = record { uri = uri; text = opened_by number text }
-followed_by number uri text opens (Some d) =
+abbrev pub followed_after : ℕ → List ℕ → List ℕ → Bool → Option Followed → Followed
+followed_after number uri text opens None = record { uri = uri; text = opened_by number text }
+followed_after number uri text opens (Some d) =
     if bytes_eq d.uri uri then record d { text = text_after number text opens d.text } else d
 
 -- The URI of another document.
@@ -53,7 +53,7 @@ second_after uri (Some d) None = if bytes_eq d.uri uri then None else Some uri
 
 abbrev pub taken : ℕ → List ℕ → List ℕ → Bool → ComparisonData → ComparisonData
 taken number uri text opens c = record c {
-  document = Some (followed_by number uri text opens c.document);
+  document = Some (followed_after number uri text opens c.document);
   second = second_after uri c.document c.second;
 }
 
@@ -67,7 +67,7 @@ choice_words first second =
 
 -- Whether the document's text is the file's, and else how they differ.
 abbrev pub followed_words : Followed → List ℕ → List ℕ
-followed_words d file = shown d.uri ++ codes " " ++ report d.text file
+followed_words d file = shown d.uri ++ codes " " ++ report_words d.text file
 
 -- Nothing is written of a document that was never open.
 abbrev pub words_of : Option Followed → Option (List ℕ) → List ℕ → List ℕ

@@ -16,13 +16,13 @@ line_unless_empty [] = []
 line_unless_empty (byte ∷ bytes) = (byte ∷ bytes) ∷ []
 
 -- The lines of bytes before which a line began with these.
-abbrev pub lines_from : List ℕ → List ℕ → List (List ℕ)
-lines_from line [] = line_unless_empty line
-lines_from line (byte ∷ bytes) = if ends_line byte bytes
-    then (line ++ byte ∷ []) ∷ lines_from [] bytes
-    else lines_from (line ++ byte ∷ []) bytes
+abbrev pub lines_begun : List ℕ → List ℕ → List (List ℕ)
+lines_begun line [] = line_unless_empty line
+lines_begun line (byte ∷ bytes) = if ends_line byte bytes
+    then (line ++ byte ∷ []) ∷ lines_begun [] bytes
+    else lines_begun (line ++ byte ∷ []) bytes
 
 -- The lines of a text, each with its line end. What comes after the last line end is a line if it
 -- isn't empty.
 abbrev pub lines_of : List ℕ → List (List ℕ)
-lines_of text = lines_from [] text
+lines_of text = lines_begun [] text

@@ -100,5 +100,5 @@ abbrev pub report_of : List ℕ → ℕ → List ℕ → List ℕ → List ℕ
 report_of text made owners file =
     codes "after message " ++ decimal made ++ codes ": the text is " ++ judgement text owners file
 
-unfoldable pub report : Tracked → List ℕ → List ℕ
-report t file = report_of t.text t.made t.owners file
+unfoldable pub report_words : Tracked → List ℕ → List ℕ
+report_words t file = report_of t.text t.made t.owners file

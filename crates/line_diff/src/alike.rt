@@ -2,7 +2,7 @@
 
 ghost use Rattle.std.specs.Prelude.{◌≡◌, IfOk, false};
 ghost use Rattle.line_diff.specs.Alike.{are_alike, ends_with_byte, has_last_end, has_mark};
-ghost use Rattle.line_diff.specs.Alike.{have_same_ends, trimmed, with_feeds, without_last_byte, without_mark};
+ghost use Rattle.line_diff.specs.Alike.{have_same_ends, without_last_end, with_feeds, without_last_byte, without_mark};
 
 use std::alloc::{AllocError, Global};
 
@@ -80,8 +80,8 @@ pub fn are_alike(alloc: Global, text: &[u8], other: &[u8]) -> Result<bool, Alloc
 }
 
 /// Returns a text without its byte order mark and its last line end.
-fn trimmed(text: &[u8]) -> &[u8]
-    ensures { result.now ≡ trimmed text.now }
+fn without_last_end(text: &[u8]) -> &[u8]
+    ensures { result.now ≡ without_last_end text.now }
 {
     without_last_byte(b'\r', without_last_byte(b'\n', without_mark(text)))
 }
@@ -94,6 +94,6 @@ pub fn have_same_ends(text: &[u8], other: &[u8]) -> bool
     if has_last_end(text) && has_last_end(other) {
         without_mark(text) == without_mark(other)
     } else {
-        trimmed(text) == trimmed(other)
+        without_last_end(text) == without_last_end(other)
     }
 }

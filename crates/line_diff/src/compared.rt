@@ -2,7 +2,7 @@
 
 ghost use Rattle.std.specs.Prelude.{◌≡◌, ◌++◌, IfOk, OnOk, Option, option_map, string_bytes};
 ghost use Rattle.std.specs.Str.{bytes_eq};
-ghost use Rattle.line_diff.specs.Compared.{choice_words, followed_words, ends_so, equality, followed_by, nothing_taken};
+ghost use Rattle.line_diff.specs.Compared.{choice_words, followed_words, ends_so, equality, followed_after, new_comparison};
 ghost use Rattle.line_diff.specs.Compared.{comparison_words, second_after, taken};
 
 use crate::report::push_words;
@@ -55,7 +55,7 @@ impl Model for Followed {
 impl Comparison {
     /// Starts without a document. It is to be one whose URI ends so.
     pub fn new(ending: String, file: String) -> Comparison
-        ensures { result ≡ nothing_taken (string_bytes ending) (string_bytes file) }
+        ensures { result ≡ new_comparison (string_bytes ending) (string_bytes file) }
     {
         Comparison {
             ending,
@@ -88,7 +88,7 @@ impl Comparison {
     {
         self.keep_second(alloc, uri)?;
         let before = self.document.take();
-        let document = followed_by(alloc, number, uri, text, opens, before)?;
+        let document = followed_after(alloc, number, uri, text, opens, before)?;
         self.document = Some(document);
         Ok(())
     }
@@ -136,7 +136,7 @@ impl Comparison {
 
 /// Returns the document that is compared, after the message of this number has given this text to
 /// one. The first one stays.
-fn followed_by(
+fn followed_after(
     alloc: Global,
     number: u64,
     uri: &str,
@@ -145,7 +145,7 @@ fn followed_by(
     before: Option<Followed>,
 ) -> Result<Followed, AllocError>
     ensures { IfOk result (λ document. document
-        ≡ followed_by number uri.now (string_bytes text) opens before) }
+        ≡ followed_after number uri.now (string_bytes text) opens before) }
 {
     let Some(mut document) = before else {
         return Ok(Followed {

@@ -1,7 +1,7 @@
 //! A text, and which change made each of its lines.
 
 ghost use Rattle.std.specs.Prelude.{◌≡◌, ◌++◌, IfOk, OnOk, string_bytes};
-ghost use Rattle.line_diff.specs.Report.{report};
+ghost use Rattle.line_diff.specs.Report.{report_words};
 ghost use Rattle.line_diff.specs.Tracked.{changed_by, opened_by};
 
 use crate::lines::lines_of;
@@ -74,14 +74,14 @@ impl TrackedText {
     /// Writes whether the text is a file's, and else how they differ: by line ends, the last line
     /// end or a byte order mark alone, or by which lines, with the change that made each. Fails only
     /// where memory runs out. Linear where the texts are near.
-    #[tactic(auto, unfolding(crate::specs::Report::report))]
+    #[tactic(auto, unfolding(crate::specs::Report::report_words))]
     pub fn push_report(
         &self,
         alloc: Global,
         buffer: &mut Vec<u8>,
         file: &str,
     ) -> Result<(), AllocError>
-        ensures { OnOk result (buffer.new.items ≡ buffer.old.items ++ report self.now file.now) }
+        ensures { OnOk result (buffer.new.items ≡ buffer.old.items ++ report_words self.now file.now) }
     {
         push_report(alloc, buffer, &self.text, self.made, &self.owners, file)
     }

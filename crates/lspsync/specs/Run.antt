@@ -15,7 +15,7 @@ use Rattle.lsp_program.specs.Output.{IsFlushed, IsPrinted, IsTextPrinted, Stream
 use Rattle.lsp_replay.specs.declared.outcome.Missing.{Missing}
 use Rattle.lsp_replay.specs.declared.outcome.Missing.TheVariants as missing
 use Rattle.lsp_replay.specs.declared.outcome.Outcome.{Outcome}
-use Rattle.line_diff.specs.Compared.{nothing_taken}
+use Rattle.line_diff.specs.Compared.{new_comparison}
 use Rattle.lsp_replay.specs.Compared.{compare_engine}
 use Rattle.lsp_replay.specs.Documents.{documents_engine}
 use Rattle.lsp_replay.specs.Explained.{explain_engine}
@@ -53,7 +53,7 @@ engine_of (call.Trace settings details is_live) = live_if is_live (trace_engine 
 engine_of (call.Replay settings) = replay_engine settings
 engine_of (call.ReplayPart settings part) = part_engine settings part
 engine_of (call.Compare settings against) = compare_engine settings
-    (nothing_taken (string_bytes against.ending) (string_bytes against.text))
+    (new_comparison (string_bytes against.ending) (string_bytes against.text))
 engine_of (call.Normalise settings) = normalise_engine settings
 engine_of (call.NormaliseDocuments settings) = documents_engine settings
 engine_of (call.Convert settings) = convert_engine settings
